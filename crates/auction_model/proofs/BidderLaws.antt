@@ -11,12 +11,15 @@ module _ (m : Menu) (counts : ℕ → ℕ → ℤ) (supply : List ℕ) (j : ℕ)
   next = omega arith
 
   -- line j plus what bidder j counts idle is line j - 1 with none of its bids counted
-  pub bidder-none : (below line : List ℤ) (idle : ℤ) → idle ≡ counts j 0 → m.lots j 0 ≡ [] → IsLine m counts supply j below → length line ≡ length below → ((s : ℕ) → s < length below → get_or line s (pos 0) ≡ get_or below s (pos 0) +ℤ idle) → IsLineUpTo m counts supply (j - 1) 0 line
+  pub bidder-none : (below line : List ℤ) (idle : ℤ) → idle ≡ counts j 0 → m.lots j 0 ≡ [] → IsLine m counts supply j below → length line ≡ length below
+      → ((s : ℕ) → s < length below → get_or line s (pos 0) ≡ get_or below s (pos 0) +ℤ idle) → IsLineUpTo m counts supply (j - 1) 0 line
   bidder-none below line idle is none e places reads =
       line-none m counts supply (j - 1) below line idle (rw next is) (rw next none) (rw next e) places reads
 
   -- a line raised at each place by bid i + 1 of bidder j counts that bid too
-  pub bidder-more : (i : ℕ) (below old new : List ℤ) → IsLine m counts supply j below → IsLineUpTo m counts supply (j - 1) i old → length new ≡ length old → ((s : ℕ) → s < length old → get_or new s (pos 0) ≡ raised supply below (m.lots j (i + 1)) (counts j (i + 1)) s (get_or old s (pos 0))) → IsLineUpTo m counts supply (j - 1) (i + 1) new
+  pub bidder-more : (i : ℕ) (below old new : List ℤ) → IsLine m counts supply j below → IsLineUpTo m counts supply (j - 1) i old → length new ≡ length old
+      → ((s : ℕ) → s < length old → get_or new s (pos 0) ≡ raised supply below (m.lots j (i + 1)) (counts j (i + 1)) s (get_or old s (pos 0)))
+      → IsLineUpTo m counts supply (j - 1) (i + 1) new
   bidder-more i below old new e was places reads =
       let up : i + 1 ≡ suc i = omega arith in
       rw up (line-more m counts supply (j - 1) i below old new (rw next e) was places (λ s h. rw next (rw up at (reads s h))))

@@ -17,7 +17,8 @@ fits-known m s c t = (and_parts (is_known_after m 0 c) (is_within (packages_afte
 -- 0 for each of the bidders after k is a known choice
 pub none-known : (m : Menu) (k n : ℕ) → k + n ≡ m.bidders → IsTrue (is_known_after m k (replicate n 0))
 none-known m k zero e = eq-eqb k m.bidders (omega arith)
-none-known m k (suc n) e = and_from (nat_le 0 (m.bids (suc k))) (is_known_after m (suc k) (replicate n 0)) (le-leb 0 (m.bids (suc k)) (omega arith)) (none-known m (suc k) n (omega arith))
+none-known m k (suc n) e = and_from (nat_le 0 (m.bids (suc k))) (is_known_after m (suc k) (replicate n 0)) (le-leb 0 (m.bids (suc k)) (omega arith))
+    (none-known m (suc k) n (omega arith))
 
 -- bidders that are all given number 0 take no lots
 pub none-taken : (m : Menu) (k n : ℕ) → ((j : ℕ) → m.lots j 0 ≡ []) → packages_after m k (replicate n 0) ≡ []
@@ -46,7 +47,8 @@ fewer-known m k (x ∷ c) (suc i) t =
     and_from (nat_le x (m.bids (suc k))) (is_known_after m (suc k) (set c i 0)) p.0 (fewer-known m (suc k) c i p.1)
 
 -- packages of a choice that are within a supply stay within it when one of its numbers becomes 0
-pub fewer-taken : (m : Menu) (k : ℕ) (c : List ℕ) (i : ℕ) (s : List ℕ) → ((j : ℕ) → m.lots j 0 ≡ []) → IsTrue (is_within (packages_after m k c) s) → IsTrue (is_within (packages_after m k (set c i 0)) s)
+pub fewer-taken : (m : Menu) (k : ℕ) (c : List ℕ) (i : ℕ) (s : List ℕ) → ((j : ℕ) → m.lots j 0 ≡ []) → IsTrue (is_within (packages_after m k c) s)
+    → IsTrue (is_within (packages_after m k (set c i 0)) s)
 fewer-taken m k [] i s none t = t
 fewer-taken m k (x ∷ c) zero s none t = rw (none (suc k)) (fewer-within (m.lots (suc k) x) (packages_after m (suc k) c) s t)
 fewer-taken m k (x ∷ c) (suc i) s none t =
@@ -60,7 +62,8 @@ pub winning-count : (book : Book) (choice : List ℕ) → IsWinning (market_of b
 winning-count book choice is = omega (arith, known-length (menu_of book) 0 choice (fits-known (menu_of book) book.supply choice is.passed))
 
 -- a book of fewer than 65,536 bidders with no net amount below 0 gives a lawful market
-pub market-of_book : (book : Book) → length book.bidders < 2 ^ 16 → ((j i : ℕ) → i ≤ length (bids_of book j) → pos 0 ≤ℤ net_of book j i) → IsMarket (market_of book)
+pub market-of_book : (book : Book) → length book.bidders < 2 ^ 16 → ((j i : ℕ) → i ≤ length (bids_of book j) → pos 0 ≤ℤ net_of book j i)
+    → IsMarket (market_of book)
 market-of_book book few not_negative = record {
   few = few;
   lengths = λ c t. let e = known-length (menu_of book) 0 c (fits-known (menu_of book) book.supply c t) in omega (arith, e);
@@ -69,16 +72,19 @@ market-of_book book few not_negative = record {
       let m = menu_of book in
       let n = length book.bidders in
       let taken : packages_after m 0 (replicate n 0) ≡ [] = none-taken m 0 n (λ j. refl) in
-      and_from (is_known_after m 0 (replicate n 0)) (is_within (packages_after m 0 (replicate n 0)) book.supply) (none-known m 0 n (omega arith)) (rw taken refl);
+      and_from (is_known_after m 0 (replicate n 0)) (is_within (packages_after m 0 (replicate n 0)) book.supply) (none-known m 0 n (omega arith))
+      (rw taken refl);
   fewer = λ c j t.
       let m = menu_of book in
       let p = and_parts (is_known_after m 0 c) (is_within (packages_after m 0 c) book.supply) t in
-      and_from (is_known_after m 0 (set c (j - 1) 0)) (is_within (packages_after m 0 (set c (j - 1) 0)) book.supply) (fewer-known m 0 c (j - 1) p.0) (fewer-taken m 0 c (j - 1) book.supply (λ i. refl) p.1);
+      and_from (is_known_after m 0 (set c (j - 1) 0)) (is_within (packages_after m 0 (set c (j - 1) 0)) book.supply) (fewer-known m 0 c (j - 1) p.0)
+      (fewer-taken m 0 c (j - 1) book.supply (λ i. refl) p.1);
   none = λ j. refl;
   not_negative = λ c j t some inside. not_negative j (get_or c (j - 1) 0) (numbers c j t some inside);
 }
   where
-    numbers : (c : List ℕ) (j : ℕ) → IsTrue (fits_after (menu_of book) 0 book.supply c) → 0 < j → j ≤ length book.bidders → get_or c (j - 1) 0 ≤ length (bids_of book j)
+    numbers : (c : List ℕ) (j : ℕ) → IsTrue (fits_after (menu_of book) 0 book.supply c) → 0 < j → j ≤ length book.bidders
+        → get_or c (j - 1) 0 ≤ length (bids_of book j)
     numbers c j t some inside =
         let m = menu_of book in
         let known = fits-known m book.supply c t in

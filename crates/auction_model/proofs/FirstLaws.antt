@@ -59,7 +59,8 @@ module _ (p q : List ℕ → Bool) (value : List ℕ → ℤ) (before : (c d : L
   }
 
   either : HasFirst p value → HasFirst q value → HasFirst (λ c. p c || q c) value
-  either (inl a) (inl b) = by_lt_z (value a.0) (value b.0) (λ less. inl (b.0, second-taken a.0 b.0 a.1 b.1 less)) (λ most. inl (a.0, first-kept a.0 b.0 a.1 b.1 most))
+  either (inl a) (inl b) = by_lt_z (value a.0) (value b.0) (λ less. inl (b.0, second-taken a.0 b.0 a.1 b.1 less))
+      (λ most. inl (a.0, first-kept a.0 b.0 a.1 b.1 most))
   either (inl a) (inr none) = inl (a.0, first-alone a.0 a.1 none)
   either (inr none) (inl b) = inl (b.0, second-alone b.0 b.1 none)
   either (inr none) (inr no_other) = inr (λ c t. elim (or_cases (p c) (q c) t) [ inl own ↦ none c own | inr other ↦ no_other c other ])
@@ -138,7 +139,8 @@ module _ (passes : List ℕ → Bool) (value : List ℕ → ℤ) where
   begun-to : (n : ℕ) → ((i : ℕ) → HasFirst (λ c. passes (i ∷ c)) (λ c. value (i ∷ c))) → HasFirst (λ c. passes c && begins_to n c) value
   begun-to zero rest = inr (λ c t. false≢true (and_parts (passes c) false t).1)
   begun-to (suc n) rest =
-      has-same (λ c. (passes c && begins_to n c) || (passes c && begins (suc n) c)) (λ c. passes c && begins_to (suc n) c) value (λ c. share (begins_to n c) (begins (suc n) c) (passes c))
+      has-same (λ c. (passes c && begins_to n c) || (passes c && begins (suc n) c)) (λ c. passes c && begins_to (suc n) c) value
+      (λ c. share (begins_to n c) (begins (suc n) c) (passes c))
       (either (λ c. passes c && begins_to n c) (λ c. passes c && begins (suc n) c) value before (begun-to n rest) (begun (suc n) (rest (suc n))))
     where
       before : (c d : List ℕ) → IsTrue (passes c && begins_to n c) → IsTrue (passes d && begins (suc n) d) → IsTrue (is_earlier c d)
@@ -150,7 +152,8 @@ module _ (passes : List ℕ → Bool) (value : List ℕ → ℤ) where
           earlier-number g h c d (rw (low.1, high) (before-greater low.0 n low.2))
 
   -- all that begin with a number of at most n
-  begun-all : (n : ℕ) → ((i : ℕ) → HasFirst (λ c. passes (i ∷ c)) (λ c. value (i ∷ c))) → HasFirst (λ c. (passes c && begins_to n c) || (passes c && begins 0 c)) value
+  begun-all : (n : ℕ) → ((i : ℕ) → HasFirst (λ c. passes (i ∷ c)) (λ c. value (i ∷ c)))
+      → HasFirst (λ c. (passes c && begins_to n c) || (passes c && begins 0 c)) value
   begun-all n rest = either (λ c. passes c && begins_to n c) (λ c. passes c && begins 0 c) value before (begun-to n rest) (begun 0 (rest 0))
     where
       before : (c d : List ℕ) → IsTrue (passes c && begins_to n c) → IsTrue (passes d && begins 0 d) → IsTrue (is_earlier c d)
@@ -185,7 +188,8 @@ has-first zero caps passes value bounded = by (cases_Bool (passes []))
     by (inr f) = inr (λ c u. let e = empty c (bounded c u).0 in false≢true (sym f ∙ (rw e at u)))
 has-first (suc n) caps passes value bounded =
     has-same (λ c. (passes c && begins_to (caps 0) c) || (passes c && begins 0 c)) passes value same
-    (begun-all passes value (caps 0) (λ i. has-first n (λ j. caps (suc j)) (λ c. passes (i ∷ c)) (λ c. value (i ∷ c)) (λ c t. let b = bounded (i ∷ c) t in (omega (arith, b.0), λ j h. b.1 (suc j) (omega (arith, h))))))
+    (begun-all passes value (caps 0) (λ i. has-first n (λ j. caps (suc j)) (λ c. passes (i ∷ c)) (λ c. value (i ∷ c))
+    (λ c t. let b = bounded (i ∷ c) t in (omega (arith, b.0), λ j h. b.1 (suc j) (omega (arith, h))))))
   where
     whole : (t a b : Bool) → (IsTrue t → IsTrue (a || b)) → (t && a) || (t && b) ≡ t
     whole true a b h = h refl
@@ -194,7 +198,8 @@ has-first (suc n) caps passes value bounded =
     begun-one : (c : List ℕ) → IsTrue (passes c) → IsTrue (begins_to (caps 0) c || begins 0 c)
     begun-one [] t = absurd (omega (arith, (bounded [] t).0))
     begun-one (zero ∷ c) t = or_right (begins_to (caps 0) (zero ∷ c)) (begins 0 (zero ∷ c)) (eq-eqb 0 0 refl)
-    begun-one (suc i ∷ c) t = or_left (begins_to (caps 0) (suc i ∷ c)) (begins 0 (suc i ∷ c)) (begins_to-from (caps 0) i c (let low : suc i ≤ caps 0 = (bounded (suc i ∷ c) t).1 0 (omega arith) in omega (arith, low)))
+    begun-one (suc i ∷ c) t = or_left (begins_to (caps 0) (suc i ∷ c)) (begins 0 (suc i ∷ c))
+        (begins_to-from (caps 0) i c (let low : suc i ≤ caps 0 = (bounded (suc i ∷ c) t).1 0 (omega arith) in omega (arith, low)))
 
     same : (c : List ℕ) → (passes c && begins_to (caps 0) c) || (passes c && begins 0 c) ≡ passes c
     same c = whole (passes c) (begins_to (caps 0) c) (begins 0 c) (begun-one c)

@@ -30,14 +30,16 @@ lt-le a b h = omega (arith, ints)
 
 module _ (m : Menu) (counts : ℕ → ℕ → ℤ) (supply : List ℕ) (k : ℕ) where
   -- a 0 for each place is the line after the last bidder
-  pub line-last : (line : List ℤ) → k ≡ m.bidders → length line ≡ states_of supply → ((s : ℕ) → s < states_of supply → get_or line s (pos 0) ≡ pos 0) → IsLine m counts supply k line
+  pub line-last : (line : List ℤ) → k ≡ m.bidders → length line ≡ states_of supply → ((s : ℕ) → s < states_of supply → get_or line s (pos 0) ≡ pos 0)
+      → IsLine m counts supply k line
   line-last line last places zeros = record {
     places = places;
     exact = λ s h. rw (zeros s h, last) (entry-last m counts (left_at supply s));
   }
 
   -- line k + 1 plus what bidder k + 1 counts idle is line k with none of its bids counted
-  pub line-none : (below line : List ℤ) (idle : ℤ) → idle ≡ counts (suc k) 0 → m.lots (suc k) 0 ≡ [] → IsLine m counts supply (suc k) below → length line ≡ length below → ((s : ℕ) → s < length below → get_or line s (pos 0) ≡ get_or below s (pos 0) +ℤ idle) → IsLineUpTo m counts supply k 0 line
+  pub line-none : (below line : List ℤ) (idle : ℤ) → idle ≡ counts (suc k) 0 → m.lots (suc k) 0 ≡ [] → IsLine m counts supply (suc k) below
+      → length line ≡ length below → ((s : ℕ) → s < length below → get_or line s (pos 0) ≡ get_or below s (pos 0) +ℤ idle) → IsLineUpTo m counts supply k 0 line
   line-none below line idle is none e places reads = record {
     places = places ∙ e.places;
     exact = λ s h.
@@ -46,7 +48,9 @@ module _ (m : Menu) (counts : ℕ → ℕ → ℤ) (supply : List ℕ) (k : ℕ)
         rw turned (entry-none m counts k (left_at supply s) (get_or below s (pos 0)) none (e.exact s h));
   }
 
-  entry-raised : (i s : ℕ) (below : List ℤ) (old : ℤ) → s < states_of supply → IsLine m counts supply (suc k) below → IsEntryUpTo m counts k (left_at supply s) i old → IsEntryUpTo m counts k (left_at supply s) (suc i) (raised supply below (m.lots (suc k) (suc i)) (counts (suc k) (suc i)) s old)
+  entry-raised : (i s : ℕ) (below : List ℤ) (old : ℤ) → s < states_of supply → IsLine m counts supply (suc k) below
+      → IsEntryUpTo m counts k (left_at supply s) i old → IsEntryUpTo m counts k (left_at supply s) (suc i)
+      (raised supply below (m.lots (suc k) (suc i)) (counts (suc k) (suc i)) s old)
   entry-raised i s below old h e was =
       let lots = m.lots (suc k) (suc i) in
       let left = left_at supply s in
@@ -54,7 +58,8 @@ module _ (m : Menu) (counts : ℕ → ℕ → ℤ) (supply : List ℕ) (k : ℕ)
       let sum = counts (suc k) (suc i) +ℤ rest in
       elim (cases_Bool (is_within lots left)) [
         | inl fits ↦
-            let b : IsEntry m counts (suc k) (less left lots) rest = rw (left_at-less supply lots s h) at (e.exact (place_of supply (less left lots)) (place-less_below supply lots s h)) in
+            let b : IsEntry m counts (suc k) (less left lots) rest = rw (left_at-less supply lots s h)
+            at (e.exact (place_of supply (less left lots)) (place-less_below supply lots s h)) in
             rw (cond-true (is_within lots left) (int_max old sum) old fits)
             (by_lt_z old sum
             (λ lt. rw (int_max-right old sum (lt-le old sum lt)) (entry-takes m counts k left i old rest was b fits (lt-le old sum lt)))
@@ -63,7 +68,9 @@ module _ (m : Menu) (counts : ℕ → ℕ → ℤ) (supply : List ℕ) (k : ℕ)
       ]
 
   -- a line raised at each place by bid i + 1 of bidder k + 1 counts one bid more
-  pub line-more : (i : ℕ) (below old new : List ℤ) → IsLine m counts supply (suc k) below → IsLineUpTo m counts supply k i old → length new ≡ length old → ((s : ℕ) → s < length old → get_or new s (pos 0) ≡ raised supply below (m.lots (suc k) (suc i)) (counts (suc k) (suc i)) s (get_or old s (pos 0))) → IsLineUpTo m counts supply k (suc i) new
+  pub line-more : (i : ℕ) (below old new : List ℤ) → IsLine m counts supply (suc k) below → IsLineUpTo m counts supply k i old → length new ≡ length old
+      → ((s : ℕ) → s < length old → get_or new s (pos 0) ≡ raised supply below (m.lots (suc k) (suc i)) (counts (suc k) (suc i)) s (get_or old s (pos 0)))
+      → IsLineUpTo m counts supply k (suc i) new
   line-more i below old new e was places reads = record {
     places = places ∙ was.places;
     exact = λ s h. rw (reads s (omega (arith, was.places))) (entry-raised i s below (get_or old s (pos 0)) h e (was.exact s h));

@@ -9,11 +9,13 @@ use Rattle.auction_model.specs.Greatest.{IsFirstGreatest}
 -- a number is before a greater one, and every number but 0 is before 0
 pub before-greater : (i j : ℕ) → i < j → IsTrue (is_number_before (suc i) (suc j))
 before-greater i j h =
-    and_from (nat_lt 0 (suc i)) ((suc j == 0) || nat_lt (suc i) (suc j)) (lt-ltb 0 (suc i) (omega arith)) (or_right (suc j == 0) (nat_lt (suc i) (suc j)) (lt-ltb (suc i) (suc j) (omega arith)))
+    and_from (nat_lt 0 (suc i)) ((suc j == 0) || nat_lt (suc i) (suc j)) (lt-ltb 0 (suc i) (omega arith))
+    (or_right (suc j == 0) (nat_lt (suc i) (suc j)) (lt-ltb (suc i) (suc j) (omega arith)))
 
 -- the number of any bid is before 0
 pub before-none : (i : ℕ) → IsTrue (is_number_before (suc i) 0)
-before-none i = and_from (nat_lt 0 (suc i)) ((0 == 0) || nat_lt (suc i) 0) (lt-ltb 0 (suc i) (omega arith)) (or_left (0 == 0) (nat_lt (suc i) 0) (eq-eqb 0 0 refl))
+before-none i = and_from (nat_lt 0 (suc i)) ((0 == 0) || nat_lt (suc i) 0) (lt-ltb 0 (suc i) (omega arith))
+    (or_left (0 == 0) (nat_lt (suc i) 0) (eq-eqb 0 0 refl))
 
 -- what it says that one number is before another
 pub before-says : (i j : ℕ) → IsTrue (is_number_before i j) → (0 < i) × ((j ≡ 0) ⊎ (i < j))
@@ -98,16 +100,20 @@ earlier-cases (i ∷ c) (j ∷ d) e =
       | inl same ↦ by same (earlier-cases c d (omega (arith, e)))
     ]
   where
-    by : i ≡ j → (c ≡ d) ⊎ (IsTrue (is_earlier c d) ⊎ IsTrue (is_earlier d c)) → (i ∷ c ≡ j ∷ d) ⊎ (IsTrue (is_earlier (i ∷ c) (j ∷ d)) ⊎ IsTrue (is_earlier (j ∷ d) (i ∷ c)))
+    by : i ≡ j → (c ≡ d) ⊎ (IsTrue (is_earlier c d) ⊎ IsTrue (is_earlier d c)) → (i ∷ c ≡ j ∷ d)
+        ⊎ (IsTrue (is_earlier (i ∷ c) (j ∷ d)) ⊎ IsTrue (is_earlier (j ∷ d) (i ∷ c)))
     by same (inl rest) = inl (cc (same, rest))
     by same (inr (inl rest)) = inr (inl (rw same (earlier-rest j c d rest)))
     by same (inr (inr rest)) = inr (inr (rw same (earlier-rest j d c rest)))
 
 -- there is at most one first of the greatest
-pub one-first : (passes : List ℕ → Bool) (value : List ℕ → ℤ) (c d : List ℕ) → length c ≡ length d → IsFirstGreatest passes value c → IsFirstGreatest passes value d → c ≡ d
+pub one-first : (passes : List ℕ → Bool) (value : List ℕ → ℤ) (c d : List ℕ) → length c ≡ length d → IsFirstGreatest passes value c
+    → IsFirstGreatest passes value d → c ≡ d
 one-first passes value c d e g h =
     elim (earlier-cases c d e) [
       | inl same ↦ same
-      | inr (inl before) ↦ let low : value c <ℤ value d = h.first c g.passed before in let most : value d ≤ℤ value c = g.greatest d h.passed in absurd (omega (arith, ints, low, most))
-      | inr (inr after) ↦ let low : value d <ℤ value c = g.first d h.passed after in let most : value c ≤ℤ value d = h.greatest c g.passed in absurd (omega (arith, ints, low, most))
+      | inr (inl before) ↦ let low : value c <ℤ value d = h.first c g.passed before in let most : value d ≤ℤ value c = g.greatest d h.passed in
+          absurd (omega (arith, ints, low, most))
+      | inr (inr after) ↦ let low : value d <ℤ value c = g.first d h.passed after in let most : value c ≤ℤ value d = h.greatest c g.passed in
+          absurd (omega (arith, ints, low, most))
     ]

@@ -1,7 +1,8 @@
 -- The tests of packages, by the words of auction_model, and the order of packages.
 use Rattle.std.proofs.Common.{◌≡◌, ℕ, suc, ◌<◌, true, false, List, [], ◌∷◌, Some, None, length, refl, sym, subst, ◌∙◌, inl, inr, arith}
 use Rattle.std.specs.Prelude.{nat_lt, nat_le, ◌==◌, ◌&&◌}
-use Rattle.std.proofs.lemmas.Bool.{cases_Bool, eqb-true, eq-eqb, ne_eqb, ltb-true, lt-ltb, and_parts, or_cases, or_parts, cases_order, and_from, or_left, or_right}
+use Rattle.std.proofs.lemmas.Bool.{cases_Bool, eqb-true, eq-eqb, ne_eqb, ltb-true, lt-ltb, and_parts, or_cases, or_parts, cases_order, and_from, or_left}
+use Rattle.std.proofs.lemmas.Bool.{or_right}
 use Rattle.auction_model.specs.Package.{is_within, ComesBefore}
 use Rattle.auction_model.specs.PackageTests.{first_over, is_same, is_before}
 
@@ -27,7 +28,8 @@ is_before-not_same (a ∷ p) [] h = cc
 is_before-not_same (a ∷ p) (b ∷ q) h =
     elim (or_cases (nat_lt a b) ((a == b) && is_before p q) h) [
       | inl less ↦ let lt : a < b = ltb-true a b less in rw (ne_eqb a b (λ e. absurd (omega arith))) refl
-      | inr later ↦ let both : ((a == b) ≡ true) × (is_before p q ≡ true) = and_parts (a == b) (is_before p q) later in rw (both.0, is_before-not_same p q both.1) refl
+      | inr later ↦ let both : ((a == b) ≡ true) × (is_before p q ≡ true) = and_parts (a == b) (is_before p q) later in
+          rw (both.0, is_before-not_same p q both.1) refl
     ]
 
 -- a package before one that is before a third is before the third
@@ -51,7 +53,8 @@ is_before-trans (a ∷ p) (b ∷ q) (c ∷ r) h k =
             | inl less' ↦ let lt' : b < c = ltb-true b c less' in or_left (nat_lt a c) ((a == c) && is_before p r) (lt-ltb a c (omega arith))
             | inr later' ↦ let both' : ((b == c) ≡ true) × (is_before q r ≡ true) = and_parts (b == c) (is_before q r) later' in
                 let same' : b ≡ c = eqb-true b c both'.0 in
-                or_right (nat_lt a c) ((a == c) && is_before p r) (and_from (a == c) (is_before p r) (eq-eqb a c (same ∙ same')) (is_before-trans p q r both.1 both'.1))
+                or_right (nat_lt a c) ((a == c) && is_before p r) (and_from (a == c) (is_before p r) (eq-eqb a c (same ∙ same'))
+                (is_before-trans p q r both.1 both'.1))
           ]
     ]
 
@@ -91,7 +94,8 @@ pub comes-is_before : (p q : List ℕ) → ComesBefore p q → is_before p q ≡
 comes-is_before [] q comes = absurd comes
 comes-is_before (a ∷ p) [] comes = absurd comes
 comes-is_before (a ∷ p) (b ∷ q) (inl less) = or_left (nat_lt a b) ((a == b) && is_before p q) (lt-ltb a b less)
-comes-is_before (a ∷ p) (b ∷ q) (inr same) = or_right (nat_lt a b) ((a == b) && is_before p q) (and_from (a == b) (is_before p q) (eq-eqb a b same.0) (comes-is_before p q same.1))
+comes-is_before (a ∷ p) (b ∷ q) (inr same) = or_right (nat_lt a b) ((a == b) && is_before p q)
+    (and_from (a == b) (is_before p q) (eq-eqb a b same.0) (comes-is_before p q same.1))
 
 -- no category is over exactly where the package is within the supply
 pub within-first_over : (category : ℕ) (lots supply : List ℕ) → is_within lots supply ≡ true → first_over category lots supply ≡ None
@@ -108,12 +112,14 @@ pub first_over-within : (category : ℕ) (lots supply : List ℕ) → first_over
 first_over-within category [] supply h = refl
 first_over-within category (a ∷ lots) [] h =
     elim (cases_Bool (a == 0)) [
-      | inl none ↦ let later : first_over (suc category) lots [] ≡ None = rw none at h in and_from (a == 0) (is_within lots []) none (first_over-within (suc category) lots [] later)
+      | inl none ↦ let later : first_over (suc category) lots [] ≡ None = rw none at h in and_from (a == 0) (is_within lots []) none
+          (first_over-within (suc category) lots [] later)
       | inr some ↦ let no : Some category ≡ None = rw some at h in cc
     ]
 first_over-within category (a ∷ lots) (b ∷ supply) h =
     elim (cases_Bool (nat_le a b)) [
-      | inl low ↦ let later : first_over (suc category) lots supply ≡ None = rw low at h in and_from (nat_le a b) (is_within lots supply) low (first_over-within (suc category) lots supply later)
+      | inl low ↦ let later : first_over (suc category) lots supply ≡ None = rw low at h in and_from (nat_le a b) (is_within lots supply) low
+          (first_over-within (suc category) lots supply later)
       | inr over ↦ let no : Some category ≡ None = rw over at h in cc
     ]
 

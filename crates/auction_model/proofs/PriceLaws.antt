@@ -1,5 +1,6 @@
 -- Winning choices and Vickrey prices are there and are one, the core isn't empty, and there is at most one core outcome.
-use Rattle.std.specs.Prelude.{◌≡◌, ◌⊎◌, ℕ, zero, suc, ◌+◌, ◌-◌, ◌≤◌, ◌<◌, Bool, true, false, cond, not, ◌==◌, IsTrue, IsFalse, List, [], ◌∷◌, ◌++◌, length, take, replicate, get_or, refl, ℤ, pos, ◌+ℤ◌, ◌-ℤ◌, ◌*ℤ◌, ◌≤ℤ◌, ◌<ℤ◌}
+use Rattle.std.specs.Prelude.{◌≡◌, ◌⊎◌, ℕ, zero, suc, ◌+◌, ◌-◌, ◌≤◌, ◌<◌, Bool, true, false, cond, not, ◌==◌, IsTrue, IsFalse, List, [], ◌∷◌, ◌++◌, length}
+use Rattle.std.specs.Prelude.{take, replicate, get_or, refl, ℤ, pos, ◌+ℤ◌, ◌-ℤ◌, ◌*ℤ◌, ◌≤ℤ◌, ◌<ℤ◌}
 use Rattle.std.proofs.Common.{inl, inr, sym, ◌∙◌, ap, arith, subst}
 use Rattle.std.proofs.lemmas.Bool.{false≢true, and_parts, and_from, not_from_false, not_from_true, eq-eqb, ne_eqb, cases_Bool, cases_lt}
 use Rattle.std.proofs.lemmas.List.{get_or-replicate, get_or_past, length-replicate, take_more, take_all, length-take}
@@ -8,7 +9,8 @@ use Rattle.auction_model.specs.Market.{Market, sum_after, value_of, number_of, w
 use Rattle.auction_model.specs.Greatest.{IsGreatestValue, IsWinning}
 use Rattle.auction_model.specs.Lawful.{IsMarket}
 use Rattle.auction_model.specs.Lowered.{of_bidder}
-use Rattle.auction_model.specs.Prices.{Point, sum_over, everyone, paid, offer, IsBlocking, IsUnblocked, IsCorePoint, allowed_without, IsVickreyPrice, AreVickreyPrices, SamePoint, square_distance, IsCoreOutcome}
+use Rattle.auction_model.specs.Prices.{Point, sum_over, everyone, paid, offer, IsBlocking, IsUnblocked, IsCorePoint, allowed_without, IsVickreyPrice}
+use Rattle.auction_model.specs.Prices.{AreVickreyPrices, SamePoint, square_distance, IsCoreOutcome}
 use Rattle.auction_model.proofs.OrderLaws.{one-first}
 use Rattle.auction_model.proofs.FirstLaws.{HasFirst, has-first}
 
@@ -24,7 +26,11 @@ nobody n j = not_from_true (number_of (replicate n 0) j == 0) (eq-eqb (number_of
 
 module _ (m : Market) (law : IsMarket m) where
   bounded : (c : List ℕ) → IsTrue (m.allowed c) → (length c ≡ m.bidders) × ((i : ℕ) → i < m.bidders → get_or c i 0 ≤ m.bids (suc i))
-  bounded c t = (law.lengths c t, λ i h. let low : get_or c (suc i - 1) 0 ≤ m.bids (suc i) = law.numbers c (suc i) t (omega arith) (omega (arith, h)) in let same : suc i - 1 ≡ i = omega arith in rw same at low)
+  bounded c t = (
+    law.lengths c t,
+    λ i h. let low : get_or c (suc i - 1) 0 ≤ m.bids (suc i) = law.numbers c (suc i) t (omega arith) (omega (arith, h)) in
+        let same : suc i - 1 ≡ i = omega arith in rw same at low,
+  )
 
   -- a lawful market has a winning choice
   pub winning-exists : (c : List ℕ) × IsWinning m c
@@ -40,11 +46,13 @@ module _ (m : Market) (law : IsMarket m) where
 
   -- the greatest value without a bidder
   greatest-without : (j : ℕ) → (most : ℤ) × IsGreatestValue (allowed_without m j) (value_of m) most
-  greatest-without j = by (has-first m.bidders (λ i. m.bids (suc i)) (allowed_without m j) (value_of m) (λ c t. bounded c (and_parts (m.allowed c) (not (uses c j)) t).0))
+  greatest-without j = by (has-first m.bidders (λ i. m.bids (suc i)) (allowed_without m j) (value_of m)
+      (λ c t. bounded c (and_parts (m.allowed c) (not (uses c j)) t).0))
     where
       by : HasFirst (allowed_without m j) (value_of m) → (most : ℤ) × IsGreatestValue (allowed_without m j) (value_of m) most
       by (inl found) = (value_of m found.0, record { reached = (found.0, found.1.passed, refl); bound = found.1.greatest })
-      by (inr none) = absurd (none (replicate m.bidders 0) (and_from (m.allowed (replicate m.bidders 0)) (not (uses (replicate m.bidders 0) j)) law.empty (not_from_false (uses (replicate m.bidders 0) j) (nobody m.bidders j))))
+      by (inr none) = absurd (none (replicate m.bidders 0) (and_from (m.allowed (replicate m.bidders 0)) (not (uses (replicate m.bidders 0) j)) law.empty
+          (not_from_false (uses (replicate m.bidders 0) j) (nobody m.bidders j))))
 
   vickrey-price : (z : List ℕ) (j : ℕ) → (v : ℤ) × IsVickreyPrice m z j v
   vickrey-price z j = by (cases_Bool (uses z j))
@@ -148,7 +156,8 @@ module _ (m : Market) (law : IsMarket m) (z : List ℕ) (g : IsWinning m z) wher
   unblocked : IsUnblocked m z all_bids
   unblocked k f allowed within =
       let none : sum_over k (λ j. (pos 1 *ℤ worth_in m z j) -ℤ of_bidder (won m 0 z) j) m.bidders ≡ pos 0 =
-      over-same k (λ j. (pos 1 *ℤ worth_in m z j) -ℤ of_bidder (won m 0 z) j) (λ j. pos 0) m.bidders (λ j some inside. let own = paid-own j some inside in omega (arith, ints, own)) ∙ over-zero k m.bidders in
+      over-same k (λ j. (pos 1 *ℤ worth_in m z j) -ℤ of_bidder (won m 0 z) j) (λ j. pos 0) m.bidders
+      (λ j some inside. let own = paid-own j some inside in omega (arith, ints, own)) ∙ over-zero k m.bidders in
       let most : value_of m f ≤ℤ value_of m z = g.greatest f allowed in
       let all = paid-value in
       omega (arith, ints, none, most, all)
@@ -160,7 +169,8 @@ module _ (m : Market) (law : IsMarket m) (z : List ℕ) (g : IsWinning m z) wher
     record {
       den_positive = omega (arith, ints);
       bidders = won-length m 0 z ∙ law.lengths z g.passed;
-      winners = λ j some inside wins. let own = paid-own j some inside in let least : pos 0 ≤ℤ worth_in m z j = law.not_negative z j g.passed some inside in (omega (arith, ints, own, least), omega (arith, ints, own));
+      winners = λ j some inside wins. let own = paid-own j some inside in let least : pos 0 ≤ℤ worth_in m z j = law.not_negative z j g.passed some inside in
+          (omega (arith, ints, own, least), omega (arith, ints, own));
       losers = λ j some inside loses. paid-own j some inside ∙ nothing j loses;
       unblocked = unblocked;
     },
@@ -182,7 +192,8 @@ module _ (m : Market) (law : IsMarket m) (w : ℕ → ℕ) (z : List ℕ) (p q :
       let high : (p.den *ℤ paid m q) ≤ℤ (q.den *ℤ paid m p) = b.least p a.core in
       let sums : q.den *ℤ paid m p ≡ p.den *ℤ paid m q = omega (arith, ints, low, high) in
       let nearer : ((q.den *ℤ q.den) *ℤ square_distance m w v.0 p) <ℤ ((p.den *ℤ p.den) *ℤ square_distance m w v.0 q) = a.nearest v.0 v.1 q b.core sums apart in
-      let farther : ((p.den *ℤ p.den) *ℤ square_distance m w v.0 q) <ℤ ((q.den *ℤ q.den) *ℤ square_distance m w v.0 p) = b.nearest v.0 v.1 p a.core (sym sums) (λ same. apart (λ j some inside. sym (same j some inside))) in
+      let farther : ((p.den *ℤ p.den) *ℤ square_distance m w v.0 q) <ℤ ((q.den *ℤ q.den) *ℤ square_distance m w v.0 p) =
+      b.nearest v.0 v.1 p a.core (sym sums) (λ same. apart (λ j some inside. sym (same j some inside))) in
       strict _ _ nearer farther
     where
       strict : (x y : ℤ) → x <ℤ y → y <ℤ x → ⊥
@@ -193,7 +204,8 @@ module _ (m : Market) (law : IsMarket m) (w : ℕ → ℕ) (z : List ℕ) (p q :
   outcome-one j some inside =
       by_lt_z (q.den *ℤ of_bidder p.at j) (p.den *ℤ of_bidder q.at j)
       (λ less. absurd (not_apart (λ same. strict _ _ less (same j some inside))))
-      (λ most. by_lt_z (p.den *ℤ of_bidder q.at j) (q.den *ℤ of_bidder p.at j) (λ less. absurd (not_apart (λ same. strict _ _ less (sym (same j some inside))))) (λ least. even _ _ most least))
+      (λ most. by_lt_z (p.den *ℤ of_bidder q.at j) (q.den *ℤ of_bidder p.at j) (λ less. absurd
+      (not_apart (λ same. strict _ _ less (sym (same j some inside))))) (λ least. even _ _ most least))
     where
       strict : (x y : ℤ) → x <ℤ y → x ≡ y → ⊥
       strict x y h e = omega (arith, ints, h, e)

@@ -1,5 +1,6 @@
 -- A bid's box in the mixed radix, block by block.
-use Rattle.std.specs.Prelude.{◌≡◌, ℕ, suc, ◌+◌, ◌-◌, ◌*◌, ◌/◌, ◌%◌, ◌≤◌, ◌<◌, nat_le, List, [], ◌∷◌, length, get_or, take, drop, ℤ, pos, ◌+ℤ◌, refl, unsigned_abs}
+use Rattle.std.specs.Prelude.{◌≡◌, ℕ, suc, ◌+◌, ◌-◌, ◌*◌, ◌/◌, ◌%◌, ◌≤◌, ◌<◌, nat_le, List, [], ◌∷◌, length, get_or, take, drop, ℤ, pos, ◌+ℤ◌, refl}
+use Rattle.std.specs.Prelude.{unsigned_abs}
 use Rattle.std.specs.Int.{int_max}
 use Rattle.std.proofs.Common.{sym, ◌∙◌, ap, arith, inl, inr}
 use Rattle.std.proofs.lemmas.Bool.{cond-false, and_left, lt-leb, le-leb, cases_lt}
@@ -14,7 +15,8 @@ use Rattle.auction_model.proofs.PartReads.{read-part, read-before, read-middle, 
 use borrow.Rule.Slice.PartMut.{put_mid}
 
 -- a bid of no category fits everywhere and leaves all
-pub raised-all : (supply : List ℕ) (below : List ℤ) (worth : ℤ) (s : ℕ) (old : ℤ) → s < states_of supply → raised supply below [] worth s old ≡ int_max old (worth +ℤ get_or below s (pos 0))
+pub raised-all : (supply : List ℕ) (below : List ℤ) (worth : ℤ) (s : ℕ) (old : ℤ) → s < states_of supply
+    → raised supply below [] worth s old ≡ int_max old (worth +ℤ get_or below s (pos 0))
 raised-all supply below worth s old h =
     ap (λ n. int_max old (worth +ℤ get_or below n (pos 0))) (ap (place_of supply) (less-empty (left_at supply s)) ∙ place_of-left_at supply s h)
 
@@ -44,7 +46,8 @@ width-at_most [] h = absurd (omega arith)
 width-at_most (u ∷ supply) h = omega arith
 
 -- a place of a block that has too few of the first category
-raised-low : (supply p : List ℕ) (below : List ℤ) (worth : ℤ) (q r : ℕ) (old : ℤ) → 0 < length p → length p ≤ length supply → r < states_of (drop 1 supply) → q < get_or p 0 0 → raised supply below p worth (q * states_of (drop 1 supply) + r) old ≡ old
+raised-low : (supply p : List ℕ) (below : List ℤ) (worth : ℤ) (q r : ℕ) (old : ℤ) → 0 < length p → length p ≤ length supply → r < states_of (drop 1 supply)
+    → q < get_or p 0 0 → raised supply below p worth (q * states_of (drop 1 supply) + r) old ≡ old
 raised-low [] p below worth q r old some few h low = absurd (omega arith)
 raised-low (u ∷ supply) [] below worth q r old some few h low = absurd (omega arith)
 raised-low (u ∷ supply) (a ∷ p) below worth q r old some few h low =
@@ -52,7 +55,8 @@ raised-low (u ∷ supply) (a ∷ p) below worth q r old some few h low =
     (cond-false _ _ old (and_left (nat_le a q) (is_within p (left_at supply r)) (lt-leb a q low)))
 
 -- a place of another block: the rest of the bid is counted in that block, from the part of the line that lies so many blocks before
-raised-high : (supply p : List ℕ) (below part : List ℤ) (worth : ℤ) (q r : ℕ) (old : ℤ) → 0 < length p → length p ≤ length supply → r < states_of (drop 1 supply) → get_or p 0 0 ≤ q
+raised-high : (supply p : List ℕ) (below part : List ℤ) (worth : ℤ) (q r : ℕ) (old : ℤ) → 0 < length p → length p ≤ length supply
+    → r < states_of (drop 1 supply) → get_or p 0 0 ≤ q
     → ((i : ℕ) → i < states_of (drop 1 supply) → get_or part i (pos 0) ≡ get_or below ((q - get_or p 0 0) * states_of (drop 1 supply) + i) (pos 0))
     → raised supply below p worth (q * states_of (drop 1 supply) + r) old ≡ raised (drop 1 supply) part (drop 1 p) worth r old
 raised-high [] p below part worth q r old some few h high reads = absurd (omega arith)
@@ -66,7 +70,8 @@ split-place : (S s : ℕ) → 0 < S → s / S * S + s % S ≡ s
 split-place S s h = div-add-mod' s S
 
 -- places before the first block with enough of the first category keep their entries
-pub raised-before : (supply p : List ℕ) (below : List ℤ) (worth : ℤ) (s : ℕ) (old : ℤ) → 0 < length p → length p ≤ length supply → s < get_or p 0 0 * states_of (drop 1 supply) → raised supply below p worth s old ≡ old
+pub raised-before : (supply p : List ℕ) (below : List ℤ) (worth : ℤ) (s : ℕ) (old : ℤ) → 0 < length p → length p ≤ length supply
+    → s < get_or p 0 0 * states_of (drop 1 supply) → raised supply below p worth s old ≡ old
 raised-before supply p below worth s old some few h =
     let S = states_of (drop 1 supply) in
     let positive : 0 < S = states-positive (drop 1 supply) in
@@ -74,7 +79,8 @@ raised-before supply p below worth s old some few h =
     ∙ raised-low supply p below worth (s / S) (s % S) old some few (mod_below s S positive) (div_below s S (get_or p 0 0) positive h)
 
 -- the last category of a bid: its places are one run
-pub raised-last : (supply p : List ℕ) (below : List ℤ) (worth : ℤ) (s : ℕ) (old : ℤ) → length p ≡ 1 → 1 ≤ length supply → get_or p 0 0 * states_of (drop 1 supply) ≤ s → s < states_of supply
+pub raised-last : (supply p : List ℕ) (below : List ℤ) (worth : ℤ) (s : ℕ) (old : ℤ) → length p ≡ 1 → 1 ≤ length supply
+    → get_or p 0 0 * states_of (drop 1 supply) ≤ s → s < states_of supply
     → raised supply below p worth s old ≡ int_max old (worth +ℤ get_or below (s - get_or p 0 0 * states_of (drop 1 supply)) (pos 0))
 raised-last supply p below worth s old one some from inside =
     let S = states_of (drop 1 supply) in
@@ -108,7 +114,8 @@ raised-last supply p below worth s old one some from inside =
         sym sum ∙ ap (λ x. x * S) whole
 
 -- one run written back into the line
-module _ (supply p : List ℕ) (below line ys : List ℤ) (worth : ℤ) (one : length p ≡ 1) (some : 1 ≤ length supply) (places : length line ≡ states_of supply) where
+module _ (supply p : List ℕ) (below line ys : List ℤ) (worth : ℤ) (one : length p ≡ 1) (some : 1 ≤ length supply)
+    (places : length line ≡ states_of supply) where
   from : ℕ
   from = get_or p 0 0 * states_of (drop 1 supply)
 
@@ -134,8 +141,10 @@ module _ (supply p : List ℕ) (below line ys : List ℤ) (worth : ℤ) (one : l
       ]
 
 -- one block written back into the line
-module _ (supply p : List ℕ) (below initial line ys : List ℤ) (worth : ℤ) (some : 0 < length p) (few : length p ≤ length supply) (q S : ℕ) (width : S ≡ states_of (drop 1 supply))
-    (rest : (s : ℕ) → q * S ≤ s → get_or line s (pos 0) ≡ get_or initial s (pos 0)) (k : ℕ) (k-is : k ≡ S) (inside : q * S ≤ length line) (count : length ys ≡ k) where
+module _ (supply p : List ℕ) (below initial line ys : List ℤ) (worth : ℤ) (some : 0 < length p) (few : length p ≤ length supply) (q S : ℕ)
+    (width : S ≡ states_of (drop 1 supply))
+    (rest : (s : ℕ) → q * S ≤ s → get_or line s (pos 0) ≡ get_or initial s (pos 0)) (k : ℕ) (k-is : k ≡ S) (inside : q * S ≤ length line)
+    (count : length ys ≡ k) where
   -- with block q written anew the places to its end are as after the bid, if those before it were
   pub block-done : (part : List ℤ) → get_or p 0 0 ≤ q
       → ((i : ℕ) → i < S → get_or part i (pos 0) ≡ get_or below ((q - get_or p 0 0) * S + i) (pos 0))
@@ -168,7 +177,8 @@ module _ (supply p : List ℕ) (below initial line ys : List ℤ) (worth : ℤ) 
       read-after (q * S) k line ys inside count s (omega arith) ∙ rest s (omega arith)
 
 -- a part of a line has no larger numbers
-pub small-part : (below : List ℤ) (from n most : ℕ) → ((s : ℕ) → unsigned_abs (get_or below s (pos 0)) ≤ most) → (s : ℕ) → unsigned_abs (get_or (take n (drop from below)) s (pos 0)) ≤ most
+pub small-part : (below : List ℤ) (from n most : ℕ) → ((s : ℕ) → unsigned_abs (get_or below s (pos 0)) ≤ most) → (s : ℕ)
+    → unsigned_abs (get_or (take n (drop from below)) s (pos 0)) ≤ most
 small-part below from n most small s =
     elim (cases_lt s n) [
       | inl low ↦ rw (read-part below from n s low) (small (from + s))

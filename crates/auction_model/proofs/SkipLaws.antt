@@ -48,7 +48,8 @@ known-skip m j k (i ∷ c) h =
       | inr other ↦
           let same : (without m j).bids (suc k) ≡ m.bids (suc k) = cond-false (eqb (suc k) j) 0 (m.bids (suc k)) (ne_eqb (suc k) j other) in
           let next : j - suc k ≡ suc (j - suc (suc k)) = omega (arith, other) in
-          rw (same, known-skip m j (suc k) c (omega (arith, other)), next) (swap-last (leb i (m.bids (suc k))) (is_known_after m (suc k) c) (not (not (eqb (get_or c (j - suc (suc k)) 0) 0))))
+          rw (same, known-skip m j (suc k) c (omega (arith, other)), next) (swap-last (leb i (m.bids (suc k))) (is_known_after m (suc k) c)
+          (not (not (eqb (get_or c (j - suc (suc k)) 0) 0))))
     ]
 
 -- the last of three conditions moves before the second
@@ -71,26 +72,33 @@ fits-past_skip : (m : Menu) (j k : ℕ) (s c : List ℕ) → j ≤ k → fits_af
 fits-past_skip m j k s c h = rw (known-past_skip m j k c h, packages-without m j k c) refl
 
 -- the lines from j on are those of all bids
-pub line-past_skip : (m : Menu) (counts : ℕ → ℕ → ℤ) (supply : List ℕ) (j k : ℕ) (line : List ℤ) → j ≤ k → IsLine (without m 0) counts supply k line → IsLine (without m j) counts supply k line
+pub line-past_skip : (m : Menu) (counts : ℕ → ℕ → ℤ) (supply : List ℕ) (j k : ℕ) (line : List ℤ) → j ≤ k → IsLine (without m 0) counts supply k line
+    → IsLine (without m j) counts supply k line
 line-past_skip m counts supply j k line h e = record {
   places = e.places;
-  exact = λ s inside. IsGreatestValue-same (fits_after (without m 0) k (left_at supply s)) (fits_after (without m j) k (left_at supply s)) (sum_after counts k) (get_or line s (pos 0))
+  exact = λ s inside. IsGreatestValue-same (fits_after (without m 0) k (left_at supply s)) (fits_after (without m j) k (left_at supply s))
+      (sum_after counts k) (get_or line s (pos 0))
       (λ c. fits-without_none m k (left_at supply s) c ∙ sym (fits-past_skip m j k (left_at supply s) c h)) (e.exact s inside);
 }
 
 -- line j - 1 is line j where bidder j has no bids and counts nothing idle
-pub line-at_skip : (m : Menu) (counts : ℕ → ℕ → ℤ) (supply : List ℕ) (j : ℕ) (line : List ℤ) → 0 < j → j ≤ m.bidders → m.lots j 0 ≡ [] → counts j 0 ≡ pos 0 → IsLine (without m j) counts supply j line → IsLine (without m j) counts supply (j - 1) line
+pub line-at_skip : (m : Menu) (counts : ℕ → ℕ → ℤ) (supply : List ℕ) (j : ℕ) (line : List ℤ) → 0 < j → j ≤ m.bidders → m.lots j 0 ≡ [] → counts j 0 ≡ pos 0
+    → IsLine (without m j) counts supply j line → IsLine (without m j) counts supply (j - 1) line
 line-at_skip m counts supply j line some inside empty idle e =
     let none : (without m j).bids j ≡ 0 = cond-true (eqb j j) 0 (m.bids j) (eq-eqb j j refl) in
     bidder-all (without m j) counts supply j some line inside
     (rw none (bidder-none (without m j) counts supply j some line line (pos 0) (sym idle) empty e refl (λ s h. omega (arith, ints))))
 
 -- what a table without bidder j says of the market
-pub entry-skip : (m : Menu) (counts : ℕ → ℕ → ℤ) (supply : List ℕ) (j : ℕ) (most : ℤ) → 0 < j → IsEntry (without m j) counts 0 supply most → IsGreatestValue (λ c. fits_after m 0 supply c && not (uses c j)) (sum_after counts 0) most
+pub entry-skip : (m : Menu) (counts : ℕ → ℕ → ℤ) (supply : List ℕ) (j : ℕ) (most : ℤ) → 0 < j → IsEntry (without m j) counts 0 supply most
+    → IsGreatestValue (λ c. fits_after m 0 supply c && not (uses c j)) (sum_after counts 0) most
 entry-skip m counts supply j most some e =
-    IsGreatestValue-same (fits_after (without m j) 0 supply) (λ c. fits_after m 0 supply c && not (uses c j)) (sum_after counts 0) most (λ c. fits-skip m j supply c some) e
+    IsGreatestValue-same (fits_after (without m j) 0 supply) (λ c. fits_after m 0 supply c && not (uses c j)) (sum_after counts 0) most
+    (λ c. fits-skip m j supply c some) e
 
 -- the first of the greatest with bidder j left out is that of the fitting choices that don't use j
-pub first-skip : (m : Menu) (counts : ℕ → ℕ → ℤ) (supply : List ℕ) (j : ℕ) (c : List ℕ) → 0 < j → IsFirstGreatest (fits_after (without m j) 0 supply) (sum_after counts 0) c → IsFirstGreatest (λ d. fits_after m 0 supply d && not (uses d j)) (sum_after counts 0) c
+pub first-skip : (m : Menu) (counts : ℕ → ℕ → ℤ) (supply : List ℕ) (j : ℕ) (c : List ℕ) → 0 < j → IsFirstGreatest (fits_after (without m j) 0 supply)
+    (sum_after counts 0) c → IsFirstGreatest (λ d. fits_after m 0 supply d && not (uses d j)) (sum_after counts 0) c
 first-skip m counts supply j c some g =
-    IsFirstGreatest-same (fits_after (without m j) 0 supply) (λ d. fits_after m 0 supply d && not (uses d j)) (sum_after counts 0) (sum_after counts 0) c (λ d. fits-skip m j supply d some) (λ d. refl) g
+    IsFirstGreatest-same (fits_after (without m j) 0 supply) (λ d. fits_after m 0 supply d && not (uses d j)) (sum_after counts 0) (sum_after counts 0) c
+    (λ d. fits-skip m j supply d some) (λ d. refl) g

@@ -33,7 +33,8 @@ trim-less (suc n) [] (b ∷ l) h = refl
 trim-less (suc n) (a ∷ p) (b ∷ l) h = ap (λ r. (b - a) ∷ r) (trim-less n p l (λ k low. h (suc k) (omega arith)))
 
 -- an entry is raised alike by a bid and by the bid without its empty end
-pub raised-trim : (n : ℕ) (supply p : List ℕ) (below : List ℤ) (worth : ℤ) (s : ℕ) (old : ℤ) → IsNothingFrom n p → raised supply below (take n p) worth s old ≡ raised supply below p worth s old
+pub raised-trim : (n : ℕ) (supply p : List ℕ) (below : List ℤ) (worth : ℤ) (s : ℕ) (old : ℤ) → IsNothingFrom n p
+    → raised supply below (take n p) worth s old ≡ raised supply below p worth s old
 raised-trim n supply p below worth s old h = rw (trim-within n p (left_at supply s) h, trim-less n p (left_at supply s) h) refl
 
 -- a package of nothing has the first place

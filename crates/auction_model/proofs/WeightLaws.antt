@@ -16,13 +16,15 @@ over-scale f (suc n) = step (sum_over everyone (λ j. pos 232792560 *ℤ f j) n)
 
 -- with all weights 1 the distance is 232,792,560 times the plain sum of squares
 pub plain-distance : (m : Market) (v : ℕ → ℤ) (p : Point)
-    → square_distance m alike v p ≡ pos 232792560 *ℤ sum_over everyone (λ j. (of_bidder p.at j -ℤ (p.den *ℤ v j)) *ℤ (of_bidder p.at j -ℤ (p.den *ℤ v j))) m.bidders
+    → square_distance m alike v p ≡ pos 232792560 *ℤ sum_over everyone (λ j. (of_bidder p.at j -ℤ (p.den *ℤ v j)) *ℤ (of_bidder p.at j -ℤ (p.den *ℤ v j)))
+    m.bidders
 plain-distance m v p = over-scale (λ j. (of_bidder p.at j -ℤ (p.den *ℤ v j)) *ℤ (of_bidder p.at j -ℤ (p.den *ℤ v j))) m.bidders
 
 module _ (m : Market) (w y : ℕ → ℕ) (same : (j : ℕ) → 0 < j → j ≤ m.bidders → w j ≡ y j) where
   distance-same : (v : ℕ → ℤ) (p : Point) → square_distance m w v p ≡ square_distance m y v p
   distance-same v p =
-      over-same everyone (λ j. share (w j) *ℤ ((of_bidder p.at j -ℤ (p.den *ℤ v j)) *ℤ (of_bidder p.at j -ℤ (p.den *ℤ v j)))) (λ j. share (y j) *ℤ ((of_bidder p.at j -ℤ (p.den *ℤ v j)) *ℤ (of_bidder p.at j -ℤ (p.den *ℤ v j)))) m.bidders
+      over-same everyone (λ j. share (w j) *ℤ ((of_bidder p.at j -ℤ (p.den *ℤ v j)) *ℤ (of_bidder p.at j -ℤ (p.den *ℤ v j))))
+      (λ j. share (y j) *ℤ ((of_bidder p.at j -ℤ (p.den *ℤ v j)) *ℤ (of_bidder p.at j -ℤ (p.den *ℤ v j)))) m.bidders
       (λ j some inside. ap (λ n. share n *ℤ ((of_bidder p.at j -ℤ (p.den *ℤ v j)) *ℤ (of_bidder p.at j -ℤ (p.den *ℤ v j)))) (same j some inside))
 
   -- the nearest point is the same by weights that are equal for all bidders
@@ -33,7 +35,8 @@ module _ (m : Market) (w y : ℕ → ℕ) (same : (j : ℕ) → 0 < j → j ≤ 
       (subst (λ x. ((q.den *ℤ q.den) *ℤ square_distance m w v p) <ℤ ((p.den *ℤ p.den) *ℤ x)) (distance-same v q) less)
 
 -- a core outcome is one too by other weights that are equal for all bidders
-pub outcome-weights : (m : Market) (w y : ℕ → ℕ) (z : List ℕ) (p : Point) → ((j : ℕ) → 0 < j → j ≤ m.bidders → w j ≡ y j) → IsCoreOutcome m w z p → IsCoreOutcome m y z p
+pub outcome-weights : (m : Market) (w y : ℕ → ℕ) (z : List ℕ) (p : Point) → ((j : ℕ) → 0 < j → j ≤ m.bidders → w j ≡ y j) → IsCoreOutcome m w z p
+    → IsCoreOutcome m y z p
 outcome-weights m w y z p same h = record {
   greatest = h.greatest;
   core = h.core;

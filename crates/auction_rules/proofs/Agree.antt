@@ -28,10 +28,14 @@ demand-same terms n r held other agree few = sum_of-same (no_lots terms) (held r
 pub prices_after-same : (terms : Terms) (n : ℕ) (held other : ℕ → ℕ → List ℕ) → Agree n held other → prices_after terms held n ≡ prices_after terms other n
 prices_after-same terms zero held other agree = refl
 prices_after-same terms (suc n) held other agree =
-    rw (prices_after-same terms n held other (Agree-fewer (suc n) n held other agree (omega arith)), demand-same terms (suc n) (suc n) held other agree (omega arith)) refl
+    rw (
+      prices_after-same terms n held other (Agree-fewer (suc n) n held other agree (omega arith)),
+      demand-same terms (suc n) (suc n) held other agree (omega arith),
+    ) refl
 
 -- where the same is held up to round n, a bidder's eligibility after n rounds is the same
-pub eligibility_after-same : (terms : Terms) (j n : ℕ) (held other : ℕ → ℕ → List ℕ) → Agree n held other → eligibility_after terms held j n ≡ eligibility_after terms other j n
+pub eligibility_after-same : (terms : Terms) (j n : ℕ) (held other : ℕ → ℕ → List ℕ) → Agree n held other
+    → eligibility_after terms held j n ≡ eligibility_after terms other j n
 eligibility_after-same terms j zero held other agree = refl
 eligibility_after-same terms j (suc n) held other agree = ap (cost_of terms.points) (agree.same (suc n) j (omega arith))
 
@@ -39,7 +43,11 @@ eligibility_after-same terms j (suc n) held other agree = ap (cost_of terms.poin
 pub final_round-same : (terms : Terms) (n : ℕ) (held other : ℕ → ℕ → List ℕ) → Agree n held other → final_round terms held n ≡ final_round terms other n
 final_round-same terms zero held other agree = refl
 final_round-same terms (suc n) held other agree =
-    rw (final_round-same terms n held other (Agree-fewer (suc n) n held other agree (omega arith)), demand-same terms (suc n) (suc n) held other agree (omega arith)) refl
+    rw (
+      final_round-same terms n held other (Agree-fewer (suc n) n held other agree (omega arith)),
+      demand-same terms (suc n) (suc n) held other agree
+          (omega arith),
+    ) refl
 
 -- where the same is held up to round n, a bidder's first n rounds are the same
 pub own_rounds-same : (terms : Terms) (j n : ℕ) (held other : ℕ → ℕ → List ℕ) → Agree n held other → own_rounds terms held j n ≡ own_rounds terms other j n
@@ -76,5 +84,6 @@ final_round-bounds terms (suc n) held final h =
     ]
 
 -- a round that is final stays so
-pub final_round-stays : (terms : Terms) (n : ℕ) (held : ℕ → ℕ → List ℕ) (final : ℕ) → final_round terms held n ≡ Some final → final_round terms held (suc n) ≡ Some final
+pub final_round-stays : (terms : Terms) (n : ℕ) (held : ℕ → ℕ → List ℕ) (final : ℕ) → final_round terms held n ≡ Some final
+    → final_round terms held (suc n) ≡ Some final
 final_round-stays terms n held final h = rw h refl

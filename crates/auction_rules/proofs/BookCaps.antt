@@ -1,5 +1,6 @@
 -- The bids of a book are within their caps over themselves.
-use Rattle.std.proofs.Common.{◌≡◌, ℕ, suc, ◌+◌, ◌-◌, ◌<◌, ◌≤◌, max, min, Bool, true, false, not, ◌||◌, List, [], ◌∷◌, ◌++◌, Option, Some, None, refl, sym, ◌∙◌, ap, inl, inr, arith, map}
+use Rattle.std.proofs.Common.{◌≡◌, ℕ, suc, ◌+◌, ◌-◌, ◌<◌, ◌≤◌, max, min, Bool, true, false, not, ◌||◌, List, [], ◌∷◌, ◌++◌, Option, Some, None, refl, sym}
+use Rattle.std.proofs.Common.{◌∙◌, ap, inl, inr, arith, map}
 use Rattle.std.specs.Prelude.{if◌then◌else◌, filter, nat_le, ◌==◌}
 use Rattle.std.proofs.lemmas.Bool.{cases_Bool, cond-true, cond-false, leb-true, leb-false, le-leb, eqb-true, and_parts}
 use Rattle.lots.specs.auction_model.specs.Book.{BookBid}
@@ -7,7 +8,8 @@ use Rattle.lots.specs.auction_model.specs.Package.{cost_of}
 use Rattle.lots.specs.auction_model.specs.PackageTests.{is_empty, is_same, is_before}
 use Rattle.auction_rules.specs.Step.{last_or}
 use Rattle.auction_rules.specs.Rounds.{OwnRound}
-use Rattle.auction_rules.specs.Caps.{no_round, last_round, enough, constraining, clock_bid, greatest, highest, cap_by, cap_among, cap_of, excess_cap, excess_or, first_excess, list_fault}
+use Rattle.auction_rules.specs.Caps.{no_round, last_round, enough, constraining, clock_bid, greatest, highest, cap_by, cap_among, cap_of, excess_cap}
+use Rattle.auction_rules.specs.Caps.{excess_or, first_excess, list_fault}
 use Rattle.auction_rules.specs.Lines.{placed, in_order, priced}
 use Rattle.auction_rules.specs.BookOfLog.{bid_lots, best_bids}
 use Rattle.lots.specs.auction_model.proofs.PackageTestLaws.{is_same-true, is_same-refl}
@@ -54,22 +56,26 @@ among-in_order lots [] = refl
 among-in_order lots (p ∷ ps) = among-placed lots p (in_order ps) ∙ ap (λ (b : Bool). is_same p lots || b) (among-in_order lots ps)
 
 -- the greatest amount of a list of packages with their greatest amounts
-greatest-priced : (lots : List ℕ) (bids : List BookBid) (ps : List (List ℕ)) → greatest lots (priced (λ p. Some (greatest p bids)) ps) ≡ (if among lots ps then greatest lots bids else 0)
+greatest-priced : (lots : List ℕ) (bids : List BookBid) (ps : List (List ℕ)) → greatest lots (priced (λ p. Some (greatest p bids)) ps) ≡
+    (if among lots ps then greatest lots bids else 0)
 greatest-priced lots bids [] = refl
 greatest-priced lots bids (p ∷ ps) =
     elim (cases_Bool (is_same p lots)) [
       | inl same ↦
           let now : greatest p bids ≡ greatest lots bids = ap (λ (q : List ℕ). greatest q bids) (is_same-true p lots same) in
-          rw (same, greatest-priced lots bids ps) (elim (cases_Bool (among lots ps)) [ inl more ↦ rw more (omega (arith, now)) | inr none ↦ rw none (omega (arith, now)) ])
+          rw (same, greatest-priced lots bids ps) (elim (cases_Bool (among lots ps))
+          [ inl more ↦ rw more (omega (arith, now)) | inr none ↦ rw none (omega (arith, now)) ])
       | inr apart ↦ rw (apart, greatest-priced lots bids ps) (omega arith)
     ]
 
-absent-step : (lots q : List ℕ) (rest : List (List ℕ)) (empty : Bool) → is_same q lots ≡ false → among lots (if not empty then q ∷ rest else rest) ≡ false → among lots rest ≡ false
+absent-step : (lots q : List ℕ) (rest : List (List ℕ)) (empty : Bool) → is_same q lots ≡ false → among lots (if not empty then q ∷ rest else rest) ≡ false
+    → among lots rest ≡ false
 absent-step lots q rest true apart h = h
 absent-step lots q rest false apart h = rw apart at h
 
 -- a package that is not empty and stands in no bid has no amount
-greatest-absent : (lots : List ℕ) (bids : List BookBid) → is_empty lots ≡ false → among lots (filter (λ lots. not (is_empty lots)) (map bid_lots bids)) ≡ false → greatest lots bids ≡ 0
+greatest-absent : (lots : List ℕ) (bids : List BookBid) → is_empty lots ≡ false → among lots (filter (λ lots. not (is_empty lots)) (map bid_lots bids)) ≡
+    false → greatest lots bids ≡ 0
 greatest-absent lots [] some none = refl
 greatest-absent lots (b ∷ bids) some none =
     elim (cases_Bool (is_same b.lots lots)) [
@@ -78,7 +84,8 @@ greatest-absent lots (b ∷ bids) some none =
           let rest : Bool = among lots (filter (λ lots. not (is_empty lots)) (map bid_lots bids)) in
           let none' : (is_same b.lots lots || rest) ≡ false = rw full at none in
           let no : (true || rest) ≡ false = rw same at none' in cc
-      | inr apart ↦ let later : greatest lots bids ≡ 0 = greatest-absent lots bids some (absent-step lots b.lots (filter (λ lots. not (is_empty lots)) (map bid_lots bids)) (is_empty b.lots) apart none) in rw apart (omega (arith, later))
+      | inr apart ↦ let later : greatest lots bids ≡ 0 = greatest-absent lots bids some
+          (absent-step lots b.lots (filter (λ lots. not (is_empty lots)) (map bid_lots bids)) (is_empty b.lots) apart none) in rw apart (omega (arith, later))
     ]
 
 -- the bids of a book have the greatest amounts
@@ -88,17 +95,20 @@ greatest-best_bids lots bids some =
     greatest-priced lots bids (in_order ps)
     ∙ elim (cases_Bool (among lots (in_order ps))) [
       | inl there ↦ cond-true (among lots (in_order ps)) (greatest lots bids) 0 there
-      | inr absent ↦ cond-false (among lots (in_order ps)) (greatest lots bids) 0 absent ∙ sym (greatest-absent lots bids some (sym (among-in_order lots ps) ∙ absent))
+      | inr absent ↦ cond-false (among lots (in_order ps)) (greatest lots bids) 0 absent
+          ∙ sym (greatest-absent lots bids some (sym (among-in_order lots ps) ∙ absent))
     ]
 
 -- the highest amounts over the bids of the book are those over the submitted list
-pub highest-best_bids : (rounds : List OwnRound) (list : List BookBid) (lots : List ℕ) → highest rounds (best_bids (map clock_bid rounds ++ list)) lots ≡ highest rounds list lots
+pub highest-best_bids : (rounds : List OwnRound) (list : List BookBid) (lots : List ℕ) → highest rounds
+    (best_bids (map clock_bid rounds ++ list)) lots ≡ highest rounds list lots
 highest-best_bids rounds list lots =
     elim (cases_Bool (is_empty lots)) [
       | inl empty ↦ cond-true (is_empty lots) 0 _ empty ∙ sym (cond-true (is_empty lots) 0 _ empty)
       | inr some ↦
           let clock : List BookBid = map clock_bid rounds in
-          let a : greatest lots (clock ++ best_bids (clock ++ list)) ≡ max (greatest lots clock) (greatest lots (best_bids (clock ++ list))) = greatest-append lots clock (best_bids (clock ++ list)) in
+          let a : greatest lots (clock ++ best_bids (clock ++ list)) ≡ max (greatest lots clock) (greatest lots (best_bids (clock ++ list))) =
+          greatest-append lots clock (best_bids (clock ++ list)) in
           let b : greatest lots (best_bids (clock ++ list)) ≡ greatest lots (clock ++ list) = greatest-best_bids lots (clock ++ list) some in
           let c : greatest lots (clock ++ list) ≡ max (greatest lots clock) (greatest lots list) = greatest-append lots clock list in
           cond-false (is_empty lots) 0 _ some ∙ (omega (arith, a, b, c)) ∙ sym (cond-false (is_empty lots) 0 _ some)
@@ -165,13 +175,15 @@ floors points lots d (r ∷ rounds) first rising eligible =
     elim (cases_Bool (nat_le (cost_of points lots) r.eligibility)) [
       | inl long ↦
           let later : (cost_of r.prices lots ≤ cost_of (last_or r (enough (cost_of points lots) rounds)).prices lots)
-          × (greatest lots (map clock_bid rounds) ≤ cost_of (last_or r (enough (cost_of points lots) rounds)).prices lots) = floors points lots r rounds rising.0 rising.1 eligible.1 in
+          × (greatest lots (map clock_bid rounds) ≤ cost_of (last_or r (enough (cost_of points lots) rounds)).prices lots) =
+          floors points lots r rounds rising.0 rising.1 eligible.1 in
           let up : cost_of d.prices lots ≤ cost_of r.prices lots = rise d r lots first.0 in
           let own : (if is_same r.held lots then cost_of r.prices r.held else 0) ≤ cost_of r.prices lots = own_at r lots in
           rw long (omega (arith, later.0, up), omega (arith, later.0, later.1, own))
       | inr short ↦
           let later : (cost_of d.prices lots ≤ cost_of (last_or d (enough (cost_of points lots) rounds)).prices lots)
-          × (greatest lots (map clock_bid rounds) ≤ cost_of (last_or d (enough (cost_of points lots) rounds)).prices lots) = floors points lots d rounds first.1 rising.1 eligible.1 in
+          × (greatest lots (map clock_bid rounds) ≤ cost_of (last_or d (enough (cost_of points lots) rounds)).prices lots) =
+          floors points lots d rounds first.1 rising.1 eligible.1 in
           let own : (if is_same r.held lots then cost_of r.prices r.held else 0) ≡ 0 = own_none points r lots eligible.0 short in
           rw short (later.0, omega (arith, later.1, own))
     ]
@@ -181,7 +193,8 @@ floors_last : (lots : List ℕ) (d : OwnRound) (rounds : List OwnRound) → Rise
     → (cost_of d.prices lots ≤ cost_of (last_or d rounds).prices lots) × (greatest lots (map clock_bid rounds) ≤ cost_of (last_or d rounds).prices lots)
 floors_last lots d [] first rising = (omega arith, omega arith)
 floors_last lots d (r ∷ rounds) first rising =
-    let later : (cost_of r.prices lots ≤ cost_of (last_or r rounds).prices lots) × (greatest lots (map clock_bid rounds) ≤ cost_of (last_or r rounds).prices lots) = floors_last lots r rounds rising.0 rising.1 in
+    let later : (cost_of r.prices lots ≤ cost_of (last_or r rounds).prices lots)
+    × (greatest lots (map clock_bid rounds) ≤ cost_of (last_or r rounds).prices lots) = floors_last lots r rounds rising.0 rising.1 in
     let up : cost_of d.prices lots ≤ cost_of r.prices lots = rise d r lots first.0 in
     let own : (if is_same r.held lots then cost_of r.prices r.held else 0) ≤ cost_of r.prices lots = own_at r lots in
     (omega (arith, later.0, up), omega (arith, later.0, later.1, own))
@@ -208,10 +221,12 @@ EachRound-weaker P Q [] weaker each = tt
 EachRound-weaker P Q (r ∷ rounds) weaker each = (weaker r each.0, EachRound-weaker P Q rounds weaker each.1)
 
 -- each clock bid is among the bids
-clock_bids-there : (rounds : List OwnRound) (list : List BookBid) → EachRound (λ r. cost_of r.prices r.held ≤ greatest r.held (map clock_bid rounds ++ list)) rounds
+clock_bids-there : (rounds : List OwnRound) (list : List BookBid) → EachRound (λ r. cost_of r.prices r.held ≤ greatest r.held (map clock_bid rounds ++ list))
+    rounds
 clock_bids-there [] list = tt
 clock_bids-there (r ∷ rounds) list =
-    let own : (if is_same r.held r.held then cost_of r.prices r.held else 0) ≡ cost_of r.prices r.held = cond-true (is_same r.held r.held) (cost_of r.prices r.held) 0 (is_same-refl r.held) in (
+    let own : (if is_same r.held r.held then cost_of r.prices r.held else 0) ≡ cost_of r.prices r.held =
+    cond-true (is_same r.held r.held) (cost_of r.prices r.held) 0 (is_same-refl r.held) in (
       omega (arith, own),
       EachRound-weaker (λ s. cost_of s.prices s.held ≤ greatest s.held (map clock_bid rounds ++ list))
           (λ s. cost_of s.prices s.held ≤ greatest s.held (map clock_bid (r ∷ rounds) ++ list)) rounds (λ s h. omega (arith, h)) (clock_bids-there rounds list),
@@ -229,11 +244,13 @@ cost_of-empty (p ∷ prices) (a ∷ lots) h =
 abbrev IsFloored : List OwnRound → List BookBid → OwnRound → Type 0
 IsFloored rounds list r = cost_of r.prices r.held ≤ highest rounds list r.held
 
-IsFloored-there : (rounds : List OwnRound) (list : List BookBid) (r : OwnRound) → cost_of r.prices r.held ≤ greatest r.held (map clock_bid rounds ++ list) → IsFloored rounds list r
+IsFloored-there : (rounds : List OwnRound) (list : List BookBid) (r : OwnRound) → cost_of r.prices r.held ≤ greatest r.held (map clock_bid rounds ++ list)
+    → IsFloored rounds list r
 IsFloored-there rounds list r h =
     elim (cases_Bool (is_empty r.held)) [
       | inl empty ↦ let e : highest rounds list r.held ≡ 0 = cond-true (is_empty r.held) 0 _ empty in omega (arith, cost_of-empty r.prices r.held empty)
-      | inr some ↦ let e : highest rounds list r.held ≡ greatest r.held (map clock_bid rounds ++ list) = cond-false (is_empty r.held) 0 _ some in omega (arith, e, h)
+      | inr some ↦ let e : highest rounds list r.held ≡ greatest r.held (map clock_bid rounds ++ list) = cond-false (is_empty r.held) 0 _ some in
+          omega (arith, e, h)
     ]
 
 each_floored : (rounds : List OwnRound) (list : List BookBid) → EachRound (IsFloored rounds list) rounds
@@ -243,7 +260,8 @@ each_floored rounds list = EachRound-weaker (λ r. cost_of r.prices r.held ≤ g
 no_round-floored : (rounds : List OwnRound) (list : List BookBid) → IsFloored rounds list no_round
 no_round-floored rounds list = omega arith
 
-cap_by-floor : (rounds : List OwnRound) (list : List BookBid) (r : OwnRound) (lots : List ℕ) → IsFloored rounds list r → cost_of r.prices lots ≤ cap_by rounds list r lots
+cap_by-floor : (rounds : List OwnRound) (list : List BookBid) (r : OwnRound) (lots : List ℕ) → IsFloored rounds list r
+    → cost_of r.prices lots ≤ cap_by rounds list r lots
 cap_by-floor rounds list r lots h = omega (arith, h)
 
 no_round-rises : (rounds : List OwnRound) → RisesToEach no_round rounds
@@ -254,18 +272,21 @@ cap_cases : (same : Bool) (a least cap : ℕ) → (if same then None else Some a
 cap_cases true a least cap h low = cc
 cap_cases false a least cap h low = let e : a ≡ cap = Some-injective h in omega (arith, e, low)
 
-among-least : (final_cap : Bool) (points : List ℕ) (rounds : List OwnRound) (list : List BookBid) (lots : List ℕ) (least : ℕ) → least ≤ cap_by rounds list (constraining (cost_of points lots) rounds) lots
+among-least : (final_cap : Bool) (points : List ℕ) (rounds : List OwnRound) (list : List BookBid) (lots : List ℕ) (least : ℕ)
+    → least ≤ cap_by rounds list (constraining (cost_of points lots) rounds) lots
     → least ≤ cap_by rounds list (last_round rounds) lots → least ≤ cap_among final_cap points rounds list lots
 among-least true points rounds list lots least low low' = omega (arith, low, low')
 among-least false points rounds list lots least low low' = low
 
 -- a clock bid is within the cap
-pub clock-within_cap : (final_cap : Bool) (points : List ℕ) (rounds : List OwnRound) (list : List BookBid) (lots : List ℕ) (cap : ℕ) → AreRising rounds → AreEligible points rounds
+pub clock-within_cap : (final_cap : Bool) (points : List ℕ) (rounds : List OwnRound) (list : List BookBid) (lots : List ℕ) (cap : ℕ) → AreRising rounds
+    → AreEligible points rounds
     → cap_of final_cap points rounds list lots ≡ Some cap → greatest lots (map clock_bid rounds) ≤ cap
 clock-within_cap final_cap points rounds list lots cap rising eligible h =
     let n : OwnRound = constraining (cost_of points lots) rounds in
     let f : OwnRound = last_round rounds in
-    let below_n : greatest lots (map clock_bid rounds) ≤ cost_of n.prices lots = (floors points lots no_round rounds (no_round-rises rounds) rising eligible).1 in
+    let below_n : greatest lots (map clock_bid rounds) ≤ cost_of n.prices lots =
+    (floors points lots no_round rounds (no_round-rises rounds) rising eligible).1 in
     let below_f : greatest lots (map clock_bid rounds) ≤ cost_of f.prices lots = (floors_last lots no_round rounds (no_round-rises rounds) rising).1 in
     let floor_n : cost_of n.prices lots ≤ cap_by rounds list n lots = cap_by-floor rounds list n lots
     (EachRound-last_enough (IsFloored rounds list) (cost_of points lots) no_round rounds (no_round-floored rounds list) (each_floored rounds list)) in
@@ -275,7 +296,8 @@ clock-within_cap final_cap points rounds list lots cap rising eligible h =
     (among-least final_cap points rounds list lots (greatest lots (map clock_bid rounds)) (omega (arith, below_n, floor_n)) (omega (arith, below_f, floor_f)))
 
 -- a valid list is within its caps
-excess-within : (o : Option ℕ) (amount entry : ℕ) (later : Option (ℕ × ℕ)) (cap : ℕ) → excess_or entry (excess_cap o amount) later ≡ None → o ≡ Some cap → amount ≤ cap
+excess-within : (o : Option ℕ) (amount entry : ℕ) (later : Option (ℕ × ℕ)) (cap : ℕ) → excess_or entry (excess_cap o amount) later ≡ None → o ≡ Some cap
+    → amount ≤ cap
 excess-within None amount entry later cap h e = cc
 excess-within (Some c) amount entry later cap h e =
     let same : c ≡ cap = Some-injective e in
@@ -289,14 +311,17 @@ excess-later None entry later h = h
 excess-later (Some c) entry later h = cc
 
 -- where no entry is above its cap, the greatest amount for a package that has a cap is at most this cap
-pub list-within_cap : (cap_at : List ℕ → Option ℕ) (entry : ℕ) (bids : List BookBid) (lots : List ℕ) (cap : ℕ) → first_excess cap_at entry bids ≡ None → cap_at lots ≡ Some cap → greatest lots bids ≤ cap
+pub list-within_cap : (cap_at : List ℕ → Option ℕ) (entry : ℕ) (bids : List BookBid) (lots : List ℕ) (cap : ℕ) → first_excess cap_at entry bids ≡ None
+    → cap_at lots ≡ Some cap → greatest lots bids ≤ cap
 list-within_cap cap_at entry [] lots cap valid h = omega arith
 list-within_cap cap_at entry (b ∷ bids) lots cap valid h =
-    let later : greatest lots bids ≤ cap = list-within_cap cap_at (suc entry) bids lots cap (excess-later (excess_cap (cap_at b.lots) b.amount) entry _ valid) h in
+    let later : greatest lots bids ≤ cap = list-within_cap cap_at (suc entry) bids lots cap (excess-later (excess_cap (cap_at b.lots) b.amount) entry _ valid)
+    h in
     elim (cases_Bool (is_same b.lots lots)) [
       | inl same ↦
           let here : b.amount ≤ cap = excess-within (cap_at b.lots) b.amount entry _ cap valid (ap cap_at (is_same-true b.lots lots same) ∙ h) in
-          let own : (if is_same b.lots lots then b.amount else 0) ≡ b.amount = cond-true (is_same b.lots lots) b.amount 0 same in omega (arith, later, here, own)
+          let own : (if is_same b.lots lots then b.amount else 0) ≡ b.amount = cond-true (is_same b.lots lots) b.amount 0 same in
+          omega (arith, later, here, own)
       | inr apart ↦ let own : (if is_same b.lots lots then b.amount else 0) ≡ 0 = cond-false (is_same b.lots lots) b.amount 0 apart in omega (arith, later, own)
     ]
 
@@ -306,11 +331,13 @@ within-excess None amount h = refl
 within-excess (Some c) amount h = cond-true (nat_le amount c) None (Some c) (le-leb amount c (h c refl))
 
 -- amounts that all are within the caps make a valid list
-within-first_excess : (cap_at : List ℕ → Option ℕ) (amount : List ℕ → ℕ) (entry : ℕ) (ps : List (List ℕ)) → ((p : List ℕ) (cap : ℕ) → cap_at p ≡ Some cap → amount p ≤ cap)
+within-first_excess : (cap_at : List ℕ → Option ℕ) (amount : List ℕ → ℕ) (entry : ℕ) (ps : List (List ℕ))
+    → ((p : List ℕ) (cap : ℕ) → cap_at p ≡ Some cap → amount p ≤ cap)
     → first_excess cap_at entry (priced (λ p. Some (amount p)) ps) ≡ None
 within-first_excess cap_at amount entry [] within = refl
 within-first_excess cap_at amount entry (p ∷ ps) within =
-    ap (λ (o : Option ℕ). excess_or entry o (first_excess cap_at (suc entry) (priced (λ p. Some (amount p)) ps))) (within-excess (cap_at p) (amount p) (within p))
+    ap (λ (o : Option ℕ). excess_or entry o (first_excess cap_at (suc entry) (priced (λ p. Some (amount p)) ps)))
+    (within-excess (cap_at p) (amount p) (within p))
     ∙ within-first_excess cap_at amount (suc entry) ps within
 
 -- The bids of a book are a valid list: each is at most its cap over the book's own bids, but for what is held in the final round.

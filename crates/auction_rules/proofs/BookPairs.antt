@@ -1,5 +1,6 @@
 -- What stands in the book of a log: the packages of a bidder's pairs, each with its greatest amount there.
-use Rattle.std.proofs.Common.{◌≡◌, ℕ, zero, suc, ◌≤◌, Bool, true, false, not, ◌&&◌, ◌||◌, List, [], ◌∷◌, Some, refl, sym, ◌∙◌, ap, subst, inl, inr, arith, length, map}
+use Rattle.std.proofs.Common.{◌≡◌, ℕ, zero, suc, ◌≤◌, Bool, true, false, not, ◌&&◌, ◌||◌, List, [], ◌∷◌, Some, refl, sym, ◌∙◌, ap, subst, inl, inr, arith}
+use Rattle.std.proofs.Common.{length, map}
 use Rattle.std.specs.Prelude.{if◌then◌else◌, filter, Contains}
 use Rattle.std.specs.List.{AllByRecursion}
 use Rattle.std.proofs.lemmas.Bool.{cases_Bool, cases_lt, cond-true, cond-false, or_left, or_right}
@@ -22,12 +23,14 @@ has_entry-among lots [] = refl
 has_entry-among lots (b ∷ bids) = ap (λ (h : Bool). is_same b.lots lots || h) (has_entry-among lots bids)
 
 -- one package more, where it isn't empty
-among-if : (lots p : List ℕ) (rest : List (List ℕ)) (empty : Bool) → among lots (if not empty then p ∷ rest else rest) ≡ ((not empty && is_same p lots) || among lots rest)
+among-if : (lots p : List ℕ) (rest : List (List ℕ)) (empty : Bool) → among lots (if not empty then p ∷ rest else rest) ≡
+    ((not empty && is_same p lots) || among lots rest)
 among-if lots p rest true = refl
 among-if lots p rest false = refl
 
 -- the test of emptiness before or behind the search
-either_way : (empty_p empty same later : Bool) → (same ≡ true → empty_p ≡ empty) → ((not empty_p && same) || (not empty && later)) ≡ (not empty && (same || later))
+either_way : (empty_p empty same later : Bool) → (same ≡ true → empty_p ≡ empty) → ((not empty_p && same) || (not empty && later)) ≡
+    (not empty && (same || later))
 either_way true true same later agree = refl
 either_way false false same later agree = refl
 either_way true false true later agree = absurd (cc (agree refl))
@@ -68,7 +71,8 @@ greatest-most : (lots : List ℕ) (m : ℕ) (bids : List BookBid) → greatest l
 greatest-most lots m [] up = tt
 greatest-most lots m (b ∷ bids) up = (
   (λ same.
-      let own : (if is_same b.lots lots then b.amount else 0) ≡ b.amount = cond-true (is_same b.lots lots) b.amount 0 (subst (λ (q : List ℕ). is_same b.lots q ≡ true) same (is_same-refl b.lots)) in
+      let own : (if is_same b.lots lots then b.amount else 0) ≡ b.amount = cond-true (is_same b.lots lots) b.amount 0
+      (subst (λ (q : List ℕ). is_same b.lots q ≡ true) same (is_same-refl b.lots)) in
       omega (arith, own, up)),
   greatest-most lots m bids (omega (arith, up)),
 )
@@ -103,17 +107,21 @@ greatest-there lots (b ∷ bids) there =
           let own : (if is_same b.lots lots then b.amount else 0) ≡ 0 = cond-false (is_same b.lots lots) b.amount 0 apart in
           let later : has_entry lots bids ≡ true = rw apart at there in
           let same : greatest lots bids ≡ greatest lots (b ∷ bids) = omega (arith, own) in
-          subst (λ (n : ℕ). Contains (b ∷ bids) (bid_with lots n)) same (contains-later b bids (bid_with lots (greatest lots bids)) (greatest-there lots bids later))
+          subst (λ (n : ℕ). Contains (b ∷ bids) (bid_with lots n)) same (contains-later b bids (bid_with lots (greatest lots bids))
+          (greatest-there lots bids later))
       | inl same ↦
           let own : (if is_same b.lots lots then b.amount else 0) ≡ b.amount = cond-true (is_same b.lots lots) b.amount 0 same in
           elim (cases_Bool (has_entry lots bids)) [
             | inr none ↦ let first : b.amount ≡ greatest lots (b ∷ bids) = omega (arith, own, greatest-none lots bids none) in
-                contains-first b bids (bid_with lots (greatest lots (b ∷ bids))) (bid-parts b lots (greatest lots (b ∷ bids)) (is_same-true b.lots lots same) first)
+                contains-first b bids (bid_with lots (greatest lots (b ∷ bids)))
+                (bid-parts b lots (greatest lots (b ∷ bids)) (is_same-true b.lots lots same) first)
             | inl more ↦ elim (cases_lt b.amount (greatest lots bids)) [
               | inl high ↦ let later : greatest lots bids ≡ greatest lots (b ∷ bids) = omega (arith, own, high) in
-                  subst (λ (n : ℕ). Contains (b ∷ bids) (bid_with lots n)) later (contains-later b bids (bid_with lots (greatest lots bids)) (greatest-there lots bids more))
+                  subst (λ (n : ℕ). Contains (b ∷ bids) (bid_with lots n)) later
+                  (contains-later b bids (bid_with lots (greatest lots bids)) (greatest-there lots bids more))
               | inr low ↦ let first : b.amount ≡ greatest lots (b ∷ bids) = omega (arith, own, low) in
-                  contains-first b bids (bid_with lots (greatest lots (b ∷ bids))) (bid-parts b lots (greatest lots (b ∷ bids)) (is_same-true b.lots lots same) first)
+                  contains-first b bids (bid_with lots (greatest lots (b ∷ bids)))
+                  (bid-parts b lots (greatest lots (b ∷ bids)) (is_same-true b.lots lots same) first)
             ]
           ]
     ]
@@ -138,7 +146,8 @@ best_bids-greatest bids =
     (each-in_order Q (filter (λ lots. not (is_empty lots)) (map bid_lots bids)) (each-some Q (map bid_lots bids) each))
 
 -- each bid in a log's book is a clock bid or a submitted entry, and none of these is greater for its package
-pub bids_in_book-greatest : (terms : Terms) (log : List Event) (j : ℕ) → AllByRecursion (IsGreatestFor (pairs_of (standing terms (admitted terms log) j))) (bids_in_book terms log j)
+pub bids_in_book-greatest : (terms : Terms) (log : List Event) (j : ℕ) → AllByRecursion (IsGreatestFor (pairs_of (standing terms (admitted terms log) j)))
+    (bids_in_book terms log j)
 bids_in_book-greatest terms log j = best_bids-greatest (pairs_of (standing terms (admitted terms log) j))
 
 -- ---- no bid is empty, and there are no more than pairs
@@ -157,7 +166,8 @@ pub bids_in_book-some : (terms : Terms) (log : List Event) (j : ℕ) → AllByRe
 bids_in_book-some terms log j =
     let bids : List BookBid = pairs_of (standing terms (admitted terms log) j) in
     let some : List (List ℕ) = filter (λ lots. not (is_empty lots)) (map bid_lots bids) in
-    each-priced (λ (b : BookBid). is_empty b.lots ≡ false) (λ lots. greatest lots bids) (in_order some) (each-in_order (λ (lots : List ℕ). is_empty lots ≡ false) some (some-some (map bid_lots bids)))
+    each-priced (λ (b : BookBid). is_empty b.lots ≡ false) (λ lots. greatest lots bids) (in_order some)
+    (each-in_order (λ (lots : List ℕ). is_empty lots ≡ false) some (some-some (map bid_lots bids)))
 
 placed-few : (x : List ℕ) (ps : List (List ℕ)) → length (placed x ps) ≤ suc (length ps)
 placed-few x [] = omega arith

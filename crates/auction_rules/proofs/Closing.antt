@@ -1,5 +1,6 @@
 -- What an admitted close changes of the state.
-use Rattle.std.proofs.Common.{◌≡◌, ℕ, zero, suc, ◌-◌, ◌≤◌, true, false, List, [], ◌∷◌, ◌++◌, Option, Some, None, refl, sym, ◌∙◌, ap, subst, inl, inr, arith, length, map}
+use Rattle.std.proofs.Common.{◌≡◌, ℕ, zero, suc, ◌-◌, ◌≤◌, true, false, List, [], ◌∷◌, ◌++◌, Option, Some, None, refl, sym, ◌∙◌, ap, subst, inl, inr, arith}
+use Rattle.std.proofs.Common.{length, map}
 use Rattle.std.specs.Prelude.{nat_eq, slice_index_or}
 use Rattle.std.proofs.lemmas.Bool.{cases_Bool, ne_eqb, eq-eqb, cond-true, cond-false}
 use Rattle.std.proofs.lemmas.List.{map-append}
@@ -52,7 +53,8 @@ ClosesTo terms held n drafts submitted final next =
 stops : (terms : Terms) (held : ℕ → ℕ → List ℕ) (n : ℕ) (drafts submitted : ℕ → List BookBid) → is_within (demand terms held (suc n)) terms.supply ≡ true
     → ClosesTo terms held n drafts submitted None (Some (suc n))
 stops terms held n drafts submitted within =
-    let now : is_within (asked terms (listing (held (suc n)) (length terms.bidders))) terms.supply ≡ true = ap (λ (d : List ℕ). is_within d terms.supply) (asked-listing terms (held (suc n)) (length terms.bidders)) ∙ within in
+    let now : is_within (asked terms (listing (held (suc n)) (length terms.bidders))) terms.supply ≡ true =
+    ap (λ (d : List ℕ). is_within d terms.supply) (asked-listing terms (held (suc n)) (length terms.bidders)) ∙ within in
     state-parts terms _ _ _ _ _ _ _ _ _ _ _ _ _ _ (rw (eq-eqb (suc n) (suc n) refl) refl) refl refl refl refl refl refl
     ∙ sym (cond-true _ (clock_stopped (state_at terms held n None drafts submitted)) (next_round (state_at terms held n None drafts submitted)) now)
 
@@ -73,7 +75,8 @@ goes_on terms held n drafts submitted over later =
     refl refl
     ∙ sym (cond-false _ (clock_stopped (state_at terms held n None drafts submitted)) (next_round (state_at terms held n None drafts submitted)) now)
 
-has_stopped : (terms : Terms) (held : ℕ → ℕ → List ℕ) (n : ℕ) (drafts submitted : ℕ → List BookBid) (final : ℕ) → final ≤ n → ClosesTo terms held n drafts submitted (Some final) (Some final)
+has_stopped : (terms : Terms) (held : ℕ → ℕ → List ℕ) (n : ℕ) (drafts submitted : ℕ → List BookBid) (final : ℕ) → final ≤ n
+    → ClosesTo terms held n drafts submitted (Some final) (Some final)
 has_stopped terms held n drafts submitted final few =
     let past : nat_eq (suc n) final ≡ false = ne_eqb (suc n) final (λ e. absurd (omega arith)) in
     elim (cases_Bool (nat_eq n final)) [
@@ -81,7 +84,8 @@ has_stopped terms held n drafts submitted final few =
       | inr other ↦ rw (past, other) refl
     ]
 
-closed-state : (terms : Terms) (held : ℕ → ℕ → List ℕ) (n : ℕ) (drafts submitted : ℕ → List BookBid) (final : Option ℕ) → final_round terms held n ≡ final → IsFinal n final
+closed-state : (terms : Terms) (held : ℕ → ℕ → List ℕ) (n : ℕ) (drafts submitted : ℕ → List BookBid) (final : Option ℕ) → final_round terms held n ≡ final
+    → IsFinal n final
     → ((j : ℕ) → held (suc (suc n)) j ≡ no_lots terms) → ClosesTo terms held n drafts submitted final (final_round terms held (suc n))
 closed-state terms held n drafts submitted None h f later =
     elim (cases_Bool (is_within (demand terms held (suc n)) terms.supply)) [
@@ -95,12 +99,14 @@ closed-state terms held n drafts submitted (Some final) h (stopped some few) lat
     subst (ClosesTo terms held n drafts submitted (Some final)) (sym now) (has_stopped terms held n drafts submitted final few)
 
 -- an admitted close
-pub state_after-close : (terms : Terms) (lines : List Event) → state_after terms (Close ∷ lines) ≡ closed_state (state_after terms lines).stage (state_after terms lines)
+pub state_after-close : (terms : Terms) (lines : List Event) → state_after terms (Close ∷ lines) ≡ closed_state (state_after terms lines).stage
+    (state_after terms lines)
 state_after-close terms lines =
     let n : ℕ = closes lines in
     let bidders : ℕ = length terms.bidders in
     let final : Option ℕ = final_round terms (held_in terms lines) n in
-    ap (λ (held : ℕ → ℕ → List ℕ). state_by terms held (suc n) (λ j. draft_list j (Close ∷ lines)) (λ j. submitted_list j (Close ∷ lines))) (held_in-close terms lines)
+    ap (λ (held : ℕ → ℕ → List ℕ). state_by terms held (suc n) (λ j. draft_list j (Close ∷ lines)) (λ j. submitted_list j (Close ∷ lines)))
+    (held_in-close terms lines)
     ∙ state-parts terms _ _ _ _ _ _ _ _ _ _ _ _ _ _ refl refl refl refl refl
     (listing-same (λ j. draft_list j (Close ∷ lines)) (λ j. draft_list j lines) bidders (λ j low high. draft_list-other j Close lines refl)) refl
     ∙ closed-state terms (held_in terms lines) n (λ j. draft_list j lines) (λ j. submitted_list j lines) final refl

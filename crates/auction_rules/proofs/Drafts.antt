@@ -7,7 +7,8 @@ use Rattle.auction_rules.specs.declared.Event.{Event}
 use Rattle.auction_rules.specs.declared.Event.TheVariants.{Bid, Draft, Drop, Submit, Close}
 use Rattle.lots.specs.auction_model.specs.PackageTests.{is_same, is_before, AllAfter, InOrder}
 use Rattle.lots.specs.auction_model.proofs.PackageTestLaws.{is_same-true, is_same-refl, is_before-not_same, is_before-trans, is_before-total}
-use Rattle.auction_rules.specs.Lines.{draft_word, drafted, draft_of, placed, in_order, entry_before, priced, draft_list, submitted_list, is_submit, drafts_after}
+use Rattle.auction_rules.specs.Lines.{draft_word, drafted, draft_of, placed, in_order, entry_before, priced, draft_list, submitted_list, is_submit}
+use Rattle.auction_rules.specs.Lines.{drafts_after}
 use Rattle.lots.specs.auction_model.specs.Entries.{with_entry, without_entry}
 use Rattle.auction_rules.specs.Replies.{is_of}
 
@@ -45,7 +46,8 @@ InOrder-in_order [] = tt
 InOrder-in_order (p ∷ ps) = InOrder-placed p (in_order ps) (InOrder-in_order ps)
 
 -- amounts that differ only at x are the same for packages that come after x
-priced-after : (f g : List ℕ → Option ℕ) (x : List ℕ) (ps : List (List ℕ)) → ((q : List ℕ) → is_same x q ≡ false → g q ≡ f q) → AllAfter x ps → priced g ps ≡ priced f ps
+priced-after : (f g : List ℕ → Option ℕ) (x : List ℕ) (ps : List (List ℕ)) → ((q : List ℕ) → is_same x q ≡ false → g q ≡ f q) → AllAfter x ps
+    → priced g ps ≡ priced f ps
 priced-after f g x [] others after = refl
 priced-after f g x (q ∷ ps) others after = rw (others q (is_before-not_same x q after.0), priced-after f g x ps others after.1) refl
 
@@ -54,7 +56,8 @@ front-entry : (q x : List ℕ) (a : ℕ) (rest : List BookBid) (o : Option ℕ) 
 front-entry q x a rest None after h = h
 front-entry q x a rest (Some b) after h = rw (is_before-not_same x q after, after) refl
 
-with_entry-front : (f : List ℕ → Option ℕ) (x : List ℕ) (a : ℕ) (ps : List (List ℕ)) → AllAfter x ps → with_entry x a (priced f ps) ≡ record { lots = x; amount = a } ∷ priced f ps
+with_entry-front : (f : List ℕ → Option ℕ) (x : List ℕ) (a : ℕ) (ps : List (List ℕ)) → AllAfter x ps
+    → with_entry x a (priced f ps) ≡ record { lots = x; amount = a } ∷ priced f ps
 with_entry-front f x a [] after = refl
 with_entry-front f x a (q ∷ ps) after = front-entry q x a (priced f ps) (f q) after.0 (with_entry-front f x a ps after.1)
 
@@ -69,7 +72,8 @@ later-entry q x a rest None apart later = refl
 later-entry q x a rest (Some b) apart later = rw (apart, later) refl
 
 -- one more draft
-pub priced-placed : (f g : List ℕ → Option ℕ) (x : List ℕ) (a : ℕ) (ps : List (List ℕ)) → g x ≡ Some a → ((q : List ℕ) → is_same x q ≡ false → g q ≡ f q) → InOrder ps
+pub priced-placed : (f g : List ℕ → Option ℕ) (x : List ℕ) (a : ℕ) (ps : List (List ℕ)) → g x ≡ Some a → ((q : List ℕ) → is_same x q ≡ false → g q ≡ f q)
+    → InOrder ps
     → priced g (placed x ps) ≡ with_entry x a (priced f ps)
 priced-placed f g x a [] here others o = rw here refl
 priced-placed f g x a (q ∷ ps) here others o =
@@ -101,18 +105,22 @@ same-without : (q x : List ℕ) (rest : List BookBid) (o : Option ℕ) → is_sa
 same-without q x rest None same = refl
 same-without q x rest (Some b) same = rw same refl
 
-apart-without : (q x : List ℕ) (rest : List BookBid) (o : Option ℕ) → is_same x q ≡ false → entry_before q o (without_entry x rest) ≡ without_entry x (entry_before q o rest)
+apart-without : (q x : List ℕ) (rest : List BookBid) (o : Option ℕ) → is_same x q ≡ false → entry_before q o (without_entry x rest) ≡ without_entry x
+    (entry_before q o rest)
 apart-without q x rest None apart = refl
 apart-without q x rest (Some b) apart = rw apart refl
 
 -- one draft less
-pub priced-dropped : (f g : List ℕ → Option ℕ) (x : List ℕ) (ps : List (List ℕ)) → ((q : List ℕ) → is_same x q ≡ true → g q ≡ None) → ((q : List ℕ) → is_same x q ≡ false → g q ≡ f q)
+pub priced-dropped : (f g : List ℕ → Option ℕ) (x : List ℕ) (ps : List (List ℕ)) → ((q : List ℕ) → is_same x q ≡ true → g q ≡ None)
+    → ((q : List ℕ) → is_same x q ≡ false → g q ≡ f q)
     → priced g ps ≡ without_entry x (priced f ps)
 priced-dropped f g x [] here others = refl
 priced-dropped f g x (q ∷ ps) here others =
     elim (cases_Bool (is_same x q)) [
-      | inl same ↦ ap (λ (v : Option ℕ). entry_before q v (priced g ps)) (here q same) ∙ priced-dropped f g x ps here others ∙ same-without q x (priced f ps) (f q) same
-      | inr apart ↦ ap (λ (v : Option ℕ). entry_before q v (priced g ps)) (others q apart) ∙ ap (λ (rest : List BookBid). entry_before q (f q) rest) (priced-dropped f g x ps here others)
+      | inl same ↦ ap (λ (v : Option ℕ). entry_before q v (priced g ps)) (here q same) ∙ priced-dropped f g x ps here others
+          ∙ same-without q x (priced f ps) (f q) same
+      | inr apart ↦ ap (λ (v : Option ℕ). entry_before q v (priced g ps)) (others q apart) ∙ ap (λ (rest : List BookBid). entry_before q (f q) rest)
+          (priced-dropped f g x ps here others)
           ∙ apart-without q x (priced f ps) (f q) apart
     ]
 
@@ -122,11 +130,13 @@ priced-same f g [] same = refl
 priced-same f g (q ∷ ps) same = rw (same q, priced-same f g ps same) refl
 
 -- what the lines say of a draft
-draft_of-draft : (j k : ℕ) (x : List ℕ) (a : ℕ) (lines : List Event) (q : List ℕ) → (k == j) ≡ true → draft_of j (Draft k x a ∷ lines) q ≡ (if is_same x q then Some a else draft_of j lines q)
+draft_of-draft : (j k : ℕ) (x : List ℕ) (a : ℕ) (lines : List Event) (q : List ℕ) → (k == j) ≡ true → draft_of j (Draft k x a ∷ lines) q ≡
+    (if is_same x q then Some a else draft_of j lines q)
 draft_of-draft j k x a lines q mine =
     elim (cases_Bool (is_same x q)) [ inl same ↦ rw (mine, same) refl | inr apart ↦ rw (mine, apart) refl ]
 
-draft_of-drop : (j k : ℕ) (x : List ℕ) (lines : List Event) (q : List ℕ) → (k == j) ≡ true → draft_of j (Drop k x ∷ lines) q ≡ (if is_same x q then None else draft_of j lines q)
+draft_of-drop : (j k : ℕ) (x : List ℕ) (lines : List Event) (q : List ℕ) → (k == j) ≡ true → draft_of j (Drop k x ∷ lines) q ≡
+    (if is_same x q then None else draft_of j lines q)
 draft_of-drop j k x lines q mine =
     elim (cases_Bool (is_same x q)) [ inl same ↦ rw (mine, same) refl | inr apart ↦ rw (mine, apart) refl ]
 
@@ -179,5 +189,6 @@ draft_list-own j (Submit k) lines h = priced-same (draft_of j lines) (draft_of j
 draft_list-own j Close lines h = cc
 
 -- a submission of bidder j's makes its draft list the submitted list, and any other line leaves this list
-pub submitted_list-own : (j : ℕ) (e : Event) (lines : List Event) → submitted_list j (e ∷ lines) ≡ (if is_submit j e then draft_list j lines else submitted_list j lines)
+pub submitted_list-own : (j : ℕ) (e : Event) (lines : List Event) → submitted_list j (e ∷ lines) ≡
+    (if is_submit j e then draft_list j lines else submitted_list j lines)
 submitted_list-own j e lines = refl

@@ -30,7 +30,8 @@ section-later r (e ∷ lines) h =
     ]
 
 -- in another round than that of the line all stays
-pub held_in-elsewhere : (terms : Terms) (r j : ℕ) (e : Event) (lines : List Event) → (suc (closes lines) ≡ r → ⊥) → held_in terms (e ∷ lines) r j ≡ held_in terms lines r j
+pub held_in-elsewhere : (terms : Terms) (r j : ℕ) (e : Event) (lines : List Event) → (suc (closes lines) ≡ r → ⊥)
+    → held_in terms (e ∷ lines) r j ≡ held_in terms lines r j
 held_in-elsewhere terms r j e lines ne = ap (λ s. unwrap_or (newest (filter_map (bid_by j) s)) (no_lots terms)) (section-elsewhere r e lines ne)
 
 -- a line that is no bid of bidder j changes nothing that j holds
@@ -42,7 +43,8 @@ held_in-no_bid terms r j e lines none =
     ]
 
 -- a bid is what its bidder holds in its round
-pub held_in-bid : (terms : Terms) (j : ℕ) (e : Event) (lines : List Event) (lots : List ℕ) → bid_by j e ≡ Some lots → held_in terms (e ∷ lines) (suc (closes lines)) j ≡ lots
+pub held_in-bid : (terms : Terms) (j : ℕ) (e : Event) (lines : List Event) (lots : List ℕ) → bid_by j e ≡ Some lots
+    → held_in terms (e ∷ lines) (suc (closes lines)) j ≡ lots
 held_in-bid terms j e lines lots bid = rw (section-here e lines) (rw bid refl)
 
 -- nothing is held in a round that is not yet begun

@@ -1,5 +1,6 @@
 -- What the rounds and the lists of every standing after a log keep.
-use Rattle.std.proofs.Common.{◌≡◌, ℕ, zero, suc, ◌<◌, ◌≤◌, Bool, true, false, not, ◌&&◌, List, [], ◌∷◌, ◌++◌, Option, Some, None, refl, sym, ◌∙◌, ap, subst, inl, inr, arith, length, map, length-append}
+use Rattle.std.proofs.Common.{◌≡◌, ℕ, zero, suc, ◌<◌, ◌≤◌, Bool, true, false, not, ◌&&◌, List, [], ◌∷◌, ◌++◌, Option, Some, None, refl, sym, ◌∙◌, ap, subst}
+use Rattle.std.proofs.Common.{inl, inr, arith, length, map, length-append}
 use Rattle.std.specs.Prelude.{if◌then◌else◌, filter_map, nat_le, nat_eq}
 use Rattle.std.specs.List.{AllByRecursion}
 use Rattle.std.proofs.lemmas.Bool.{cases_Bool, leb-false}
@@ -13,9 +14,11 @@ use Rattle.lots.specs.auction_model.specs.PackageTests.{is_same, is_before, AllA
 use Rattle.auction_rules.specs.Terms.{Terms, entrant}
 use Rattle.auction_rules.specs.Rounds.{OwnRound, demand, prices_after, final_round, stage_by, stage_after, closed_by, closed_after, own_round, own_rounds}
 use Rattle.auction_rules.specs.Caps.{clock_bid, no_round, round_at}
-use Rattle.auction_rules.specs.Lines.{is_close, is_submit, closes, held_in, in_order, entry_before, priced, draft_of, drafted, draft_list, submitted_list, drafts_after}
+use Rattle.auction_rules.specs.Lines.{is_close, is_submit, closes, held_in, in_order, entry_before, priced, draft_of, drafted, draft_list, submitted_list}
+use Rattle.auction_rules.specs.Lines.{drafts_after}
 use Rattle.lots.specs.auction_model.specs.Entries.{with_entry, without_entry}
-use Rattle.auction_rules.specs.Replies.{Standing, is_clock, is_closed, is_ok_reply, first_reply, when, has_entry, price_top, has_excess, own_reply, reply_after, admitted, standing}
+use Rattle.auction_rules.specs.Replies.{Standing, is_clock, is_closed, is_ok_reply, first_reply, when, has_entry, price_top, has_excess, own_reply}
+use Rattle.auction_rules.specs.Replies.{reply_after, admitted, standing}
 use Rattle.auction_rules.specs.View.{posted}
 use Rattle.auction_rules.specs.BookOfLog.{bid_lots, pairs_of, bids_in_book}
 use Rattle.auction_rules.specs.Lawful.{HasCategories, NeverRises, AreDrafts}
@@ -30,7 +33,8 @@ use Rattle.auction_rules.proofs.BookPairs.{best_bids-few}
 
 -- ---- the order of lists
 
-AllAfter-entry : (x p : List ℕ) (o : Option ℕ) (rest : List BookBid) → is_before x p ≡ true → AllAfter x (map bid_lots rest) → AllAfter x (map bid_lots (entry_before p o rest))
+AllAfter-entry : (x p : List ℕ) (o : Option ℕ) (rest : List BookBid) → is_before x p ≡ true → AllAfter x (map bid_lots rest)
+    → AllAfter x (map bid_lots (entry_before p o rest))
 AllAfter-entry x p None rest first after = after
 AllAfter-entry x p (Some a) rest first after = (first, after)
 
@@ -38,7 +42,8 @@ AllAfter-priced : (f : List ℕ → Option ℕ) (x : List ℕ) (ps : List (List 
 AllAfter-priced f x [] after = tt
 AllAfter-priced f x (p ∷ ps) after = AllAfter-entry x p (f p) (priced f ps) after.0 (AllAfter-priced f x ps after.1)
 
-InOrder-entry : (p : List ℕ) (o : Option ℕ) (rest : List BookBid) → AllAfter p (map bid_lots rest) → InOrder (map bid_lots rest) → InOrder (map bid_lots (entry_before p o rest))
+InOrder-entry : (p : List ℕ) (o : Option ℕ) (rest : List BookBid) → AllAfter p (map bid_lots rest) → InOrder (map bid_lots rest)
+    → InOrder (map bid_lots (entry_before p o rest))
 InOrder-entry p None rest after order = order
 InOrder-entry p (Some a) rest after order = (after, order)
 
@@ -100,24 +105,31 @@ room-with_entry : (there : Bool) (n most m : ℕ) → (not there && nat_le most 
 room-with_entry true n most m room few is = omega (arith, few, is)
 room-with_entry false n most m room few is = let less : n < most = leb-false most n room in omega (arith, less, is)
 
-drafts_after-few : (terms : Terms) (j : ℕ) (s : Standing) (e : Event) → is_ok_reply (own_reply terms j s e) ≡ true → InOrder (map bid_lots s.drafts) → length s.drafts ≤ 300
+drafts_after-few : (terms : Terms) (j : ℕ) (s : Standing) (e : Event) → is_ok_reply (own_reply terms j s e) ≡ true → InOrder (map bid_lots s.drafts)
+    → length s.drafts ≤ 300
     → length (drafts_after e s.drafts) ≤ 300
 drafts_after-few terms j s (Bid k x) ok order few = few
 drafts_after-few terms j s (Draft k x a) ok order few =
-    room-with_entry (has_entry x s.drafts) (length s.drafts) 300 (length (with_entry x a s.drafts)) (draft-parts terms j k s x a ok).room few (length-with_entry x a s.drafts order)
+    room-with_entry (has_entry x s.drafts) (length s.drafts) 300 (length (with_entry x a s.drafts)) (draft-parts terms j k s x a ok).room few
+    (length-with_entry x a s.drafts order)
 drafts_after-few terms j s (Drop k x) ok order few = omega (arith, few, length-without_entry x s.drafts)
 drafts_after-few terms j s (Submit k) ok order few = few
 drafts_after-few terms j s Close ok order few = few
 
 -- ---- the rounds
 
-NeverRises-append : (most : ℕ) (rounds : List OwnRound) (q : OwnRound) (last : ℕ) → NeverRises most rounds q.eligibility → last ≤ q.eligibility → NeverRises most (rounds ++ q ∷ []) last
+NeverRises-append : (most : ℕ) (rounds : List OwnRound) (q : OwnRound) (last : ℕ) → NeverRises most rounds q.eligibility → last ≤ q.eligibility
+    → NeverRises most (rounds ++ q ∷ []) last
 NeverRises-append most [] q last falls less = (falls, less)
 NeverRises-append most (r ∷ rounds) q last falls less = (falls.0, NeverRises-append r.eligibility rounds q last falls.1 less)
 
 length-own_rounds : (terms : Terms) (held : ℕ → ℕ → List ℕ) (j n : ℕ) → length (own_rounds terms held j n) ≡ n
 length-own_rounds terms held j zero = refl
-length-own_rounds terms held j (suc n) = omega (arith, length-append (own_rounds terms held j n) (own_round terms held j (suc n) ∷ []), length-own_rounds terms held j n)
+length-own_rounds terms held j (suc n) = omega (
+  arith,
+  length-append (own_rounds terms held j n) (own_round terms held j (suc n) ∷ []),
+  length-own_rounds terms held j n,
+)
 
 -- in the clock as many rounds are closed as there are closes
 clock-closed : (n : ℕ) (final : Option ℕ) → is_clock (stage_by n final) ≡ true → closed_by n final ≡ n
@@ -128,12 +140,14 @@ clock-closed n (Some final) clock =
       | inr past ↦ let no : false ≡ true = rw past at clock in cc
     ]
 
-rounds-closes : (terms : Terms) (j : ℕ) (lines : List Event) → is_clock (standing terms lines j).stage ≡ true → length (standing terms lines j).rounds ≡ closes lines
+rounds-closes : (terms : Terms) (j : ℕ) (lines : List Event) → is_clock (standing terms lines j).stage ≡ true
+    → length (standing terms lines j).rounds ≡ closes lines
 rounds-closes terms j lines clock =
     length-own_rounds terms (held_in terms lines) j (closed_after terms (held_in terms lines) (closes lines))
     ∙ clock-closed (closes lines) (final_round terms (held_in terms lines) (closes lines)) clock
 
-close-room : (closed full : Bool) (top : Option Reply) → is_ok_reply (first_reply (when closed reply.Stage ∷ when full (reply.Full 300) ∷ top ∷ [])) ≡ true → full ≡ false
+close-room : (closed full : Bool) (top : Option Reply) → is_ok_reply (first_reply (when closed reply.Stage ∷ when full (reply.Full 300) ∷ top ∷ [])) ≡ true
+    → full ≡ false
 close-room true full top ok = cc
 close-room false true top ok = cc
 close-room false false top ok = refl
@@ -143,13 +157,16 @@ excess-room true full room more = room
 excess-room false full room more = cc
 
 -- a close that posts a next round comes before the last round that there may be
-posts-room : (terms : Terms) (lines : List Event) (p : List ℕ) → is_ok_reply (reply_after terms lines Close) ≡ true → posted terms lines ≡ Some p → suc (closes lines) < 300
+posts-room : (terms : Terms) (lines : List Event) (p : List ℕ) → is_ok_reply (reply_after terms lines Close) ≡ true → posted terms lines ≡ Some p
+    → suc (closes lines) < 300
 posts-room terms lines p ok h =
     let held : ℕ → ℕ → List ℕ = held_in terms lines in
     let n : ℕ = closes lines in
-    let excess : has_excess terms held n ≡ true = (posts-excess n (final_round terms held n) (is_within (demand terms held (suc n)) terms.supply) p (prices_after terms held (suc n)) h).0 in
+    let excess : has_excess terms held n ≡ true = (posts-excess n (final_round terms held n) (is_within (demand terms held (suc n)) terms.supply) p
+    (prices_after terms held (suc n)) h).0 in
     let room : (has_excess terms held n && nat_le 300 (suc n)) ≡ false
-    = close-room (is_closed (stage_after terms held n)) (has_excess terms held n && nat_le 300 (suc n)) (if has_excess terms held n then price_top 1 (prices_after terms held (suc n)) else None) ok in
+    = close-room (is_closed (stage_after terms held n)) (has_excess terms held n && nat_le 300 (suc n))
+    (if has_excess terms held n then price_top 1 (prices_after terms held (suc n)) else None) ok in
     leb-false 300 (suc n) (excess-room (has_excess terms held n) (nat_le 300 (suc n)) room excess)
 
 -- The eligibility never rises, there are at most 300 rounds, and room for one in the clock; the lists have at most 300 entries, and
@@ -162,7 +179,8 @@ pub record IsKept (terms : Terms) (j : ℕ) (s : Standing) : Type 0 where
   pub drafts : length s.drafts ≤ 300
   pub submitted : length s.submitted ≤ 300
 
-IsKept-own : (terms : Terms) (j : ℕ) (s : Standing) (e : Event) → is_ok_reply (own_reply terms j s e) ≡ true → InOrder (map bid_lots (drafts_after e s.drafts)) → IsKept terms j s
+IsKept-own : (terms : Terms) (j : ℕ) (s : Standing) (e : Event) → is_ok_reply (own_reply terms j s e) ≡ true
+    → InOrder (map bid_lots (drafts_after e s.drafts)) → IsKept terms j s
     → IsKept terms j (after_own j s e)
 IsKept-own terms j s e ok order kept = record {
   falls = kept.falls;
@@ -176,7 +194,8 @@ IsKept-own terms j s e ok order kept = record {
 one_round_more : (rounds : List OwnRound) (q : OwnRound) → length (rounds ++ q ∷ []) ≡ suc (length rounds)
 one_round_more rounds q = omega (arith, length-append rounds (q ∷ []))
 
-IsKept-close : (terms : Terms) (j : ℕ) (s : Standing) (prices : Option (List ℕ)) → ((p : List ℕ) → prices ≡ Some p → suc (length s.rounds) < 300) → cost_of terms.points s.held ≤ s.eligibility
+IsKept-close : (terms : Terms) (j : ℕ) (s : Standing) (prices : Option (List ℕ)) → ((p : List ℕ) → prices ≡ Some p → suc (length s.rounds) < 300)
+    → cost_of terms.points s.held ≤ s.eligibility
     → IsKept terms j s → IsKept terms j (after_close terms s prices)
 IsKept-close terms j s (Some p) posts eligible kept =
     let more : suc (length s.rounds) < 300 = posts p refl in
@@ -214,8 +233,10 @@ close-posts : (terms : Terms) (j : ℕ) (lines : List Event) → is_ok_reply (re
 close-posts terms j lines ok p h =
     let held : ℕ → ℕ → List ℕ = held_in terms lines in
     let n : ℕ = closes lines in
-    let excess : has_excess terms held n ≡ true = (posts-excess n (final_round terms held n) (is_within (demand terms held (suc n)) terms.supply) p (prices_after terms held (suc n)) h).0 in
-    let clock : is_clock (standing terms lines j).stage ≡ true = first_and (is_clock (stage_after terms held n)) (not (is_within (demand terms held (suc n)) terms.supply)) excess in
+    let excess : has_excess terms held n ≡ true = (posts-excess n (final_round terms held n) (is_within (demand terms held (suc n)) terms.supply) p
+    (prices_after terms held (suc n)) h).0 in
+    let clock : is_clock (standing terms lines j).stage ≡ true = first_and (is_clock (stage_after terms held n))
+    (not (is_within (demand terms held (suc n)) terms.supply)) excess in
     omega (arith, rounds-closes terms j lines clock, posts-room terms lines p ok h)
   where
     first_and : (a b : Bool) → (a && b) ≡ true → a ≡ true
@@ -224,7 +245,15 @@ close-posts terms j lines ok p h =
 
 -- every standing after a log is kept
 pub IsKept-standing : (terms : Terms) (j : ℕ) (log : List Event) → IsKept terms j (standing terms (admitted terms log) j)
-IsKept-standing terms j [] = record { falls = omega arith; few = omega arith; room = λ clock. omega arith; order = tt; drafts = omega arith; submitted = omega arith }
+IsKept-standing terms j [] = record {
+  falls = omega arith;
+  few = omega arith;
+  room = λ clock. omega arith;
+  order = tt;
+  drafts = omega arith;
+  submitted =
+      omega arith;
+}
 IsKept-standing terms j (e ∷ log) =
     let lines : List Event = admitted terms log in
     let before : IsKept terms j (standing terms lines j) = IsKept-standing terms j log in
@@ -239,7 +268,8 @@ IsKept-standing terms j (e ∷ log) =
         | an_own mine ↦ let c : is_close e ≡ false = (is_of-parts j e mine).0 in
             let ok' : is_ok_reply (own_reply terms j (standing terms lines j) e) ≡ true = ap is_ok_reply (sym (reply_after-own terms lines j e mine)) ∙ ok in
             let same : standing terms (e ∷ lines) j ≡ after_own j (standing terms lines j) e = standing-own terms j e lines c mine in
-            let order : InOrder (map bid_lots (drafts_after e (standing terms lines j).drafts)) = subst (λ (s : Standing). InOrder (map bid_lots s.drafts)) same (InOrder-draft_list j (e ∷ lines)) in
+            let order : InOrder (map bid_lots (drafts_after e (standing terms lines j).drafts)) = subst
+            (λ (s : Standing). InOrder (map bid_lots s.drafts)) same (InOrder-draft_list j (e ∷ lines)) in
             subst (IsKept terms j) (sym same) (IsKept-own terms j (standing terms lines j) e ok' order before)
         | another c theirs ↦ subst (IsKept terms j) (sym (standing-other terms j e lines c theirs)) before
       ])
@@ -253,7 +283,8 @@ stopped-closed n None f over = cc
 stopped-closed n (Some final) (stopped some few) over = some
 
 -- after any log that has stopped the clock a bidder has at least one closed round
-pub rounds-some : (terms : Terms) (log : List Event) (j : ℕ) → is_clock (standing terms (admitted terms log) j).stage ≡ false → 1 ≤ length (standing terms (admitted terms log) j).rounds
+pub rounds-some : (terms : Terms) (log : List Event) (j : ℕ) → is_clock (standing terms (admitted terms log) j).stage ≡ false
+    → 1 ≤ length (standing terms (admitted terms log) j).rounds
 rounds-some terms log j over =
     let lines : List Event = admitted terms log in
     let held : ℕ → ℕ → List ℕ = held_in terms lines in
@@ -262,7 +293,8 @@ rounds-some terms log j over =
     omega (arith, closed, length-own_rounds terms held j (closed_after terms held (closes lines)))
 
 -- in round 1 a bidder has the eligibility of the award
-own_rounds-first : (terms : Terms) (held : ℕ → ℕ → List ℕ) (j n : ℕ) → 1 ≤ length (own_rounds terms held j n) → (round_at (own_rounds terms held j n) 1).eligibility ≡ (entrant terms j).eligibility
+own_rounds-first : (terms : Terms) (held : ℕ → ℕ → List ℕ) (j n : ℕ) → 1 ≤ length (own_rounds terms held j n)
+    → (round_at (own_rounds terms held j n) 1).eligibility ≡ (entrant terms j).eligibility
 own_rounds-first terms held j n some =
     let more : 0 < n = omega (arith, some, length-own_rounds terms held j n) in
     ap (λ (r : OwnRound). r.eligibility) (get_or-listing (own_round terms held j) n 0 no_round more)
@@ -277,7 +309,8 @@ rounds-first terms log j some =
 -- ---- the lists after a log, and the number of bids in its book
 
 -- after a log in the award's categories a draft list isn't too long, is in order, and has only what may be drafted
-pub AreDrafts-drafts : (terms : Terms) (log : List Event) (j : ℕ) → AllByRecursion (HasCategories terms) log → AreDrafts terms j (standing terms (admitted terms log) j).drafts
+pub AreDrafts-drafts : (terms : Terms) (log : List Event) (j : ℕ) → AllByRecursion (HasCategories terms) log
+    → AreDrafts terms j (standing terms (admitted terms log) j).drafts
 AreDrafts-drafts terms log j same = record {
   few = (IsKept-standing terms j log).drafts;
   order = InOrder-draft_list j (admitted terms log);
@@ -285,7 +318,8 @@ AreDrafts-drafts terms log j same = record {
 }
 
 -- after a log in the award's categories a submitted list is short enough, in order, and of entries that may be drafted
-pub AreDrafts-submitted : (terms : Terms) (log : List Event) (j : ℕ) → AllByRecursion (HasCategories terms) log → AreDrafts terms j (standing terms (admitted terms log) j).submitted
+pub AreDrafts-submitted : (terms : Terms) (log : List Event) (j : ℕ) → AllByRecursion (HasCategories terms) log
+    → AreDrafts terms j (standing terms (admitted terms log) j).submitted
 AreDrafts-submitted terms log j same = record {
   few = (IsKept-standing terms j log).submitted;
   order = InOrder-submitted_list j (admitted terms log);

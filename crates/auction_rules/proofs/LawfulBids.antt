@@ -1,5 +1,6 @@
 -- Each bid of the book of a log has the award's categories, is within the supply, and is at least its reserve and at most the greatest amount.
-use Rattle.std.proofs.Common.{◌≡◌, ℕ, zero, suc, ◌+◌, ◌-◌, ◌*◌, ◌^◌, ◌≤◌, Bool, true, false, not, ◌&&◌, List, [], ◌∷◌, ◌++◌, Option, Some, None, refl, sym, ◌∙◌, ap, subst, inl, inr, arith, map, length}
+use Rattle.std.proofs.Common.{◌≡◌, ℕ, zero, suc, ◌+◌, ◌-◌, ◌*◌, ◌^◌, ◌≤◌, Bool, true, false, not, ◌&&◌, List, [], ◌∷◌, ◌++◌, Option, Some, None, refl, sym}
+use Rattle.std.proofs.Common.{◌∙◌, ap, subst, inl, inr, arith, map, length}
 use Rattle.std.specs.Prelude.{if◌then◌else◌, ◌==◌, filter, nat_le, nat_lt, nat_eq, sum}
 use Rattle.std.specs.List.{AllByRecursion}
 use Rattle.std.specs.Option.{option_or}
@@ -16,9 +17,11 @@ use Rattle.lots.specs.auction_model.specs.PackageTests.{is_empty, first_over, is
 use Rattle.auction_rules.specs.Terms.{Terms, no_lots, entrant, broken_cap}
 use Rattle.auction_rules.specs.Rounds.{OwnRound, demand, prices_after, final_round, stage_by, stage_after, closed_after, own_round, own_rounds}
 use Rattle.auction_rules.specs.Caps.{clock_bid, greatest}
-use Rattle.auction_rules.specs.Lines.{is_close, line_bidder, bid_by, is_submit, closes, held_in, placed, in_order, priced, draft_list, submitted_list, drafts_after}
+use Rattle.auction_rules.specs.Lines.{is_close, line_bidder, bid_by, is_submit, closes, held_in, placed, in_order, priced, draft_list, submitted_list}
+use Rattle.auction_rules.specs.Lines.{drafts_after}
 use Rattle.lots.specs.auction_model.specs.Entries.{with_entry, without_entry}
-use Rattle.auction_rules.specs.Replies.{Standing, is_of, is_clock, is_sealed, is_closed, is_ok_reply, first_reply, when, supply_reply, spectrum_reply, has_entry, price_top, has_excess, own_reply, close_reply, reply_after, admitted, standing}
+use Rattle.auction_rules.specs.Replies.{Standing, is_of, is_clock, is_sealed, is_closed, is_ok_reply, first_reply, when, supply_reply, spectrum_reply}
+use Rattle.auction_rules.specs.Replies.{has_entry, price_top, has_excess, own_reply, close_reply, reply_after, admitted, standing}
 use Rattle.auction_rules.specs.View.{posted}
 use Rattle.auction_rules.specs.BookOfLog.{bid_lots, best_bids, bids_in_book}
 use Rattle.auction_rules.specs.Lawful.{AreBelowTop, AreLimited, HasCategories, IsLawfulBid, IsDraft}
@@ -64,8 +67,10 @@ pub record DraftOk (over : Option ℕ) (short empty low full above : Bool) : Typ
   pub top_kept : above ≡ false
 
 -- a draft gets Ok only with no category over, enough points, some lot, its reserve reached, room, and the top kept
-pub draft-ok : (out strange : Bool) (over : Option ℕ) (rule : Option (ℕ × ℕ)) (short : Bool) (e : ℕ) (empty low : Bool) (r : ℕ) (below : Bool) (c : ℕ) (full above : Bool) (t : ℕ)
-    → is_ok_reply (first_reply (when out reply.Stage ∷ when strange reply.Unknown ∷ supply_reply over ∷ spectrum_reply rule ∷ when short (reply.Points e) ∷ when empty reply.Empty
+pub draft-ok : (out strange : Bool) (over : Option ℕ) (rule : Option (ℕ × ℕ)) (short : Bool) (e : ℕ) (empty low : Bool) (r : ℕ) (below : Bool) (c : ℕ)
+    (full above : Bool) (t : ℕ)
+    → is_ok_reply (first_reply (when out reply.Stage ∷ when strange reply.Unknown ∷ supply_reply over ∷ spectrum_reply rule ∷ when short
+    (reply.Points e) ∷ when empty reply.Empty
     ∷ when low (reply.BelowReserve r) ∷ when below (reply.BelowClock c) ∷ when full (reply.Full 300) ∷ when above (reply.AmountTop t) ∷ [])) ≡ true
     → DraftOk over short empty low full above
 draft-ok true strange over rule short e empty low r below c full above t ok = cc
@@ -78,7 +83,8 @@ draft-ok false false None None false e false true r below c full above t ok = cc
 draft-ok false false None None false e false false r true c full above t ok = cc
 draft-ok false false None None false e false false r false c true above t ok = cc
 draft-ok false false None None false e false false r false c false true t ok = cc
-draft-ok false false None None false e false false r false c false false t ok = record { none_over = refl; eligible = refl; some = refl; reserve_reached = refl; room = refl; top_kept = refl }
+draft-ok false false None None false e false false r false c false false t ok = record
+    { none_over = refl; eligible = refl; some = refl; reserve_reached = refl; room = refl; top_kept = refl }
 
 -- a package within the supply has at most its lots
 pub sum-within : (lots supply : List ℕ) → is_within lots supply ≡ true → sum lots ≤ sum supply
@@ -92,16 +98,21 @@ sum-within (a ∷ lots) (b ∷ supply) within =
 
 -- an admitted draft of bidder j
 pub draft-parts : (terms : Terms) (j k : ℕ) (s : Standing) (lots : List ℕ) (amount : ℕ) → is_ok_reply (own_reply terms j s (Draft k lots amount)) ≡ true
-    → DraftOk (first_over 1 lots terms.supply) (nat_lt (entrant terms j).eligibility (cost_of terms.points lots)) (is_empty lots) (nat_lt amount (cost_of terms.reserves lots))
+    → DraftOk (first_over 1 lots terms.supply) (nat_lt (entrant terms j).eligibility (cost_of terms.points lots)) (is_empty lots)
+    (nat_lt amount (cost_of terms.reserves lots))
     (not (has_entry lots s.drafts) && nat_le 300 (length s.drafts)) (nat_lt (2 ^ 42) amount)
 draft-parts terms j k s lots amount ok =
     draft-ok (not (is_sealed s.stage)) (not (nat_lt 0 j && nat_le j (length terms.bidders))) (first_over 1 lots terms.supply) (broken_cap terms j lots)
-    (nat_lt (entrant terms j).eligibility (cost_of terms.points lots)) (entrant terms j).eligibility (is_empty lots) (nat_lt amount (cost_of terms.reserves lots)) (cost_of terms.reserves lots)
-    (nat_lt amount (greatest lots (map clock_bid s.rounds))) (greatest lots (map clock_bid s.rounds)) (not (has_entry lots s.drafts) && nat_le 300 (length s.drafts)) (nat_lt (2 ^ 42) amount) (2 ^ 42) ok
+    (nat_lt (entrant terms j).eligibility (cost_of terms.points lots)) (entrant terms j).eligibility (is_empty lots)
+    (nat_lt amount (cost_of terms.reserves lots)) (cost_of terms.reserves lots)
+    (nat_lt amount (greatest lots (map clock_bid s.rounds))) (greatest lots (map clock_bid s.rounds))
+    (not (has_entry lots s.drafts) && nat_le 300 (length s.drafts)) (nat_lt (2 ^ 42) amount) (2 ^ 42) ok
 
-own-lawful : (terms : Terms) (s : Standing) (e : Event) → is_ok_reply (own_reply terms (line_bidder e) s e) ≡ true → HasCategories terms e → IsLawfulLine terms e
+own-lawful : (terms : Terms) (s : Standing) (e : Event) → is_ok_reply (own_reply terms (line_bidder e) s e) ≡ true → HasCategories terms e
+    → IsLawfulLine terms e
 own-lawful terms s (Bid j lots) ok same =
-    let none : first_over 1 lots terms.supply ≡ None = (bid-ok (not (is_clock s.stage)) (not (nat_lt 0 j && nat_le j (length terms.bidders))) (first_over 1 lots terms.supply)
+    let none : first_over 1 lots terms.supply ≡ None = (bid-ok (not (is_clock s.stage)) (not (nat_lt 0 j && nat_le j (length terms.bidders)))
+    (first_over 1 lots terms.supply)
     (broken_cap terms j lots) (nat_lt s.eligibility (cost_of terms.points lots)) s.eligibility ok).0 in
     record { categories = same; within = first_over-within 1 lots terms.supply none }
 own-lawful terms s (Draft j lots amount) ok same =
@@ -128,7 +139,8 @@ line-lawful terms lines e ok same =
       | inl close ↦ subst (IsLawfulLine terms) (sym (is_close-true e close)) tt
       | inr other ↦
           own-lawful terms (standing terms lines (line_bidder e)) e
-          (ap is_ok_reply (sym (cond-false (is_close e) (close_reply terms (held_in terms lines) (closes lines)) (own_reply terms (line_bidder e) (standing terms lines (line_bidder e)) e) other)) ∙ ok) same
+          (ap is_ok_reply (sym (cond-false (is_close e) (close_reply terms (held_in terms lines) (closes lines))
+          (own_reply terms (line_bidder e) (standing terms lines (line_bidder e)) e) other)) ∙ ok) same
     ]
 
 -- where the packages of a log have the award's number of categories, each admitted line is lawful
@@ -169,7 +181,8 @@ held-lawful terms [] r j lawful = IsLawfulPackage-no_lots terms
 held-lawful terms (e ∷ lines) r j lawful = held-after terms e lines r j (bid_by j e) refl lawful.0 (held-lawful terms lines r j lawful.1)
 
 -- drafts and submitted lists
-pub with_entry-each : (P : BookBid → Type 0) (x : List ℕ) (a : ℕ) (list : List BookBid) → P (record { lots = x; amount = a }) → AllByRecursion P list → AllByRecursion P (with_entry x a list)
+pub with_entry-each : (P : BookBid → Type 0) (x : List ℕ) (a : ℕ) (list : List BookBid) → P (record { lots = x; amount = a }) → AllByRecursion P list
+    → AllByRecursion P (with_entry x a list)
 with_entry-each P x a [] new old = (new, tt)
 with_entry-each P x a (b ∷ list) new old =
     elim (cases_Bool (is_same x b.lots)) [
@@ -188,7 +201,8 @@ without_entry-each P x (b ∷ list) old =
       | inr apart ↦ rw apart (old.0, without_entry-each P x list old.1)
     ]
 
-drafts_after-lawful : (terms : Terms) (j : ℕ) (e : Event) (list : List BookBid) → line_bidder e ≡ j → IsLawfulLine terms e → AllByRecursion (IsDraft terms j) list
+drafts_after-lawful : (terms : Terms) (j : ℕ) (e : Event) (list : List BookBid) → line_bidder e ≡ j → IsLawfulLine terms e
+    → AllByRecursion (IsDraft terms j) list
     → AllByRecursion (IsDraft terms j) (drafts_after e list)
 drafts_after-lawful terms j (Bid k x) list mine new old = old
 drafts_after-lawful terms j (Draft k x a) list mine new old =
@@ -198,17 +212,20 @@ drafts_after-lawful terms j (Submit k) list mine new old = old
 drafts_after-lawful terms j Close list mine new old = old
 
 -- after lawful lines each entry of a bidder's draft list is one that it may draft
-pub drafts-lawful : (terms : Terms) (j : ℕ) (lines : List Event) → AllByRecursion (IsLawfulLine terms) lines → AllByRecursion (IsDraft terms j) (draft_list j lines)
+pub drafts-lawful : (terms : Terms) (j : ℕ) (lines : List Event) → AllByRecursion (IsLawfulLine terms) lines
+    → AllByRecursion (IsDraft terms j) (draft_list j lines)
 drafts-lawful terms j [] lawful = tt
 drafts-lawful terms j (e ∷ lines) lawful =
     let before : AllByRecursion (IsDraft terms j) (draft_list j lines) = drafts-lawful terms j lines lawful.1 in
     elim (cases_Bool (is_of j e)) [
-      | inl mine ↦ subst (AllByRecursion (IsDraft terms j)) (sym (draft_list-own j e lines mine)) (drafts_after-lawful terms j e (draft_list j lines) (is_of-parts j e mine).1 lawful.0 before)
+      | inl mine ↦ subst (AllByRecursion (IsDraft terms j)) (sym (draft_list-own j e lines mine))
+          (drafts_after-lawful terms j e (draft_list j lines) (is_of-parts j e mine).1 lawful.0 before)
       | inr theirs ↦ subst (AllByRecursion (IsDraft terms j)) (sym (draft_list-other j e lines theirs)) before
     ]
 
 -- after lawful lines each entry of a bidder's submitted list is one that it may draft
-pub submitted-lawful : (terms : Terms) (j : ℕ) (lines : List Event) → AllByRecursion (IsLawfulLine terms) lines → AllByRecursion (IsDraft terms j) (submitted_list j lines)
+pub submitted-lawful : (terms : Terms) (j : ℕ) (lines : List Event) → AllByRecursion (IsLawfulLine terms) lines
+    → AllByRecursion (IsDraft terms j) (submitted_list j lines)
 submitted-lawful terms j [] lawful = tt
 submitted-lawful terms j (e ∷ lines) lawful =
     elim (cases_Bool (is_submit j e)) [
@@ -231,7 +248,8 @@ price_top-none category (p ∷ prices) ok =
     ]
 
 close-ok : (closed full excess : Bool) (prices : List ℕ)
-    → is_ok_reply (first_reply (when closed reply.Stage ∷ when full (reply.Full 300) ∷ (if excess then price_top 1 prices else None) ∷ [])) ≡ true → excess ≡ true → AreBelowTop prices
+    → is_ok_reply (first_reply (when closed reply.Stage ∷ when full (reply.Full 300) ∷ (if excess then price_top 1 prices else None) ∷ [])) ≡ true
+    → excess ≡ true → AreBelowTop prices
 close-ok true full excess prices ok more = cc
 close-ok false true excess prices ok more = cc
 close-ok false false true prices ok more = price_top-none 1 prices ok
@@ -253,23 +271,34 @@ posts-excess n (Some final) within p prices h =
       | inr other ↦ let no : None ≡ Some p = rw other at h in cc
     ]
 
-posted-below_top : (terms : Terms) (lines : List Event) (p : List ℕ) → is_ok_reply (reply_after terms lines Close) ≡ true → posted terms lines ≡ Some p → AreBelowTop p
+posted-below_top : (terms : Terms) (lines : List Event) (p : List ℕ) → is_ok_reply (reply_after terms lines Close) ≡ true → posted terms lines ≡ Some p
+    → AreBelowTop p
 posted-below_top terms lines p ok h =
     let held : ℕ → ℕ → List ℕ = held_in terms lines in
     let n : ℕ = closes lines in
     let parts : (has_excess terms held n ≡ true) × (prices_after terms held (suc n) ≡ p)
     = posts-excess n (final_round terms held n) (is_within (demand terms held (suc n)) terms.supply) p (prices_after terms held (suc n)) h in
-    subst AreBelowTop parts.1 (close-ok (is_closed (stage_after terms held n)) (has_excess terms held n && nat_le 300 (suc n)) (has_excess terms held n) (prices_after terms held (suc n)) ok parts.0)
+    subst AreBelowTop parts.1 (close-ok (is_closed (stage_after terms held n)) (has_excess terms held n && nat_le 300 (suc n)) (has_excess terms held n)
+    (prices_after terms held (suc n)) ok parts.0)
 
 record IsBelowTop (s : Standing) : Type 0 where
   rounds : AllByRecursion (λ (r : OwnRound). AreBelowTop r.prices) s.rounds
   now : AreBelowTop s.prices
 
-below_top-close : (terms : Terms) (s : Standing) (prices : Option (List ℕ)) → ((p : List ℕ) → prices ≡ Some p → AreBelowTop p) → IsBelowTop s → IsBelowTop (after_close terms s prices)
-below_top-close terms s (Some p) posts below = record { rounds = each-push (λ (r : OwnRound). AreBelowTop r.prices) s.rounds (own_now s) below.rounds below.now; now = posts p refl }
+below_top-close : (terms : Terms) (s : Standing) (prices : Option (List ℕ)) → ((p : List ℕ) → prices ≡ Some p → AreBelowTop p) → IsBelowTop s
+    → IsBelowTop (after_close terms s prices)
+below_top-close terms s (Some p) posts below = record {
+  rounds = each-push (λ (r : OwnRound). AreBelowTop r.prices) s.rounds
+      (own_now s) below.rounds below.now;
+  now = posts p refl;
+}
 below_top-close terms s None posts below =
     elim (cases_Bool (is_clock s.stage)) [
-      | inl clock ↦ record { rounds = rw clock (each-push (λ (r : OwnRound). AreBelowTop r.prices) s.rounds (own_now s) below.rounds below.now); now = below.now }
+      | inl clock ↦ record {
+        rounds = rw clock (each-push (λ (r : OwnRound). AreBelowTop r.prices) s.rounds (own_now s) below.rounds below.now);
+        now =
+            below.now;
+      }
       | inr other ↦ record { rounds = rw other below.rounds; now = below.now }
     ]
 
@@ -314,7 +343,8 @@ record IsHeldLawfully (terms : Terms) (r : OwnRound) : Type 0 where
   lots : IsLawfulPackage terms r.held
   floor : cost_of terms.reserves r.held ≤ cost_of r.prices r.held
 
-own_rounds-lawful : (terms : Terms) (held : ℕ → ℕ → List ℕ) (j n : ℕ) → ((r : ℕ) → IsLawfulPackage terms (held r j)) → AllByRecursion (IsHeldLawfully terms) (own_rounds terms held j n)
+own_rounds-lawful : (terms : Terms) (held : ℕ → ℕ → List ℕ) (j n : ℕ) → ((r : ℕ) → IsLawfulPackage terms (held r j))
+    → AllByRecursion (IsHeldLawfully terms) (own_rounds terms held j n)
 own_rounds-lawful terms held j zero lawful = tt
 own_rounds-lawful terms held j (suc n) lawful =
     each-push (IsHeldLawfully terms) (own_rounds terms held j n) (own_round terms held j (suc n)) (own_rounds-lawful terms held j n lawful)
@@ -327,9 +357,13 @@ clock_bid-lawful terms r limited lawful below =
     record { categories = lawful.lots.categories; within = lawful.lots.within; reserve = lawful.floor; top = omega (arith, most, few) }
 
 clock_bids-lawful : (terms : Terms) (rounds : List OwnRound) (list : List BookBid) → AreLimited terms → AllByRecursion (IsHeldLawfully terms) rounds
-    → AllByRecursion (λ (r : OwnRound). AreBelowTop r.prices) rounds → AllByRecursion (IsLawfulBid terms) list → AllByRecursion (IsLawfulBid terms) (map clock_bid rounds ++ list)
+    → AllByRecursion (λ (r : OwnRound). AreBelowTop r.prices) rounds → AllByRecursion (IsLawfulBid terms) list
+    → AllByRecursion (IsLawfulBid terms) (map clock_bid rounds ++ list)
 clock_bids-lawful terms [] list limited lawful below given = given
-clock_bids-lawful terms (r ∷ rounds) list limited lawful below given = (clock_bid-lawful terms r limited lawful.0 below.0, clock_bids-lawful terms rounds list limited lawful.1 below.1 given)
+clock_bids-lawful terms (r ∷ rounds) list limited lawful below given = (
+  clock_bid-lawful terms r limited lawful.0 below.0,
+  clock_bids-lawful terms rounds list limited lawful.1 below.1 given,
+)
 
 -- the greatest amounts of lawful bids
 greatest-top : (terms : Terms) (lots : List ℕ) (bids : List BookBid) → AllByRecursion (IsLawfulBid terms) bids → greatest lots bids ≤ 2 ^ 42
@@ -341,12 +375,19 @@ greatest-top terms lots (b ∷ bids) lawful =
     ]
 
 greatest-lawful : (terms : Terms) (all bids : List BookBid) → AllByRecursion (IsLawfulBid terms) all → AllByRecursion (IsLawfulBid terms) bids
-    → ((lots : List ℕ) → greatest lots bids ≤ greatest lots all) → AllByRecursion (λ (lots : List ℕ). IsLawfulBid terms (record { lots = lots; amount = greatest lots all })) (map bid_lots bids)
+    → ((lots : List ℕ) → greatest lots bids ≤ greatest lots all) → AllByRecursion
+    (λ (lots : List ℕ). IsLawfulBid terms (record { lots = lots; amount = greatest lots all })) (map bid_lots bids)
 greatest-lawful terms all [] whole lawful up = tt
 greatest-lawful terms all (b ∷ bids) whole lawful up =
     let own : (if is_same b.lots b.lots then b.amount else 0) ≡ b.amount = cond-true (is_same b.lots b.lots) b.amount 0 (is_same-refl b.lots) in
     let reached : b.amount ≤ greatest b.lots all = omega (arith, own, up b.lots) in (
-      record { categories = lawful.0.categories; within = lawful.0.within; reserve = omega (arith, reached, lawful.0.reserve); top = greatest-top terms b.lots all whole },
+      record {
+        categories = lawful.0.categories;
+        within = lawful.0.within;
+        reserve = omega (arith, reached, lawful.0.reserve);
+        top =
+            greatest-top terms b.lots all whole;
+      },
       greatest-lawful terms all bids whole lawful.1 (λ lots. omega (arith, up lots)),
     )
 
@@ -376,7 +417,8 @@ each-in_order Q [] each = tt
 each-in_order Q (p ∷ ps) each = each-placed Q p (in_order ps) each.0 (each-in_order Q ps each.1)
 
 -- what holds of each package with its amount holds of each bid of the priced packages
-pub each-priced : (P : BookBid → Type 0) (amount : List ℕ → ℕ) (ps : List (List ℕ)) → AllByRecursion (λ (lots : List ℕ). P (record { lots = lots; amount = amount lots })) ps
+pub each-priced : (P : BookBid → Type 0) (amount : List ℕ → ℕ) (ps : List (List ℕ)) → AllByRecursion
+    (λ (lots : List ℕ). P (record { lots = lots; amount = amount lots })) ps
     → AllByRecursion P (priced (λ lots. Some (amount lots)) ps)
 each-priced P amount [] each = tt
 each-priced P amount (p ∷ ps) each = (each.0, each-priced P amount ps each.1)
@@ -389,7 +431,8 @@ best_bids-lawful terms bids lawful =
     (each-in_order Q some (each-some Q (map bid_lots bids) (greatest-lawful terms bids bids lawful lawful (λ lots. omega arith))))
 
 -- the bids of a book
-pub IsLawfulBid-bids_in_book : (terms : Terms) (log : List Event) (j : ℕ) → AreLimited terms → AllByRecursion (HasCategories terms) log → AllByRecursion (IsLawfulBid terms) (bids_in_book terms log j)
+pub IsLawfulBid-bids_in_book : (terms : Terms) (log : List Event) (j : ℕ) → AreLimited terms → AllByRecursion (HasCategories terms) log
+    → AllByRecursion (IsLawfulBid terms) (bids_in_book terms log j)
 IsLawfulBid-bids_in_book terms log j limited same =
     let lines : List Event = admitted terms log in
     let lawful : AllByRecursion (IsLawfulLine terms) lines = admitted-lawful terms log same in

@@ -1,5 +1,6 @@
 -- What holds of every bidder's standing after a log: the rounds are rising and eligible, and the submitted list is valid.
-use Rattle.std.proofs.Common.{◌≡◌, ℕ, zero, suc, ◌-◌, ◌*◌, ◌≤◌, Bool, true, false, not, List, [], ◌∷◌, ◌++◌, Option, Some, None, refl, sym, ◌∙◌, ap, subst, inl, inr, arith, map, length}
+use Rattle.std.proofs.Common.{◌≡◌, ℕ, zero, suc, ◌-◌, ◌*◌, ◌≤◌, Bool, true, false, not, List, [], ◌∷◌, ◌++◌, Option, Some, None, refl, sym, ◌∙◌, ap, subst}
+use Rattle.std.proofs.Common.{inl, inr, arith, map, length}
 use Rattle.std.specs.Prelude.{if◌then◌else◌, ◌&&◌, ◌==◌, nat_lt, nat_le, nat_eq, unwrap_or}
 use Rattle.std.specs.Option.{option_or}
 use Rattle.std.proofs.lemmas.Bool.{cases_Bool, ltb-false}
@@ -17,7 +18,8 @@ use Rattle.auction_rules.specs.declared.Reply.TheVariants as reply
 use Rattle.auction_rules.specs.Rounds.{closed_after, final_round, stage_by, stage_after}
 use Rattle.auction_rules.specs.Caps.{list_fault}
 use Rattle.auction_rules.specs.Lines.{is_close, is_submit, closes, held_in}
-use Rattle.auction_rules.specs.Replies.{Standing, is_clock, is_sealed, is_ok_reply, first_reply, when, supply_reply, spectrum_reply, cap_reply, own_reply, reply_after, admitted, standing}
+use Rattle.auction_rules.specs.Replies.{Standing, is_clock, is_sealed, is_ok_reply, first_reply, when, supply_reply, spectrum_reply, cap_reply, own_reply}
+use Rattle.auction_rules.specs.Replies.{reply_after, admitted, standing}
 use Rattle.auction_rules.specs.View.{posted}
 use Rattle.auction_rules.specs.BookOfLog.{bids_in_book}
 use Rattle.auction_rules.proofs.Standings.{after_own, after_close, own_now, stage_stopped, standing-own, standing-other, standing-close}
@@ -26,7 +28,8 @@ use Rattle.auction_rules.proofs.BookCaps.{RisesTo, rises, RisesToEach, AreRising
 use Rattle.auction_rules.proofs.Stands.{same_either}
 
 -- prices never fall
-cost_of-raised_prices : (tick : ℕ) (thresholds : List (ℕ × ℕ)) (prices d supply lots : List ℕ) → cost_of prices lots ≤ cost_of (raised_prices tick thresholds prices d supply) lots
+cost_of-raised_prices : (tick : ℕ) (thresholds : List (ℕ × ℕ)) (prices d supply lots : List ℕ) → cost_of prices lots ≤ cost_of
+    (raised_prices tick thresholds prices d supply) lots
 cost_of-raised_prices tick thresholds [] d supply lots = omega arith
 cost_of-raised_prices tick thresholds (p ∷ prices) [] supply lots = omega arith
 cost_of-raised_prices tick thresholds (p ∷ prices) (n ∷ d) [] lots = omega arith
@@ -40,8 +43,10 @@ cost_of-raised_prices tick thresholds (p ∷ prices) (n ∷ d) (s ∷ supply) (a
     ]
 
 -- after one more round the price of a package is at least what it was
-pub prices_after-rises : (terms : Terms) (held : ℕ → ℕ → List ℕ) (n : ℕ) (lots : List ℕ) → cost_of (prices_after terms held n) lots ≤ cost_of (prices_after terms held (suc n)) lots
-prices_after-rises terms held n lots = cost_of-raised_prices terms.tick terms.thresholds (prices_after terms held n) (demand terms held (suc n)) terms.supply lots
+pub prices_after-rises : (terms : Terms) (held : ℕ → ℕ → List ℕ) (n : ℕ) (lots : List ℕ) → cost_of (prices_after terms held n) lots ≤ cost_of
+    (prices_after terms held (suc n)) lots
+prices_after-rises terms held n lots = cost_of-raised_prices terms.tick terms.thresholds (prices_after terms held n)
+    (demand terms held (suc n)) terms.supply lots
 
 RisesToEach-append : (r : OwnRound) (rounds : List OwnRound) (q : OwnRound) → RisesToEach r rounds → RisesTo r q → RisesToEach r (rounds ++ q ∷ [])
 RisesToEach-append r [] q each last = (last, tt)
@@ -61,11 +66,13 @@ pub AreRising-append : (rounds : List OwnRound) (q : OwnRound) → AreRising rou
 AreRising-append [] q rising all = (tt, tt)
 AreRising-append (r ∷ rounds) q rising all = (RisesToEach-append r rounds q rising.0 all.0, AreRising-append rounds q rising.1 all.1)
 
-own_rounds-rise : (terms : Terms) (held : ℕ → ℕ → List ℕ) (j n : ℕ) (q : OwnRound) → ((lots : List ℕ) → cost_of (prices_after terms held n) lots ≤ cost_of q.prices lots) → AllRiseTo (own_rounds terms held j n) q
+own_rounds-rise : (terms : Terms) (held : ℕ → ℕ → List ℕ) (j n : ℕ) (q : OwnRound)
+    → ((lots : List ℕ) → cost_of (prices_after terms held n) lots ≤ cost_of q.prices lots) → AllRiseTo (own_rounds terms held j n) q
 own_rounds-rise terms held j zero q up = tt
 own_rounds-rise terms held j (suc n) q up =
     let e : suc n - 1 ≡ n = omega arith in
-    let step : (lots : List ℕ) → cost_of (prices_after terms held n) lots ≤ cost_of q.prices lots = λ lots. omega (arith, prices_after-rises terms held n lots, up lots) in
+    let step : (lots : List ℕ) → cost_of (prices_after terms held n) lots ≤ cost_of q.prices lots = λ lots. omega
+    (arith, prices_after-rises terms held n lots, up lots) in
     let last : (lots : List ℕ) → cost_of (prices_after terms held (suc n - 1)) lots ≤ cost_of q.prices lots = λ lots. rw e (step lots) in
     AllRiseTo-append (own_rounds terms held j n) (own_round terms held j (suc n)) q (own_rounds-rise terms held j n q step) (rises last)
 
@@ -75,10 +82,12 @@ AreRising-own_rounds terms held j zero = tt
 AreRising-own_rounds terms held j (suc n) =
     let e : suc n - 1 ≡ n = omega arith in
     let last : (lots : List ℕ) → cost_of (prices_after terms held n) lots ≤ cost_of (prices_after terms held (suc n - 1)) lots = λ lots. rw e (omega arith) in
-    AreRising-append (own_rounds terms held j n) (own_round terms held j (suc n)) (AreRising-own_rounds terms held j n) (own_rounds-rise terms held j n (own_round terms held j (suc n)) last)
+    AreRising-append (own_rounds terms held j n) (own_round terms held j (suc n)) (AreRising-own_rounds terms held j n)
+    (own_rounds-rise terms held j n (own_round terms held j (suc n)) last)
 
 -- rounds in which the bidder is eligible for what it holds stay such with one more that is so
-pub AreEligible-append : (points : List ℕ) (rounds : List OwnRound) (q : OwnRound) → AreEligible points rounds → cost_of points q.held ≤ q.eligibility → AreEligible points (rounds ++ q ∷ [])
+pub AreEligible-append : (points : List ℕ) (rounds : List OwnRound) (q : OwnRound) → AreEligible points rounds → cost_of points q.held ≤ q.eligibility
+    → AreEligible points (rounds ++ q ∷ [])
 AreEligible-append points [] q all last = (last, tt)
 AreEligible-append points (r ∷ rounds) q all last = (all.0, AreEligible-append points rounds q all.1 last)
 
@@ -97,7 +106,8 @@ pub record IsSound (terms : Terms) (s : Standing) : Type 0 where
 
 -- where the reply is Ok, no condition holds
 pub bid-ok : (out strange : Bool) (over : Option ℕ) (rule : Option (ℕ × ℕ)) (short : Bool) (e : ℕ)
-    → is_ok_reply (first_reply (when out reply.Stage ∷ when strange reply.Unknown ∷ supply_reply over ∷ spectrum_reply rule ∷ when short (reply.Points e) ∷ [])) ≡ true → (over ≡ None) × (short ≡ false)
+    → is_ok_reply (first_reply (when out reply.Stage ∷ when strange reply.Unknown ∷ supply_reply over ∷ spectrum_reply rule ∷ when short
+    (reply.Points e) ∷ [])) ≡ true → (over ≡ None) × (short ≡ false)
 bid-ok true strange over rule short e ok = cc
 bid-ok false true over rule short e ok = cc
 bid-ok false false (Some c) rule short e ok = cc
@@ -129,19 +139,27 @@ held_bid true true lots held points eligibility new old = new
 held_bid true false lots held points eligibility new old = old
 held_bid false mine lots held points eligibility new old = old
 
-IsSound-own : (terms : Terms) (j : ℕ) (s : Standing) (e : Event) → is_ok_reply (own_reply terms j s e) ≡ true → is_close e ≡ false → IsSound terms s → IsSound terms (after_own j s e)
+IsSound-own : (terms : Terms) (j : ℕ) (s : Standing) (e : Event) → is_ok_reply (own_reply terms j s e) ≡ true → is_close e ≡ false → IsSound terms s
+    → IsSound terms (after_own j s e)
 IsSound-own terms j s (Bid k lots) ok c sound =
     let within : cost_of terms.points lots ≤ s.eligibility = ltb-false s.eligibility (cost_of terms.points lots)
     (bid-ok (not (is_clock s.stage)) (not (nat_lt 0 j && nat_le j (length terms.bidders))) (first_over 1 lots terms.supply) (broken_cap terms j lots)
     (nat_lt s.eligibility (cost_of terms.points lots)) s.eligibility ok).1 in
-    record { eligible = sound.eligible; now = held_bid (is_clock s.stage) (k == j) lots s.held terms.points s.eligibility within sound.now; valid = sound.valid; unsubmitted = sound.unsubmitted }
+    record {
+      eligible = sound.eligible;
+      now = held_bid (is_clock s.stage) (k == j) lots s.held terms.points s.eligibility within sound.now;
+      valid =
+          sound.valid;
+      unsubmitted = sound.unsubmitted;
+    }
 IsSound-own terms j s (Draft k lots amount) ok c sound =
     record { eligible = sound.eligible; now = rw (same_either (is_clock s.stage) s.held) sound.now; valid = sound.valid; unsubmitted = sound.unsubmitted }
 IsSound-own terms j s (Drop k lots) ok c sound =
     record { eligible = sound.eligible; now = rw (same_either (is_clock s.stage) s.held) sound.now; valid = sound.valid; unsubmitted = sound.unsubmitted }
 IsSound-own terms j s (Submit k) ok c sound =
     let a : (not (is_sealed s.stage) ≡ false) × (list_fault (final_cap terms) terms.points s.rounds s.drafts ≡ None)
-    = submit-ok (not (is_sealed s.stage)) (not (nat_lt 0 j && nat_le j (length terms.bidders))) (list_fault (final_cap terms) terms.points s.rounds s.drafts) ok in
+    = submit-ok (not (is_sealed s.stage)) (not (nat_lt 0 j && nat_le j (length terms.bidders))) (list_fault (final_cap terms) terms.points s.rounds s.drafts)
+    ok in
     record {
       eligible = sound.eligible;
       now = rw (same_either (is_clock s.stage) s.held) sound.now;
@@ -150,7 +168,8 @@ IsSound-own terms j s (Submit k) ok c sound =
     }
 IsSound-own terms j s Close ok c sound = cc
 
-IsSound-close : (terms : Terms) (s : Standing) (prices : Option (List ℕ)) → ((p : List ℕ) → prices ≡ Some p → is_clock s.stage ≡ true) → IsSound terms s → IsSound terms (after_close terms s prices)
+IsSound-close : (terms : Terms) (s : Standing) (prices : Option (List ℕ)) → ((p : List ℕ) → prices ≡ Some p → is_clock s.stage ≡ true) → IsSound terms s
+    → IsSound terms (after_close terms s prices)
 IsSound-close terms s (Some p) posts sound = record {
   eligible = AreEligible-append terms.points s.rounds (own_now s) sound.eligible sound.now;
   now = omega (arith, cost_of-zeros terms.points terms.supply);
@@ -174,7 +193,8 @@ IsSound-close terms s None posts sound =
     ]
 
 -- a close that posts prices comes in the clock
-posts : (n : ℕ) (final now : Option ℕ) (p prices : List ℕ) → (if is_clock (stage_by (suc n) (option_or final now)) then Some prices else None) ≡ Some p → is_clock (stage_by n final) ≡ true
+posts : (n : ℕ) (final now : Option ℕ) (p prices : List ℕ) → (if is_clock (stage_by (suc n) (option_or final now)) then Some prices else None) ≡ Some p
+    → is_clock (stage_by n final) ≡ true
 posts n None now p prices h = refl
 posts n (Some final) now p prices h =
     elim (cases_Bool (nat_eq (suc n) final)) [
@@ -182,9 +202,11 @@ posts n (Some final) now p prices h =
       | inr other ↦ let no : None ≡ Some p = rw other at h in cc
     ]
 
-posted-clock : (terms : Terms) (lines : List Event) (p : List ℕ) → posted terms lines ≡ Some p → is_clock (stage_after terms (held_in terms lines) (closes lines)) ≡ true
+posted-clock : (terms : Terms) (lines : List Event) (p : List ℕ) → posted terms lines ≡ Some p → is_clock
+    (stage_after terms (held_in terms lines) (closes lines)) ≡ true
 posted-clock terms lines p h =
-    posts (closes lines) (final_round terms (held_in terms lines) (closes lines)) (if is_within (demand terms (held_in terms lines) (suc (closes lines))) terms.supply then Some (suc (closes lines)) else None)
+    posts (closes lines) (final_round terms (held_in terms lines) (closes lines))
+    (if is_within (demand terms (held_in terms lines) (suc (closes lines))) terms.supply then Some (suc (closes lines)) else None)
     p (prices_after terms (held_in terms lines) (suc (closes lines))) h
 
 -- every standing after a log is sound
@@ -214,4 +236,5 @@ list_fault-bids_in_book terms log j =
     let s : Standing = standing terms (admitted terms log) j in
     let sound : IsSound terms s = IsSound-standing terms j log in
     list_fault-best_bids (final_cap terms) terms.points s.rounds s.submitted
-    (AreRising-own_rounds terms (held_in terms (admitted terms log)) j (closed_after terms (held_in terms (admitted terms log)) (closes (admitted terms log)))) sound.eligible sound.valid
+    (AreRising-own_rounds terms (held_in terms (admitted terms log)) j (closed_after terms (held_in terms (admitted terms log))
+    (closes (admitted terms log)))) sound.eligible sound.valid

@@ -1,5 +1,6 @@
 -- The state of a desk and the standings in it.
-use Rattle.std.proofs.Common.{◌≡◌, ℕ, zero, suc, ◌-◌, ◌<◌, ◌≤◌, true, false, List, [], ◌∷◌, ◌++◌, Option, Some, None, refl, sym, ◌∙◌, ap, inl, inr, arith, length, get_or, set, map, length-append}
+use Rattle.std.proofs.Common.{◌≡◌, ℕ, zero, suc, ◌-◌, ◌<◌, ◌≤◌, true, false, List, [], ◌∷◌, ◌++◌, Option, Some, None, refl, sym, ◌∙◌, ap, inl, inr, arith}
+use Rattle.std.proofs.Common.{length, get_or, set, map, length-append}
 use Rattle.std.proofs.lemmas.Bool.{cases_eq, ne_eqb}
 use Rattle.std.proofs.lemmas.List.{set-append_left, get_or_append_left, map-append}
 use Rattle.std.proofs.Math.Seq.{set-append_seam, get_or-append_seam}
@@ -27,7 +28,8 @@ get_or-listing f zero k d h = absurd (omega arith)
 get_or-listing f (suc n) k d h =
     elim (cases_eq k n) [
       | inl last ↦ let long : k ≡ length (listing f n) = last ∙ sym (length-listing f n) in
-          ap (λ (i : ℕ). get_or (listing f n ++ f (suc n) ∷ []) i d) long ∙ get_or-append_seam (listing f n) (f (suc n)) [] d ∙ ap (λ (i : ℕ). f (suc i)) (sym last)
+          ap (λ (i : ℕ). get_or (listing f n ++ f (suc n) ∷ []) i d) long ∙ get_or-append_seam (listing f n) (f (suc n)) [] d
+          ∙ ap (λ (i : ℕ). f (suc i)) (sym last)
       | inr before ↦ let less : k < length (listing f n) = omega (arith, length-listing f n) in
           get_or_append_left (listing f n) (f (suc n) ∷ []) d k less ∙ get_or-listing f n k d (omega arith)
     ]
@@ -64,7 +66,8 @@ own_round-parts : (prices : List ℕ) (a b : ℕ) (x y : List ℕ) → a ≡ b �
 own_round-parts prices a b x y e h = rw (e, h) refl
 
 -- the rounds of one bidder
-pub map-own_of : (terms : Terms) (held : ℕ → ℕ → List ℕ) (k n : ℕ) → k < length terms.bidders → map (own_of (suc k)) (listing (round_of terms held) n) ≡ own_rounds terms held (suc k) n
+pub map-own_of : (terms : Terms) (held : ℕ → ℕ → List ℕ) (k n : ℕ) → k < length terms.bidders → map (own_of (suc k))
+    (listing (round_of terms held) n) ≡ own_rounds terms held (suc k) n
 map-own_of terms held k zero h = refl
 map-own_of terms held k (suc n) h =
     map-append (own_of (suc k)) (listing (round_of terms held) n) (round_of terms held (suc n) ∷ [])
@@ -76,14 +79,16 @@ map-own_of terms held k (suc n) h =
 abbrev same_standings : Standing → Standing → Type 0
 same_standings s t = s ≡ t
 
-standing-parts : (stage : Stage) (prices : List ℕ) (rounds rounds' : List OwnRound) (a b : ℕ) (x y : List ℕ) (drafts drafts' submitted submitted' : List BookBid)
+standing-parts : (stage : Stage) (prices : List ℕ) (rounds rounds' : List OwnRound) (a b : ℕ) (x y : List ℕ)
+    (drafts drafts' submitted submitted' : List BookBid)
     → rounds ≡ rounds' → a ≡ b → x ≡ y → drafts ≡ drafts' → submitted ≡ submitted'
     → same_standings (record { stage = stage; rounds = rounds; prices = prices; eligibility = a; held = x; drafts = drafts; submitted = submitted })
     (record { stage = stage; rounds = rounds'; prices = prices; eligibility = b; held = y; drafts = drafts'; submitted = submitted' })
 standing-parts stage prices rounds rounds' a b x y drafts drafts' submitted submitted' r e h d s = rw (r, e, h, d, s) refl
 
 -- the standing of a bidder of the award in the state after a log is its standing after the log
-pub standing_in-state_after : (terms : Terms) (lines : List Event) (k : ℕ) → k < length terms.bidders → standing_in (state_after terms lines) (suc k) ≡ standing terms lines (suc k)
+pub standing_in-state_after : (terms : Terms) (lines : List Event) (k : ℕ) → k < length terms.bidders
+    → standing_in (state_after terms lines) (suc k) ≡ standing terms lines (suc k)
 standing_in-state_after terms lines k h =
     let n : ℕ = length terms.bidders in
     let r : ℕ = round_after terms (held_in terms lines) (closes lines) in
@@ -117,7 +122,8 @@ rounds-line : (terms : Terms) (e : Event) (lines : List Event) → is_close e �
     ≡ listing (round_of terms (held_in terms lines)) (closed_after terms (held_in terms lines) (closes lines))
 rounds-line terms e lines c =
     let final : Option ℕ = final_round terms (held_in terms lines) (closes lines) in
-    let few : closed_by (closes lines) final ≤ closes lines = closed-few (closes lines) final (IsFinal-final_round terms (held_in terms lines) (closes lines) final refl) in
+    let few : closed_by (closes lines) final ≤ closes lines = closed-few (closes lines) final
+    (IsFinal-final_round terms (held_in terms lines) (closes lines) final refl) in
     ap (λ (n : ℕ). listing (round_of terms (held_in terms (e ∷ lines))) (closed_by n (final_round terms (held_in terms (e ∷ lines)) n))) (closes-line e lines c)
     ∙ ap (λ (final : Option ℕ). listing (round_of terms (held_in terms (e ∷ lines))) (closed_by (closes lines) final))
     (final_round-same terms (closes lines) (held_in terms (e ∷ lines)) (held_in terms lines) (Agree-line terms e lines))
@@ -128,11 +134,33 @@ abbrev pub same_states : DeskState → DeskState → Type 0
 same_states s t = s ≡ t
 
 -- states of the same terms are the same where each of their other parts is
-pub state-parts : (terms : Terms) (stage stage' : Stage) (rounds rounds' : List Round) (prices prices' eligibility eligibility' : List ℕ) (held held' : List (List ℕ)) (drafts drafts' submitted submitted' : List (List BookBid))
+pub state-parts : (terms : Terms) (stage stage' : Stage) (rounds rounds' : List Round) (prices prices' eligibility eligibility' : List ℕ)
+    (held held' : List (List ℕ)) (drafts drafts' submitted submitted' : List (List BookBid))
     → stage ≡ stage' → rounds ≡ rounds' → prices ≡ prices' → eligibility ≡ eligibility' → held ≡ held' → drafts ≡ drafts' → submitted ≡ submitted'
-    → same_states (record { terms = terms; stage = stage; rounds = rounds; prices = prices; eligibility = eligibility; held = held; drafts = drafts; submitted = submitted })
-    (record { terms = terms; stage = stage'; rounds = rounds'; prices = prices'; eligibility = eligibility'; held = held'; drafts = drafts'; submitted = submitted' })
-state-parts terms stage stage' rounds rounds' prices prices' eligibility eligibility' held held' drafts drafts' submitted submitted' a b c d e f g = rw (a, b, c, d, e, f, g) refl
+    → same_states (record {
+      terms = terms;
+      stage = stage;
+      rounds = rounds;
+      prices = prices;
+      eligibility = eligibility;
+      held = held;
+      drafts =
+          drafts;
+      submitted = submitted;
+    })
+    (record {
+      terms = terms;
+      stage = stage';
+      rounds = rounds';
+      prices = prices';
+      eligibility = eligibility';
+      held = held';
+      drafts = drafts';
+      submitted =
+          submitted';
+    })
+state-parts terms stage stage' rounds rounds' prices prices' eligibility eligibility' held held' drafts drafts' submitted submitted' a b c d e f g =
+    rw (a, b, c, d, e, f, g) refl
 
 -- the state in which the bidder at place k has another package, draft list and submitted list
 abbrev pub with_standing : DeskState → ℕ → Standing → DeskState
@@ -160,7 +188,8 @@ state_after-own terms k e lines mine few =
     let n : ℕ = length terms.bidders in
     let c : is_close e ≡ false = (is_of-parts (suc k) e mine).0 in
     let here : standing terms (e ∷ lines) (suc k) ≡ after_own (suc k) (standing terms lines (suc k)) e = standing-own terms (suc k) e lines c mine in
-    let there : (j : ℕ) → (j ≡ suc k → ⊥) → standing terms (e ∷ lines) j ≡ standing terms lines j = λ j ne. standing-other terms j e lines c (not_of e j k mine ne) in
+    let there : (j : ℕ) → (j ≡ suc k → ⊥) → standing terms (e ∷ lines) j ≡ standing terms lines j = λ j ne. standing-other terms j e lines c
+    (not_of e j k mine ne) in
     state-parts terms _ _ _ _ _ _ _ _ _ _ _ _ _ _
     (ap (λ (s : Standing). s.stage) here)
     (rounds-line terms e lines c)

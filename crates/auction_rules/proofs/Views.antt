@@ -45,7 +45,8 @@ is_of-parts j e h =
     ]
 
 -- the reply to a line of bidder j is a function of the line and its standing
-pub reply_after-own : (terms : Terms) (lines : List Event) (j : ℕ) (e : Event) → is_of j e ≡ true → reply_after terms lines e ≡ own_reply terms j (standing terms lines j) e
+pub reply_after-own : (terms : Terms) (lines : List Event) (j : ℕ) (e : Event) → is_of j e ≡ true → reply_after terms lines e ≡ own_reply terms j
+    (standing terms lines j) e
 reply_after-own terms lines j e h = let p : (is_close e ≡ false) × (line_bidder e ≡ j) = is_of-parts j e h in rw (p.0, p.1) refl
 
 -- a line is a close, one of bidder j's own, or another's
@@ -79,7 +80,8 @@ step-own : (terms : Terms) (j : ℕ) (e : Event) (lines : List Event) → is_of 
 step-own terms j e lines h =
     let c : is_close e ≡ false = (is_of-parts j e h).0 in
     let r : Reply = reply_after terms lines e in
-    let seen_so : after_seen terms j (standing terms lines j) (own e) ≡ (if is_ok_reply r then after_own j (standing terms lines j) e else standing terms lines j)
+    let seen_so : after_seen terms j (standing terms lines j) (own e) ≡ (if is_ok_reply r then after_own j
+    (standing terms lines j) e else standing terms lines j)
     = after_seen-own terms j (standing terms lines j) e r (sym (reply_after-own terms lines j e h)) in
     elim (cases_Bool (is_ok_reply r)) [
       | inl ok ↦ ap (λ (lines : List Event). standing terms lines j) (with_line-ok terms lines e ok) ∙ standing-own terms j e lines c h
@@ -131,8 +133,10 @@ standing-view terms j [] = refl
 standing-view terms j (e ∷ log) =
     elim (cases_line j e) [
       | a_close is ↦
-          let P : Event → Type 0 = λ e. standing terms (with_line terms (admitted terms log) e) j ≡ standing_seen terms j (seen terms j (admitted terms log) e ++ view terms j log) in
-          subst P (sym is) (step-close terms j (admitted terms log) ∙ ap (λ (s : Standing). after_seen terms j s (seen_close terms (admitted terms log))) (standing-view terms j log))
+          let P : Event → Type 0 = λ e. standing terms (with_line terms (admitted terms log) e) j ≡ standing_seen terms j
+          (seen terms j (admitted terms log) e ++ view terms j log) in
+          subst P (sym is) (step-close terms j (admitted terms log) ∙ ap (λ (s : Standing). after_seen terms j s (seen_close terms (admitted terms log)))
+          (standing-view terms j log))
       | an_own mine ↦ step-own terms j e (admitted terms log) mine ∙ ap (λ (s : Standing). after_seen terms j s (own e)) (standing-view terms j log)
           ∙ ap (λ (vs : List Seen). standing_seen terms j (vs ++ view terms j log)) (sym (seen-own terms j (admitted terms log) e mine))
       | another c theirs ↦ step-other terms j e (admitted terms log) c theirs ∙ standing-view terms j log
@@ -147,10 +151,12 @@ own_replies-view terms j (e ∷ log) =
     let now : List Reply = reply_after terms lines e ∷ [] in
     elim (cases_line j e) [
       | a_close is ↦
-          let P : Event → Type 0 = λ e. (if is_of j e then reply_after terms lines e ∷ [] else []) ++ own_replies terms j log ≡ replies_seen terms j (seen terms j lines e ++ view terms j log) in
+          let P : Event → Type 0 = λ e. (if is_of j e then reply_after terms lines e ∷ [] else []) ++ own_replies terms j log ≡ replies_seen terms j
+          (seen terms j lines e ++ view terms j log) in
           subst P (sym is) (own_replies-view terms j log)
       | an_own mine ↦ ap (λ (rs : List Reply). rs ++ own_replies terms j log) (cond-true (is_of j e) now [] mine)
-          ∙ ap (λ (r : Reply). r ∷ own_replies terms j log) (reply_after-own terms lines j e mine ∙ ap (λ (s : Standing). own_reply terms j s e) (standing-view terms j log))
+          ∙ ap (λ (r : Reply). r ∷ own_replies terms j log) (reply_after-own terms lines j e mine ∙ ap (λ (s : Standing). own_reply terms j s e)
+          (standing-view terms j log))
           ∙ ap (λ (rs : List Reply). own_reply terms j (standing_seen terms j (view terms j log)) e ∷ rs) (own_replies-view terms j log)
           ∙ ap (λ (vs : List Seen). replies_seen terms j (vs ++ view terms j log)) (sym (seen-own terms j lines e mine))
       | another c theirs ↦ ap (λ (rs : List Reply). rs ++ own_replies terms j log) (cond-false (is_of j e) now [] theirs)
@@ -159,7 +165,8 @@ own_replies-view terms j (e ∷ log) =
     ]
 
 -- where bidder j has the same view of two logs, a line of its own gets the same reply after both
-pub reply_to-same_view : (terms : Terms) (j : ℕ) (e : Event) (log other : List Event) → is_of j e ≡ true → view terms j log ≡ view terms j other → reply_to terms log e ≡ reply_to terms other e
+pub reply_to-same_view : (terms : Terms) (j : ℕ) (e : Event) (log other : List Event) → is_of j e ≡ true → view terms j log ≡ view terms j other
+    → reply_to terms log e ≡ reply_to terms other e
 unfolding reply_to
 reply_to-same_view terms j e log other mine same =
     reply_after-own terms (admitted terms log) j e mine
@@ -167,9 +174,11 @@ reply_to-same_view terms j e log other mine same =
     ∙ sym (reply_after-own terms (admitted terms other) j e mine)
 
 -- where bidder j has the same view of two logs, its lines got the same replies in both
-pub own_replies-same_view : (terms : Terms) (j : ℕ) (log other : List Event) → view terms j log ≡ view terms j other → own_replies terms j log ≡ own_replies terms j other
+pub own_replies-same_view : (terms : Terms) (j : ℕ) (log other : List Event) → view terms j log ≡ view terms j other
+    → own_replies terms j log ≡ own_replies terms j other
 own_replies-same_view terms j log other same = own_replies-view terms j log ∙ ap (replies_seen terms j) same ∙ sym (own_replies-view terms j other)
 
 -- where bidder j has the same view of two logs, it has the same bids in their books
-pub bids_in_book-same_view : (terms : Terms) (j : ℕ) (log other : List Event) → view terms j log ≡ view terms j other → bids_in_book terms log j ≡ bids_in_book terms other j
+pub bids_in_book-same_view : (terms : Terms) (j : ℕ) (log other : List Event) → view terms j log ≡ view terms j other
+    → bids_in_book terms log j ≡ bids_in_book terms other j
 bids_in_book-same_view terms j log other same = ap book_bids (standing-view terms j log ∙ ap (standing_seen terms j) same ∙ sym (standing-view terms j other))

@@ -62,7 +62,8 @@ unfolding ticks_of
 takes_the_clock_bids_into_the_book = refl
 
 keeps_the_clock_bid_of_a_dropped_draft
-    : bids_in_book sample (Close ∷ Submit 1 ∷ Drop 1 (3 ∷ []) ∷ Submit 1 ∷ with_drafts) 1 ≡ record { lots = 1 ∷ []; amount = 20 } ∷ record { lots = 3 ∷ []; amount = 30 } ∷ []
+    : bids_in_book sample (Close ∷ Submit 1 ∷ Drop 1 (3 ∷ []) ∷ Submit 1 ∷ with_drafts) 1 ≡ record { lots = 1 ∷ []; amount = 20 } ∷ record
+    { lots = 3 ∷ []; amount = 30 } ∷ []
 unfolding ticks_of
 keeps_the_clock_bid_of_a_dropped_draft = refl
 

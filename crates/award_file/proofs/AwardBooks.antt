@@ -1,5 +1,6 @@
 -- The book of a log on an award keeps the rules and the limits of a book.
-use Rattle.std.proofs.Common.{◌≡◌, ◌≢◌, ℕ, zero, suc, ◌-◌, ◌<◌, ◌≤◌, true, false, List, [], ◌∷◌, ◌++◌, length, map, get_or, replicate, sym, subst, ◌∙◌, inl, inr, arith, append_assoc}
+use Rattle.std.proofs.Common.{◌≡◌, ◌≢◌, ℕ, zero, suc, ◌-◌, ◌<◌, ◌≤◌, true, false, List, [], ◌∷◌, ◌++◌, length, map, get_or, replicate, sym, subst, ◌∙◌, inl}
+use Rattle.std.proofs.Common.{inr, arith, append_assoc}
 use Rattle.std.specs.Prelude.{◌==◌}
 use Rattle.std.specs.List.{AllByRecursion}
 use Rattle.std.specs.Str.{bytes_eq}
@@ -62,19 +63,22 @@ FirstAfter before [] = Unit {0}
 FirstAfter before (b ∷ bids) = ComesBefore before b.lots
 
 module _ (terms : Terms) (comes : (p q : List ℕ) → length p ≡ length q → is_before p q ≡ true → ComesBefore p q) where
-  first-after : (b : BookBid) (bids : List BookBid) → IsLawfulBid terms b → AllByRecursion (IsLawfulBid terms) bids → AllAfter b.lots (map bid_lots bids) → FirstAfter b.lots bids
+  first-after : (b : BookBid) (bids : List BookBid) → IsLawfulBid terms b → AllByRecursion (IsLawfulBid terms) bids → AllAfter b.lots (map bid_lots bids)
+      → FirstAfter b.lots bids
   first-after b [] is lawful after = tt
   first-after b (d ∷ bids) is lawful after = comes b.lots d.lots (is.categories ∙ sym lawful.0.categories) after.0
 
   -- lawful bids in order are bids of a book
-  bids-are : (before : List ℕ) (bids : List BookBid) → FirstAfter before bids → AllByRecursion (IsLawfulBid terms) bids → InOrder (map bid_lots bids) → AreBids terms.supply terms.reserves before bids
+  bids-are : (before : List ℕ) (bids : List BookBid) → FirstAfter before bids → AllByRecursion (IsLawfulBid terms) bids → InOrder (map bid_lots bids)
+      → AreBids terms.supply terms.reserves before bids
   bids-are before [] first lawful order = tt
   bids-are before (b ∷ bids) first lawful order = (
     record { categories = lawful.0.categories; within = lawful.0.within; after = first; reserve = lawful.0.reserve; top = lawful.0.top },
     bids-are b.lots bids (first-after b bids lawful.0 lawful.1 order.0) lawful.1 order.1,
   )
 
-  some-first : (bids : List BookBid) → AllByRecursion (IsLawfulBid terms) bids → AllByRecursion (λ (b : BookBid). is_empty b.lots ≡ false) bids → FirstAfter (empty_package terms.supply) bids
+  some-first : (bids : List BookBid) → AllByRecursion (IsLawfulBid terms) bids → AllByRecursion (λ (b : BookBid). is_empty b.lots ≡ false) bids
+      → FirstAfter (empty_package terms.supply) bids
   some-first [] lawful some = tt
   some-first (b ∷ bids) lawful some = empty-before (length terms.supply) b.lots lawful.0.categories some.0
 
@@ -109,11 +113,15 @@ unused terms bids (suc m) n award few inside =
     each-push (λ (b : Bidder). b.name ≢ (entrant terms (suc n)).name) (listing (book_bidder terms bids) m) (book_bidder terms bids (suc m))
     (unused terms bids m n award (omega arith) inside) (apart terms m n award (omega arith) inside)
 
-bidders-push : (supply reserves : List ℕ) (earlier xs : List Bidder) (x : Bidder) → AreBidders supply reserves earlier xs → IsBidder supply reserves (earlier ++ xs) x
+bidders-push : (supply reserves : List ℕ) (earlier xs : List Bidder) (x : Bidder) → AreBidders supply reserves earlier xs
+    → IsBidder supply reserves (earlier ++ xs) x
     → AreBidders supply reserves earlier (xs ++ x ∷ [])
 bidders-push supply reserves earlier [] x are last = (subst (λ (before : List Bidder). IsBidder supply reserves before x) (append-nil earlier) last, tt)
-bidders-push supply reserves earlier (y ∷ xs) x are last =
-    (are.0, bidders-push supply reserves (earlier ++ y ∷ []) xs x are.1 (subst (λ (before : List Bidder). IsBidder supply reserves before x) (sym (append_assoc earlier (y ∷ []) xs)) last))
+bidders-push supply reserves earlier (y ∷ xs) x are last = (
+  are.0,
+  bidders-push supply reserves (earlier ++ y ∷ []) xs x are.1 (subst (λ (before : List Bidder). IsBidder supply reserves before x)
+      (sym (append_assoc earlier (y ∷ []) xs)) last),
+)
 
 module _ (terms : Terms) (bids : ℕ → List BookBid) (award : IsAward terms) (known : AreKnown terms bids) where
   bidders-are : (n : ℕ) → n ≤ length terms.bidders → AreBidders terms.supply terms.reserves [] (listing (book_bidder terms bids) n)
@@ -122,18 +130,21 @@ module _ (terms : Terms) (bids : ℕ → List BookBid) (award : IsAward terms) (
       bidders-push terms.supply terms.reserves [] (listing (book_bidder terms bids) n) (book_bidder terms bids (suc n)) (bidders-are n (omega arith)) (record {
         name = named terms n award (omega arith);
         unused = unused terms bids n n award (omega arith) (omega arith);
-        bids = bids-are terms known.comes (empty_package terms.supply) (bids (suc n)) (some-first terms known.comes (bids (suc n)) (known.lawful (suc n)) (known.some (suc n))) (known.lawful (suc n)) (known.order (suc n));
+        bids = bids-are terms known.comes (empty_package terms.supply) (bids (suc n))
+            (some-first terms known.comes (bids (suc n)) (known.lawful (suc n)) (known.some (suc n))) (known.lawful (suc n)) (known.order (suc n));
       })
 
 -- ---- the limits
 
 listed-few : (terms : Terms) (bids : ℕ → List BookBid) (n : ℕ) → ((j : ℕ) → length (bids j) ≤ 600) → AllByRecursion HasFew (listing (book_bidder terms bids) n)
 listed-few terms bids zero few = tt
-listed-few terms bids (suc n) few = each-push HasFew (listing (book_bidder terms bids) n) (book_bidder terms bids (suc n)) (listed-few terms bids n few) (few (suc n))
+listed-few terms bids (suc n) few = each-push HasFew (listing (book_bidder terms bids) n) (book_bidder terms bids (suc n)) (listed-few terms bids n few)
+    (few (suc n))
 
 book_by-within : (terms : Terms) (bids : ℕ → List BookBid) → IsAward terms → AreKnown terms bids → IsBookWithinLimits (book_by terms bids)
 book_by-within terms bids award known =
-    let few : length (listing (book_bidder terms bids) (length terms.bidders)) ≤ 16 = omega (arith, length-listing (book_bidder terms bids) (length terms.bidders), award.few_bidders) in
+    let few : length (listing (book_bidder terms bids) (length terms.bidders)) ≤ 16 =
+    omega (arith, length-listing (book_bidder terms bids) (length terms.bidders), award.few_bidders) in
     record {
       form = record {
         supply = offer_of terms.supply award.supply;

@@ -23,13 +23,15 @@ use Rattle.award_file.proofs.FaultLaws.{three-hold, four-hold, five-hold, number
 -- ---- lists
 
 -- what holds of each table that passes holds of each table of a list without a fault
-module _ {A : Type 0} (fault : List A → Members → Option Fault) (stated : Members → A) (P : Members → Type 0) (says : (before : List A) (t : Members) → fault before t ≡ None → P t) where
+module _ {A : Type 0} (fault : List A → Members → Option Fault) (stated : Members → A) (P : Members → Type 0)
+    (says : (before : List A) (t : Members) → fault before t ≡ None → P t) where
   each : (before : List A) (ts : List Members) → tables_fault fault stated before ts ≡ None → AllByRecursion P ts
   each before [] h = tt
   each before (t ∷ ts) h = (says before t (none_first _ _ h), each (before ++ stated t ∷ []) ts (none_second _ _ h))
 
 -- what holds of each item holds of what is made of it
-made : {A B : Type 0} (P : A → Type 0) (Q : B → Type 0) (f : A → B) → ((x : A) → P x → Q (f x)) → (xs : List A) → AllByRecursion P xs → AllByRecursion Q (map f xs)
+made : {A B : Type 0} (P : A → Type 0) (Q : B → Type 0) (f : A → B) → ((x : A) → P x → Q (f x)) → (xs : List A) → AllByRecursion P xs
+    → AllByRecursion Q (map f xs)
 made P Q f says [] all = tt
 made P Q f says (x ∷ xs) all = (says x all.0, made P Q f says xs all.1)
 
@@ -43,7 +45,8 @@ IsCategory c = ((1 ≤ c.supply) × (c.supply ≤ 999)) × (c.points ≤ 10000) 
 
 category-is : (before : List (List ℕ)) (t : Members) → walk.category_fault before t ≡ None → IsCategory (walk.category_of t)
 category-is before t h =
-    let all = five-hold (walk.is_new before (name_at t)) (is_some (walk.supply_at t)) (is_some (walk.points_at t)) (is_some (walk.reserve_at t)) (not (has_other walk.category_keys t)) 4 5 6 7 18 (entry_behind (length before)) h in
+    let all = five-hold (walk.is_new before (name_at t)) (is_some (walk.supply_at t)) (is_some (walk.points_at t)) (is_some (walk.reserve_at t))
+    (not (has_other walk.category_keys t)) 4 5 6 7 18 (entry_behind (length before)) h in
     (number-in 1 999 (codes "supply") t all.1, (number-in 0 10000 (codes "points") t all.2).1, (number-in 0 (2 ^ 36) (codes "reserve") t all.3).1)
 
 categories-are : (t : Members) → walk.categories_fault t ≡ None → (0 < length (walk.categories_of t)) × AllByRecursion IsCategory (walk.categories_of t)
@@ -74,34 +77,42 @@ next-is [] (Some e) h = (refl, grind (arith, nat_tests))
 next-is (d ∷ ds) (Some e) h = (refl, grind (arith, nat_tests))
 
 abbrev IsStep : List ℕ → Members → Type 0
-IsStep before t = IsNext before (walk.excess_or_none t) × (walk.excess_or_none t ≤ 1000) × (1 ≤ unwrap_or (walk.permille_at t) 0) × (unwrap_or (walk.permille_at t) 0 ≤ 1000)
+IsStep before t = IsNext before (walk.excess_or_none t) × (walk.excess_or_none t ≤ 1000) × (1 ≤ unwrap_or (walk.permille_at t) 0)
+    × (unwrap_or (walk.permille_at t) 0 ≤ 1000)
 
 step-is : (before : List ℕ) (t : Members) → walk.step_fault before t ≡ None → IsStep before t
 step-is before t h =
-    let all = three-hold (walk.comes_next before (walk.excess_at t)) (is_some (walk.permille_at t)) (not (has_other walk.step_keys t)) 13 14 18 (entry_behind (length before)) h in
+    let all = three-hold (walk.comes_next before (walk.excess_at t)) (is_some (walk.permille_at t)) (not (has_other walk.step_keys t)) 13 14 18
+    (entry_behind (length before)) h in
     let next = next-is before (walk.excess_at t) all.0 in
     let permille = number-in 1 1000 (codes "permille") t all.1 in
     (next.1, (number-in 1 1000 (codes "excess") t next.0).1, permille.0, permille.1)
 
-steps-rise : (e : ℕ) (es : List ℕ) (ts : List Members) → tables_fault walk.step_fault walk.excess_or_none (e ∷ es) ts ≡ None → RiseAbove (last_or e es) (map walk.threshold_of ts)
+steps-rise : (e : ℕ) (es : List ℕ) (ts : List Members) → tables_fault walk.step_fault walk.excess_or_none (e ∷ es) ts ≡ None
+    → RiseAbove (last_or e es) (map walk.threshold_of ts)
 steps-rise e es [] h = tt
 steps-rise e es (t ∷ ts) h =
-    let here = step-is (e ∷ es) t (none_first (walk.step_fault (e ∷ es) t) (tables_fault walk.step_fault walk.excess_or_none (e ∷ (es ++ walk.excess_or_none t ∷ [])) ts) h) in
-    let later = steps-rise e (es ++ walk.excess_or_none t ∷ []) ts (none_second (walk.step_fault (e ∷ es) t) (tables_fault walk.step_fault walk.excess_or_none (e ∷ (es ++ walk.excess_or_none t ∷ [])) ts) h) in
+    let here = step-is (e ∷ es) t (none_first (walk.step_fault (e ∷ es) t) (tables_fault walk.step_fault walk.excess_or_none
+    (e ∷ (es ++ walk.excess_or_none t ∷ [])) ts) h) in
+    let later = steps-rise e (es ++ walk.excess_or_none t ∷ []) ts (none_second (walk.step_fault (e ∷ es) t)
+    (tables_fault walk.step_fault walk.excess_or_none (e ∷ (es ++ walk.excess_or_none t ∷ [])) ts) h) in
     (here.0, here.1, here.2, here.3, subst (λ low. RiseAbove low (map walk.threshold_of ts)) (last-more e es (walk.excess_or_none t)) later)
 
 steps-are : (ts : List Members) → 0 < length ts → tables_fault walk.step_fault walk.excess_or_none [] ts ≡ None → AreThresholds (map walk.threshold_of ts)
 steps-are [] some h = absurd (omega arith)
 steps-are (t ∷ ts) some h =
     let here = step-is [] t (none_first (walk.step_fault [] t) (tables_fault walk.step_fault walk.excess_or_none (walk.excess_or_none t ∷ []) ts) h) in
-    let later = steps-rise (walk.excess_or_none t) [] ts (none_second (walk.step_fault [] t) (tables_fault walk.step_fault walk.excess_or_none (walk.excess_or_none t ∷ []) ts) h) in
+    let later = steps-rise (walk.excess_or_none t) [] ts (none_second (walk.step_fault [] t)
+    (tables_fault walk.step_fault walk.excess_or_none (walk.excess_or_none t ∷ []) ts) h) in
     (here.0, (omega (arith, here.0), here.1, here.2, here.3, later))
 
 -- ---- bidders and caps
 
-bidder-is : (categories : ℕ) (before : List (List ℕ)) (t : Members) → walk.bidder_fault categories before t ≡ None → IsEntrant categories (walk.entrant_of categories t)
+bidder-is : (categories : ℕ) (before : List (List ℕ)) (t : Members) → walk.bidder_fault categories before t ≡ None
+    → IsEntrant categories (walk.entrant_of categories t)
 bidder-is categories before t h =
-    let all = four-hold (walk.is_new before (name_at t)) (is_some (walk.eligibility_at t)) (is_some (walk.holding_at categories t)) (not (has_other walk.bidder_keys t)) 9 10 11 18 (entry_behind (length before)) h in
+    let all = four-hold (walk.is_new before (name_at t)) (is_some (walk.eligibility_at t)) (is_some (walk.holding_at categories t))
+    (not (has_other walk.bidder_keys t)) 9 10 11 18 (entry_behind (length before)) h in
     let holding = holding-at categories (get_member (codes "holding") t) all.2 in
     record {
       name = name-in before t all.0;
@@ -112,7 +123,8 @@ bidder-is categories before t h =
 
 cap-is : (categories : ℕ) (before : List ℕ) (t : Members) → walk.cap_fault categories before t ≡ None → IsCap categories (walk.cap_of categories t)
 cap-is categories before t h =
-    let all = three-hold (is_some (walk.weights_at categories t)) (is_some (walk.limit_at t)) (not (has_other walk.cap_keys t)) 16 17 18 (entry_behind (length before)) h in
+    let all = three-hold (is_some (walk.weights_at categories t)) (is_some (walk.limit_at t)) (not (has_other walk.cap_keys t)) 16 17 18
+    (entry_behind (length before)) h in
     let weights = row-at categories 1000 (get_member (codes "weight") t) all.0 in
     record {
       weights = weights.0;
@@ -133,10 +145,12 @@ top-passes true true c f g h i none =
     (refl, refl, none_first f _ none, none_first g _ second, none_first h _ third, none_first i _ fourth)
 
 -- the parts of a table without a fault
-parts-pass : (t : Members) → walk.award_fault t ≡ None → (is_some (walk.version_at t) ≡ true) × (is_some (walk.tick_at t) ≡ true) × (walk.categories_fault t ≡ None) × (walk.bidders_fault (walk.category_count t) t ≡ None)
+parts-pass : (t : Members) → walk.award_fault t ≡ None → (is_some (walk.version_at t) ≡ true) × (is_some (walk.tick_at t) ≡ true)
+    × (walk.categories_fault t ≡ None) × (walk.bidders_fault (walk.category_count t) t ≡ None)
     × (walk.steps_fault t ≡ None) × (walk.caps_fault (walk.category_count t) t ≡ None)
 parts-pass t h =
-    top-passes (is_some (walk.version_at t)) (is_some (walk.tick_at t)) (not (has_other walk.top_keys t)) (walk.categories_fault t) (walk.bidders_fault (walk.category_count t) t) (walk.steps_fault t) (walk.caps_fault (walk.category_count t) t) h
+    top-passes (is_some (walk.version_at t)) (is_some (walk.tick_at t)) (not (has_other walk.top_keys t)) (walk.categories_fault t)
+    (walk.bidders_fault (walk.category_count t) t) (walk.steps_fault t) (walk.caps_fault (walk.category_count t) t) h
 
 -- a table without a fault has at least one category, each of 1 to 999 lots
 pub offer-of : (t : Members) → walk.award_fault t ≡ None → IsOffer (walk.terms_of t).supply
@@ -205,9 +219,11 @@ award-of t h supply few apart =
       version = number-in 1 2 (codes "version") t (parts-pass t h).0;
       supply = supply;
       points = same-count walk.category_of (λ c. c.points) (unwrap_or (walk.categories_at t) []) ∙ sym count;
-      most_points = All-from_recursion (λ p. p ≤ 10000) (walk.terms_of t).points (made IsCategory (λ p. p ≤ 10000) (λ c. c.points) (λ c is. is.1) (walk.categories_of t) categories);
+      most_points = All-from_recursion (λ p. p ≤ 10000) (walk.terms_of t).points
+          (made IsCategory (λ p. p ≤ 10000) (λ c. c.points) (λ c is. is.1) (walk.categories_of t) categories);
       reserves = same-count walk.category_of (λ c. c.reserve) (unwrap_or (walk.categories_at t) []) ∙ sym count;
-      most_reserve = All-from_recursion (λ p. p ≤ 2 ^ 36) (walk.terms_of t).reserves (made IsCategory (λ p. p ≤ 2 ^ 36) (λ c. c.reserve) (λ c is. is.2) (walk.categories_of t) categories);
+      most_reserve = All-from_recursion (λ p. p ≤ 2 ^ 36) (walk.terms_of t).reserves
+          (made IsCategory (λ p. p ≤ 2 ^ 36) (λ c. c.reserve) (λ c is. is.2) (walk.categories_of t) categories);
       steps = steps-of t h;
       few_bidders = few;
       bidders = subst (λ n. All (IsEntrant n) (walk.terms_of t).bidders) (sym count) (bidders-of t h);

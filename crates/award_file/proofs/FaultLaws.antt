@@ -15,7 +15,8 @@ use Rattle.award_file.proofs.FieldLaws.{name-is}
 -- ---- faults
 
 -- where none of three rules is broken, all hold; and so for four and five
-pub three-hold : (a b c : Bool) (i j k entry : ℕ) → first_fault (unless a i entry ∷ unless b j entry ∷ unless c k entry ∷ []) ≡ None → (a ≡ true) × (b ≡ true) × (c ≡ true)
+pub three-hold : (a b c : Bool) (i j k entry : ℕ) → first_fault (unless a i entry ∷ unless b j entry ∷ unless c k entry ∷ []) ≡ None
+    → (a ≡ true) × (b ≡ true) × (c ≡ true)
 three-hold false b c i j k entry h = absurd (cc h)
 three-hold true false c i j k entry h = absurd (cc h)
 three-hold true true false i j k entry h = absurd (cc h)
@@ -28,7 +29,8 @@ four-hold false b c d i j k l entry h = absurd (cc h)
 four-hold true b c d i j k l entry h = let more = three-hold b c d j k l entry h in (refl, more.0, more.1, more.2)
 
 -- where none of five rules is broken, all five hold
-pub five-hold : (a b c d e : Bool) (i j k l m entry : ℕ) → first_fault (unless a i entry ∷ unless b j entry ∷ unless c k entry ∷ unless d l entry ∷ unless e m entry ∷ []) ≡ None
+pub five-hold : (a b c d e : Bool) (i j k l m entry : ℕ) → first_fault (unless a i entry ∷ unless b j entry ∷ unless c k entry ∷ unless d l entry ∷ unless e m
+    entry ∷ []) ≡ None
     → (a ≡ true) × (b ≡ true) × (c ≡ true) × (d ≡ true) × (e ≡ true)
 five-hold false b c d e i j k l m entry h = absurd (cc h)
 five-hold true b c d e i j k l m entry h = let more = four-hold b c d e j k l m entry h in (refl, more.0, more.1, more.2, more.3)
@@ -39,7 +41,8 @@ five-hold true b c d e i j k l m entry h = let more = four-hold b c d e j k l m 
 abbrev pub IsFrom : ℕ → ℕ → Option ℕ → Type 0
 IsFrom low high found = (low ≤ unwrap_or found 0) × (unwrap_or found 0 ≤ high)
 
-picked : (low high n : ℕ) (b : Bool) → b ≡ (nat_le low n && nat_le n high) → is_some (if b then Some n else None) ≡ true → IsFrom low high (if b then Some n else None)
+picked : (low high n : ℕ) (b : Bool) → b ≡ (nat_le low n && nat_le n high) → is_some (if b then Some n else None) ≡ true
+    → IsFrom low high (if b then Some n else None)
 picked low high n true is h = (grind (arith, nat_tests), grind (arith, nat_tests))
 picked low high n false is h = absurd (false≢true h)
 
@@ -47,11 +50,13 @@ ranged : (low high : ℕ) (z : ℤ) → is_some (in_range low high z) ≡ true �
 ranged low high (pos n) h = picked low high n (nat_le low n && nat_le n high) refl h
 ranged low high (negsuc n) h = absurd (false≢true h)
 
-whole : (low high : ℕ) (found : Option ℤ) → is_some (option_and_then (in_range low high) found) ≡ true → IsFrom low high (option_and_then (in_range low high) found)
+whole : (low high : ℕ) (found : Option ℤ) → is_some (option_and_then (in_range low high) found) ≡ true
+    → IsFrom low high (option_and_then (in_range low high) found)
 whole low high None h = absurd (false≢true h)
 whole low high (Some z) h = ranged low high z h
 
-found-in : (low high : ℕ) (found : Option Data) → is_some (option_and_then (whole_of low high) found) ≡ true → IsFrom low high (option_and_then (whole_of low high) found)
+found-in : (low high : ℕ) (found : Option Data) → is_some (option_and_then (whole_of low high) found) ≡ true
+    → IsFrom low high (option_and_then (whole_of low high) found)
 found-in low high None h = absurd (false≢true h)
 found-in low high (Some d) h = whole low high (as_integer d) h
 
@@ -70,7 +75,8 @@ abbrev AreLow : ℕ → Option (List ℕ) → Type 0
 AreLow high None = Unit {0}
 AreLow high (Some ns) = AllByRecursion (λ n. n ≤ high) ns
 
-low-more : (high : ℕ) (first : Option ℕ) (others : Option (List ℕ)) → (is_some first ≡ true → IsFrom 0 high first) → AreLow high others → AreLow high (before_others first others)
+low-more : (high : ℕ) (first : Option ℕ) (others : Option (List ℕ)) → (is_some first ≡ true → IsFrom 0 high first) → AreLow high others
+    → AreLow high (before_others first others)
 low-more high None others first all = tt
 low-more high (Some n) None first all = tt
 low-more high (Some n) (Some ns) first all = ((first refl).1, all)
@@ -79,7 +85,8 @@ all-low : (high : ℕ) (ds : Items) → AreLow high (numbers_of high ds)
 all-low high no_items = tt
 all-low high (item d ds) = low-more high (whole_of 0 high d) (numbers_of high ds) (whole 0 high (as_integer d)) (all-low high ds)
 
-counted : (count high : ℕ) (ns : List ℕ) (b : Bool) → b ≡ (length ns == count) → AllByRecursion (λ n. n ≤ high) ns → is_some (if b then Some ns else None) ≡ true → IsRow count high (unwrap_or (if b then Some ns else None) [])
+counted : (count high : ℕ) (ns : List ℕ) (b : Bool) → b ≡ (length ns == count) → AllByRecursion (λ n. n ≤ high) ns
+    → is_some (if b then Some ns else None) ≡ true → IsRow count high (unwrap_or (if b then Some ns else None) [])
 counted count high ns true is all h = (grind (arith, nat_tests), all)
 counted count high ns false is all h = absurd (false≢true h)
 
@@ -94,7 +101,8 @@ row-in count high (array ds) h = row-from count high (numbers_of high ds) (all-l
 row-in count high _ h = absurd (false≢true h)
 
 -- a row that a key states is so many numbers, none above high
-pub row-at : (count high : ℕ) (found : Option Data) → is_some (option_and_then (row_of count high) found) ≡ true → IsRow count high (unwrap_or (option_and_then (row_of count high) found) [])
+pub row-at : (count high : ℕ) (found : Option Data) → is_some (option_and_then (row_of count high) found) ≡ true
+    → IsRow count high (unwrap_or (option_and_then (row_of count high) found) [])
 row-at count high None h = absurd (false≢true h)
 row-at count high (Some d) h = row-in count high d h
 
@@ -108,11 +116,13 @@ holding-at count (Some d) h = row-in count 999 d h
 
 -- ---- names
 
-named : (before : List (List ℕ)) (s : List ℕ) (b : Bool) → b ≡ is_name s → is_new before (if b then Some s else None) ≡ true → IsName (unwrap_or (if b then Some s else None) [])
+named : (before : List (List ℕ)) (s : List ℕ) (b : Bool) → b ≡ is_name s → is_new before (if b then Some s else None) ≡ true
+    → IsName (unwrap_or (if b then Some s else None) [])
 named before s true is h = name-is s (sym is)
 named before s false is h = absurd (false≢true h)
 
-name-from : (before : List (List ℕ)) (found : Option (List ℕ)) → is_new before (option_and_then (where_passes is_name) found) ≡ true → IsName (unwrap_or (option_and_then (where_passes is_name) found) [])
+name-from : (before : List (List ℕ)) (found : Option (List ℕ)) → is_new before (option_and_then (where_passes is_name) found) ≡ true
+    → IsName (unwrap_or (option_and_then (where_passes is_name) found) [])
 name-from before None h = absurd (false≢true h)
 name-from before (Some s) h = named before s (is_name s) refl h
 
@@ -122,7 +132,8 @@ name-in before t h = name-from before (string_at (codes "name") t) h
 
 -- ---- lists
 
-count-kept : (allowed : ℕ → Bool) (ts : List Members) (b : Bool) → b ≡ allowed (length ts) → is_some (if b then Some ts else None) ≡ true → allowed (length (unwrap_or (if b then Some ts else None) [])) ≡ true
+count-kept : (allowed : ℕ → Bool) (ts : List Members) (b : Bool) → b ≡ allowed (length ts) → is_some (if b then Some ts else None) ≡ true
+    → allowed (length (unwrap_or (if b then Some ts else None) [])) ≡ true
 count-kept allowed ts true is h = sym is
 count-kept allowed ts false is h = absurd (false≢true h)
 
@@ -133,6 +144,7 @@ list-count allowed None h = absurd (false≢true h)
 list-count allowed (Some ts) h = count-kept allowed ts (allowed (length ts)) refl h
 
 -- a list without a fault is one that is allowed, and its tables have none
-pub list-passes : (field : ℕ) (inside : List Members → Option Fault) (found : Option (List Members)) → list_fault field inside found ≡ None → (is_some found ≡ true) × (inside (unwrap_or found []) ≡ None)
+pub list-passes : (field : ℕ) (inside : List Members → Option Fault) (found : Option (List Members)) → list_fault field inside found ≡ None
+    → (is_some found ≡ true) × (inside (unwrap_or found []) ≡ None)
 list-passes field inside None h = absurd (cc h)
 list-passes field inside (Some ts) h = (refl, h)

@@ -69,7 +69,8 @@ name-fails s h = rw h
 -- ---- lists of tables
 
 -- of elements that are all tables the first counts as one, and the others are all tables
-pub tables-more : (d : Data) (ds : Items) → are_tables (item d ds) ≡ true → (are_tables ds ≡ true) × (length (tables_of (item d ds)) ≡ suc (length (tables_of ds)))
+pub tables-more : (d : Data) (ds : Items) → are_tables (item d ds) ≡ true → (are_tables ds ≡ true) ×
+    (length (tables_of (item d ds)) ≡ suc (length (tables_of ds)))
 tables-more (table t) ds h = (h, refl)
 tables-more _ ds h = absurd (false≢true h)
 

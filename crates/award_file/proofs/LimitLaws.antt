@@ -16,7 +16,8 @@ use Rattle.award_file.specs.Reading.{IsLimit, limit_stop}
 
 -- where the making of a supply stops, by the tests of its three limits
 abbrev stop_by : Bool → Bool → Bool → ℕ → ℕ → ℕ → Option LotStop
-stop_by a b c l m t = option_or (if a then None else Some (lots.Categories l)) (option_or (if b then None else Some (lots.Lots m)) (if c then None else Some (lots.States t)))
+stop_by a b c l m t = option_or (if a then None else Some (lots.Categories l)) (option_or (if b then None else Some (lots.Lots m))
+    (if c then None else Some (lots.States t)))
 
 -- what is exceeded, by the same tests
 abbrev excess_by : Bool → Bool → Bool → ℕ → ℕ → ℕ → Option Excess
@@ -27,16 +28,19 @@ some-there l some = grind (arith, nat_tests)
 
 -- the making of the supply of an offer stops by its limits alone
 stop-is : (supply : List ℕ) → IsOffer supply
-    → supply_stop supply ≡ stop_by (nat_le (length supply) 6) (nat_le (sum supply) 40) (nat_le (states_of supply) 16384) (length supply) (sum supply) (states_of supply)
+    → supply_stop supply ≡ stop_by (nat_le (length supply) 6) (nat_le (sum supply) 40) (nat_le (states_of supply) 16384) (length supply) (sum supply)
+    (states_of supply)
 stop-is supply offer =
     ap (λ (z : Option LotStop). option_or (categories_stop supply) (option_or z (option_or (lots_stop supply) (states_stop supply)))) (zero_none supply offer)
-    ∙ ap (λ (a : Bool). stop_by a (nat_le (sum supply) 40) (nat_le (states_of supply) 16384) (length supply) (sum supply) (states_of supply)) (some-there (length supply) offer.some)
+    ∙ ap (λ (a : Bool). stop_by a (nat_le (sum supply) 40) (nat_le (states_of supply) 16384) (length supply) (sum supply) (states_of supply))
+    (some-there (length supply) offer.some)
 
 above : (limit n : ℕ) → nat_lt limit n ≡ not (nat_le n limit)
 above limit n = grind (arith, nat_tests)
 
 excess-is : (supply : List ℕ)
-    → supply_excess supply ≡ excess_by (nat_le (length supply) 6) (nat_le (sum supply) 40) (nat_le (states_of supply) 16384) (length supply) (sum supply) (states_of supply)
+    → supply_excess supply ≡ excess_by (nat_le (length supply) 6) (nat_le (sum supply) 40) (nat_le (states_of supply) 16384) (length supply) (sum supply)
+    (states_of supply)
 excess-is supply = rw (above 6 (length supply), above 40 (sum supply), above 16384 (states_of supply)) refl
 
 -- ---- counts of which a supply is made
@@ -53,7 +57,8 @@ at-most n limit h = grind (arith, nat_tests)
 -- counts of which a supply is made
 pub made-within : (supply : List ℕ) → IsOffer supply → supply_stop supply ≡ None → IsSupply supply
 made-within supply offer none =
-    let pass = all-pass (nat_le (length supply) 6) (nat_le (sum supply) 40) (nat_le (states_of supply) 16384) (length supply) (sum supply) (states_of supply) (sym (stop-is supply offer) ∙ none) in
+    let pass = all-pass (nat_le (length supply) 6) (nat_le (sum supply) 40) (nat_le (states_of supply) 16384) (length supply) (sum supply) (states_of supply)
+    (sym (stop-is supply offer) ∙ none) in
     record {
       allowed = none;
       some = offer.some;
@@ -74,4 +79,5 @@ over true true true l m t stop h = absurd (cc h)
 pub stops-over : (supply : List ℕ) (stop : LotStop) → IsOffer supply → supply_stop supply ≡ Some stop → IsLimit (supply_excess supply) (limit_stop stop)
 stops-over supply stop offer stops =
     subst (λ (e : Option Excess). IsLimit e (limit_stop stop)) (sym (excess-is supply))
-    (over (nat_le (length supply) 6) (nat_le (sum supply) 40) (nat_le (states_of supply) 16384) (length supply) (sum supply) (states_of supply) stop (sym (stop-is supply offer) ∙ stops))
+    (over (nat_le (length supply) 6) (nat_le (sum supply) 40) (nat_le (states_of supply) 16384) (length supply) (sum supply) (states_of supply) stop
+    (sym (stop-is supply offer) ∙ stops))

@@ -1,5 +1,6 @@
 -- A list of tables, read table by table.
-use Rattle.std.proofs.Common.{◌≡◌, ℕ, ◌+◌, ◌<◌, List, [], ◌∷◌, ◌++◌, length, get_or, drop, map, Option, None, String, BTreeMap, Global, sym, ap, subst, ◌∙◌, append_assoc, rules}
+use Rattle.std.proofs.Common.{◌≡◌, ℕ, ◌+◌, ◌<◌, List, [], ◌∷◌, ◌++◌, length, get_or, drop, map, Option, None, String, BTreeMap, Global, sym, ap, subst, ◌∙◌}
+use Rattle.std.proofs.Common.{append_assoc, rules}
 use Rattle.std.specs.Option.{option_or}
 use Rattle.std.proofs.lemmas.List.{map-append}
 use Rattle.toml.specs.Data.{Data, table, item, Members}
@@ -52,7 +53,8 @@ module _ {A : Type 0} (fault : List A → Members → Option Fault) (stated : Me
 -- what is read goes on with the table's value
 pub reads-here : {B : Type 0} (value : Members → B) (read : List B) (t : Members) (now later : List Members) (all : List B) → now ≡ t ∷ later
     → read ++ map value now ≡ all → (read ++ value t ∷ []) ++ map value later ≡ all
-reads-here value read t now later all is same = append_assoc read (value t ∷ []) (map value later) ∙ ap (λ (ts : List Members). read ++ map value ts) (sym is) ∙ same
+reads-here value read t now later all is same = append_assoc read (value t ∷ []) (map value later) ∙ ap (λ (ts : List Members). read ++ map value ts) (sym is)
+    ∙ same
 
 -- a part of what is read, with one more
 pub part-more : {B C : Type 0} (part : B → C) (read : List B) (x : B) (y : C) → part x ≡ y → map part (read ++ x ∷ []) ≡ map part read ++ y ∷ []

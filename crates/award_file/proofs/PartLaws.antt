@@ -29,14 +29,16 @@ reserves-are [] = refl
 reserves-are (c ∷ cs) = ap (λ (ns : List ℕ). c.reserve ∷ ns) (reserves-are cs)
 
 -- the award of the parts has their terms
-pub parts-make : (p : Parts) (supply points reserves : List ℕ) (steps : Steps) → supply ≡ counts p.categories.items → points ≡ map (λ c. c.points) p.categories.items
+pub parts-make : (p : Parts) (supply points reserves : List ℕ) (steps : Steps) → supply ≡ counts p.categories.items
+    → points ≡ map (λ c. c.points) p.categories.items
     → reserves ≡ map (λ c. c.reserve) p.categories.items → steps ≡ steps_with p.tick p.thresholds.items
     → terms_with p.version supply points reserves steps p.bidders (cap_values p.caps.items) ≡ terms_value p
 parts-make p supply points reserves steps a b c d =
     rw (a ∙ sym (counts-are p.categories.items), b ∙ sym (points-are p.categories.items), c ∙ sym (reserves-are p.categories.items), d) refl
 
 -- the same parts make the same terms
-pub terms-same : (v w m n : ℕ) (cs ds : List Category) (ts us : List (ℕ × ℕ)) (rs ss : List SpectrumCap) (bs es : List Entrant) → v ≡ w → m ≡ n → cs ≡ ds → ts ≡ us → rs ≡ ss → bs ≡ es
+pub terms-same : (v w m n : ℕ) (cs ds : List Category) (ts us : List (ℕ × ℕ)) (rs ss : List SpectrumCap) (bs es : List Entrant) → v ≡ w → m ≡ n → cs ≡ ds
+    → ts ≡ us → rs ≡ ss → bs ≡ es
     → terms_from v m cs ts rs bs ≡ terms_from w n ds us ss es
 terms-same v w m n cs ds ts us rs ss bs es a b c d e f = rw (a, b, c, d, e, f) refl
 

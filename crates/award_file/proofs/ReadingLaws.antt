@@ -43,22 +43,26 @@ abbrev top_fault : Bool → Bool → Option Fault → Option Fault → Option Fa
 top_fault a b f g h i c = first_fault (unless a 1 0 ∷ unless b 2 0 ∷ f ∷ g ∷ h ∷ i ∷ unless c 18 0 ∷ [])
 
 -- the stop at the third list, behind two without a fault
-pub third-stops : (a b : Bool) (f g h i : Option Fault) (c : Bool) (stop : AwardStop) → a ≡ true → b ≡ true → f ≡ None → g ≡ None → IsFault h stop → IsFault (top_fault a b f g h i c) stop
+pub third-stops : (a b : Bool) (f g h i : Option Fault) (c : Bool) (stop : AwardStop) → a ≡ true → b ≡ true → f ≡ None → g ≡ None → IsFault h stop
+    → IsFault (top_fault a b f g h i c) stop
 third-stops a b f g h i c stop first second third fourth stops =
     let here : IsFault (option_or h (option_or i (first_fault (unless c 18 0 ∷ [])))) stop = first-stops h _ stop stops in
     rw (first, second, third, fourth) here
 
 -- the stop at the fourth list, behind three without a fault
-pub fourth-stops : (a b : Bool) (f g h i : Option Fault) (c : Bool) (stop : AwardStop) → a ≡ true → b ≡ true → f ≡ None → g ≡ None → h ≡ None → IsFault i stop → IsFault (top_fault a b f g h i c) stop
+pub fourth-stops : (a b : Bool) (f g h i : Option Fault) (c : Bool) (stop : AwardStop) → a ≡ true → b ≡ true → f ≡ None → g ≡ None → h ≡ None → IsFault i stop
+    → IsFault (top_fault a b f g h i c) stop
 fourth-stops a b f g h i c stop first second third fourth fifth stops =
     let here : IsFault (option_or i (first_fault (unless c 18 0 ∷ []))) stop = first-stops i _ stop stops in
     rw (first, second, third, fourth, fifth) here
 
 -- behind four lists without a fault the last rule decides
-pub last-decides : (a b : Bool) (f g h i : Option Fault) (c : Bool) → a ≡ true → b ≡ true → f ≡ None → g ≡ None → h ≡ None → i ≡ None → top_fault a b f g h i c ≡ unless c 18 0
+pub last-decides : (a b : Bool) (f g h i : Option Fault) (c : Bool) → a ≡ true → b ≡ true → f ≡ None → g ≡ None → h ≡ None → i ≡ None
+    → top_fault a b f g h i c ≡ unless c 18 0
 last-decides a b f g h i true first second third fourth fifth sixth = rw (first, second, third, fourth, fifth, sixth)
 last-decides a b f g h i false first second third fourth fifth sixth = rw (first, second, third, fourth, fifth, sixth)
 
 -- as many categories are read as the table states
 pub count-is : (read : List Read) (t : Members) → category_values read ≡ categories_of t → length read ≡ category_count t
-count-is read t same = sym (length-map read category_value) ∙ ap (λ (cs : List Category). length cs) same ∙ length-map (unwrap_or (categories_at t) []) category_of
+count-is read t same = sym (length-map read category_value) ∙ ap (λ (cs : List Category). length cs) same
+    ∙ length-map (unwrap_or (categories_at t) []) category_of

@@ -15,7 +15,8 @@ pub system : (count top edge n : ℕ) (xs : List ℤ) (right : List Far) (m : Li
 system count top edge n xs right m few wide long small parts lines entries = record {
   lines = omega (arith, few, lines);
   signs = λ k i lk li. subst (λ (z : ℤ). pos 0 ≤ℤ z) (sym (entries k i (low k lk) (low i li))) (small (k * n + i) (inside k i (low k lk) (low i li))).0;
-  entries = λ k i lk li. subst (λ (z : ℤ). unsigned_abs z ≤ top) (sym (entries k i (low k lk) (low i li))) (small (k * n + i) (inside k i (low k lk) (low i li))).1;
+  entries = λ k i lk li. subst (λ (z : ℤ). unsigned_abs z ≤ top) (sym (entries k i (low k lk) (low i li)))
+      (small (k * n + i) (inside k i (low k lk) (low i li))).1;
   fars = λ k l. (parts k (subst (λ (j : ℕ). k < j) (sym long) (low k l))).0;
   nears = λ k l. (parts k (subst (λ (j : ℕ). k < j) (sym long) (low k l))).1;
 }

@@ -23,8 +23,10 @@ beats-more bids more e h some b =
     }
 
 -- the same of an entry with what was found
-pub beats-as : (xs ys : List Entry) (e : Entry) (h better : ℕ) → xs ≡ ys → BeatsAmong xs e h → BeatsAmong ys (record { bid = e.bid; net = e.net; better = better }) h
-beats-as xs ys e h better same beats some = let b = subst (λ (l : List Entry). Beats l e h) same (beats some) in record { inside = b.inside; smaller = b.smaller; worth = b.worth }
+pub beats-as : (xs ys : List Entry) (e : Entry) (h better : ℕ) → xs ≡ ys → BeatsAmong xs e h → BeatsAmong ys
+    (record { bid = e.bid; net = e.net; better = better }) h
+beats-as xs ys e h better same beats some = let b = subst (λ (l : List Entry). Beats l e h) same (beats some) in
+    record { inside = b.inside; smaller = b.smaller; worth = b.worth }
 
 -- an entry more
 pub better-push : (bids : List Entry) (e : Entry) → AreBetter bids → BeatsAmong bids e e.better → AreBetter (bids ++ e ∷ [])
@@ -35,7 +37,11 @@ better-push bids e kept own i d inside some =
           let at : get_or all i d ≡ get_or bids i d = get_or_append_left bids (e ∷ []) d i low in
           let more = subst (λ (x : Entry). 0 < x.better) at some in
           let was = kept i d low more in
-          subst (λ (x : Entry). (x.better ≤ i) × Beats all x x.better) (sym at) (was.0, beats-more bids (e ∷ []) (get_or bids i d) (get_or bids i d).better more was.1)
+          subst (λ (x : Entry). (x.better ≤ i) × Beats all x x.better) (sym at) (
+            was.0,
+            beats-more bids (e ∷ []) (get_or bids i d)
+                (get_or bids i d).better more was.1,
+          )
       | inr past ↦
           let last : i ≡ length bids = omega (arith, past, inside, length-append bids (e ∷ [])) in
           let at : get_or all i d ≡ e = ap (λ n. get_or all n d) last ∙ get_or-append_seam bids e [] d in
@@ -44,9 +50,11 @@ better-push bids e kept own i d inside some =
           subst (λ (x : Entry). (x.better ≤ i) × Beats all x x.better) (sym at) (omega (arith, b.inside, last), beats-more bids (e ∷ []) e e.better more b)
     ]
 
-module _ (b : Inside) (book : Book) (is : book_value b ≡ book) (j : ℕ) (known : j ≤ length b.bidders.items) (some : 0 < j) (bidder : BookBidder) (read : bidder ≡ get_or b.bidders.items (j - 1) bidder) where
+module _ (b : Inside) (book : Book) (is : book_value b ≡ book) (j : ℕ) (known : j ≤ length b.bidders.items) (some : 0 < j) (bidder : BookBidder)
+    (read : bidder ≡ get_or b.bidders.items (j - 1) bidder) where
   -- the better bid that stands with bid i of bidder j makes it needless in the book
-  pub better-at : (i : ℕ) (e : Entry) → BettersAreKept b → NetsAreKept b → 0 < i → i ≤ length bidder.bids.items → e ≡ get_or bidder.bids.items (i - 1) e → 0 < e.better → IsBetter book j i e.better
+  pub better-at : (i : ℕ) (e : Entry) → BettersAreKept b → NetsAreKept b → 0 < i → i ≤ length bidder.bids.items → e ≡ get_or bidder.bids.items (i - 1) e
+      → 0 < e.better → IsBetter book j i e.better
   better-at i e kept nets p q r more =
       let items = bidder.bids.items in
       let h = e.better in
@@ -61,6 +69,7 @@ module _ (b : Inside) (book : Book) (is : book_value b ≡ book) (j : ℕ) (know
       let net_i : net_of book j i ≡ e.net = net-at b book is j known some bidder read i e nets p q r in
       record {
         earlier = omega (arith, was.0);
-        smaller = subst (λ (x : BookBid). IsTrue (is_within x.lots (lots_of book j i))) (sym bid_h) (subst (λ (x : BookBid). IsTrue (is_within other.bid.package x.lots)) (sym bid_i) (was.1.smaller e));
+        smaller = subst (λ (x : BookBid). IsTrue (is_within x.lots (lots_of book j i))) (sym bid_h)
+            (subst (λ (x : BookBid). IsTrue (is_within other.bid.package x.lots)) (sym bid_i) (was.1.smaller e));
         worth = rw (net_h, net_i) (was.1.worth e);
       }

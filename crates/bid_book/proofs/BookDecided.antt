@@ -9,7 +9,8 @@ use Rattle.lots.specs.auction_model.specs.Package.{is_within, cost_of, ComesBefo
 use Rattle.lots.specs.limits.specs.declared.TheConstants.{MOST_AMOUNT, MOST_COUNT, MOST_NAME_BYTES, MOST_PRICE}
 use Rattle.book_form.specs.BookForm.{AreReserves, IsBid, IsLetter, IsName, IsNameByte, IsOffer}
 use Rattle.book_form.specs.line_text.specs.Decimals.{decimals_text}
-use Rattle.book_form.specs.line_text.proofs.Decided.{Decided, StepsDecided, after_word, decided_all, decided_as, decided_both, decided_either, decided_le, decided_lt, decided_not, decided_same, decided_three, decided_true, some_fields}
+use Rattle.book_form.specs.line_text.proofs.Decided.{Decided, StepsDecided, after_word, decided_all, decided_as, decided_both, decided_either, decided_le}
+use Rattle.book_form.specs.line_text.proofs.Decided.{decided_lt, decided_not, decided_same, decided_three, decided_true, some_fields}
 use Rattle.bid_book.specs.declared.read.Stage.{Stage}
 use Rattle.bid_book.specs.declared.read.Stage.TheVariants.{Start, Headed, Supplied, Listing, Ended}
 use Rattle.bid_book.specs.Stages.{AddsBid, AddsBidder, Step, lots_before, opened, with_bid}
@@ -42,7 +43,8 @@ pub last_number : (ns : List ℕ) → (ns ≡ []) ⊎ ((front : List ℕ) × (la
 last_number [] = inl refl
 last_number (n ∷ ns) = by (last_number ns)
   where
-    by : (ns ≡ []) ⊎ ((front : List ℕ) × (last : ℕ) × (ns ≡ front ++ last ∷ [])) → (n ∷ ns ≡ []) ⊎ ((front : List ℕ) × (last : ℕ) × (n ∷ ns ≡ front ++ last ∷ []))
+    by : (ns ≡ []) ⊎ ((front : List ℕ) × (last : ℕ) × (ns ≡ front ++ last ∷ []))
+        → (n ∷ ns ≡ []) ⊎ ((front : List ℕ) × (last : ℕ) × (n ∷ ns ≡ front ++ last ∷ []))
     by (inl none) = inr ([], n, ap (λ (r : List ℕ). n ∷ r) none)
     by (inr (front, last, is)) = inr (n ∷ front, last, ap (λ (r : List ℕ). n ∷ r) is)
 
@@ -52,7 +54,8 @@ no_last ns front last none is = omega (arith, ap length none, ap length is, leng
 
 decided_offer : (supply : List ℕ) → Decided (IsOffer supply)
 decided_offer supply =
-    decided_as (decided_both (decided_lt 0 (length supply)) (decided_all (λ n. (1 ≤ n) × (n ≤ MOST_COUNT)) (λ n. decided_both (decided_le 1 n) (decided_le n MOST_COUNT)) supply))
+    decided_as (decided_both (decided_lt 0 (length supply)) (decided_all (λ n. (1 ≤ n) × (n ≤ MOST_COUNT))
+    (λ n. decided_both (decided_le 1 n) (decided_le n MOST_COUNT)) supply))
     (λ both. record { some = both.0; each = both.1 }) (λ is. (is.some, is.each))
 
 decided_reserves : (supply reserves : List ℕ) → Decided (AreReserves supply reserves)
@@ -101,7 +104,8 @@ decided_of_bid book ns = by (last_number ns)
     by : (ns ≡ []) ⊎ ((front : List ℕ) × (last : ℕ) × (ns ≡ front ++ last ∷ [])) → Decided (AreOfBid book ns)
     by (inl none) = inr (λ found. no_last ns found.0.lots found.0.amount none found.1)
     by (inr (lots, amount, is)) =
-        decided_as (decided_both (decided_lt 0 (length book.bidders)) (decided_bid book.supply book.reserves (lots_before book) (record { lots = lots; amount = amount })))
+        decided_as (decided_both (decided_lt 0 (length book.bidders)) (decided_bid book.supply book.reserves (lots_before book)
+        (record { lots = lots; amount = amount })))
         (λ both. (record { lots = lots; amount = amount }, is, both.0, both.1))
         (λ found. (
         let parts = snoc_one found.0.lots lots found.0.amount amount (sym found.1 ∙ is) in
@@ -137,12 +141,14 @@ leads (Supplied supply) l sound =
     (λ found. (Listing (opened supply found.0), (found.0, found.1, found.2, refl))) (λ found. (found.1.0, found.1.1, found.1.2))
 leads (Listing book) l sound = by (decided_same l (codes "end")) (bidder_known book l) (bid_known book sound.supply l)
   where
-    neither : (l ≡ codes "end" → ⊥) → ((new : Book) × AddsBidder book new l → ⊥) → ((new : Book) × AddsBid book new l → ⊥) → (t : Stage) → Step (Listing book) l t → ⊥
+    neither : (l ≡ codes "end" → ⊥) → ((new : Book) × AddsBidder book new l → ⊥) → ((new : Book) × AddsBid book new l → ⊥) → (t : Stage)
+        → Step (Listing book) l t → ⊥
     neither end bidder bid t (inl last) = end last.0
     neither end bidder bid t (inr (new, inl adds, is)) = bidder (new, adds)
     neither end bidder bid t (inr (new, inr adds, is)) = bid (new, adds)
 
-    by : Decided (l ≡ codes "end") → Decided ((new : Book) × AddsBidder book new l) → Decided ((new : Book) × AddsBid book new l) → Decided ((t : Stage) × Step (Listing book) l t)
+    by : Decided (l ≡ codes "end") → Decided ((new : Book) × AddsBidder book new l) → Decided ((new : Book) × AddsBid book new l)
+        → Decided ((t : Stage) × Step (Listing book) l t)
     by (inl is) bidder bid = inl (Ended book, inl (is, refl))
     by (inr end) (inl (new, adds)) bid = inl (Listing new, inr (new, inl adds, refl))
     by (inr end) (inr bidder) (inl (new, adds)) = inl (Listing new, inr (new, inr adds, refl))

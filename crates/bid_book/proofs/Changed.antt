@@ -54,15 +54,18 @@ module _ (b : Inside) (j : ℕ) (some : 0 < j) (known : j ≤ length b.bidders.i
     changed = with_fields b (with_item b.bidders (j - 1) (record { name = old.name; bids = bids }))
 
     -- the book of the changed fields has this bidder in the place of the old one
-    pub changed_is : (own : Bidder) → bidder_with old.name (map bid_value bids.items) ≡ own → book_value changed ≡ with_bidders (book_value b) (set (map bidder_value b.bidders.items) (j - 1) own)
+    pub changed_is : (own : Bidder) → bidder_with old.name (map bid_value bids.items) ≡ own → book_value changed ≡ with_bidders (book_value b)
+        (set (map bidder_value b.bidders.items) (j - 1) own)
     changed_is own is =
-        ap (with_bidders (book_value b)) (map-set bidder_value b.bidders.items (j - 1) (record { name = old.name; bids = bids }) ∙ ap (set (map bidder_value b.bidders.items) (j - 1)) is)
+        ap (with_bidders (book_value b)) (map-set bidder_value b.bidders.items (j - 1) (record { name = old.name; bids = bids })
+        ∙ ap (set (map bidder_value b.bidders.items) (j - 1)) is)
 
     -- nothing has changed
     pub bids_same : bids.items ≡ old.bids.items → book_value changed ≡ book_value b
     bids_same same =
         let own : bidder_with old.name (map bid_value bids.items) ≡ bidder_value old = ap (λ (l : List Entry). bidder_with old.name (map bid_value l)) same in
-        changed_is (bidder_value old) own ∙ ap (with_bidders (book_value b)) (ap (set (map bidder_value b.bidders.items) (j - 1)) (sym value_at) ∙ set-get_or (map bidder_value b.bidders.items) (j - 1) (bidder_value old))
+        changed_is (bidder_value old) own ∙ ap (with_bidders (book_value b)) (ap (set (map bidder_value b.bidders.items) (j - 1)) (sym value_at)
+        ∙ set-get_or (map bidder_value b.bidders.items) (j - 1) (bidder_value old))
 
     -- the bidder has other bids
     pub bids_are : (book : Book) (list : List BookBid) → book_value b ≡ book → map bid_value bids.items ≡ list → book_value changed ≡ with_bids book j list
@@ -74,7 +77,8 @@ module _ (b : Inside) (j : ℕ) (some : 0 < j) (known : j ≤ length b.bidders.i
 
     -- where the net amounts of the new bids are right, those of the changed fields are
     pub changed_nets : NetsAreKept b → All (HasNet b.reserves.items) bids.items → NetsAreKept changed
-    changed_nets nets own = All-set (λ (x : BookBidder). All (HasNet b.reserves.items) x.bids.items) b.bidders.items (j - 1) (record { name = old.name; bids = bids }) own nets
+    changed_nets nets own = All-set (λ (x : BookBidder). All (HasNet b.reserves.items) x.bids.items) b.bidders.items (j - 1)
+        (record { name = old.name; bids = bids }) own nets
 
     -- the net amounts stay right where the bids are the same
     pub same_nets : bids.items ≡ old.bids.items → NetsAreKept b → NetsAreKept changed
@@ -82,7 +86,8 @@ module _ (b : Inside) (j : ℕ) (some : 0 < j) (known : j ≤ length b.bidders.i
 
     -- where it is right which of the new bids are better, it is so for the changed fields
     pub changed_betters : BettersAreKept b → AreBetter bids.items → BettersAreKept changed
-    changed_betters betters own = All-set (λ (x : BookBidder). AreBetter x.bids.items) b.bidders.items (j - 1) (record { name = old.name; bids = bids }) own betters
+    changed_betters betters own = All-set (λ (x : BookBidder). AreBetter x.bids.items) b.bidders.items (j - 1)
+        (record { name = old.name; bids = bids }) own betters
 
     -- which bids are better stays right where the bids are the same
     pub same_betters : bids.items ≡ old.bids.items → BettersAreKept b → BettersAreKept changed

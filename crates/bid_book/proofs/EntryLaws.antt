@@ -1,5 +1,6 @@
 -- What the lines of bidders and bids say.
-use Rattle.std.proofs.Common.{inl, inr, ◌≡◌, ◌≢◌, ℕ, ◌+◌, ◌≤◌, ◌<◌, ◌^◌, Option, Some, None, Result, Ok, Err, List, [], ◌∷◌, ◌++◌, length, get_or, take, refl, sym, ap, subst, ◌∙◌, arith, length-append}
+use Rattle.std.proofs.Common.{inl, inr, ◌≡◌, ◌≢◌, ℕ, ◌+◌, ◌≤◌, ◌<◌, ◌^◌, Option, Some, None, Result, Ok, Err, List, [], ◌∷◌, ◌++◌, length, get_or, take, refl}
+use Rattle.std.proofs.Common.{sym, ap, subst, ◌∙◌, arith, length-append}
 use Rattle.std.specs.Prelude.{IfNone, IsTrue, MatchResult, codes, sum, pos, ◌-ℤ◌}
 use mir.Syntax.{w128}
 use mir.Val.{to_z, of_z}
@@ -46,15 +47,18 @@ name_utf8 [] is = absurd is
 name_utf8 (c ∷ cs) is = IsUtf8-from_ascii (c ∷ cs) (IsAscii-from_all (c ∷ cs) (each_all (λ b. b < 128) (c ∷ cs) (omega (arith, is.0), bytes_low cs is.1)))
 
 -- where a result can be no error, anything follows from the lack of its value
-pub ok_some : {T E : Type 0} (r : Result T E) (o : Option T) (P : T → Type 0) (Q : E → Type 0) (Z : Type 0) → o ≡ result_ok r → MatchResult r P Q → ((e : E) → Q e → ⊥) → IfNone o Z
+pub ok_some : {T E : Type 0} (r : Result T E) (o : Option T) (P : T → Type 0) (Q : E → Type 0) (Z : Type 0) → o ≡ result_ok r → MatchResult r P Q
+    → ((e : E) → Q e → ⊥) → IfNone o Z
 ok_some (Ok x) o P Q Z is match other = subst (λ (p : Option _). IfNone p Z) (sym is) tt
 ok_some (Err e) o P Q Z is match other = absurd (other e match)
 
 -- the names of the bidders up to one more
-pub unused_more : (bidders : List Bidder) (name : List ℕ) (j : ℕ) → j < length bidders → AllByRecursion (λ b. b.name ≢ name) (take j bidders) → (get_or bidders j no_bidder).name ≢ name
+pub unused_more : (bidders : List Bidder) (name : List ℕ) (j : ℕ) → j < length bidders → AllByRecursion (λ b. b.name ≢ name) (take j bidders)
+    → (get_or bidders j no_bidder).name ≢ name
     → AllByRecursion (λ b. b.name ≢ name) (take (j + 1) bidders)
 unused_more bidders name j lt all other =
-    subst (AllByRecursion (λ (b : Bidder). b.name ≢ name)) (sym (take_more bidders j no_bidder lt)) (each-push (λ (b : Bidder). b.name ≢ name) (take j bidders) (get_or bidders j no_bidder) all other)
+    subst (AllByRecursion (λ (b : Bidder). b.name ≢ name)) (sym (take_more bidders j no_bidder lt))
+    (each-push (λ (b : Bidder). b.name ≢ name) (take j bidders) (get_or bidders j no_bidder) all other)
 
 -- the name of bidder j + 1 is that at place j in the list of bidders
 pub name_at : (book : Book) (j : ℕ) → (bidder_of book (j + 1)).name ≡ (get_or book.bidders j no_bidder).name
@@ -80,7 +84,8 @@ pub record BidRead (counts : List ℕ) (amount : ℕ) (bid : BookBid) : Type 0 w
   pub lots : counts ≡ bid.lots
   pub amount_is : amount ≡ bid.amount
 
-module _ (supply reserves before : List ℕ) (kept : IsSupply supply) (line : List ℕ) (bid : BookBid) (spelled : line ≡ (bid_line 0 bid).0) (valid : IsBid supply reserves before bid) where
+module _ (supply reserves before : List ℕ) (kept : IsSupply supply) (line : List ℕ) (bid : BookBid) (spelled : line ≡ (bid_line 0 bid).0)
+    (valid : IsBid supply reserves before bid) where
   -- no number in the line of a valid bid is above the greatest amount
   pub bid_numbers : AreNumbers (bid.lots ++ bid.amount ∷ [])
   bid_numbers = low_numbers bid.lots bid.amount (within_low bid.lots supply valid.categories valid.within kept.lots) valid.top
@@ -103,7 +108,8 @@ numbers_last [] amount are = are.0
 numbers_last (c ∷ counts) amount are = numbers_last counts amount are.1
 
 -- in 128 bits an amount up to 2 ^ 42, less a reserve no higher than it, is the exact difference
-pub net_is : (amount reserve : ℕ) → amount ≤ 2 ^ 42 → reserve ≤ amount → to_z w128 (of_z w128 (to_z w128 amount -ℤ to_z w128 reserve)) ≡ pos amount -ℤ pos reserve
+pub net_is : (amount reserve : ℕ) → amount ≤ 2 ^ 42 → reserve ≤ amount → to_z w128 (of_z w128 (to_z w128 amount -ℤ to_z w128 reserve)) ≡ pos amount -ℤ pos
+    reserve
 net_is amount reserve top low = omega (arith, ints)
 
 -- what a bid more, and a bidder more, exceed
@@ -139,7 +145,8 @@ pub few_bidders : (n : ℕ) → n < 16 → bidder_excess (n + 1) ≡ None
 few_bidders n few = grind (arith, nat_tests)
 
 -- the line of a bid, as what it adds
-pub adds_entry : (old : Book) (line : List ℕ) (bid : BookBid) → 0 < length old.bidders → line ≡ (bid_line 0 bid).0 → IsBid old.supply old.reserves (lots_before old) bid → AddsBid old (with_bid old bid) line
+pub adds_entry : (old : Book) (line : List ℕ) (bid : BookBid) → 0 < length old.bidders → line ≡ (bid_line 0 bid).0
+    → IsBid old.supply old.reserves (lots_before old) bid → AddsBid old (with_bid old bid) line
 adds_entry old line bid some spelled valid = record { bid = bid; some = some; spelled = spelled; valid = valid; new_is = refl }
 
 -- the line of a bidder, as what it adds

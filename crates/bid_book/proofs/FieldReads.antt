@@ -46,7 +46,8 @@ first_number text field more (n ∷ ns) is text_is small =
     record { number = n; later = ns; whole = refl; small = small.0; later_small = small.1; field_is = parts.0; more_is = parts.1 }
 
 -- after a field that spells n, n is read too, and the rest spells the numbers behind it
-pub goes_further : (had rest field more ns : List ℕ) (n : ℕ) → IsField rest field more → field ≡ decimal n → n ≤ 2 ^ 42 → GoesOn had rest ns → GoesOn (had ++ n ∷ []) more ns
+pub goes_further : (had rest field more ns : List ℕ) (n : ℕ) → IsField rest field more → field ≡ decimal n → n ≤ 2 ^ 42 → GoesOn had rest ns
+    → GoesOn (had ++ n ∷ []) more ns
 goes_further had rest field more ns n is spelled small on =
     let first = first_number rest field more on.more is on.rest_is on.small in
     let same : first.number ≡ n = decimal_one first.number n (omega (arith, first.small)) (omega arith) (sym first.field_is ∙ spelled) in
@@ -58,7 +59,8 @@ goes_further had rest field more ns n is spelled small on =
     }
 
 -- the text read so far, with one field more
-pub spelled_further : (text had rest field more : List ℕ) (n : ℕ) → text ≡ decimals_text had ++ rest → IsField rest field more → field ≡ decimal n → text ≡ decimals_text (had ++ n ∷ []) ++ more
+pub spelled_further : (text had rest field more : List ℕ) (n : ℕ) → text ≡ decimals_text had ++ rest → IsField rest field more → field ≡ decimal n
+    → text ≡ decimals_text (had ++ n ∷ []) ++ more
 spelled_further text had rest field more n spelled is field_is =
     spelled ∙ ap (λ (l : List ℕ). decimals_text had ++ l) (is.spelled ∙ ap (λ (l : List ℕ). 32 ∷ l ++ more) field_is)
     ∙ sym (append_assoc (decimals_text had) (32 ∷ decimal n) more)

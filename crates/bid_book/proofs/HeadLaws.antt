@@ -38,11 +38,13 @@ one_list line word ms ns a are_ms b are_ns =
     numbers_one ms ns (numbers_small ms are_ms) (numbers_small ns are_ns) (append_cancel_left word (decimals_text ms) (decimals_text ns) (sym a ∙ b))
 
 -- the numbers read from the line of a supply are that supply
-pub supply_read : (line ns supply : List ℕ) → AreNumbers ns → line ≡ codes "supply" ++ decimals_text ns → line ≡ (supply_line supply).0 → IsOffer supply → ns ≡ supply
+pub supply_read : (line ns supply : List ℕ) → AreNumbers ns → line ≡ codes "supply" ++ decimals_text ns → line ≡ (supply_line supply).0 → IsOffer supply
+    → ns ≡ supply
 supply_read line ns supply are a b offer = one_list line (codes "supply") ns supply a are b (offer_numbers supply offer.each)
 
 -- the numbers read from the line of reserves are those reserves
-pub reserves_read : (line ns supply reserves : List ℕ) → AreNumbers ns → line ≡ codes "reserve" ++ decimals_text ns → line ≡ (reserve_line reserves).0 → AreReserves supply reserves → ns ≡ reserves
+pub reserves_read : (line ns supply reserves : List ℕ) → AreNumbers ns → line ≡ codes "reserve" ++ decimals_text ns → line ≡ (reserve_line reserves).0
+    → AreReserves supply reserves → ns ≡ reserves
 reserves_read line ns supply reserves are a b all = one_list line (codes "reserve") ns reserves a are b (reserve_numbers reserves all.each)
 
 -- of counts from 1 to 999 none is 0

@@ -9,10 +9,12 @@ use Rattle.book_form.specs.line_text.proofs.DecimalFields.{one_field, decimals_s
 abbrev pub AreSmall : List ℕ → Type 0
 AreSmall ns = AllByRecursion (λ n. n < 2 ^ 120) ns
 
-one_number : (m n : ℕ) (ms ns : List ℕ) → m < 2 ^ 120 → n < 2 ^ 120 → decimals_text (m ∷ ms) ≡ decimals_text (n ∷ ns) → (m ≡ n) × (decimals_text ms ≡ decimals_text ns)
+one_number : (m n : ℕ) (ms ns : List ℕ) → m < 2 ^ 120 → n < 2 ^ 120 → decimals_text (m ∷ ms) ≡ decimals_text (n ∷ ns)
+    → (m ≡ n) × (decimals_text ms ≡ decimals_text ns)
 one_number m n ms ns sm sn is =
     let tails : decimal m ++ decimals_text ms ≡ decimal n ++ decimals_text ns = cc in
-    let parts = one_field (decimal m) (decimal n) (decimals_text ms) (decimals_text ns) (number_own m sm) (number_own n sn) (decimals_stop ms) (decimals_stop ns) tails in
+    let parts = one_field (decimal m) (decimal n) (decimals_text ms) (decimals_text ns) (number_own m sm) (number_own n sn) (decimals_stop ms)
+    (decimals_stop ns) tails in
     (decimal_one m n sm sn parts.0, parts.1)
 
 -- numbers below 2 ^ 120 whose fields are the same text are the same

@@ -46,7 +46,8 @@ supplies_one l a b sa sb la lb =
     numbers_one a b (small_supply a sa.each) (small_supply b sb.each) same
 
 -- a line states one list of reserves
-pub reserves_one : (supply l a b : List ℕ) → AreReserves supply a → AreReserves supply b → l ≡ codes "reserve" ++ decimals_text a → l ≡ codes "reserve" ++ decimals_text b → a ≡ b
+pub reserves_one : (supply l a b : List ℕ) → AreReserves supply a → AreReserves supply b → l ≡ codes "reserve" ++ decimals_text a
+    → l ≡ codes "reserve" ++ decimals_text b → a ≡ b
 reserves_one supply l a b ra rb la lb =
     let e : codes "reserve" ++ decimals_text a ≡ codes "reserve" ++ decimals_text b = sym la ∙ lb in
     let same : decimals_text a ≡ decimals_text b = cc in
@@ -60,7 +61,8 @@ two_bidders old a b l x y =
     x.new_is ∙ ap (λ (n : List ℕ). with_bidders old (old.bidders ++ bidder_with n [] ∷ [])) same ∙ sym y.new_is
 
 -- a line states one bid, where the numbers are below 2 ^ 120
-pub bid_one : (l : List ℕ) (a b : BookBid) → AreSmall (a.lots ++ a.amount ∷ []) → AreSmall (b.lots ++ b.amount ∷ []) → l ≡ (bid_line 0 a).0 → l ≡ (bid_line 0 b).0 → a ≡ b
+pub bid_one : (l : List ℕ) (a b : BookBid) → AreSmall (a.lots ++ a.amount ∷ []) → AreSmall (b.lots ++ b.amount ∷ []) → l ≡ (bid_line 0 a).0
+    → l ≡ (bid_line 0 b).0 → a ≡ b
 bid_one l a b sa sb la lb =
     let e : codes "bid" ++ decimals_text (a.lots ++ a.amount ∷ []) ≡ codes "bid" ++ decimals_text (b.lots ++ b.amount ∷ []) = sym la ∙ lb in
     let same : decimals_text (a.lots ++ a.amount ∷ []) ≡ decimals_text (b.lots ++ b.amount ∷ []) = cc in
@@ -70,8 +72,10 @@ bid_one l a b sa sb la lb =
 -- with the bid of a line a book of an offer becomes one other book
 pub two_bids : (old a b : Book) (l : List ℕ) → IsOffer old.supply → AddsBid old a l → AddsBid old b l → a ≡ b
 two_bids old a b l supply x y =
-    let small_x : AreSmall (x.bid.lots ++ x.bid.amount ∷ []) = small_counts x.bid.lots old.supply x.bid.amount x.valid.categories x.valid.within supply.each x.valid.top in
-    let small_y : AreSmall (y.bid.lots ++ y.bid.amount ∷ []) = small_counts y.bid.lots old.supply y.bid.amount y.valid.categories y.valid.within supply.each y.valid.top in
+    let small_x : AreSmall (x.bid.lots ++ x.bid.amount ∷ []) = small_counts x.bid.lots old.supply x.bid.amount x.valid.categories x.valid.within supply.each
+    x.valid.top in
+    let small_y : AreSmall (y.bid.lots ++ y.bid.amount ∷ []) = small_counts y.bid.lots old.supply y.bid.amount y.valid.categories y.valid.within supply.each
+    y.valid.top in
     x.new_is ∙ ap (with_bid old) (bid_one l x.bid y.bid small_x small_y x.spelled y.spelled) ∙ sym y.new_is
 
 -- a line, be it of a bidder or of a bid, makes one new book of a book of an offer

@@ -1,5 +1,6 @@
 -- The order of packages as a test, and the package after which the next bid's has to come.
-use Rattle.std.proofs.Common.{inl, inr, ◌⊎◌, ⊎_elim, ◌≡◌, ℕ, zero, suc, ◌-◌, ◌<◌, Bool, true, false, List, [], ◌∷◌, length, get_or, replicate, refl, sym, ap, ◌∙◌, arith}
+use Rattle.std.proofs.Common.{inl, inr, ◌⊎◌, ⊎_elim, ◌≡◌, ℕ, zero, suc, ◌-◌, ◌<◌, Bool, true, false, List, [], ◌∷◌, length, get_or, replicate, refl, sym, ap}
+use Rattle.std.proofs.Common.{◌∙◌, arith}
 use Rattle.std.specs.Prelude.{IsTrue, nat_lt, ◌&&◌, ◌||◌, ◌==◌}
 use Rattle.std.proofs.lemmas.Bool.Decides.{nat_tests}
 use Rattle.lots.specs.auction_model.specs.Book.{Book, BookBid, no_bid, bids_of, lots_of}
@@ -23,7 +24,8 @@ before_comes [] [] same is = let e : false ≡ true = is in absurd (cc e)
 before_comes [] (b ∷ q) same is = absurd (omega arith)
 before_comes (a ∷ p) [] same is = absurd (omega arith)
 before_comes (a ∷ p) (b ∷ q) same is =
-    ⊎_elim (λ (lt : a < b). inl lt) (λ (eq : (a ≡ b) × IsTrue (is_before p q)). inr (eq.0, before_comes p q (omega arith) eq.1)) (head_before a b (is_before p q) is)
+    ⊎_elim (λ (lt : a < b). inl lt) (λ (eq : (a ≡ b) × IsTrue (is_before p q)). inr (eq.0, before_comes p q (omega arith) eq.1))
+    (head_before a b (is_before p q) is)
 
 -- the test puts first the package that comes first
 pub comes_before : (p q : List ℕ) → ComesBefore p q → IsTrue (is_before p q)
@@ -70,7 +72,8 @@ lots_at book j (suc i) some = ap (λ (k : ℕ). (get_or (bids_of book j) k no_bi
 
 -- where the last bidder, of number n, has so many bids
 pub lots_none : (book : Book) (n last : ℕ) → n ≡ length book.bidders → last ≡ length (bids_of book n) → last ≡ 0 → lots_before book ≡ empty_package book.supply
-lots_none book n last is count none = last_lots-none (empty_package book.supply) (last_bids book) (ap (λ (k : ℕ). length (bids_of book k)) (sym is) ∙ sym count ∙ none)
+lots_none book n last is count none = last_lots-none (empty_package book.supply) (last_bids book)
+    (ap (λ (k : ℕ). length (bids_of book k)) (sym is) ∙ sym count ∙ none)
 
 -- where the last bidder has bids, the next bid's package has to come behind that of the last one
 pub lots_some : (book : Book) (n last : ℕ) → n ≡ length book.bidders → last ≡ length (bids_of book n) → 0 < last → lots_before book ≡ lots_of book n last

@@ -36,7 +36,8 @@ abbrev pub AllBefore : List BookBid → List ℕ → ℕ → Type 0
 AllBefore bids lots place = (k : ℕ) → k < place → is_before (get_or bids k no_bid).lots lots ≡ true
 
 -- a bid in the place of the one for its package
-pub put-taken : (bids : List BookBid) (lots : List ℕ) (amount place : ℕ) → AllBefore bids lots place → place < length bids → (get_or bids place no_bid).lots ≡ lots → with_entry lots amount bids ≡ set bids place (record { lots = lots; amount = amount })
+pub put-taken : (bids : List BookBid) (lots : List ℕ) (amount place : ℕ) → AllBefore bids lots place → place < length bids
+    → (get_or bids place no_bid).lots ≡ lots → with_entry lots amount bids ≡ set bids place (record { lots = lots; amount = amount })
 put-taken [] lots amount place before inside own = absurd (omega (arith, inside))
 put-taken (b ∷ bids) lots amount zero before inside own =
     let same : is_same lots b.lots ≡ true = subst (λ (x : List ℕ). is_same x b.lots ≡ true) own (is_same-refl b.lots) in
@@ -47,8 +48,10 @@ put-taken (b ∷ bids) lots amount (suc place) before inside own =
     (ap (λ (l : List BookBid). b ∷ l) (put-taken bids lots amount place (λ k low. before (suc k) (omega (arith, low))) (omega (arith, inside)) own))
 
 -- a bid for a package for which there is none
-pub put-free : (bids : List BookBid) (lots : List ℕ) (amount place : ℕ) → AllBefore bids lots place → place ≤ length bids → (place < length bids → is_before (get_or bids place no_bid).lots lots ≡ false)
-    → ((place < length bids) × ((get_or bids place no_bid).lots ≡ lots) → ⊥) → with_entry lots amount bids ≡ insert bids place (record { lots = lots; amount = amount })
+pub put-free : (bids : List BookBid) (lots : List ℕ) (amount place : ℕ) → AllBefore bids lots place → place ≤ length bids
+    → (place < length bids → is_before (get_or bids place no_bid).lots lots ≡ false)
+    → ((place < length bids) × ((get_or bids place no_bid).lots ≡ lots) → ⊥) → with_entry lots amount bids ≡ insert bids place
+    (record { lots = lots; amount = amount })
 put-free [] lots amount zero before last behind other = refl
 put-free [] lots amount (suc place) before last behind other = absurd (omega (arith, last))
 put-free (b ∷ bids) lots amount zero before last behind other =
@@ -63,10 +66,12 @@ put-free (b ∷ bids) lots amount (suc place) before last behind other =
     let early : is_before b.lots lots ≡ true = before 0 (omega arith) in
     rw (not_same-sym b.lots lots (is_before-not_same b.lots lots early), not-before b.lots lots early)
     (ap (λ (l : List BookBid). b ∷ l)
-    (put-free bids lots amount place (λ k low. before (suc k) (omega (arith, low))) (omega (arith, last)) (λ inside. behind (omega (arith, inside))) (λ there. other (omega (arith, there.0), there.1))))
+    (put-free bids lots amount place (λ k low. before (suc k) (omega (arith, low))) (omega (arith, last)) (λ inside. behind (omega (arith, inside)))
+    (λ there. other (omega (arith, there.0), there.1))))
 
 -- where a bid is for these lots, it stands at their place
-pub place-there : (bids : List BookBid) (lots : List ℕ) (place i : ℕ) → InPackageOrder bids → IsPlaceIn bids lots place → i < length bids → (get_or bids i no_bid).lots ≡ lots → (place < length bids) × ((get_or bids place no_bid).lots ≡ lots)
+pub place-there : (bids : List BookBid) (lots : List ℕ) (place i : ℕ) → InPackageOrder bids → IsPlaceIn bids lots place → i < length bids
+    → (get_or bids i no_bid).lots ≡ lots → (place < length bids) × ((get_or bids place no_bid).lots ≡ lots)
 place-there bids lots place i order at inside own =
     elim (cases_order i place) [
       | inl same ↦ subst (λ (n : ℕ). (n < length bids) × ((get_or bids n no_bid).lots ≡ lots)) same (inside, own)
@@ -74,7 +79,8 @@ place-there bids lots place i order at inside own =
         | inl low ↦ absurd (not-itself lots (subst (λ (p : List ℕ). is_before p lots ≡ true) own (at.before i low)))
         | inr high ↦
             let here : place < length bids = omega (arith, high, inside) in
-            let early : is_before (get_or bids place no_bid).lots lots ≡ true = subst (λ (p : List ℕ). is_before (get_or bids place no_bid).lots p ≡ true) own (order place i high inside) in
+            let early : is_before (get_or bids place no_bid).lots lots ≡ true = subst (λ (p : List ℕ). is_before (get_or bids place no_bid).lots p ≡ true) own
+            (order place i high inside) in
             absurd (false≢true (sym (at.behind here) ∙ early))
       ]
     ]

@@ -16,7 +16,8 @@ use Rattle.lots.specs.auction_model.specs.Entries.{with_entry}
 use Rattle.lots.specs.auction_model.specs.PackageTests.{is_before, is_same}
 use Rattle.lots.specs.auction_model.proofs.PackageTestLaws.{comes-is_before, is_before-comes, is_before-total, is_same-true}
 use Rattle.book_form.specs.BookForm.{AreBids, AreBidders, IsBid, empty_package}
-use Rattle.book_form.specs.BookLines.{Excess, supply_excess, bid_excess, bidder_excess, bid_lines, bidder_line, bidder_lines, head_lines, lines, IsBookWithinLimits}
+use Rattle.book_form.specs.BookLines.{Excess, supply_excess, bid_excess, bidder_excess, bid_lines, bidder_line, bidder_lines, head_lines, lines}
+use Rattle.book_form.specs.BookLines.{IsBookWithinLimits}
 use Rattle.bid_book.specs.Changes.{CanPut, InPackageOrder, with_bids, with_put, without_bid}
 use Rattle.bid_book.specs.Kept.{IsBidBook}
 use Rattle.bid_book.specs.Sound.{IsSoundBid, IsSoundBidder}
@@ -39,24 +40,37 @@ comes-trans (x ∷ p) (y ∷ q) (z ∷ r) (inr a) (inr b) = inr (a.0 ∙ b.0, co
 
 module _ (supply reserves : List ℕ) where
   -- what comes before the first bid comes before all
-  before-all : (before : List ℕ) (bids : List BookBid) (i : ℕ) → AreBids supply reserves before bids → i < length bids → ComesBefore before (get_or bids i no_bid).lots
+  before-all : (before : List ℕ) (bids : List BookBid) (i : ℕ) → AreBids supply reserves before bids → i < length bids
+      → ComesBefore before (get_or bids i no_bid).lots
   before-all before [] i are inside = absurd (omega (arith, inside))
   before-all before (b ∷ bids) zero are inside = are.0.after
-  before-all before (b ∷ bids) (suc i) are inside = comes-trans before b.lots (get_or bids i no_bid).lots are.0.after (before-all b.lots bids i are.1 (omega (arith, inside)))
+  before-all before (b ∷ bids) (suc i) are inside = comes-trans before b.lots (get_or bids i no_bid).lots are.0.after
+      (before-all b.lots bids i are.1 (omega (arith, inside)))
 
   -- bids of a book are in order
   pub bids-order : (before : List ℕ) (bids : List BookBid) → AreBids supply reserves before bids → InPackageOrder bids
   bids-order before [] are k i low inside = absurd (omega (arith, inside))
   bids-order before (b ∷ bids) are zero zero low inside = absurd (omega (arith, low))
-  bids-order before (b ∷ bids) are zero (suc i) low inside = comes-is_before b.lots (get_or bids i no_bid).lots (before-all b.lots bids i are.1 (omega (arith, inside)))
+  bids-order before (b ∷ bids) are zero (suc i) low inside = comes-is_before b.lots (get_or bids i no_bid).lots
+      (before-all b.lots bids i are.1 (omega (arith, inside)))
   bids-order before (b ∷ bids) are (suc k) zero low inside = absurd (omega (arith, low))
   bids-order before (b ∷ bids) are (suc k) (suc i) low inside = bids-order b.lots bids are.1 k i (omega (arith, low)) (omega (arith, inside))
 
   -- behind a package that comes earlier they are bids too
-  bids-earlier : (first before : List ℕ) (bids : List BookBid) → ComesBefore first before → AreBids supply reserves before bids → AreBids supply reserves first bids
+  bids-earlier : (first before : List ℕ) (bids : List BookBid) → ComesBefore first before → AreBids supply reserves before bids
+      → AreBids supply reserves first bids
   bids-earlier first before [] comes are = tt
-  bids-earlier first before (b ∷ bids) comes are =
-      (record { categories = are.0.categories; within = are.0.within; after = comes-trans first before b.lots comes are.0.after; reserve = are.0.reserve; top = are.0.top }, are.1)
+  bids-earlier first before (b ∷ bids) comes are = (
+    record {
+      categories = are.0.categories;
+      within = are.0.within;
+      after = comes-trans first before b.lots comes are.0.after;
+      reserve =
+          are.0.reserve;
+      top = are.0.top;
+    },
+    are.1,
+  )
 
   -- one bid less
   pub bids-less : (before : List ℕ) (bids : List BookBid) (place : ℕ) → AreBids supply reserves before bids → AreBids supply reserves before (remove bids place)
@@ -66,49 +80,84 @@ module _ (supply reserves : List ℕ) where
   bids-less before (b ∷ bids) (suc place) are = (are.0, bids-less b.lots bids place are.1)
 
   -- a bid put in
-  pub bids-put : (before : List ℕ) (bids : List BookBid) (bid : BookBid) → IsBid supply reserves before bid → AreBids supply reserves before bids → AreBids supply reserves before (with_entry bid.lots bid.amount bids)
+  pub bids-put : (before : List ℕ) (bids : List BookBid) (bid : BookBid) → IsBid supply reserves before bid → AreBids supply reserves before bids
+      → AreBids supply reserves before (with_entry bid.lots bid.amount bids)
   bids-put before [] bid is are = (is, tt)
   bids-put before (b ∷ bids) bid is are =
       elim (cases_Bool (is_same bid.lots b.lots)) [
         | inl same ↦ rw same (is, subst (λ (p : List ℕ). AreBids supply reserves p bids) (sym (is_same-true bid.lots b.lots same)) are.1)
         | inr apart ↦ elim (cases_Bool (is_before bid.lots b.lots)) [
-          | inl early ↦ rw (apart, early)
-              (is, (record { categories = are.0.categories; within = are.0.within; after = is_before-comes bid.lots b.lots (is.categories ∙ sym are.0.categories) early; reserve = are.0.reserve; top = are.0.top }, are.1))
+          | inl early ↦ rw (apart, early) (
+            is,
+            (
+              record {
+                categories = are.0.categories;
+                within = are.0.within;
+                after = is_before-comes bid.lots b.lots
+                    (is.categories ∙ sym are.0.categories) early;
+                reserve = are.0.reserve;
+                top = are.0.top;
+              },
+              are.1,
+            ),
+          )
           | inr late ↦
-              let after : ComesBefore b.lots bid.lots = is_before-comes b.lots bid.lots (are.0.categories ∙ sym is.categories) (is_before-total bid.lots b.lots apart late) in
-              rw (apart, late) (are.0, bids-put b.lots bids bid (record { categories = is.categories; within = is.within; after = after; reserve = is.reserve; top = is.top }) are.1)
+              let after : ComesBefore b.lots bid.lots = is_before-comes b.lots bid.lots (are.0.categories ∙ sym is.categories)
+              (is_before-total bid.lots b.lots apart late) in
+              rw (apart, late) (
+                are.0,
+                bids-put b.lots bids bid (record {
+                  categories = is.categories;
+                  within = is.within;
+                  after = after;
+                  reserve =
+                      is.reserve;
+                  top = is.top;
+                }) are.1,
+              )
         ]
       ]
 
   -- ---- the bidders
 
   -- the names of the bidders before are all that counts of them
-  unused-same : (earlier others : List Bidder) (name : List ℕ) → map (λ (b : Bidder). b.name) earlier ≡ map (λ (b : Bidder). b.name) others → AllByRecursion (λ (b : Bidder). b.name ≢ name) earlier → AllByRecursion (λ (b : Bidder). b.name ≢ name) others
+  unused-same : (earlier others : List Bidder) (name : List ℕ) → map (λ (b : Bidder). b.name) earlier ≡ map (λ (b : Bidder). b.name) others
+      → AllByRecursion (λ (b : Bidder). b.name ≢ name) earlier → AllByRecursion (λ (b : Bidder). b.name ≢ name) others
   unused-same earlier [] name same all = tt
   unused-same [] (o ∷ others) name same all = absurd (cc same)
   unused-same (e ∷ earlier) (o ∷ others) name same all = (λ own. all.0 (cc (same, own)), unused-same earlier others name (cc same) all.1)
 
-  names-push : (earlier others : List Bidder) (b c : Bidder) → map (λ (b : Bidder). b.name) earlier ≡ map (λ (b : Bidder). b.name) others → b.name ≡ c.name → map (λ (b : Bidder). b.name) (earlier ++ b ∷ []) ≡ map (λ (b : Bidder). b.name) (others ++ c ∷ [])
+  names-push : (earlier others : List Bidder) (b c : Bidder) → map (λ (b : Bidder). b.name) earlier ≡ map (λ (b : Bidder). b.name) others → b.name ≡ c.name
+      → map (λ (b : Bidder). b.name) (earlier ++ b ∷ []) ≡ map (λ (b : Bidder). b.name) (others ++ c ∷ [])
   names-push [] [] b c same own = ap (λ (n : List ℕ). n ∷ []) own
   names-push [] (o ∷ others) b c same own = absurd (cc same)
   names-push (e ∷ earlier) [] b c same own = absurd (cc same)
   names-push (e ∷ earlier) (o ∷ others) b c same own = cc (same, names-push earlier others b c (cc same) own)
 
-  bidders-behind : (earlier others bs : List Bidder) → map (λ (b : Bidder). b.name) earlier ≡ map (λ (b : Bidder). b.name) others → AreBidders supply reserves earlier bs → AreBidders supply reserves others bs
+  bidders-behind : (earlier others bs : List Bidder) → map (λ (b : Bidder). b.name) earlier ≡ map (λ (b : Bidder). b.name) others
+      → AreBidders supply reserves earlier bs → AreBidders supply reserves others bs
   bidders-behind earlier others [] same are = tt
-  bidders-behind earlier others (b ∷ bs) same are =
-      (record { name = are.0.name; unused = unused-same earlier others b.name same are.0.unused; bids = are.0.bids }, bidders-behind (earlier ++ b ∷ []) (others ++ b ∷ []) bs (names-push earlier others b b same refl) are.1)
+  bidders-behind earlier others (b ∷ bs) same are = (
+    record { name = are.0.name; unused = unused-same earlier others b.name same are.0.unused; bids = are.0.bids },
+    bidders-behind (earlier ++ b ∷ []) (others ++ b ∷ []) bs (names-push earlier others b b same refl) are.1,
+  )
 
   -- one of them has other bids
-  pub bidders-set : (earlier bs : List Bidder) (k : ℕ) (bids : List BookBid) (d : Bidder) → k < length bs → AreBids supply reserves (empty_package supply) bids → AreBidders supply reserves earlier bs → AreBidders supply reserves earlier (set bs k (bidder_with (get_or bs k d).name bids))
+  pub bidders-set : (earlier bs : List Bidder) (k : ℕ) (bids : List BookBid) (d : Bidder) → k < length bs
+      → AreBids supply reserves (empty_package supply) bids → AreBidders supply reserves earlier bs → AreBidders supply reserves earlier
+      (set bs k (bidder_with (get_or bs k d).name bids))
   bidders-set earlier [] k bids d inside own are = absurd (omega (arith, inside))
   bidders-set earlier (b ∷ bs) zero bids d inside own are =
-      let new = bidder_with b.name bids in
-      (record { name = are.0.name; unused = are.0.unused; bids = own }, bidders-behind (earlier ++ b ∷ []) (earlier ++ new ∷ []) bs (names-push earlier earlier b new refl refl) are.1)
+      let new = bidder_with b.name bids in (
+        record { name = are.0.name; unused = are.0.unused; bids = own },
+        bidders-behind (earlier ++ b ∷ []) (earlier ++ new ∷ []) bs
+            (names-push earlier earlier b new refl refl) are.1,
+      )
   bidders-set earlier (b ∷ bs) (suc k) bids d inside own are = (are.0, bidders-set (earlier ++ b ∷ []) bs k bids d (omega (arith, inside)) own are.1)
 
   -- the bids of each
-  pub bids-at : (earlier bs : List Bidder) (k : ℕ) (d : Bidder) → k < length bs → AreBidders supply reserves earlier bs → AreBids supply reserves (empty_package supply) (get_or bs k d).bids
+  pub bids-at : (earlier bs : List Bidder) (k : ℕ) (d : Bidder) → k < length bs → AreBidders supply reserves earlier bs
+      → AreBids supply reserves (empty_package supply) (get_or bs k d).bids
   bids-at earlier [] k d inside are = absurd (omega (arith, inside))
   bids-at earlier (b ∷ bs) zero d inside are = are.0.bids
   bids-at earlier (b ∷ bs) (suc k) d inside are = bids-at (earlier ++ b ∷ []) bs k d (omega (arith, inside)) are.1
@@ -124,7 +173,8 @@ bids-few before (b ∷ bids) few =
 abbrev pub HasFew : Bidder → Type 0
 HasFew b = length b.bids ≤ 600
 
-bidders-few : (before : ℕ) (bidders : List Bidder) → before + length bidders ≤ 16 → AllByRecursion HasFew bidders → first_excess (bidder_lines before bidders) ≡ None
+bidders-few : (before : ℕ) (bidders : List Bidder) → before + length bidders ≤ 16 → AllByRecursion HasFew bidders
+    → first_excess (bidder_lines before bidders) ≡ None
 bidders-few before [] few each = refl
 bidders-few before (b ∷ bidders) few each =
     let here : bidder_excess (before + 1) ≡ None = grind (arith, nat_tests) in
@@ -134,12 +184,14 @@ bidders-few before (b ∷ bidders) few each =
     ∙ bidders-few (before + 1) bidders (omega arith) each.1
 
 -- no line of a book exceeds a limit where its supply and its counts don't
-pub lines-within : (book : Book) → supply_excess book.supply ≡ None → length book.bidders ≤ 16 → AllByRecursion HasFew book.bidders → first_excess (lines book) ≡ None
+pub lines-within : (book : Book) → supply_excess book.supply ≡ None → length book.bidders ≤ 16 → AllByRecursion HasFew book.bidders
+    → first_excess (lines book) ≡ None
 lines-within book supply few each =
     let head : first_excess (head_lines book) ≡ None = rw supply refl in
     first_excess-append (head_lines book ++ bidder_lines 0 book.bidders) ((codes "end", None) ∷ [])
     ∙ ap (λ (o : Option Excess). option_or o None)
-    (first_excess-append (head_lines book) (bidder_lines 0 book.bidders) ∙ ap (λ (o : Option Excess). option_or o (first_excess (bidder_lines 0 book.bidders))) head ∙ bidders-few 0 book.bidders (omega (arith, few)) each)
+    (first_excess-append (head_lines book) (bidder_lines 0 book.bidders) ∙ ap (λ (o : Option Excess). option_or o
+    (first_excess (bidder_lines 0 book.bidders))) head ∙ bidders-few 0 book.bidders (omega (arith, few)) each)
 
 few-each : (supply reserves : List ℕ) (bs : List Bidder) → AllByRecursion (IsSoundBidder supply reserves) bs → AllByRecursion HasFew bs
 few-each supply reserves [] all = tt
@@ -165,7 +217,8 @@ module _ (book : Book) (j : ℕ) (is : IsBookWithinLimits book) (some : 0 < j) (
   book-order = bids-order book.supply book.reserves (empty_package book.supply) (bids_of book j) book-bids
 
   -- a bidder with other bids, which are bids and not too many
-  pub bids-within : (bids : List BookBid) → AreBids book.supply book.reserves (empty_package book.supply) bids → length bids ≤ 600 → IsBookWithinLimits (with_bids book j bids)
+  pub bids-within : (bids : List BookBid) → AreBids book.supply book.reserves (empty_package book.supply) bids → length bids ≤ 600
+      → IsBookWithinLimits (with_bids book j bids)
   bids-within bids are few = record {
     form = record {
       supply = is.form.supply;
@@ -190,7 +243,8 @@ entry-count lots amount (b ∷ bids) =
     ]
 
 -- where there is a bid for the package, as many as before
-entry-same : (bids : List BookBid) (lots : List ℕ) (amount i : ℕ) → InPackageOrder bids → i < length bids → (get_or bids i no_bid).lots ≡ lots → length (with_entry lots amount bids) ≡ length bids
+entry-same : (bids : List BookBid) (lots : List ℕ) (amount i : ℕ) → InPackageOrder bids → i < length bids → (get_or bids i no_bid).lots ≡ lots
+    → length (with_entry lots amount bids) ≡ length bids
 entry-same bids lots amount i order inside here =
     let before : AllBefore bids lots i = λ k low. subst (λ (p : List ℕ). is_before (get_or bids k no_bid).lots p ≡ true) here (order k i low inside) in
     ap (λ (l : List BookBid). length l) (put-taken bids lots amount i before inside here) ∙ length-set bids i (record { lots = lots; amount = amount })
@@ -200,7 +254,8 @@ pub put-within : (book : Book) (j : ℕ) (bid : BookBid) → IsBookWithinLimits 
 put-within book j bid is can =
     let bids = bids_of book j in
     let put = with_entry bid.lots bid.amount bids in
-    let first : ComesBefore (empty_package book.supply) bid.lots = subst (λ (n : ℕ). ComesBefore (replicate n 0) bid.lots) can.categories (empty_comes bid.lots can.lots) in
+    let first : ComesBefore (empty_package book.supply) bid.lots = subst (λ (n : ℕ). ComesBefore (replicate n 0) bid.lots) can.categories
+    (empty_comes bid.lots can.lots) in
     let few : length put ≤ 600 =
     elim can.room [
       | inl has ↦
@@ -211,20 +266,24 @@ put-within book j bid is can =
       | inr room ↦ omega (arith, room, entry-count bid.lots bid.amount bids)
     ] in
     bids-within book j is can.some can.known put
-    (bids-put book.supply book.reserves (empty_package book.supply) bids bid (record { categories = can.categories; within = can.within; after = first; reserve = can.reserve; top = can.top }) (book-bids book j is can.some can.known))
+    (bids-put book.supply book.reserves (empty_package book.supply) bids bid (record
+    { categories = can.categories; within = can.within; after = first; reserve = can.reserve; top = can.top }) (book-bids book j is can.some can.known))
     few
 
 -- and without a bid
-pub less-within : (book : Book) (j i : ℕ) → IsBookWithinLimits book → 0 < j → j ≤ length book.bidders → 0 < i → i ≤ length (bids_of book j) → IsBookWithinLimits (without_bid book j i)
+pub less-within : (book : Book) (j i : ℕ) → IsBookWithinLimits book → 0 < j → j ≤ length book.bidders → 0 < i → i ≤ length (bids_of book j)
+    → IsBookWithinLimits (without_bid book j i)
 less-within book j i is some known first last =
     let bids = bids_of book j in
     let most : length bids ≤ 600 = (kept book is).bids j in
     let inside : i - 1 < length bids = omega (arith, first, last) in
-    bids-within book j is some known (remove bids (i - 1)) (bids-less book.supply book.reserves (empty_package book.supply) bids (i - 1) (book-bids book j is some known))
+    bids-within book j is some known (remove bids (i - 1)) (bids-less book.supply book.reserves (empty_package book.supply) bids (i - 1)
+    (book-bids book j is some known))
     (omega (arith, most, length-remove bids (i - 1) inside))
 
 -- a bid that was put in keeps the rules
-entry-holds : (P : BookBid → Type 0) (lots : List ℕ) (amount : ℕ) (bids : List BookBid) → AllByRecursion P (with_entry lots amount bids) → P (record { lots = lots; amount = amount })
+entry-holds : (P : BookBid → Type 0) (lots : List ℕ) (amount : ℕ) (bids : List BookBid) → AllByRecursion P (with_entry lots amount bids)
+    → P (record { lots = lots; amount = amount })
 entry-holds P lots amount [] all = all.0
 entry-holds P lots amount (b ∷ bids) all =
     elim (cases_Bool (is_same lots b.lots)) [
@@ -236,11 +295,14 @@ entry-holds P lots amount (b ∷ bids) all =
     ]
 
 -- where a book keeps its rules with a bid put in, that bid keeps them, whatever bids stand before it
-pub put-sound : (book : Book) (j : ℕ) (bid : BookBid) → 0 < j → j ≤ length book.bidders → IsBookWithinLimits (with_put book j bid) → IsSoundBid book.supply book.reserves bid
+pub put-sound : (book : Book) (j : ℕ) (bid : BookBid) → 0 < j → j ≤ length book.bidders → IsBookWithinLimits (with_put book j bid)
+    → IsSoundBid book.supply book.reserves bid
 put-sound book j bid some known is =
     let new = bidder_with (bidder_of book j).name (with_entry bid.lots bid.amount (bids_of book j)) in
     let inside : j - 1 < length book.bidders = omega (arith, some, known) in
     let place : j - 1 < length (set book.bidders (j - 1) new) = omega (arith, inside, length-set book.bidders (j - 1) new) in
-    let at : IsSoundBidder book.supply book.reserves (get_or (set book.bidders (j - 1) new) (j - 1) no_bidder) = each_at (IsSoundBidder book.supply book.reserves) (set book.bidders (j - 1) new) (j - 1) no_bidder (sound (with_put book j bid) is) place in
-    let own : IsSoundBidder book.supply book.reserves new = subst (IsSoundBidder book.supply book.reserves) (get_or-set_same book.bidders (j - 1) new no_bidder inside) at in
+    let at : IsSoundBidder book.supply book.reserves (get_or (set book.bidders (j - 1) new) (j - 1) no_bidder) =
+    each_at (IsSoundBidder book.supply book.reserves) (set book.bidders (j - 1) new) (j - 1) no_bidder (sound (with_put book j bid) is) place in
+    let own : IsSoundBidder book.supply book.reserves new = subst (IsSoundBidder book.supply book.reserves)
+    (get_or-set_same book.bidders (j - 1) new no_bidder inside) at in
     entry-holds (IsSoundBid book.supply book.reserves) bid.lots bid.amount (bids_of book j) own.each

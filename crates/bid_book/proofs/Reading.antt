@@ -1,5 +1,6 @@
 -- The stages read the form of a book.
-use Rattle.std.proofs.Common.{inl, inr, ◌≡◌, ℕ, zero, suc, ◌+◌, ◌≤◌, ◌^◌, None, List, [], ◌∷◌, ◌++◌, length, replicate, refl, sym, ap, subst, ◌∙◌, arith, append_assoc, length-append}
+use Rattle.std.proofs.Common.{inl, inr, ◌≡◌, ℕ, zero, suc, ◌+◌, ◌≤◌, ◌^◌, None, List, [], ◌∷◌, ◌++◌, length, replicate, refl, sym, ap, subst, ◌∙◌, arith}
+use Rattle.std.proofs.Common.{append_assoc, length-append}
 use Rattle.std.specs.Prelude.{codes}
 use Rattle.std.specs.List.{AllByRecursion}
 use Rattle.std.proofs.lemmas.List.{append-nil, take_at, take_all, length-replicate}
@@ -7,14 +8,16 @@ use Rattle.book_form.specs.line_text.specs.Reading.{Runs}
 use Rattle.book_form.specs.line_text.proofs.Runs.{FrontOf, Reads, StepsBehind, StepsOnce, front_reached, runs_append}
 use Rattle.lots.specs.auction_model.specs.Book.{BookBid, Bidder, Book, bidder_with, with_bidders}
 use Rattle.book_form.specs.BookForm.{IsOffer, IsBid, AreBids, empty_package, IsBidder, AreBidders, IsBook}
-use Rattle.book_form.specs.BookLines.{Line, bidder_excess, bid_excess, bid_line, bid_lines, bidder_line, bidder_lines, supply_line, reserve_line, head_lines, lines}
+use Rattle.book_form.specs.BookLines.{Line, bidder_excess, bid_excess, bid_line, bid_lines, bidder_line, bidder_lines, supply_line, reserve_line, head_lines}
+use Rattle.book_form.specs.BookLines.{lines}
 use Rattle.book_form.specs.line_text.specs.Decimals.{decimals_text}
 use Rattle.bid_book.specs.declared.read.Stage.{Stage}
 use Rattle.bid_book.specs.declared.read.Stage.TheVariants.{Start, Headed, Supplied, Listing, Ended}
 use Rattle.bid_book.specs.Stages.{last_lots, opened, AddsBid, Step, last_excess, excess}
 use Rattle.bid_book.proofs.Numbers.{AreSmall}
 use Rattle.book_form.specs.line_text.proofs.Lines.{line_append}
-use Rattle.bid_book.proofs.Spelled.{numbers_line, name_line, small_supply, small_reserves, small_counts, book_word, supply_word, reserve_word, bidder_word, bid_word, end_word}
+use Rattle.bid_book.proofs.Spelled.{numbers_line, name_line, small_supply, small_reserves, small_counts, book_word, supply_word, reserve_word, bidder_word}
+use Rattle.bid_book.proofs.Spelled.{bid_word, end_word}
 use Rattle.bid_book.proofs.Growth.{listed, last_excess-push, bids_excess-push, last_lots-push, last_of, with_last, adds_one}
 use Rattle.bid_book.proofs.OneLine.{end_adds_none, supplies_one, reserves_one, new_one}
 
@@ -75,12 +78,25 @@ front_of : (s : Stage) → IsSound s → FrontOf IsBook lines (behind s)
 front_of Start sound = record { value = opened (1 ∷ []) (empty_package (1 ∷ [])); count = 0; valid = free_book (1 ∷ []) one_lot; same = refl }
 front_of Headed sound = record { value = opened (1 ∷ []) (empty_package (1 ∷ [])); count = 1; valid = free_book (1 ∷ []) one_lot; same = refl }
 front_of (Supplied supply) sound = record { value = opened supply (empty_package supply); count = 2; valid = free_book supply sound; same = refl }
-front_of (Listing book) sound = record { value = book; count = length (listed book); valid = sound; same = take_at (listed book) ((codes "end", None) ∷ []) _ refl }
-front_of (Ended book) sound = record { value = book; count = length (lines book); valid = sound; same = take_all (length (lines book)) (lines book) (omega arith) }
+front_of (Listing book) sound = record {
+  value = book;
+  count = length (listed book);
+  valid = sound;
+  same =
+      take_at (listed book) ((codes "end", None) ∷ []) _ refl;
+}
+front_of (Ended book) sound = record {
+  value = book;
+  count = length (lines book);
+  valid = sound;
+  same =
+      take_all (length (lines book)) (lines book) (omega arith);
+}
 
 -- the stages go over the lines of a book
 
-bid_added_line : (book : Book) (front : List Bidder) (name : List ℕ) (had : List BookBid) (b : BookBid) → IsBid book.supply book.reserves (last_lots (empty_package book.supply) had) b
+bid_added_line : (book : Book) (front : List Bidder) (name : List ℕ) (had : List BookBid) (b : BookBid)
+    → IsBid book.supply book.reserves (last_lots (empty_package book.supply) had) b
     → AddsBid (with_bidders book (front ++ bidder_with name had ∷ [])) (with_bidders book (front ++ bidder_with name (had ++ b ∷ []) ∷ [])) (bid_line 0 b).0
 bid_added_line book front name had b is =
     let old = with_bidders book (front ++ bidder_with name had ∷ []) in
@@ -88,17 +104,20 @@ bid_added_line book front name had b is =
       bid = b;
       some = omega (arith, length-append front (bidder_with name had ∷ []));
       spelled = refl;
-      valid = subst (λ (x : Bidder). IsBid book.supply book.reserves (last_lots (empty_package book.supply) x.bids) b) (sym (last_of old front (bidder_with name had) refl)) is;
+      valid = subst (λ (x : Bidder). IsBid book.supply book.reserves (last_lots (empty_package book.supply) x.bids) b)
+          (sym (last_of old front (bidder_with name had) refl)) is;
       new_is = sym (with_last old front (bidder_with name had) b refl);
     }
 
 bids_run : (book : Book) (front : List Bidder) (name : List ℕ) (had bs : List BookBid) → IsOffer book.supply
     → AreBids book.supply book.reserves (last_lots (empty_package book.supply) had) bs
-    → Runs Step excess (Listing (with_bidders book (front ++ bidder_with name had ∷ []))) (bid_lines (length had) bs) (Listing (with_bidders book (front ++ bidder_with name (had ++ bs) ∷ [])))
+    → Runs Step excess (Listing (with_bidders book (front ++ bidder_with name had ∷ []))) (bid_lines (length had) bs)
+    (Listing (with_bidders book (front ++ bidder_with name (had ++ bs) ∷ [])))
 bids_run book front name had [] supply all = ap (λ (r : List BookBid). Listing (with_bidders book (front ++ bidder_with name r ∷ []))) (sym (append-nil had))
 bids_run book front name had (b ∷ bs) supply all =
     let more = had ++ b ∷ [] in
-    let rest = bids_run book front name (had ++ b ∷ []) bs supply (subst (λ (p : List ℕ). AreBids book.supply book.reserves p bs) (sym (last_lots-push (empty_package book.supply) had b)) all.1) in
+    let rest = bids_run book front name (had ++ b ∷ []) bs supply (subst (λ (p : List ℕ). AreBids book.supply book.reserves p bs)
+    (sym (last_lots-push (empty_package book.supply) had b)) all.1) in
     let small : AreSmall (b.lots ++ b.amount ∷ []) = small_counts b.lots book.supply b.amount all.0.categories all.0.within supply.each all.0.top in
     let mark : bid_excess (length had + 1) ≡ last_excess 0 (front ++ bidder_with name (had ++ b ∷ []) ∷ []) =
     sym (last_excess-push 0 front (bidder_with name (had ++ b ∷ [])) ∙ bids_excess-push (0 + length front + 1) had b) in (
@@ -110,14 +129,18 @@ bids_run book front name had (b ∷ bs) supply all =
         refl,
       ),
       mark,
-      subst (λ (r : List BookBid). Runs Step excess (Listing (with_bidders book (front ++ bidder_with name (had ++ b ∷ []) ∷ []))) (bid_lines (length had + 1) bs) (Listing (with_bidders book (front ++ bidder_with name r ∷ [])))) (append_assoc had (b ∷ []) bs)
-          (subst (λ (k : ℕ). Runs Step excess (Listing (with_bidders book (front ++ bidder_with name (had ++ b ∷ []) ∷ []))) (bid_lines k bs) (Listing (with_bidders book (front ++ bidder_with name ((had ++ b ∷ []) ++ bs) ∷ [])))) (length-append had (b ∷ [])) rest),
+      subst (λ (r : List BookBid). Runs Step excess (Listing (with_bidders book (front ++ bidder_with name (had ++ b ∷ []) ∷ [])))
+          (bid_lines (length had + 1) bs) (Listing (with_bidders book (front ++ bidder_with name r ∷ [])))) (append_assoc had (b ∷ []) bs)
+          (subst (λ (k : ℕ). Runs Step excess (Listing (with_bidders book (front ++ bidder_with name (had ++ b ∷ []) ∷ []))) (bid_lines k bs)
+          (Listing (with_bidders book (front ++ bidder_with name ((had ++ b ∷ []) ++ bs) ∷ [])))) (length-append had (b ∷ [])) rest),
     )
 
 bidder_run : (book : Book) (front : List Bidder) (b : Bidder) → IsOffer book.supply → IsBidder book.supply book.reserves front b
-    → Runs Step excess (Listing (with_bidders book front)) (bidder_line (length front) b.name ∷ bid_lines 0 b.bids) (Listing (with_bidders book (front ++ b ∷ [])))
+    → Runs Step excess (Listing (with_bidders book front)) (bidder_line (length front) b.name ∷ bid_lines 0 b.bids)
+    (Listing (with_bidders book (front ++ b ∷ [])))
 bidder_run book front b supply is =
-    let mark : bidder_excess (length front + 1) ≡ last_excess 0 (front ++ bidder_with b.name [] ∷ []) = ap bidder_excess (omega arith) ∙ sym (last_excess-push 0 front (bidder_with b.name [])) in (
+    let mark : bidder_excess (length front + 1) ≡ last_excess 0 (front ++ bidder_with b.name [] ∷ []) =
+    ap bidder_excess (omega arith) ∙ sym (last_excess-push 0 front (bidder_with b.name [])) in (
       Listing (with_bidders book (front ++ bidder_with b.name [] ∷ [])),
       line_append (codes "bidder ") b.name bidder_word (name_line b.name is.name),
       inr (
@@ -135,10 +158,15 @@ bidders_run book front [] supply all = ap (λ (r : List Bidder). Listing (with_b
 bidders_run book front (b ∷ bs) supply all =
     let first = bidder_run book front b supply all.0 in
     let rest = bidders_run book (front ++ b ∷ []) bs supply all.1 in
-    let moved : Runs Step excess (Listing (with_bidders book (front ++ b ∷ []))) (bidder_lines (length front + 1) bs) (Listing (with_bidders book (front ++ b ∷ bs))) =
-    subst (λ (r : List Bidder). Runs Step excess (Listing (with_bidders book (front ++ b ∷ []))) (bidder_lines (length front + 1) bs) (Listing (with_bidders book r))) (append_assoc front (b ∷ []) bs)
-    (subst (λ (k : ℕ). Runs Step excess (Listing (with_bidders book (front ++ b ∷ []))) (bidder_lines k bs) (Listing (with_bidders book ((front ++ b ∷ []) ++ bs)))) (length-append front (b ∷ [])) rest) in
-    runs_append Step excess (Listing (with_bidders book front)) (Listing (with_bidders book (front ++ b ∷ []))) (Listing (with_bidders book (front ++ b ∷ bs))) (bidder_line (length front) b.name ∷ bid_lines 0 b.bids) (bidder_lines (length front + 1) bs) first moved
+    let moved : Runs Step excess (Listing (with_bidders book (front ++ b ∷ []))) (bidder_lines (length front + 1) bs)
+    (Listing (with_bidders book (front ++ b ∷ bs))) =
+    subst (λ (r : List Bidder). Runs Step excess (Listing (with_bidders book (front ++ b ∷ []))) (bidder_lines (length front + 1) bs)
+    (Listing (with_bidders book r))) (append_assoc front (b ∷ []) bs)
+    (subst (λ (k : ℕ). Runs Step excess (Listing (with_bidders book (front ++ b ∷ []))) (bidder_lines k bs)
+    (Listing (with_bidders book ((front ++ b ∷ []) ++ bs)))) (length-append front (b ∷ [])) rest) in
+    runs_append Step excess (Listing (with_bidders book front)) (Listing (with_bidders book (front ++ b ∷ [])))
+    (Listing (with_bidders book (front ++ b ∷ bs))) (bidder_line (length front) b.name ∷ bid_lines 0 b.bids)
+    (bidder_lines (length front + 1) bs) first moved
 
 complete : (book : Book) → IsBook book → Runs Step excess begin (lines book) (finish book)
 complete book valid =
@@ -153,7 +181,14 @@ complete book valid =
         line_append (codes "supply") (decimals_text book.supply) supply_word (numbers_line book.supply (small_supply book.supply valid.supply.each)),
         (book.supply, refl, valid.supply, refl),
         refl,
-        (Listing free, line_append (codes "reserve") (decimals_text book.reserves) reserve_word (numbers_line book.reserves (small_reserves book.reserves valid.reserves.each)), (book.reserves, refl, valid.reserves, refl), refl, refl),
+        (
+          Listing free,
+          line_append (codes "reserve") (decimals_text book.reserves) reserve_word
+              (numbers_line book.reserves (small_reserves book.reserves valid.reserves.each)),
+          (book.reserves, refl, valid.reserves, refl),
+          refl,
+          refl,
+        ),
       ),
     ) in
     let body = bidders_run book [] book.bidders valid.supply valid.bidders in

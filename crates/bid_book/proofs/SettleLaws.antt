@@ -28,14 +28,16 @@ pub settled-none : (from : List Entry) → AreSettledTo from from 0
 settled-none from = record { same = refl; done = λ i d inside. absurd (omega (arith, inside)) }
 
 -- one entry more
-pub settled-more : (from to : List Entry) (i better : ℕ) (e : Entry) → i < length to → e ≡ get_or to i e → AreSettledTo from to i → BeatsAmong (take i to) e better → AreSettledTo from (set to i (entry_with e better)) (i + 1)
+pub settled-more : (from to : List Entry) (i better : ℕ) (e : Entry) → i < length to → e ≡ get_or to i e → AreSettledTo from to i
+    → BeatsAmong (take i to) e better → AreSettledTo from (set to i (entry_with e better)) (i + 1)
 settled-more from to i better e inside is was beats =
     let next = entry_with e better in
     let read : get_or (map bare to) i (bare e) ≡ bare e = get_or-map bare to i e (bare e) inside ∙ ap bare (sym is) in
     let kept : map bare (set to i next) ≡ map bare to = map-set bare to i next ∙ (ap (set (map bare to) i) (sym read) ∙ set-get_or (map bare to) i (bare e)) in
     record {
       same = kept ∙ was.same;
-      done = subst AreBetter (sym (take_more_set to i next inside)) (better-push (take i to) next was.done (beats-as (take i to) (take i to) e better better refl beats));
+      done = subst AreBetter (sym (take_more_set to i next inside)) (better-push (take i to) next was.done
+          (beats-as (take i to) (take i to) e better better refl beats));
     }
 
 -- all entries
@@ -85,7 +87,8 @@ All-remove P xs i all = All-append P (take i xs) (drop (suc i) xs) (All-take P i
 -- ---- what a bidder has then
 
 -- an entry in the place of the one for its package
-pub put-set : (old new : List Entry) (entry : Entry) (place : ℕ) → IsPlaceIn (map bid_value old) entry.bid.package place → (place < length old) × ((get_or (map bid_value old) place no_bid).lots ≡ entry.bid.package)
+pub put-set : (old new : List Entry) (entry : Entry) (place : ℕ) → IsPlaceIn (map bid_value old) entry.bid.package place
+    → (place < length old) × ((get_or (map bid_value old) place no_bid).lots ≡ entry.bid.package)
     → AreSettled (set old place entry) new → IsPutIn old entry new
 put-set old new entry place at there settled =
     let count : length (map bid_value old) ≡ length old = length-map old bid_value in
@@ -97,23 +100,27 @@ put-set old new entry place at there settled =
     }
 
 -- one entry more
-pub put-insert : (old new : List Entry) (entry : Entry) (place : ℕ) → IsPlaceIn (map bid_value old) entry.bid.package place → ((place < length old) × ((get_or (map bid_value old) place no_bid).lots ≡ entry.bid.package) → ⊥)
+pub put-insert : (old new : List Entry) (entry : Entry) (place : ℕ) → IsPlaceIn (map bid_value old) entry.bid.package place
+    → ((place < length old) × ((get_or (map bid_value old) place no_bid).lots ≡ entry.bid.package) → ⊥)
     → AreSettled (insert old place entry) new → IsPutIn old entry new
 put-insert old new entry place at other settled =
     let count : length (map bid_value old) ≡ length old = length-map old bid_value in
     record {
       bids = values-same (insert old place entry) new settled.same ∙ map-insert bid_value old place entry
-          ∙ sym (put-free (map bid_value old) entry.bid.package entry.bid.amount place at.before at.last at.behind (λ there. other (omega (arith, count, there.0), there.1)));
+          ∙ sym (put-free (map bid_value old) entry.bid.package entry.bid.amount place at.before at.last at.behind
+          (λ there. other (omega (arith, count, there.0), there.1)));
       nets = λ reserves nets net. nets-same reserves (insert old place entry) new settled.same (All-insert (HasNet reserves) old place entry net nets);
       betters = settled.betters;
     }
 
 -- the bids that a bidder has then
-pub put-list : (had : List BookBid) (old new : List Entry) (entry : Entry) (bid : BookBid) → had ≡ map bid_value old → bid_value entry ≡ bid → IsPutIn old entry new → map bid_value new ≡ with_entry bid.lots bid.amount had
+pub put-list : (had : List BookBid) (old new : List Entry) (entry : Entry) (bid : BookBid) → had ≡ map bid_value old → bid_value entry ≡ bid
+    → IsPutIn old entry new → map bid_value new ≡ with_entry bid.lots bid.amount had
 put-list had old new entry bid own is put =
     put.bids ∙ ap (λ (b : BookBid). with_entry b.lots b.amount (map bid_value old)) is ∙ ap (with_entry bid.lots bid.amount) (sym own)
 
 -- one entry less
-pub taken-list : (had : List BookBid) (old new : List Entry) (place : ℕ) → had ≡ map bid_value old → AreSettled (remove old place) new → map bid_value new ≡ remove had place
+pub taken-list : (had : List BookBid) (old new : List Entry) (place : ℕ) → had ≡ map bid_value old → AreSettled (remove old place) new
+    → map bid_value new ≡ remove had place
 taken-list had old new place own settled =
     values-same (remove old place) new settled.same ∙ map-remove bid_value old place ∙ ap (λ (l : List BookBid). remove l place) (sym own)

@@ -57,7 +57,8 @@ pub within_parts : (a b : ℕ) (p s : List ℕ) → IsTrue (is_within (a ∷ p) 
 within_parts a b p s is = (grind (arith, nat_tests), grind (arith, nat_tests))
 
 -- the counts of a package within 1 to 999 lots of each category, and an amount up to 2 ^ 42, are below 2 ^ 120
-pub small_counts : (cs ns : List ℕ) (amount : ℕ) → length cs ≡ length ns → IsTrue (is_within cs ns) → AllByRecursion (λ n. (1 ≤ n) × (n ≤ 999)) ns → amount ≤ 2 ^ 42 → AreSmall (cs ++ amount ∷ [])
+pub small_counts : (cs ns : List ℕ) (amount : ℕ) → length cs ≡ length ns → IsTrue (is_within cs ns) → AllByRecursion (λ n. (1 ≤ n) × (n ≤ 999)) ns
+    → amount ≤ 2 ^ 42 → AreSmall (cs ++ amount ∷ [])
 small_counts [] ns amount same within all top = (omega arith, tt)
 small_counts (c ∷ cs) [] amount same within all top = absurd (omega arith)
 small_counts (c ∷ cs) (n ∷ ns) amount same within all top =
@@ -66,19 +67,55 @@ small_counts (c ∷ cs) (n ∷ ns) amount same within all top =
 
 -- the line that a book begins with has no line feed
 pub book_word : IsLine (codes "book 1")
-book_word = ((λ is. absurd (omega arith)), ((λ is. absurd (omega arith)), ((λ is. absurd (omega arith)), ((λ is. absurd (omega arith)), ((λ is. absurd (omega arith)), ((λ is. absurd (omega arith)), tt))))))
+book_word = (
+  (λ is. absurd (omega arith)),
+  (
+    (λ is. absurd (omega arith)),
+    (
+      (λ is. absurd (omega arith)),
+      ((λ is. absurd (omega arith)), ((λ is. absurd (omega arith)), ((λ is. absurd (omega arith)), tt))),
+    ),
+  ),
+)
 
 -- the word of the supply has no line feed
 pub supply_word : IsLine (codes "supply")
-supply_word = ((λ is. absurd (omega arith)), ((λ is. absurd (omega arith)), ((λ is. absurd (omega arith)), ((λ is. absurd (omega arith)), ((λ is. absurd (omega arith)), ((λ is. absurd (omega arith)), tt))))))
+supply_word = (
+  (λ is. absurd (omega arith)),
+  (
+    (λ is. absurd (omega arith)),
+    (
+      (λ is. absurd (omega arith)),
+      ((λ is. absurd (omega arith)), ((λ is. absurd (omega arith)), ((λ is. absurd (omega arith)), tt))),
+    ),
+  ),
+)
 
 -- the word of the reserves has no line feed
 pub reserve_word : IsLine (codes "reserve")
-reserve_word = ((λ is. absurd (omega arith)), ((λ is. absurd (omega arith)), ((λ is. absurd (omega arith)), ((λ is. absurd (omega arith)), ((λ is. absurd (omega arith)), ((λ is. absurd (omega arith)), ((λ is. absurd (omega arith)), tt)))))))
+reserve_word = (
+  (λ is. absurd (omega arith)),
+  (
+    (λ is. absurd (omega arith)),
+    (
+      (λ is. absurd (omega arith)),
+      ((λ is. absurd (omega arith)), ((λ is. absurd (omega arith)), ((λ is. absurd (omega arith)), ((λ is. absurd (omega arith)), tt)))),
+    ),
+  ),
+)
 
 -- the word of a bidder, with its space, has no line feed
 pub bidder_word : IsLine (codes "bidder ")
-bidder_word = ((λ is. absurd (omega arith)), ((λ is. absurd (omega arith)), ((λ is. absurd (omega arith)), ((λ is. absurd (omega arith)), ((λ is. absurd (omega arith)), ((λ is. absurd (omega arith)), ((λ is. absurd (omega arith)), tt)))))))
+bidder_word = (
+  (λ is. absurd (omega arith)),
+  (
+    (λ is. absurd (omega arith)),
+    (
+      (λ is. absurd (omega arith)),
+      ((λ is. absurd (omega arith)), ((λ is. absurd (omega arith)), ((λ is. absurd (omega arith)), ((λ is. absurd (omega arith)), tt)))),
+    ),
+  ),
+)
 
 -- the word of a bid has no line feed
 pub bid_word : IsLine (codes "bid")

@@ -74,7 +74,8 @@ offer_of supply is =
     record { some = is.some; each = all_there supply (zero_tells supply zero) is.lots }
 
 stop_is : (supply : List ℕ) → IsOffer supply → supply_stop supply ≡ stop_of (length supply) (sum supply) (states_of supply)
-stop_is supply offer = ap (λ (z : Option LotStop). option_or (categories_stop supply) (option_or z (option_or (lots_stop supply) (states_stop supply)))) (zero_none supply offer)
+stop_is supply offer = ap (λ (z : Option LotStop). option_or (categories_stop supply) (option_or z (option_or (lots_stop supply) (states_stop supply))))
+    (zero_none supply offer)
 
 -- an offer that exceeds no limit keeps the rules of a supply
 pub supply_kept : (supply : List ℕ) → IsOffer supply → supply_excess supply ≡ None → IsSupply supply
@@ -100,7 +101,8 @@ over l m t stop some stops =
     ⊎_elim
     (λ (few : (leb l 6 ≡ true) × (l ≤ 6)). ⊎_elim
     (λ (lots_few : (leb m 40 ≡ true) × (m ≤ 40)). ⊎_elim
-    (λ (states_few : (leb t 16384 ≡ true) × (t ≤ 16384)). let none = none_stops l m t some few.1 lots_few.1 states_few.1 in let e : None ≡ Some stop = sym none ∙ stops in absurd (cc e))
+    (λ (states_few : (leb t 16384 ≡ true) × (t ≤ 16384)). let none = none_stops l m t some few.1 lots_few.1 states_few.1 in let e : None ≡ Some stop =
+    sym none ∙ stops in absurd (cc e))
     (λ (many : (leb t 16384 ≡ false) × (16384 < t)).
     let is : stop_of l m t ≡ Some (lots.States t) = grind (arith, nat_tests) in
     let same : stop ≡ lots.States t = cc in

@@ -35,20 +35,32 @@ pub record AreTaken (supply reserves : List ℕ) (bids : List Bid) (entries : Li
   pub betters : AreBetter entries
 
 -- the next bid keeps the rules
-pub next_bid : (supply reserves : List ℕ) (bids : List Bid) (entries : List Entry) (rest more : List Bid) (bid : Bid) → AreTaken supply reserves bids entries rest → rest ≡ bid ∷ more → IsSoundBid supply reserves (bid_of bid)
+pub next_bid : (supply reserves : List ℕ) (bids : List Bid) (entries : List Entry) (rest more : List Bid) (bid : Bid)
+    → AreTaken supply reserves bids entries rest → rest ≡ bid ∷ more → IsSoundBid supply reserves (bid_of bid)
 next_bid supply reserves bids entries rest more bid so next =
-    let sound : AllByRecursion (IsSoundBid supply reserves) (map bid_of (bid ∷ more)) = subst (λ (l : List Bid). AllByRecursion (IsSoundBid supply reserves) (map bid_of l)) next so.sound in
+    let sound : AllByRecursion (IsSoundBid supply reserves) (map bid_of (bid ∷ more)) =
+    subst (λ (l : List Bid). AllByRecursion (IsSoundBid supply reserves) (map bid_of l)) next so.sound in
     sound.0
 
 -- nothing is taken yet
-pub none_taken : (supply reserves : List ℕ) (bids : List Bid) → AllByRecursion (IsSoundBid supply reserves) (map bid_of bids) → AreTaken supply reserves bids [] bids
-none_taken supply reserves bids sound = record { sound = sound; same = refl; nets = All-nil (HasNet reserves); betters = λ i d inside. absurd (omega (arith, inside)) }
+pub none_taken : (supply reserves : List ℕ) (bids : List Bid) → AllByRecursion (IsSoundBid supply reserves) (map bid_of bids)
+    → AreTaken supply reserves bids [] bids
+none_taken supply reserves bids sound = record {
+  sound = sound;
+  same = refl;
+  nets = All-nil (HasNet reserves);
+  betters =
+      λ i d inside. absurd (omega (arith, inside));
+}
 
 -- one bid more
-pub one_taken : (supply reserves : List ℕ) (bids : List Bid) (entries : List Entry) (rest more : List Bid) (bid : Bid) (entry : Entry) → AreTaken supply reserves bids entries rest → rest ≡ bid ∷ more → bid_value entry ≡ bid_of bid → HasNet reserves entry → BeatsAmong entries entry entry.better
+pub one_taken : (supply reserves : List ℕ) (bids : List Bid) (entries : List Entry) (rest more : List Bid) (bid : Bid) (entry : Entry)
+    → AreTaken supply reserves bids entries rest → rest ≡ bid ∷ more → bid_value entry ≡ bid_of bid → HasNet reserves entry
+    → BeatsAmong entries entry entry.better
     → AreTaken supply reserves bids (entries ++ entry ∷ []) more
 one_taken supply reserves bids entries rest more bid entry so next is net beats =
-    let sound : AllByRecursion (IsSoundBid supply reserves) (map bid_of (bid ∷ more)) = subst (λ (l : List Bid). AllByRecursion (IsSoundBid supply reserves) (map bid_of l)) next so.sound in
+    let sound : AllByRecursion (IsSoundBid supply reserves) (map bid_of (bid ∷ more)) =
+    subst (λ (l : List Bid). AllByRecursion (IsSoundBid supply reserves) (map bid_of l)) next so.sound in
     record {
       sound = sound.1;
       same = ap (λ (l : List BookBid). l ++ map bid_of more) (map-append bid_value entries (entry ∷ []))
@@ -61,7 +73,8 @@ one_taken supply reserves bids entries rest more bid entry so next is net beats 
     }
 
 -- all bids are taken
-pub all_taken : (supply reserves : List ℕ) (bids : List Bid) (entries : List Entry) (rest : List Bid) → AreTaken supply reserves bids entries rest → rest ≡ [] → AreEntries reserves (map bid_of bids) entries
+pub all_taken : (supply reserves : List ℕ) (bids : List Bid) (entries : List Entry) (rest : List Bid) → AreTaken supply reserves bids entries rest → rest ≡ []
+    → AreEntries reserves (map bid_of bids) entries
 all_taken supply reserves bids entries rest so end =
     record {
       same = sym (append-nil (map bid_value entries)) ∙ ap (λ (l : List Bid). map bid_value entries ++ map bid_of l) (sym end) ∙ so.same;
@@ -77,21 +90,33 @@ pub record AreHeld (supply reserves : List ℕ) (bidders : List Bidder) (held : 
   pub betters : All (λ x. AreBetter x.bids.items) held
 
 -- no bidder is taken yet
-pub none_held : (supply reserves : List ℕ) (bidders : List Bidder) (rest : List BidderBids) → AllByRecursion (IsSoundBidder supply reserves) bidders → map bidder_of rest ≡ bidders → AreHeld supply reserves bidders [] rest
+pub none_held : (supply reserves : List ℕ) (bidders : List Bidder) (rest : List BidderBids) → AllByRecursion (IsSoundBidder supply reserves) bidders
+    → map bidder_of rest ≡ bidders → AreHeld supply reserves bidders [] rest
 none_held supply reserves bidders rest sound is =
-    record { sound = subst (AllByRecursion (IsSoundBidder supply reserves)) (sym is) sound; same = is; nets = All-nil (λ (x : BookBidder). All (HasNet reserves) x.bids.items); betters = All-nil (λ (x : BookBidder). AreBetter x.bids.items) }
+    record {
+      sound = subst (AllByRecursion (IsSoundBidder supply reserves)) (sym is) sound;
+      same = is;
+      nets =
+          All-nil (λ (x : BookBidder). All (HasNet reserves) x.bids.items);
+      betters = All-nil (λ (x : BookBidder). AreBetter x.bids.items);
+    }
 
 -- the next bidder keeps the rules
-pub next_sound : (supply reserves : List ℕ) (bidders : List Bidder) (held : List BookBidder) (rest more : List BidderBids) (bidder : BidderBids) → AreHeld supply reserves bidders held rest → rest ≡ bidder ∷ more → AllByRecursion (IsSoundBid supply reserves) bidder.bids
+pub next_sound : (supply reserves : List ℕ) (bidders : List Bidder) (held : List BookBidder) (rest more : List BidderBids) (bidder : BidderBids)
+    → AreHeld supply reserves bidders held rest → rest ≡ bidder ∷ more → AllByRecursion (IsSoundBid supply reserves) bidder.bids
 next_sound supply reserves bidders held rest more bidder so next =
-    let sound : AllByRecursion (IsSoundBidder supply reserves) (map bidder_of (bidder ∷ more)) = subst (λ (l : List BidderBids). AllByRecursion (IsSoundBidder supply reserves) (map bidder_of l)) next so.sound in
+    let sound : AllByRecursion (IsSoundBidder supply reserves) (map bidder_of (bidder ∷ more)) = subst
+    (λ (l : List BidderBids). AllByRecursion (IsSoundBidder supply reserves) (map bidder_of l)) next so.sound in
     sound.0.each
 
 -- one bidder more
-pub one_held : (supply reserves : List ℕ) (bidders : List Bidder) (held : List BookBidder) (rest more : List BidderBids) (bidder : BidderBids) (made : BookBidder) → AreHeld supply reserves bidders held rest → rest ≡ bidder ∷ more → made.name ≡ bidder.name → AreEntries reserves bidder.bids made.bids.items
+pub one_held : (supply reserves : List ℕ) (bidders : List Bidder) (held : List BookBidder) (rest more : List BidderBids) (bidder : BidderBids)
+    (made : BookBidder) → AreHeld supply reserves bidders held rest → rest ≡ bidder ∷ more → made.name ≡ bidder.name
+    → AreEntries reserves bidder.bids made.bids.items
     → AreHeld supply reserves bidders (held ++ made ∷ []) more
 one_held supply reserves bidders held rest more bidder made so next name own =
-    let sound : AllByRecursion (IsSoundBidder supply reserves) (map bidder_of (bidder ∷ more)) = subst (λ (l : List BidderBids). AllByRecursion (IsSoundBidder supply reserves) (map bidder_of l)) next so.sound in
+    let sound : AllByRecursion (IsSoundBidder supply reserves) (map bidder_of (bidder ∷ more)) = subst
+    (λ (l : List BidderBids). AllByRecursion (IsSoundBidder supply reserves) (map bidder_of l)) next so.sound in
     let is : bidder_value made ≡ bidder_of bidder = cc (name, own.same) in
     record {
       sound = sound.1;
@@ -105,7 +130,8 @@ one_held supply reserves bidders held rest more bidder made so next name own =
     }
 
 -- all bidders are taken
-pub all_held : (supply reserves : List ℕ) (bidders : List Bidder) (held : List BookBidder) (rest : List BidderBids) → AreHeld supply reserves bidders held rest → rest ≡ [] → AreBookBidders reserves bidders held
+pub all_held : (supply reserves : List ℕ) (bidders : List Bidder) (held : List BookBidder) (rest : List BidderBids)
+    → AreHeld supply reserves bidders held rest → rest ≡ [] → AreBookBidders reserves bidders held
 all_held supply reserves bidders held rest so end =
     record {
       same = sym (append-nil (map bidder_value held)) ∙ ap (λ (l : List BidderBids). map bidder_value held ++ map bidder_of l) (sym end) ∙ so.same;
@@ -114,5 +140,6 @@ all_held supply reserves bidders held rest so end =
     }
 
 -- fields that hold such bidders hold the book of the lists
-pub held_is : (b : Inside) (reserves : List ℕ) (bidders : List Bidder) → b.reserves.items ≡ reserves → AreBookBidders b.reserves.items bidders b.bidders.items → book_value b ≡ book_of b.supply reserves bidders
+pub held_is : (b : Inside) (reserves : List ℕ) (bidders : List Bidder) → b.reserves.items ≡ reserves → AreBookBidders b.reserves.items bidders b.bidders.items
+    → book_value b ≡ book_of b.supply reserves bidders
 held_is b reserves bidders is own = cc (is, own.same)

@@ -10,7 +10,8 @@ use Rattle.book_form.specs.line_text.proofs.Lines.{first_excess-append}
 use Rattle.lots.specs.auction_model.specs.Book.{BookBid, Bidder, Book, no_bid, no_bidder, bidder_of, bids_of, bid_of, lots_of, net_of}
 use Rattle.lots.specs.auction_model.specs.Package.{cost_of}
 use Rattle.book_form.specs.BookForm.{AreReserves, AreBids, empty_package, AreBidders}
-use Rattle.book_form.specs.BookLines.{Excess, Line, supply_excess, bid_excess, bidder_excess, bid_lines, bidder_line, bidder_lines, head_lines, IsBookWithinLimits}
+use Rattle.book_form.specs.BookLines.{Excess, Line, supply_excess, bid_excess, bidder_excess, bid_lines, bidder_line, bidder_lines, head_lines}
+use Rattle.book_form.specs.BookLines.{IsBookWithinLimits}
 use Rattle.lots.specs.Limits.{IsSupply}
 use Rattle.bid_book.specs.Kept.{IsBidBook}
 use Rattle.bid_book.specs.Sound.{IsSoundBid, IsSoundBidder}
@@ -49,7 +50,8 @@ pub record Found (supply reserves : List ℕ) (before : ℕ) (bs : List Bidder) 
   pub few : before + length bs ≤ 16
   pub each : AllByRecursion (IsSoundBidder supply reserves) bs
 
-bidders_sound : (supply reserves : List ℕ) (earlier bs : List Bidder) (before : ℕ) → AreBidders supply reserves earlier bs → first_excess (bidder_lines before bs) ≡ None → before ≤ 16 → Found supply reserves before bs
+bidders_sound : (supply reserves : List ℕ) (earlier bs : List Bidder) (before : ℕ) → AreBidders supply reserves earlier bs
+    → first_excess (bidder_lines before bs) ≡ None → before ≤ 16 → Found supply reserves before bs
 bidders_sound supply reserves earlier [] before all none few = record { few = omega arith; each = tt }
 bidders_sound supply reserves earlier (b ∷ bs) before all none few =
     let parts = parts_none (bidder_line before b.name ∷ bid_lines 0 b.bids) (bidder_lines (before + 1) bs) none in
@@ -123,10 +125,15 @@ grown old new line is adds none =
     let both = adds_one old new line is.form adds in
     let before = (parts_none (listed old) ((codes "end", None) ∷ []) is.limits).0 in
     let here : first_excess (listed new) ≡ None =
-    ap first_excess both.1 ∙ first_excess-append (listed old) ((line, last_excess 0 new.bidders) ∷ []) ∙ ap (λ (o : Option Excess). option_or o (option_or (last_excess 0 new.bidders) None)) before ∙ ap (λ (o : Option Excess). option_or o None) none in
+    ap first_excess both.1 ∙ first_excess-append (listed old) ((line, last_excess 0 new.bidders) ∷ [])
+    ∙ ap (λ (o : Option Excess). option_or o (option_or (last_excess 0 new.bidders) None)) before ∙ ap (λ (o : Option Excess). option_or o None) none in
     record { form = both.0; limits = first_excess-append (listed new) ((codes "end", None) ∷ []) ∙ ap (λ (o : Option Excess). option_or o None) here }
 
 -- the book before its first bidder
 pub opened_within : (supply reserves : List ℕ) → IsSupply supply → AreReserves supply reserves → IsBookWithinLimits (opened supply reserves)
 opened_within supply reserves is are =
-    record { form = record { supply = offer_of supply is; reserves = are; bidders = tt }; limits = ap (λ (o : Option Excess). option_or o None) (supply_within supply is) }
+    record {
+      form = record { supply = offer_of supply is; reserves = are; bidders = tt };
+      limits = ap (λ (o : Option Excess). option_or o None)
+          (supply_within supply is);
+    }

@@ -30,7 +30,8 @@ bidders_same m n (b ∷ bs) =
     ∙ sym (text_of-append (bidder_line n b.name ∷ bid_lines 0 b.bids) (bidder_lines (n + 1) bs))
 
 -- the bid of the next number
-pub next_bid : (bs : List BookBid) (i : ℕ) (whole before behind : List ℕ) → i < length bs → before ++ text_of (bid_lines 0 (drop i bs)) ≡ whole → behind ≡ before ++ bid_text (get_or bs i no_bid) → behind ++ text_of (bid_lines 0 (drop (i + 1) bs)) ≡ whole
+pub next_bid : (bs : List BookBid) (i : ℕ) (whole before behind : List ℕ) → i < length bs → before ++ text_of (bid_lines 0 (drop i bs)) ≡ whole
+    → behind ≡ before ++ bid_text (get_or bs i no_bid) → behind ++ text_of (bid_lines 0 (drop (i + 1) bs)) ≡ whole
 next_bid bs i whole before behind inside so_far step =
     let b = get_or bs i no_bid in
     let more = drop (i + 1) bs in
@@ -39,7 +40,8 @@ next_bid bs i whole before behind inside so_far step =
     one_more (λ (l : List BookBid). text_of (bid_lines 0 l)) bs i no_bid whole before behind (bid_text b) inside split so_far step
 
 -- the next bidder
-pub next_bidder : (bs : List Bidder) (k : ℕ) (whole before behind : List ℕ) → k < length bs → before ++ bidders_text (drop k bs) ≡ whole → behind ≡ before ++ bidder_text (get_or bs k no_bidder) → behind ++ bidders_text (drop (k + 1) bs) ≡ whole
+pub next_bidder : (bs : List Bidder) (k : ℕ) (whole before behind : List ℕ) → k < length bs → before ++ bidders_text (drop k bs) ≡ whole
+    → behind ≡ before ++ bidder_text (get_or bs k no_bidder) → behind ++ bidders_text (drop (k + 1) bs) ≡ whole
 next_bidder bs k whole before behind inside so_far step =
     let b = get_or bs k no_bidder in
     let more = drop (k + 1) bs in
@@ -48,7 +50,8 @@ next_bidder bs k whole before behind inside so_far step =
     one_more bidders_text bs k no_bidder whole before behind (bidder_text b) inside split so_far step
 
 -- the bid that a call gave, among those of its bidder
-pub bid_is : (book : Book) (bid : Bid) (j i : ℕ) → bid.package ≡ lots_of book j (i + 1) → bid.amount ≡ (bid_of book j (i + 1)).amount → given.bid_of bid ≡ get_or (bids_of book j) i no_bid
+pub bid_is : (book : Book) (bid : Bid) (j i : ℕ) → bid.package ≡ lots_of book j (i + 1) → bid.amount ≡ (bid_of book j (i + 1)).amount
+    → given.bid_of bid ≡ get_or (bids_of book j) i no_bid
 bid_is book bid j i lots amount =
     let given_is : given.bid_of bid ≡ bid_of book j (i + 1) = λ k. record { lots = lots k; amount = amount k } in
     let more : i + 1 ≡ suc i = omega arith in
@@ -59,17 +62,21 @@ pub bidder_is : (book : Book) (k : ℕ) → bidder_of book (k + 1) ≡ get_or bo
 bidder_is book k = ap (λ (n : ℕ). get_or book.bidders n no_bidder) (omega arith)
 
 -- the line of a bid, piece by piece
-pub whole_bid : (bid : BookBid) (a b c d e : List ℕ) → b ≡ a ++ codes "bid" → c ≡ b ++ decimals_text bid.lots → d ≡ c ++ 32 ∷ decimal bid.amount → e ≡ d ++ codes "\n" → e ≡ a ++ bid_text bid
+pub whole_bid : (bid : BookBid) (a b c d e : List ℕ) → b ≡ a ++ codes "bid" → c ≡ b ++ decimals_text bid.lots → d ≡ c ++ 32 ∷ decimal bid.amount
+    → e ≡ d ++ codes "\n" → e ≡ a ++ bid_text bid
 whole_bid bid a b c d e one two three four =
-    let last : decimals_text (bid.lots ++ bid.amount ∷ []) ≡ decimals_text bid.lots ++ 32 ∷ decimal bid.amount = numbers-append bid.lots (bid.amount ∷ []) ∙ ap (λ (t : List ℕ). decimals_text bid.lots ++ 32 ∷ t) (append-nil (decimal bid.amount)) in
+    let last : decimals_text (bid.lots ++ bid.amount ∷ []) ≡ decimals_text bid.lots ++ 32 ∷ decimal bid.amount =
+    numbers-append bid.lots (bid.amount ∷ []) ∙ ap (λ (t : List ℕ). decimals_text bid.lots ++ 32 ∷ t) (append-nil (decimal bid.amount)) in
     rw (four, three, two, one, last) (simp append_assoc)
 
 -- the lines of a bidder: the first, and those of its bids
-pub whole_bidder : (bidder : Bidder) (a b c d e : List ℕ) → b ≡ a ++ codes "bidder " → c ≡ b ++ bidder.name → d ≡ c ++ codes "\n" → e ≡ d ++ text_of (bid_lines 0 bidder.bids) → e ≡ a ++ bidder_text bidder
+pub whole_bidder : (bidder : Bidder) (a b c d e : List ℕ) → b ≡ a ++ codes "bidder " → c ≡ b ++ bidder.name → d ≡ c ++ codes "\n"
+    → e ≡ d ++ text_of (bid_lines 0 bidder.bids) → e ≡ a ++ bidder_text bidder
 whole_bidder bidder a b c d e one two three four = rw (four, three, two, one) (simp append_assoc)
 
 -- the whole text, piece by piece
-pub whole_text : (book : Book) (a b c d e f g : List ℕ) → a ≡ codes "book 1\nsupply" → b ≡ a ++ decimals_text book.supply → c ≡ b ++ codes "\nreserve" → d ≡ c ++ decimals_text book.reserves → e ≡ d ++ codes "\n" → f ≡ e ++ bidders_text book.bidders → g ≡ f ++ codes "end\n"
+pub whole_text : (book : Book) (a b c d e f g : List ℕ) → a ≡ codes "book 1\nsupply" → b ≡ a ++ decimals_text book.supply → c ≡ b ++ codes "\nreserve"
+    → d ≡ c ++ decimals_text book.reserves → e ≡ d ++ codes "\n" → f ≡ e ++ bidders_text book.bidders → g ≡ f ++ codes "end\n"
     → IsBidBook book → Says IsBook lines g (stated book)
 whole_text book a b c d e f g one two three four five six seven kept =
     record {

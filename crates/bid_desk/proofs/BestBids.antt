@@ -26,7 +26,8 @@ abbrev best_of : List BookBid → List ℕ → Option ℕ
 best_of bids lots = Some (greatest lots bids)
 
 -- amounts that are the same for packages with a lot
-priced-some : (f g : List ℕ → Option ℕ) (ps : List (List ℕ)) → ((q : List ℕ) → is_empty q ≡ false → g q ≡ f q) → AllByRecursion (λ (lots : List ℕ). is_empty lots ≡ false) ps
+priced-some : (f g : List ℕ → Option ℕ) (ps : List (List ℕ)) → ((q : List ℕ) → is_empty q ≡ false → g q ≡ f q)
+    → AllByRecursion (λ (lots : List ℕ). is_empty lots ≡ false) ps
     → priced g ps ≡ priced f ps
 priced-some f g [] same some = refl
 priced-some f g (q ∷ ps) same some = rw (same q some.0, priced-some f g ps same some.1) refl

@@ -1,5 +1,6 @@
 -- The bids of a bidder in the book, made from its submitted list and its clock bids.
-use Rattle.std.proofs.Common.{◌≡◌, ℕ, suc, ◌+◌, ◌-◌, ◌≤◌, ◌<◌, ◌^◌, max, List, [], ◌∷◌, ◌++◌, refl, sym, ◌∙◌, ap, subst, inl, inr, arith, length, map, get_or, drop}
+use Rattle.std.proofs.Common.{◌≡◌, ℕ, suc, ◌+◌, ◌-◌, ◌≤◌, ◌<◌, ◌^◌, max, List, [], ◌∷◌, ◌++◌, refl, sym, ◌∙◌, ap, subst, inl, inr, arith, length, map, get_or}
+use Rattle.std.proofs.Common.{drop}
 use Rattle.std.specs.List.{All, AllByRecursion}
 use Rattle.std.proofs.lemmas.Bool.{cases_Bool}
 use Rattle.std.proofs.lemmas.List.{drop_more, drop_all, get_or-map, length-map}
@@ -36,7 +37,8 @@ lots-with_entry x a (b ∷ list) =
     ]
 
 -- a kept list with an entry more
-kept-with_entry : (categories : ℕ) (x : List ℕ) (a : ℕ) (list : List BookBid) → IsKeptEntry categories (record { lots = x; amount = a }) → IsKept categories list
+kept-with_entry : (categories : ℕ) (x : List ℕ) (a : ℕ) (list : List BookBid) → IsKeptEntry categories (record { lots = x; amount = a })
+    → IsKept categories list
     → IsKept categories (with_entry x a list)
 kept-with_entry categories x a list new kept = record {
   each = with_entry-each (IsKeptEntry categories) x a list new kept.each;
@@ -55,7 +57,8 @@ greatest-kept categories x (b ∷ list) each =
 -- ---- clock bids
 
 -- and the list stays kept
-pub put-kept : (categories : ℕ) (held : List ℕ) (amount : ℕ) (list new : List BookBid) → IsHeld categories held → amount ≤ 2 ^ 42 → new ≡ with_entry held (max amount (greatest held list)) list
+pub put-kept : (categories : ℕ) (held : List ℕ) (amount : ℕ) (list new : List BookBid) → IsHeld categories held → amount ≤ 2 ^ 42
+    → new ≡ with_entry held (max amount (greatest held list)) list
     → IsKept categories list → IsKept categories new
 put-kept categories held amount list new is_held most made kept =
     subst (IsKept categories) (sym made) (kept-with_entry categories held (max amount (greatest held list)) list
@@ -68,13 +71,16 @@ abbrev pub bids_from : List Round → ℕ → List BookBid → ℕ → List Book
 bids_from history j list k = best_bids (map clock_bid (rounds_of j (drop k history)) ++ list)
 
 -- behind the last round the list alone is left
-pub bids-none : (history : List Round) (j : ℕ) (categories k : ℕ) (list bids : List BookBid) → IsBooked categories list → bids ≡ list → k ≡ length history → bids ≡ bids_from history j list k
+pub bids-none : (history : List Round) (j : ℕ) (categories k : ℕ) (list bids : List BookBid) → IsBooked categories list → bids ≡ list → k ≡ length history
+    → bids ≡ bids_from history j list k
 bids-none history j categories k list bids booked is all =
     let none : drop k history ≡ [] = drop_all k history (omega (arith, all)) in
-    is ∙ sym (best_bids-own list booked.kept.order booked.some) ∙ sym (ap (λ (rounds : List Round). best_bids (map clock_bid (rounds_of j rounds) ++ list)) none)
+    is ∙ sym (best_bids-own list booked.kept.order booked.some) ∙ sym (ap (λ (rounds : List Round). best_bids (map clock_bid (rounds_of j rounds) ++ list))
+    none)
 
 -- one round more
-pub bids-more : (history : List Round) (j : ℕ) (k next : ℕ) (list bids new : List BookBid) → 0 < k → k ≤ length history → next ≡ k - 1 + 1 → bids ≡ bids_from history j list k
+pub bids-more : (history : List Round) (j : ℕ) (k next : ℕ) (list bids new : List BookBid) → 0 < k → k ≤ length history → next ≡ k - 1 + 1
+    → bids ≡ bids_from history j list k
     → new ≡ with_most (clock_bid (own_in history j next)) bids → new ≡ bids_from history j list (k - 1)
 bids-more history j k next list bids new some inside at is made =
     let before : ℕ = k - 1 in
@@ -90,7 +96,8 @@ bids-more history j k next list bids new some inside at is made =
 -- ---- the bidders
 
 -- the submitted list of a bidder
-pub booked-at : (categories : ℕ) (lists : List Lists) (k : ℕ) (own : Lists) (list : List BookBid) → All (IsBooked categories) (map submitted_in lists) → k < length lists
+pub booked-at : (categories : ℕ) (lists : List Lists) (k : ℕ) (own : Lists) (list : List BookBid) → All (IsBooked categories) (map submitted_in lists)
+    → k < length lists
     → own ≡ get_or lists k own → list ≡ own.submitted → IsBooked categories list
 booked-at categories lists k own list booked inside at is =
     subst (IsBooked categories) (get_or-map submitted_in lists k own own.submitted inside ∙ ap submitted_in (sym at) ∙ sym is)
@@ -100,8 +107,10 @@ abbrev bidder_with : List ℕ → List BookBid → Bidder
 bidder_with name bids = record { name = name; bids = bids }
 
 -- one bidder more
-pub bidders-more : (terms : Terms) (rounds : List Round) (lists : List Lists) (k : ℕ) (own : Lists) (name : List ℕ) (list bids : List BookBid) (before all : List Bidder) → k < length lists
-    → own ≡ get_or lists k own → list ≡ own.submitted → name ≡ (entrant terms (k + 1)).name → bids ≡ best_bids (map clock_bid (rounds_of (k + 1) rounds) ++ list)
+pub bidders-more : (terms : Terms) (rounds : List Round) (lists : List Lists) (k : ℕ) (own : Lists) (name : List ℕ) (list bids : List BookBid)
+    (before all : List Bidder) → k < length lists
+    → own ≡ get_or lists k own → list ≡ own.submitted → name ≡ (entrant terms (k + 1)).name → bids ≡ best_bids
+    (map clock_bid (rounds_of (k + 1) rounds) ++ list)
     → before ≡ listing (book_bidder terms (bids_by rounds (map submitted_in lists))) k → all ≡ before ++ bidder_with name bids ∷ []
     → all ≡ listing (book_bidder terms (bids_by rounds (map submitted_in lists))) (k + 1)
 bidders-more terms rounds lists k own name list bids before all inside at is by_name by_bids so_far more =
@@ -109,7 +118,9 @@ bidders-more terms rounds lists k own name list bids before all inside at is by_
     let place : k + 1 - 1 ≡ k = omega arith in
     let listed : get_or (map submitted_in lists) (k + 1 - 1) [] ≡ list
     = ap (λ (n : ℕ). get_or (map submitted_in lists) n []) place ∙ get_or-map submitted_in lists k own [] inside ∙ ap submitted_in (sym at) ∙ sym is in
-    let own_bids : bids ≡ bids_by rounds (map submitted_in lists) (k + 1) = by_bids ∙ sym (ap (λ (l : List BookBid). best_bids (map clock_bid (rounds_of (k + 1) rounds) ++ l)) listed) in
+    let own_bids : bids ≡ bids_by rounds (map submitted_in lists) (k + 1) = by_bids
+    ∙ sym (ap (λ (l : List BookBid). best_bids (map clock_bid (rounds_of (k + 1) rounds) ++ l)) listed) in
     let bidder : bidder_with name bids ≡ F (k + 1) = ap (λ (n : List ℕ). bidder_with n bids) by_name ∙ ap (bidder_with (entrant terms (k + 1)).name) own_bids in
     let next : suc k ≡ k + 1 = omega arith in
-    more ∙ ap (λ (bs : List Bidder). bs ++ bidder_with name bids ∷ []) so_far ∙ ap (λ (b : Bidder). listing F k ++ b ∷ []) (bidder ∙ sym (ap F next)) ∙ ap (listing F) next
+    more ∙ ap (λ (bs : List Bidder). bs ++ bidder_with name bids ∷ []) so_far ∙ ap (λ (b : Bidder). listing F k ++ b ∷ []) (bidder ∙ sym (ap F next))
+    ∙ ap (listing F) next

@@ -40,7 +40,8 @@ lists-count desk reached = ap (λ (s : DeskState). length s.submitted) reached.s
 lists-booked : (desk : DeskState) → sum desk.terms.supply ≤ 40 → IsReached desk → All (IsBooked (length desk.terms.supply)) desk.submitted
 lists-booked desk few reached k d inside =
     let place : suc k - 1 ≡ k = omega arith in
-    let own : submitted_of desk (suc k) ≡ get_or desk.submitted k d = ap (λ (n : ℕ). get_or desk.submitted n []) place ∙ get_or_default desk.submitted k [] d inside in
+    let own : submitted_of desk (suc k) ≡ get_or desk.submitted k d = ap (λ (n : ℕ). get_or desk.submitted n []) place
+    ∙ get_or_default desk.submitted k [] d inside in
     subst (IsBooked (length desk.terms.supply)) own
     (known-booked desk.terms desk (suc k) (known-reached desk (suc k) few reached (omega arith) (omega (arith, inside, lists-count desk reached))))
 
@@ -50,14 +51,20 @@ unfolding state_of
 round-closed terms log over =
     let lines : List Event = admitted terms log in
     let n : ℕ = closed_after terms (held_in terms lines) (closes lines) in
-    omega (arith, rounds-some terms log 1 over, length-listing (own_round terms (held_in terms lines) 1) n, length-listing (round_of terms (held_in terms lines)) n)
+    omega (
+      arith,
+      rounds-some terms log 1 over,
+      length-listing (own_round terms (held_in terms lines) 1) n,
+      length-listing (round_of terms (held_in terms lines)) n,
+    )
 
 rounds-there : (desk : DeskState) → IsReached desk → desk.stage ≡ Closed → 1 ≤ length desk.rounds
 rounds-there desk reached closed =
     subst (λ (s : DeskState). is_clock s.stage ≡ false → 1 ≤ length s.rounds) (sym reached.stands) (round-closed desk.terms reached.log) (ap is_clock closed)
 
 -- a closed desk has what a book is made of
-pub desk-booked : (desk : DeskState) (rounds : List Round) (lists : List (List BookBid)) (bidders categories : ℕ) → IsReached desk → IsAward desk.terms → desk.stage ≡ Closed
+pub desk-booked : (desk : DeskState) (rounds : List Round) (lists : List (List BookBid)) (bidders categories : ℕ) → IsReached desk → IsAward desk.terms
+    → desk.stage ≡ Closed
     → rounds ≡ desk.rounds → lists ≡ desk.submitted
     → (0 < length desk.rounds → bidders_in rounds ≡ bidders) → bidders ≡ length desk.terms.bidders
     → (0 < length desk.rounds → categories_in rounds ≡ categories) → categories ≡ length desk.terms.supply
@@ -74,12 +81,16 @@ desk-booked desk rounds lists bidders categories reached award closed by_rounds 
     }
 
 -- the book of a desk's rounds and lists
-pub book-same : (desk : DeskState) (rounds : List Round) (lists : List (List BookBid)) → rounds ≡ desk.rounds → lists ≡ desk.submitted → book_by desk.terms (bids_by rounds lists) ≡ book_in desk
+pub book-same : (desk : DeskState) (rounds : List Round) (lists : List (List BookBid)) → rounds ≡ desk.rounds → lists ≡ desk.submitted
+    → book_by desk.terms (bids_by rounds lists) ≡ book_in desk
 book-same desk rounds lists by_rounds by_lists =
-    ap (λ (rs : List Round). book_by desk.terms (bids_by rs lists)) by_rounds ∙ ap (λ (ls : List (List BookBid)). book_by desk.terms (bids_by desk.rounds ls)) by_lists
+    ap (λ (rs : List Round). book_by desk.terms (bids_by rs lists)) by_rounds ∙ ap (λ (ls : List (List BookBid)). book_by desk.terms (bids_by desk.rounds ls))
+    by_lists
 
 -- and it keeps the limits
-pub book-within : (desk : DeskState) (book : Book) → IsReached desk → IsAward desk.terms → ((terms : Terms) (log : List Event) → book_in (state_of terms log) ≡ book_of_log terms log)
-    → ((terms : Terms) (log : List Event) → IsAward terms → AllByRecursion (HasCategories terms) log → IsBookWithinLimits (book_of_log terms log)) → book ≡ book_in desk → IsBookWithinLimits book
+pub book-within : (desk : DeskState) (book : Book) → IsReached desk → IsAward desk.terms
+    → ((terms : Terms) (log : List Event) → book_in (state_of terms log) ≡ book_of_log terms log)
+    → ((terms : Terms) (log : List Event) → IsAward terms → AllByRecursion (HasCategories terms) log → IsBookWithinLimits (book_of_log terms log))
+    → book ≡ book_in desk → IsBookWithinLimits book
 book-within desk book reached award of_log within is =
     subst IsBookWithinLimits (sym (is ∙ ap book_in reached.stands ∙ of_log desk.terms reached.log)) (within desk.terms reached.log award reached.categories)

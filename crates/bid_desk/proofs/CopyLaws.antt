@@ -1,6 +1,7 @@
 -- A list that is made another entry by entry.
 use Rattle.std.proofs.Common.{◌≡◌, ℕ, ◌+◌, ◌<◌, ◌≤◌, List, [], ◌∷◌, ◌++◌, length, map, take, get_or, set, sym, ap, ◌∙◌, arith}
-use Rattle.std.proofs.lemmas.List.{length-append, length-map, length-take, length-take-le, map-append, map-set, get_or-map, take_all, take_more, take_more_set, take-map}
+use Rattle.std.proofs.lemmas.List.{length-append, length-map, length-take, length-take-le, map-append, map-set, get_or-map, take_all, take_more}
+use Rattle.std.proofs.lemmas.List.{take_more_set, take-map}
 use Rattle.relative_cap.specs.auction_model.specs.Book.{BookBid}
 use Rattle.relative_cap.specs.lots.specs.declared.«package».Bid.{Bid}
 use Rattle.relative_cap.specs.OwnRounds.{bid_value}
@@ -19,7 +20,8 @@ copied-over list place e bid inside is =
     ∙ ap (λ (b : BookBid). take place (map bid_value list) ++ (b ∷ [])) is
 
 -- an entry is put behind those before the place
-pub copied-behind : (list cut new : List Bid) (place : ℕ) (e bid : Bid) → place ≤ length list → cut ≡ take place list → new ≡ cut ++ (e ∷ []) → bid_value e ≡ bid_value bid
+pub copied-behind : (list cut new : List Bid) (place : ℕ) (e bid : Bid) → place ≤ length list → cut ≡ take place list → new ≡ cut ++ (e ∷ [])
+    → bid_value e ≡ bid_value bid
     → take (place + 1) (map bid_value new) ≡ take place (map bid_value list) ++ (bid_value bid ∷ [])
 copied-behind list cut new place e bid low by_cut by_push is =
     let whole : new ≡ take place list ++ (e ∷ []) = by_push ∙ ap (λ (xs : List Bid). xs ++ (e ∷ [])) by_cut in
@@ -35,9 +37,11 @@ copied-behind list cut new place e bid low by_cut by_push is =
 pub copied-more : (from old list : List Bid) (place : ℕ) (bid : Bid) → place < length from → bid ≡ get_or from place bid → IsCopied place from old
     → take (place + 1) (map bid_value list) ≡ take place (map bid_value old) ++ (bid_value bid ∷ []) → IsCopied (place + 1) from list
 copied-more from old list place bid inside at is put =
-    let own : get_or (map bid_value from) place (bid_value bid) ≡ bid_value bid = get_or-map bid_value from place bid (bid_value bid) inside ∙ ap bid_value (sym at) in
+    let own : get_or (map bid_value from) place (bid_value bid) ≡ bid_value bid = get_or-map bid_value from place bid (bid_value bid) inside
+    ∙ ap bid_value (sym at) in
     let more : take (place + 1) (map bid_value from) ≡ take place (map bid_value from) ++ (bid_value bid ∷ [])
-    = take_more (map bid_value from) place (bid_value bid) (omega (arith, inside, length-map from bid_value)) ∙ ap (λ (b : BookBid). take place (map bid_value from) ++ (b ∷ [])) own in
+    = take_more (map bid_value from) place (bid_value bid) (omega (arith, inside, length-map from bid_value))
+    ∙ ap (λ (b : BookBid). take place (map bid_value from) ++ (b ∷ [])) own in
     let short : length (take place (map bid_value old)) ≡ place = length-take-le place (map bid_value old) (omega (arith, length-map old bid_value, is.room)) in
     let long : length (take (place + 1) (map bid_value list)) ≡ place + 1
     = ap (λ (bs : List BookBid). length bs) put ∙ length-append (take place (map bid_value old)) (bid_value bid ∷ []) ∙ ap (λ n. n + 1) short in

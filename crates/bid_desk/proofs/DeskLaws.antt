@@ -52,7 +52,8 @@ bid-reply terms clock closed bidders j lots running unclosed =
 
 -- the state after a bid, while the clock runs
 bid-running : (terms : Terms) (rounds : List Round) (posted : Round) (bidders : List Lists) (j : ℕ) (lots : List ℕ)
-    → desk_value terms (after_bid terms (clock_with true rounds posted) j lots) false bidders ≡ state_with (desk_value terms (clock_with true rounds posted) false bidders) (Bid j lots)
+    → desk_value terms (after_bid terms (clock_with true rounds posted) j lots) false bidders ≡ state_with
+    (desk_value terms (clock_with true rounds posted) false bidders) (Bid j lots)
 bid-running terms rounds posted bidders j lots =
     elim (cases_Bool (is_ok_reply (reply_to_bid terms (clock_with true rounds posted) j lots))) [
       | inl ok ↦ rw ok refl
@@ -64,8 +65,10 @@ pub bid-state : (terms : Terms) (clock new : ClockState) (closed : Bool) (bidder
     → new ≡ after_bid terms clock j lots → desk_value terms new closed bidders ≡ state_with (desk_value terms clock closed bidders) (Bid j lots)
 bid-state terms clock new closed bidders j lots running unclosed is =
     ap (λ (c : ClockState). desk_value terms c closed bidders) is
-    ∙ subst (λ (b : Bool). desk_value terms (after_bid terms clock j lots) b bidders ≡ state_with (desk_value terms clock b bidders) (Bid j lots)) (sym unclosed)
-    (runs (λ (c : ClockState). desk_value terms (after_bid terms c j lots) false bidders ≡ state_with (desk_value terms c false bidders) (Bid j lots)) clock running
+    ∙ subst (λ (b : Bool). desk_value terms (after_bid terms clock j lots) b bidders ≡ state_with (desk_value terms clock b bidders) (Bid j lots))
+    (sym unclosed)
+    (runs (λ (c : ClockState). desk_value terms (after_bid terms c j lots) false bidders ≡ state_with (desk_value terms c false bidders) (Bid j lots)) clock
+    running
     (bid-running terms clock.rounds clock.posted bidders j lots))
 
 -- the reply to a close
@@ -77,7 +80,8 @@ close-reply terms clock closed bidders running unclosed =
 
 -- the state after a close, while the clock runs
 close-running : (terms : Terms) (rounds : List Round) (posted : Round) (bidders : List Lists)
-    → desk_value terms (after_close terms (clock_with true rounds posted)) false bidders ≡ state_with (desk_value terms (clock_with true rounds posted) false bidders) Close
+    → desk_value terms (after_close terms (clock_with true rounds posted)) false bidders ≡ state_with
+    (desk_value terms (clock_with true rounds posted) false bidders) Close
 close-running terms rounds posted bidders =
     elim (cases_Bool (is_ok_reply (reply_to_close terms (clock_with true rounds posted)))) [
       | inl ok ↦ elim (cases_Bool (is_within (asked terms posted.held) terms.supply)) [
@@ -105,11 +109,13 @@ told-reply (PriceTop category price) r new tells = sym tells
 told-reply Memory r new tells = absurd tells
 
 -- a desk that stands for a log stands for the log with the line that it took
-pub reached-next : (old new : DeskState) (line : Event) → IsReached old → HasCategories old.terms line → new.terms ≡ old.terms → new ≡ state_with old line → IsReached new
+pub reached-next : (old new : DeskState) (line : Event) → IsReached old → HasCategories old.terms line → new.terms ≡ old.terms → new ≡ state_with old line
+    → IsReached new
 reached-next old new line reached categories same is = record {
   log = line ∷ reached.log;
   categories = subst (λ (t : Terms). AllByRecursion (HasCategories t) (line ∷ reached.log)) (sym same) (categories, reached.categories);
-  stands = is ∙ ap (λ (s : DeskState). state_with s line) reached.stands ∙ state_with-state_of old.terms reached.log line ∙ ap (λ (t : Terms). state_of t (line ∷ reached.log)) (sym same);
+  stands = is ∙ ap (λ (s : DeskState). state_with s line) reached.stands ∙ state_with-state_of old.terms reached.log line
+      ∙ ap (λ (t : Terms). state_of t (line ∷ reached.log)) (sym same);
 }
 
 -- the state after the close of the sealed round
@@ -134,7 +140,8 @@ with_lists terms clock drafts submitted = record {
   submitted = submitted;
 }
 
-start-lists : (terms : Terms) → with_lists terms (clock_of (state_of terms [])) (listing (λ j. []) (length terms.bidders)) (listing (λ j. []) (length terms.bidders)) ≡ state_of terms []
+start-lists : (terms : Terms) → with_lists terms (clock_of (state_of terms [])) (listing (λ j. []) (length terms.bidders))
+    (listing (λ j. []) (length terms.bidders)) ≡ state_of terms []
 unfolding state_of
 start-lists terms = refl
 
@@ -153,9 +160,11 @@ start-state terms clock count bidders is all empty =
     let same : bidders ≡ replicate (length terms.bidders) (lists_with [] []) = empty ∙ ap (λ (n : ℕ). replicate n (lists_with [] [])) all in
     ap (λ (c : ClockState). desk_value terms c false bidders) is
     ∙ ap (λ (ls : List Lists). desk_value terms (clock_of (state_of terms [])) false ls) same
-    ∙ ap (λ (ds : List (List BookBid)). with_lists terms (clock_of (state_of terms [])) ds (map (λ (l : Lists). l.submitted) (replicate (length terms.bidders) (lists_with [] []))))
+    ∙ ap (λ (ds : List (List BookBid)). with_lists terms (clock_of (state_of terms [])) ds
+    (map (λ (l : Lists). l.submitted) (replicate (length terms.bidders) (lists_with [] []))))
     (empty-each (λ (l : Lists). l.drafts) (length terms.bidders) refl)
-    ∙ ap (with_lists terms (clock_of (state_of terms [])) (listing (λ j. []) (length terms.bidders))) (empty-each (λ (l : Lists). l.submitted) (length terms.bidders) refl)
+    ∙ ap (with_lists terms (clock_of (state_of terms [])) (listing (λ j. []) (length terms.bidders)))
+    (empty-each (λ (l : Lists). l.submitted) (length terms.bidders) refl)
     ∙ start-lists terms
 
 -- a desk in the state of the empty log stands for a log

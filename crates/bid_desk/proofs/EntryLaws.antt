@@ -74,7 +74,8 @@ there-entry [] lots place there = absurd there
 there-entry (b ∷ list) lots zero there = rw there refl
 there-entry (b ∷ list) lots (suc place) there = rw (is_before-not_same b.lots lots there.0) (there-entry list lots place there.1)
 
-there-put : (list : List BookBid) (lots : List ℕ) (place amount : ℕ) → IsThere list lots place → with_entry lots amount list ≡ set list place (entry_of lots amount)
+there-put : (list : List BookBid) (lots : List ℕ) (place amount : ℕ) → IsThere list lots place → with_entry lots amount list ≡ set list place
+    (entry_of lots amount)
 there-put [] lots place amount there = absurd there
 there-put (b ∷ list) lots zero amount there = rw (same-sym b.lots lots there) refl
 there-put (b ∷ list) lots (suc place) amount there =
@@ -91,7 +92,8 @@ behind-without : (lots : List ℕ) (list : List BookBid) → AllAfter lots (map 
 behind-without lots [] after = refl
 behind-without lots (b ∷ list) after = rw (is_before-not_same lots b.lots after.0) (ap (λ (l : List BookBid). b ∷ l) (behind-without lots list after.1))
 
-there-removed : (list : List BookBid) (lots : List ℕ) (place : ℕ) → InOrder (map bid_lots list) → IsThere list lots place → without_entry lots list ≡ remove list place
+there-removed : (list : List BookBid) (lots : List ℕ) (place : ℕ) → InOrder (map bid_lots list) → IsThere list lots place
+    → without_entry lots list ≡ remove list place
 there-removed [] lots place order there = absurd there
 there-removed (b ∷ list) lots zero order there =
     let after : AllAfter lots (map bid_lots list) = subst (λ (p : List ℕ). AllAfter p (map bid_lots list)) (is_same-true b.lots lots there) order.0 in
@@ -110,7 +112,8 @@ gap-none [] lots place order gap = refl
 gap-none (b ∷ list) lots zero order gap = absent-before lots (b ∷ list) (gap, AllAfter-trans lots b.lots (map bid_lots list) gap order.0)
 gap-none (b ∷ list) lots (suc place) order gap = rw (is_before-not_same b.lots lots gap.0) (gap-none list lots place order.1 gap.1)
 
-gap-put : (list : List BookBid) (lots : List ℕ) (place amount : ℕ) → IsGap list lots place → with_entry lots amount list ≡ insert list place (entry_of lots amount)
+gap-put : (list : List BookBid) (lots : List ℕ) (place amount : ℕ) → IsGap list lots place → with_entry lots amount list ≡ insert list place
+    (entry_of lots amount)
 gap-put [] lots zero amount gap = refl
 gap-put [] lots (suc place) amount gap = absurd gap
 gap-put (b ∷ list) lots zero amount gap = rw (is_before-not_same lots b.lots gap, gap) refl
@@ -142,7 +145,8 @@ gap-from (b ∷ list) lots (suc place) before last own =
     (before 0 (omega arith), gap-from list lots place (λ k low. before (suc k) (omega arith)) (omega arith) (λ inside. own (omega arith)))
 
 -- the package stands at its place
-pub slot-taken : (categories : ℕ) (list : List Bid) (lots : List ℕ) (place : ℕ) → IsKept categories (map bid_value list) → IsPlace list lots place → place < length list
+pub slot-taken : (categories : ℕ) (list : List Bid) (lots : List ℕ) (place : ℕ) → IsKept categories (map bid_value list) → IsPlace list lots place
+    → place < length list
     → is_same (lots_at list place) lots ≡ true → IsTakenAt (map bid_value list) lots place
 slot-taken categories list lots place kept is inside same =
     let there : IsThere (map bid_value list) lots place = there-from list lots place is.before inside same in
@@ -154,7 +158,8 @@ slot-taken categories list lots place kept is inside same =
       removed = there-removed (map bid_value list) lots place kept.order there;
     }
 
-free-by : (categories : ℕ) (list : List Bid) (lots : List ℕ) (place : ℕ) → IsKept categories (map bid_value list) → IsGap (map bid_value list) lots place → IsFreeAt (map bid_value list) lots place
+free-by : (categories : ℕ) (list : List Bid) (lots : List ℕ) (place : ℕ) → IsKept categories (map bid_value list) → IsGap (map bid_value list) lots place
+    → IsFreeAt (map bid_value list) lots place
 free-by categories list lots place kept gap = record {
   last = gap-last (map bid_value list) lots place gap;
   none = gap-none (map bid_value list) lots place kept.order gap;
@@ -195,7 +200,8 @@ removed-by list read new lots place same is by =
     ap (map bid_value) by ∙ map-remove bid_value list place ∙ sym own.removed
 
 -- entries whose values are kept, where there are as many categories
-pub entries-of : (list : List Bid) (values : List BookBid) (categories count : ℕ) → map bid_value list ≡ values → IsKept count values → categories ≡ count → All (IsEntry categories) list
+pub entries-of : (list : List Bid) (values : List BookBid) (categories count : ℕ) → map bid_value list ≡ values → IsKept count values → categories ≡ count
+    → All (IsEntry categories) list
 entries-of list values categories count is kept same =
     kept-entries categories list (subst (λ (n : ℕ). IsKept n (map bid_value list)) (sym same) (subst (IsKept count) (sym is) kept))
 
@@ -203,7 +209,8 @@ entries-of list values categories count is kept same =
 pub order-of : (list : List Bid) (values : List BookBid) (count : ℕ) → map bid_value list ≡ values → IsKept count values → InOrder (map entry_lots list)
 order-of list values count is kept = kept-order count list (subst (IsKept count) (sym is) kept)
 
-points-each : (list : List Bid) (points : List ℕ) (most : ℕ) → AllByRecursion (λ (b : BookBid). cost_of points b.lots ≤ most) (map bid_value list) → All (λ (b : Bid). cost_of points b.«package» ≤ most) list
+points-each : (list : List Bid) (points : List ℕ) (most : ℕ) → AllByRecursion (λ (b : BookBid). cost_of points b.lots ≤ most) (map bid_value list)
+    → All (λ (b : Bid). cost_of points b.«package» ≤ most) list
 points-each [] points most each k d inside = absurd (omega arith)
 points-each (b ∷ list) points most each zero d inside = each.0
 points-each (b ∷ list) points most each (suc k) d inside = points-each list points most each.1 k d (omega arith)
@@ -212,7 +219,8 @@ points-each (b ∷ list) points most each (suc k) d inside = points-each list po
 pub points-of : (list : List Bid) (values : List BookBid) (points own : List ℕ) (most top : ℕ) → map bid_value list ≡ values → points ≡ own → most ≡ top
     → AllByRecursion (λ (b : BookBid). cost_of own b.lots ≤ most) values → All (λ (b : Bid). cost_of points b.«package» ≤ top) list
 points-of list values points own most top is same bound each =
-    let here : AllByRecursion (λ (b : BookBid). cost_of own b.lots ≤ most) (map bid_value list) = subst (AllByRecursion (λ (b : BookBid). cost_of own b.lots ≤ most)) (sym is) each in
+    let here : AllByRecursion (λ (b : BookBid). cost_of own b.lots ≤ most) (map bid_value list) = subst
+    (AllByRecursion (λ (b : BookBid). cost_of own b.lots ≤ most)) (sym is) each in
     let by_points : AllByRecursion (λ (b : BookBid). cost_of points b.lots ≤ most) (map bid_value list)
     = subst (λ (ps : List ℕ). AllByRecursion (λ (b : BookBid). cost_of ps b.lots ≤ most) (map bid_value list)) (sym same) here in
     points-each list points top (subst (λ (n : ℕ). AllByRecursion (λ (b : BookBid). cost_of points b.lots ≤ n) (map bid_value list)) bound by_points)

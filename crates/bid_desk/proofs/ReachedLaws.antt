@@ -23,7 +23,8 @@ use Rattle.bid_desk.specs.Known.{IsKnown}
 use Rattle.bid_desk.specs.Reached.{IsReached}
 
 -- the standing of a bidder of the award in the state after a log is that after the log
-standing-of : (terms : Terms) (log : List Event) (j : ℕ) → 1 ≤ j → j ≤ length terms.bidders → standing_in (state_of terms log) j ≡ standing terms (admitted terms log) j
+standing-of : (terms : Terms) (log : List Event) (j : ℕ) → 1 ≤ j → j ≤ length terms.bidders → standing_in (state_of terms log) j ≡ standing terms
+    (admitted terms log) j
 unfolding state_of
 standing-of terms log zero low high = absurd (omega arith)
 standing-of terms log (suc k) low high = standing_in-state_after terms (admitted terms log) k (omega arith)
@@ -52,12 +53,15 @@ drafts-kept terms j list lots are = record {
 }
 
 -- each of them has no more points than the bidder is eligible for by the award
-drafts-points : (terms : Terms) (j : ℕ) (list : List BookBid) → AreDrafts terms j list → AllByRecursion (λ (b : BookBid). cost_of terms.points b.lots ≤ (entrant terms j).eligibility) list
+drafts-points : (terms : Terms) (j : ℕ) (list : List BookBid) → AreDrafts terms j list → AllByRecursion
+    (λ (b : BookBid). cost_of terms.points b.lots ≤ (entrant terms j).eligibility) list
 drafts-points terms j list are =
-    each-weaker (IsDraft terms j) (λ (b : BookBid). cost_of terms.points b.lots ≤ (entrant terms j).eligibility) list (λ (b : BookBid) (d : IsDraft terms j b). d.points) are.each
+    each-weaker (IsDraft terms j) (λ (b : BookBid). cost_of terms.points b.lots ≤ (entrant terms j).eligibility) list
+    (λ (b : BookBid) (d : IsDraft terms j b). d.points) are.each
 
 -- after a log
-known-of : (terms : Terms) (log : List Event) (j : ℕ) → sum terms.supply ≤ 40 → AllByRecursion (HasCategories terms) log → 1 ≤ j → j ≤ length terms.bidders → IsKnown terms (state_of terms log) j
+known-of : (terms : Terms) (log : List Event) (j : ℕ) → sum terms.supply ≤ 40 → AllByRecursion (HasCategories terms) log → 1 ≤ j → j ≤ length terms.bidders
+    → IsKnown terms (state_of terms log) j
 known-of terms log j lots categories low high =
     let st : DeskState = state_of terms log in
     let s : Standing = standing terms (admitted terms log) j in
@@ -65,8 +69,10 @@ known-of terms log j lots categories low high =
     let count : length (map (own_of j) st.rounds) ≡ length st.rounds = length-map st.rounds (own_of j) in
     let rounds : (is_clock st.stage ≡ false) → 1 ≤ length st.rounds
     = λ over. omega (arith, count, subst (λ (t : Standing). is_clock t.stage ≡ false → 1 ≤ length t.rounds) (sym is) (rounds-some terms log j) over) in
-    let drafts : AreDrafts terms j (standing_in st j).drafts = subst (λ (t : Standing). AreDrafts terms j t.drafts) (sym is) (AreDrafts-drafts terms log j categories) in
-    let submitted : AreDrafts terms j (standing_in st j).submitted = subst (λ (t : Standing). AreDrafts terms j t.submitted) (sym is) (AreDrafts-submitted terms log j categories) in
+    let drafts : AreDrafts terms j (standing_in st j).drafts = subst (λ (t : Standing). AreDrafts terms j t.drafts) (sym is)
+    (AreDrafts-drafts terms log j categories) in
+    let submitted : AreDrafts terms j (standing_in st j).submitted = subst (λ (t : Standing). AreDrafts terms j t.submitted) (sym is)
+    (AreDrafts-submitted terms log j categories) in
     record {
       first = low;
       last = high;
@@ -80,7 +86,8 @@ known-of terms log j lots categories low high =
       valid = subst (λ (t : Standing). list_fault (final_cap terms) terms.points t.rounds t.submitted ≡ None) (sym is) (IsSound-standing terms j log).valid;
       some = rounds;
       eligible = λ over. sym (first-eligibility j st.rounds (rounds over))
-          ∙ subst (λ (t : Standing). 1 ≤ length t.rounds → (caps.round_at t.rounds 1).eligibility ≡ (entrant terms j).eligibility) (sym is) (rounds-first terms log j) (omega (arith, count, rounds over));
+          ∙ subst (λ (t : Standing). 1 ≤ length t.rounds → (caps.round_at t.rounds 1).eligibility ≡ (entrant terms j).eligibility) (sym is)
+          (rounds-first terms log j) (omega (arith, count, rounds over));
     }
 
 -- each bidder of the award is known to a desk that stands for a log

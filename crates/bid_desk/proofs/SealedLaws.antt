@@ -39,28 +39,33 @@ abbrev submitted_in : Lists → List BookBid
 submitted_in l = l.submitted
 
 -- the state after lists of a bidder were replaced
-own-state : (terms : Terms) (clock : ClockState) (closed : Bool) (bidders other : List Lists) (drafts submitted : List (List BookBid)) → map drafts_in other ≡ drafts → map submitted_in other ≡ submitted
+own-state : (terms : Terms) (clock : ClockState) (closed : Bool) (bidders other : List Lists) (drafts submitted : List (List BookBid))
+    → map drafts_in other ≡ drafts → map submitted_in other ≡ submitted
     → desk_value terms clock closed other ≡ with_own (desk_value terms clock closed bidders) drafts submitted
 own-state terms clock closed bidders other drafts submitted by_drafts by_submitted =
     let st : DeskState = desk_value terms clock closed bidders in
     ap (λ (ds : List (List BookBid)). with_own st ds (map submitted_in other)) by_drafts ∙ ap (with_own st drafts) by_submitted
 
 -- the draft list of a bidder in the state
-pub drafts-read : (terms : Terms) (clock : ClockState) (closed : Bool) (bidders : List Lists) (j : ℕ) (d old : Lists) → j - 1 < length bidders → old ≡ get_or bidders (j - 1) d
+pub drafts-read : (terms : Terms) (clock : ClockState) (closed : Bool) (bidders : List Lists) (j : ℕ) (d old : Lists) → j - 1 < length bidders
+    → old ≡ get_or bidders (j - 1) d
     → old.drafts ≡ drafts_of (desk_value terms clock closed bidders) j
 drafts-read terms clock closed bidders j d old inside read = ap drafts_in read ∙ sym (get_or-map drafts_in bidders (j - 1) d [] inside)
 
 -- a bidder that is known has a place among the lists
-pub known-place : (terms : Terms) (clock : ClockState) (closed : Bool) (bidders : List Lists) (j : ℕ) (now : DeskState) → desk_value terms clock closed bidders ≡ now → IsKnown now.terms now j
+pub known-place : (terms : Terms) (clock : ClockState) (closed : Bool) (bidders : List Lists) (j : ℕ) (now : DeskState)
+    → desk_value terms clock closed bidders ≡ now → IsKnown now.terms now j
     → j - 1 < length bidders
 known-place terms clock closed bidders j now view known =
     let own : IsKnown terms (desk_value terms clock closed bidders) j = subst (λ (st : DeskState). IsKnown st.terms st j) (sym view) known in
     omega (arith, own.drafts_there, length-map bidders drafts_in)
 
 -- an admitted line that changes the draft list of its bidder alone
-drafts-state : (terms : Terms) (clock : ClockState) (closed : Bool) (bidders : List Lists) (j : ℕ) (e : Event) (g : List BookBid → List BookBid) (d old new : Lists)
+drafts-state : (terms : Terms) (clock : ClockState) (closed : Bool) (bidders : List Lists) (j : ℕ) (e : Event) (g : List BookBid → List BookBid)
+    (d old new : Lists)
     → taken (desk_value terms clock closed bidders) e
-    ≡ with_own (desk_value terms clock closed bidders) (set (map drafts_in bidders) (j - 1) (g (drafts_of (desk_value terms clock closed bidders) j))) (map submitted_in bidders)
+    ≡ with_own (desk_value terms clock closed bidders) (set (map drafts_in bidders) (j - 1) (g (drafts_of (desk_value terms clock closed bidders) j)))
+    (map submitted_in bidders)
     → reply_in (desk_value terms clock closed bidders) e ≡ reply.Ok → j - 1 < length bidders
     → old ≡ get_or bidders (j - 1) d → new ≡ lists_with (g old.drafts) old.submitted
     → desk_value terms clock closed (set bidders (j - 1) new) ≡ state_with (desk_value terms clock closed bidders) e
@@ -86,7 +91,8 @@ pub draft-state : (terms : Terms) (clock : ClockState) (closed : Bool) (bidders 
     → reply_in (desk_value terms clock closed bidders) (Draft j lots amount) ≡ reply.Ok → j - 1 < length bidders
     → old ≡ get_or bidders (j - 1) d → new ≡ lists_with (with_entry lots amount old.drafts) old.submitted
     → desk_value terms clock closed (set bidders (j - 1) new) ≡ state_with (desk_value terms clock closed bidders) (Draft j lots amount)
-draft-state terms clock closed bidders j lots amount d old new = drafts-state terms clock closed bidders j (Draft j lots amount) (with_entry lots amount) d old new refl
+draft-state terms clock closed bidders j lots amount d old new = drafts-state terms clock closed bidders j (Draft j lots amount)
+    (with_entry lots amount) d old new refl
 
 -- the state after an admitted submission
 pub submit-state : (terms : Terms) (clock : ClockState) (closed : Bool) (bidders : List Lists) (j : ℕ) (d old new : Lists)

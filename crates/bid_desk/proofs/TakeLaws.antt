@@ -13,7 +13,8 @@ use Rattle.relative_cap.specs.auction_rules.proofs.Views.{reply_to-same_view}
 use Rattle.bid_desk.specs.Reached.{IsBidOrDrop, IsTakenOrMemory, StandsNext, Takes}
 
 -- a desk that stood for a log stands for the log with the line
-pub stands-next : (old new : DeskState) (line : Event) (answer : Reply) (log : List Event) → IsTakenOrMemory old line answer new → old ≡ state_of old.terms log → StandsNext old log line answer new
+pub stands-next : (old new : DeskState) (line : Event) (answer : Reply) (log : List Event) → IsTakenOrMemory old line answer new
+    → old ≡ state_of old.terms log → StandsNext old log line answer new
 stands-next old new line answer log (inl memory) is = inl memory
 stands-next old new line answer log (inr t) is = inr (record {
   reply = t.reply ∙ ap (λ (s : DeskState). reply_in s line) is ∙ reply_in-state_of old.terms log line;
@@ -21,7 +22,8 @@ stands-next old new line answer log (inr t) is = inr (record {
 })
 
 -- the reply follows from what the bidder has seen
-pub view-answers : (old new : DeskState) (line : Event) (answer : Reply) (j : ℕ) (log other : List Event) → IsTakenOrMemory old line answer new → is_of j line ≡ true
+pub view-answers : (old new : DeskState) (line : Event) (answer : Reply) (j : ℕ) (log other : List Event) → IsTakenOrMemory old line answer new
+    → is_of j line ≡ true
     → old ≡ state_of old.terms log → view old.terms j log ≡ view old.terms j other → (answer ≡ reply.Memory) ⊎ (answer ≡ reply_to old.terms other line)
 view-answers old new line answer j log other (inl memory) mine is same = inl memory.reply
 view-answers old new line answer j log other (inr t) mine is same =
@@ -34,7 +36,8 @@ is_memory _ = false
 
 -- the five conditions of a clock bid
 bid-other : (stranger wrong above : Bool) (category : Option ℕ) (cap : Option (ℕ × ℕ)) (eligible : ℕ)
-    → is_memory (first_reply (when wrong reply.Stage ∷ when stranger reply.Unknown ∷ supply_reply category ∷ spectrum_reply cap ∷ when above (reply.Points eligible) ∷ [])) ≡ false
+    → is_memory (first_reply (when wrong reply.Stage ∷ when stranger reply.Unknown ∷ supply_reply category ∷ spectrum_reply cap ∷ when above
+    (reply.Points eligible) ∷ [])) ≡ false
 bid-other stranger true above category cap eligible = refl
 bid-other true false above category cap eligible = refl
 bid-other false false above (Some category) cap eligible = refl
@@ -43,5 +46,6 @@ bid-other false false true None None eligible = refl
 bid-other false false false None None eligible = refl
 
 -- any other line
-pub takes-other : (old new : DeskState) (line : Event) (answer : Reply) → (IsBidOrDrop line → ⊥) → IsTakenOrMemory old line answer new → Takes old line answer new
+pub takes-other : (old new : DeskState) (line : Event) (answer : Reply) → (IsBidOrDrop line → ⊥) → IsTakenOrMemory old line answer new
+    → Takes old line answer new
 takes-other old new line answer is t = record { taken = t; sure = λ yes. absurd (is yes) }

@@ -48,7 +48,8 @@ prices-more xs i now next all twelve asks is raised =
     ∙ ap (prices_after made_terms (held_from (map counts_of xs))) e
 
 -- no price is too great for a step
-pub prices-low : (held : ℕ → ℕ → List ℕ) (i : ℕ) (p : Figures) → i ≤ 9 → figures_of p ≡ prices_after made_terms held i → AllByRecursion (λ p. p ≤ MOST_PRICE) (figures_of p)
+pub prices-low : (held : ℕ → ℕ → List ℕ) (i : ℕ) (p : Figures) → i ≤ 9 → figures_of p ≡ prices_after made_terms held i
+    → AllByRecursion (λ p. p ≤ MOST_PRICE) (figures_of p)
 prices-low held i p few is =
     subst (AllByRecursion (λ p. p ≤ MOST_PRICE)) (sym is)
     (each-weaker (IsBetween 768000) (λ p. p ≤ MOST_PRICE) (prices_after made_terms held i) (λ p between. omega (arith, between.top)) (prices-small held i few))

@@ -20,7 +20,11 @@ IsName-digits : (n : ℕ) → 10 ≤ n → n < 100 → IsName (98 ∷ decimal n)
 IsName-digits n more few =
     let tens : n / 10 < 10 = omega arith in
     let ones : n % 10 < 10 = omega arith in
-    rw (decimal_step n more (omega arith), decimal_digit (n / 10) tens) ((omega arith, omega arith), (inr (inl (omega arith, omega arith)), (inr (inl (omega arith, omega arith)), tt)), omega arith)
+    rw (decimal_step n more (omega arith), decimal_digit (n / 10) tens) (
+      (omega arith, omega arith),
+      (inr (inl (omega arith, omega arith)), (inr (inl (omega arith, omega arith)), tt)),
+      omega arith,
+    )
 
 -- a made bidder keeps the rules of one
 pub entrant-lawful : (k : ℕ) → k < 100 → IsEntrant 4 (made_entrant k)
@@ -38,7 +42,8 @@ names =
     ∷ (98 ∷ 49 ∷ 48 ∷ []) ∷ (98 ∷ 49 ∷ 49 ∷ []) ∷ (98 ∷ 49 ∷ 50 ∷ []) ∷ []
 
 two-digits : (n : ℕ) → 10 ≤ n → n < 100 → decimal n ≡ (48 + n / 10) ∷ (48 + n % 10) ∷ []
-two-digits n more few = let tens : n / 10 < 10 = omega arith in decimal_step n more (omega arith) ∙ ap (λ (ds : List ℕ). ds ++ (48 + n % 10) ∷ []) (decimal_digit (n / 10) tens)
+two-digits n more few = let tens : n / 10 < 10 = omega arith in decimal_step n more (omega arith) ∙ ap (λ (ds : List ℕ). ds ++ (48 + n % 10) ∷ [])
+    (decimal_digit (n / 10) tens)
 
 names-are : names_of (listing made_entrant 12) ≡ names
 names-are = rw (
@@ -105,7 +110,16 @@ IsAward-made_terms = record {
             entrant-lawful 5 (omega arith),
             (
               entrant-lawful 6 (omega arith),
-              (entrant-lawful 7 (omega arith), (entrant-lawful 8 (omega arith), (entrant-lawful 9 (omega arith), (entrant-lawful 10 (omega arith), (entrant-lawful 11 (omega arith), (entrant-lawful 12 (omega arith), tt)))))),
+              (
+                entrant-lawful 7 (omega arith),
+                (
+                  entrant-lawful 8 (omega arith),
+                  (
+                    entrant-lawful 9 (omega arith),
+                    (entrant-lawful 10 (omega arith), (entrant-lawful 11 (omega arith), (entrant-lawful 12 (omega arith), tt))),
+                  ),
+                ),
+              ),
             ),
           ),
         ),

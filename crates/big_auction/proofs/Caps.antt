@@ -9,7 +9,8 @@ use Rattle.row_laws.specs.auction_model.specs.Package.{cost_of}
 use Rattle.row_laws.specs.auction_model.specs.PackageTests.{is_empty, is_same, is_before}
 use Rattle.clock_stage.specs.auction_rules.specs.Step.{last_or}
 use Rattle.clock_stage.specs.auction_rules.specs.Rounds.{OwnRound}
-use Rattle.clock_stage.specs.auction_rules.specs.Caps.{no_round, last_round, enough, constraining, clock_bid, greatest, highest, cap_by, cap_of, excess_cap, first_excess, list_fault}
+use Rattle.clock_stage.specs.auction_rules.specs.Caps.{no_round, last_round, enough, constraining, clock_bid, greatest, highest, cap_by, cap_of, excess_cap}
+use Rattle.clock_stage.specs.auction_rules.specs.Caps.{first_excess, list_fault}
 use Rattle.row_laws.specs.auction_model.specs.Entries.{with_entry}
 use Rattle.row_laws.specs.auction_model.proofs.PackageTestLaws.{is_same-refl}
 use Rattle.clock_stage.specs.auction_rules.proofs.BookCaps.{cost_of-empty}
@@ -20,7 +21,8 @@ pub last_or-append : {A : Type 0} (d : A) (xs : List A) (x : A) → last_or d (x
 last_or-append d [] x = refl
 last_or-append d (y ∷ xs) x = last_or-append y xs x
 
-enough-append : (points : ℕ) (rounds : List OwnRound) (r : OwnRound) → points ≤ r.eligibility → enough points (rounds ++ r ∷ []) ≡ enough points rounds ++ r ∷ []
+enough-append : (points : ℕ) (rounds : List OwnRound) (r : OwnRound) → points ≤ r.eligibility → enough points (rounds ++ r ∷ []) ≡ enough points rounds
+    ++ r ∷ []
 enough-append points [] r reached = rw (le-leb points r.eligibility reached) refl
 enough-append points (s ∷ rounds) r reached =
     elim (cases_Bool (nat_le points s.eligibility)) [
@@ -33,7 +35,8 @@ pub constraining-last : (points : ℕ) (rounds : List OwnRound) (r : OwnRound) �
 constraining-last points rounds r reached = ap (last_or no_round) (enough-append points rounds r reached) ∙ last_or-append no_round (enough points rounds) r
 
 -- where no bid for a package is above an amount, the greatest isn't
-pub greatest-few : (lots : List ℕ) (most : ℕ) (bids : List BookBid) → AllByRecursion (λ b. is_same b.lots lots ≡ true → b.amount ≤ most) bids → greatest lots bids ≤ most
+pub greatest-few : (lots : List ℕ) (most : ℕ) (bids : List BookBid) → AllByRecursion (λ b. is_same b.lots lots ≡ true → b.amount ≤ most) bids
+    → greatest lots bids ≤ most
 greatest-few lots most [] few = omega arith
 greatest-few lots most (b ∷ bids) few =
     elim (cases_Bool (is_same b.lots lots)) [
@@ -56,7 +59,8 @@ highest-last before r list =
       | inl empty ↦ rw empty (omega (arith, cost_of-empty r.prices r.held empty))
       | inr some ↦
           let bids : map clock_bid (before ++ r ∷ []) ≡ map clock_bid before ++ clock_bid r ∷ [] = map-append clock_bid before (r ∷ []) in
-          let there : cost_of r.prices r.held ≤ greatest r.held (map clock_bid before ++ clock_bid r ∷ []) = greatest-last (clock_bid r) (map clock_bid before) in
+          let there : cost_of r.prices r.held ≤ greatest r.held (map clock_bid before ++ clock_bid r ∷ []) =
+          greatest-last (clock_bid r) (map clock_bid before) in
           rw (some, bids) (omega (arith, there, greatest-left r.held (map clock_bid before ++ clock_bid r ∷ []) list))
     ]
 
@@ -72,12 +76,14 @@ below-cap before r list b fair =
     elim (cases_Bool (is_same b.lots r.held)) [
       | inl same ↦ rw (last, same) refl
       | inr other ↦
-          let by : constraining (cost_of made_terms.points b.lots) (before ++ r ∷ []) ≡ r = constraining-last (cost_of made_terms.points b.lots) before r (fair.eligible other) in
+          let by : constraining (cost_of made_terms.points b.lots) (before ++ r ∷ []) ≡ r = constraining-last (cost_of made_terms.points b.lots) before r
+          (fair.eligible other) in
           let within : b.amount ≤ cap_by (before ++ r ∷ []) list r b.lots = omega (arith, fair.low other, highest-last before r list) in
           rw (last, other, by, le-leb b.amount (cap_by (before ++ r ∷ []) list r b.lots) within) refl
     ]
 
-no-excess : (cap : List ℕ → Option ℕ) (entry : ℕ) (bids : List BookBid) → AllByRecursion (λ b. excess_cap (cap b.lots) b.amount ≡ None) bids → first_excess cap entry bids ≡ None
+no-excess : (cap : List ℕ → Option ℕ) (entry : ℕ) (bids : List BookBid) → AllByRecursion (λ b. excess_cap (cap b.lots) b.amount ≡ None) bids
+    → first_excess cap entry bids ≡ None
 no-excess cap entry [] low = refl
 no-excess cap entry (b ∷ bids) low = rw low.0 (no-excess cap (suc entry) bids low.1)
 
@@ -87,13 +93,15 @@ each-below before r list [] fair = tt
 each-below before r list (b ∷ bids) fair = (below-cap before r list b fair.0, each-below before r list bids fair.1)
 
 -- a list of such entries may be submitted
-pub no-fault : (before : List OwnRound) (r : OwnRound) (list : List BookBid) → AllByRecursion (IsFair r) list → list_fault false made_terms.points (before ++ r ∷ []) list ≡ None
+pub no-fault : (before : List OwnRound) (r : OwnRound) (list : List BookBid) → AllByRecursion (IsFair r) list
+    → list_fault false made_terms.points (before ++ r ∷ []) list ≡ None
 no-fault before r list fair = no-excess (cap_of false made_terms.points (before ++ r ∷ []) list) 1 list (each-below before r list list fair)
 
 -- ---- lists with one entry more
 
 -- what each entry of a list keeps, and the new one, each keeps of the list with it
-pub each-with_entry : (P : BookBid → Type 0) (lots : List ℕ) (amount : ℕ) (list : List BookBid) → AllByRecursion P list → P (record { lots = lots; amount = amount }) → AllByRecursion P (with_entry lots amount list)
+pub each-with_entry : (P : BookBid → Type 0) (lots : List ℕ) (amount : ℕ) (list : List BookBid) → AllByRecursion P list
+    → P (record { lots = lots; amount = amount }) → AllByRecursion P (with_entry lots amount list)
 each-with_entry P lots amount [] each new = (new, tt)
 each-with_entry P lots amount (b ∷ list) each new =
     elim (cases_Bool (is_same lots b.lots)) [

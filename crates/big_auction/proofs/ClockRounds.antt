@@ -1,5 +1,6 @@
 -- The rounds of the clock in a made auction, over what each bidder holds.
-use Rattle.std.proofs.Common.{◌≡◌, ℕ, suc, ◌-◌, ◌<◌, ◌≤◌, Bool, true, false, not, ◌&&◌, List, [], ◌∷◌, ◌++◌, None, length, replicate, refl, sym, ◌∙◌, subst, arith}
+use Rattle.std.proofs.Common.{◌≡◌, ℕ, suc, ◌-◌, ◌<◌, ◌≤◌, Bool, true, false, not, ◌&&◌, List, [], ◌∷◌, ◌++◌, None, length, replicate, refl, sym, ◌∙◌, subst}
+use Rattle.std.proofs.Common.{arith}
 use Rattle.std.specs.Prelude.{nat_le, nat_lt}
 use Rattle.std.proofs.lemmas.Bool.{le-ltb, lt-leb, cond-true, cond-false}
 use Rattle.row_laws.specs.auction_model.specs.Book.{BookBid}
@@ -41,12 +42,14 @@ pub record MayBid (eligibility : ℕ) (lots : List ℕ) : Type 0 where
   pub within : first_over 1 lots made_terms.supply ≡ None
   pub points : cost_of made_terms.points lots ≤ eligibility
 
-bid-ok : (eligibility k : ℕ) (lots : List ℕ) → (nat_lt 0 k && nat_le k 12) ≡ true → MayBid eligibility lots → bid_reply made_terms Clock eligibility k lots ≡ reply.Ok
+bid-ok : (eligibility k : ℕ) (lots : List ℕ) → (nat_lt 0 k && nat_le k 12) ≡ true → MayBid eligibility lots
+    → bid_reply made_terms Clock eligibility k lots ≡ reply.Ok
 bid-ok eligibility k lots known may = rw (known, may.within, le-ltb eligibility (cost_of made_terms.points lots) may.points) refl
 
 -- all bidders bid
 pub twelve-bids : (rounds : List Round) (prices : List ℕ) (eligibility : ℕ → ℕ) (p : ℕ → List ℕ) → ((k : ℕ) → 1 ≤ k → k ≤ 12 → MayBid (eligibility k) (p k))
-    → Goes (clock_state rounds prices (listing eligibility 12) none_held) (listing (λ k. Bid k (p k)) 12) (λ s. s ≡ clock_state rounds prices (listing eligibility 12) (listing p 12))
+    → Goes (clock_state rounds prices (listing eligibility 12) none_held) (listing (λ k. Bid k (p k)) 12)
+    (λ s. s ≡ clock_state rounds prices (listing eligibility 12) (listing p 12))
 twelve-bids rounds prices eligibility p may = record {
   pass = (
     bid-ok (eligibility 1) 1 (p 1) refl (may 1 (omega arith) (omega arith)),
@@ -64,7 +67,16 @@ twelve-bids rounds prices eligibility p may = record {
                 bid-ok (eligibility 7) 7 (p 7) refl (may 7 (omega arith) (omega arith)),
                 (
                   bid-ok (eligibility 8) 8 (p 8) refl (may 8 (omega arith) (omega arith)),
-                  (bid-ok (eligibility 9) 9 (p 9) refl (may 9 (omega arith) (omega arith)), (bid-ok (eligibility 10) 10 (p 10) refl (may 10 (omega arith) (omega arith)), (bid-ok (eligibility 11) 11 (p 11) refl (may 11 (omega arith) (omega arith)), (bid-ok (eligibility 12) 12 (p 12) refl (may 12 (omega arith) (omega arith)), tt)))),
+                  (
+                    bid-ok (eligibility 9) 9 (p 9) refl (may 9 (omega arith) (omega arith)),
+                    (
+                      bid-ok (eligibility 10) 10 (p 10) refl (may 10 (omega arith) (omega arith)),
+                      (
+                        bid-ok (eligibility 11) 11 (p 11) refl (may 11 (omega arith) (omega arith)),
+                        (bid-ok (eligibility 12) 12 (p 12) refl (may 12 (omega arith) (omega arith)), tt),
+                      ),
+                    ),
+                  ),
                 ),
               ),
             ),
@@ -77,15 +89,36 @@ twelve-bids rounds prices eligibility p may = record {
 }
 
 -- four bidders bid
-pub four-bids : (rounds : List Round) (prices : List ℕ) (eligibility : ℕ → ℕ) (p : ℕ → List ℕ) → ((k : ℕ) → 1 ≤ k → k ≤ 12 → MayBid (eligibility k) (p k)) → ((k : ℕ) → 4 < k → p k ≡ no_lots made_terms)
-    → Goes (clock_state rounds prices (listing eligibility 12) none_held) (listing (λ k. Bid k (p k)) 4) (λ s. s ≡ clock_state rounds prices (listing eligibility 12) (listing p 12))
+pub four-bids : (rounds : List Round) (prices : List ℕ) (eligibility : ℕ → ℕ) (p : ℕ → List ℕ) → ((k : ℕ) → 1 ≤ k → k ≤ 12 → MayBid (eligibility k) (p k))
+    → ((k : ℕ) → 4 < k → p k ≡ no_lots made_terms)
+    → Goes (clock_state rounds prices (listing eligibility 12) none_held) (listing (λ k. Bid k (p k)) 4)
+    (λ s. s ≡ clock_state rounds prices (listing eligibility 12) (listing p 12))
 four-bids rounds prices eligibility p may others = record {
-  pass = (bid-ok (eligibility 1) 1 (p 1) refl (may 1 (omega arith) (omega arith)), (bid-ok (eligibility 2) 2 (p 2) refl (may 2 (omega arith) (omega arith)), (bid-ok (eligibility 3) 3 (p 3) refl (may 3 (omega arith) (omega arith)), (bid-ok (eligibility 4) 4 (p 4) refl (may 4 (omega arith) (omega arith)), tt))));
-  to = rw (others 5 (omega arith), others 6 (omega arith), others 7 (omega arith), others 8 (omega arith), others 9 (omega arith), others 10 (omega arith), others 11 (omega arith), others 12 (omega arith)) refl;
+  pass = (
+    bid-ok (eligibility 1) 1 (p 1) refl (may 1 (omega arith) (omega arith)),
+    (
+      bid-ok (eligibility 2) 2 (p 2) refl (may 2 (omega arith) (omega arith)),
+      (
+        bid-ok (eligibility 3) 3 (p 3) refl (may 3 (omega arith) (omega arith)),
+        (bid-ok (eligibility 4) 4 (p 4) refl (may 4 (omega arith) (omega arith)), tt),
+      ),
+    ),
+  );
+  to = rw (
+    others 5 (omega arith),
+    others 6 (omega arith),
+    others 7 (omega arith),
+    others 8 (omega arith),
+    others 9 (omega arith),
+    others 10 (omega arith),
+    others 11 (omega arith),
+    others 12 (omega arith),
+  ) refl;
 }
 
 -- the reply to a close with excess demand, before the last round that there may be
-excess-ok : (within : Bool) (rounds : ℕ) (prices : List ℕ) → within ≡ false → rounds < 299 → price_top 1 prices ≡ None → closing_reply false (not within) (suc rounds) prices ≡ reply.Ok
+excess-ok : (within : Bool) (rounds : ℕ) (prices : List ℕ) → within ≡ false → rounds < 299 → price_top 1 prices ≡ None
+    → closing_reply false (not within) (suc rounds) prices ≡ reply.Ok
 excess-ok within rounds prices over few top = let low : nat_le 300 (suc rounds) ≡ false = lt-leb 300 (suc rounds) (omega arith) in rw (over, low, top) refl
 
 -- and to one without
@@ -94,14 +127,17 @@ no_excess-ok within round prices is = rw is refl
 
 -- the state in which the round behind n others is posted
 unfoldable pub posted : (ℕ → ℕ → List ℕ) → ℕ → DeskState
-posted held n = clock_state (listing (round_of made_terms held) n) (prices_after made_terms held n) (listing (λ j. eligibility_after made_terms held j n) 12) none_held
+posted held n = clock_state (listing (round_of made_terms held) n) (prices_after made_terms held n) (listing (λ j. eligibility_after made_terms held j n) 12)
+    none_held
 
 -- the same with what is held in it
 unfoldable pub asked_for : (ℕ → ℕ → List ℕ) → ℕ → DeskState
-asked_for held n = clock_state (listing (round_of made_terms held) n) (prices_after made_terms held n) (listing (λ j. eligibility_after made_terms held j n) 12) (listing (held (suc n)) 12)
+asked_for held n = clock_state (listing (round_of made_terms held) n) (prices_after made_terms held n)
+    (listing (λ j. eligibility_after made_terms held j n) 12) (listing (held (suc n)) 12)
 
 -- the rounds with one more
-kept-round : (held : ℕ → ℕ → List ℕ) (n : ℕ) → clock_state (listing (round_of made_terms held) n ++ round_now (asked_for held n) ∷ []) (prices_after made_terms held (suc n)) (listing (λ j. eligibility_after made_terms held j (suc n)) 12) none_held
+kept-round : (held : ℕ → ℕ → List ℕ) (n : ℕ) → clock_state (listing (round_of made_terms held) n ++ round_now (asked_for held n) ∷ [])
+    (prices_after made_terms held (suc n)) (listing (λ j. eligibility_after made_terms held j (suc n)) 12) none_held
     ≡ posted held (suc n)
 unfolding posted asked_for
 kept-round held n = let e : suc n - 1 ≡ n = omega arith in rw e refl
@@ -113,9 +149,11 @@ close-goes held n few over =
     let asks : List ℕ = asked made_terms (listing (held (suc n)) 12) in
     let over_now : is_within asks made_terms.supply ≡ false = over in
     let len : length (listing (round_of made_terms held) n) ≡ n = length-listing (round_of made_terms held) n in
-    let top : price_top 1 (prices_after made_terms held (suc n)) ≡ None = no_price_top 1 (prices_after made_terms held (suc n)) (prices-small held (suc n) (omega arith)) in
+    let top : price_top 1 (prices_after made_terms held (suc n)) ≡ None = no_price_top 1 (prices_after made_terms held (suc n))
+    (prices-small held (suc n) (omega arith)) in
     goes-one (asked_for held n) Close (λ s. s ≡ posted held (suc n))
-    (excess-ok (is_within asks made_terms.supply) (length (listing (round_of made_terms held) n)) (prices_after made_terms held (suc n)) over_now (omega (arith, len)) top)
+    (excess-ok (is_within asks made_terms.supply) (length (listing (round_of made_terms held) n)) (prices_after made_terms held (suc n)) over_now
+    (omega (arith, len)) top)
     (cond-false (is_within asks made_terms.supply) (clock_stopped (asked_for held n)) (next_round (asked_for held n)) over_now ∙ kept-round held n)
 
 -- one of the first rounds
@@ -146,24 +184,29 @@ unfoldable pub rounds_to : (ℕ → ℕ → List ℕ) → ℕ → List Round
 rounds_to held n = listing (round_of made_terms held) n
 
 stop-goes : (held : ℕ → ℕ → List ℕ) (n : ℕ) → is_within (demand made_terms held (suc n)) made_terms.supply ≡ true
-    → Goes (asked_for held n) (Close ∷ []) (λ s. s ≡ sealed_state (rounds_to held (suc n)) (prices_after made_terms held n) (listing (λ j. eligibility_after made_terms held j n) 12) (listing (held (suc n)) 12) no_lists no_lists)
+    → Goes (asked_for held n) (Close ∷ []) (λ s. s ≡ sealed_state (rounds_to held (suc n)) (prices_after made_terms held n)
+    (listing (λ j. eligibility_after made_terms held j n) 12) (listing (held (suc n)) 12) no_lists no_lists)
 unfolding asked_for rounds_to
 stop-goes held n within =
     let asks : List ℕ = asked made_terms (listing (held (suc n)) 12) in
     let within_now : is_within asks made_terms.supply ≡ true = within in
     let e : suc n - 1 ≡ n = omega arith in
-    goes-one (asked_for held n) Close (λ s. s ≡ sealed_state (listing (round_of made_terms held) (suc n)) (prices_after made_terms held n) (listing (λ j. eligibility_after made_terms held j n) 12) (listing (held (suc n)) 12) no_lists no_lists)
+    goes-one (asked_for held n) Close (λ s. s ≡ sealed_state (listing (round_of made_terms held) (suc n)) (prices_after made_terms held n)
+    (listing (λ j. eligibility_after made_terms held j n) 12) (listing (held (suc n)) 12) no_lists no_lists)
     (no_excess-ok (is_within asks made_terms.supply) (suc (length (listing (round_of made_terms held) n))) (prices_after made_terms held (suc n)) within_now)
     (cond-true (is_within asks made_terms.supply) (clock_stopped (asked_for held n)) (next_round (asked_for held n)) within_now ∙ (rw e refl))
 
 -- the last round
-pub last_round-goes : (held : ℕ → ℕ → List ℕ) (n : ℕ) → ((k : ℕ) → 1 ≤ k → k ≤ 12 → MayBid (eligibility_after made_terms held k n) (held (suc n) k)) → ((k : ℕ) → 4 < k → held (suc n) k ≡ no_lots made_terms)
+pub last_round-goes : (held : ℕ → ℕ → List ℕ) (n : ℕ) → ((k : ℕ) → 1 ≤ k → k ≤ 12 → MayBid (eligibility_after made_terms held k n) (held (suc n) k))
+    → ((k : ℕ) → 4 < k → held (suc n) k ≡ no_lots made_terms)
     → is_within (demand made_terms held (suc n)) made_terms.supply ≡ true
     → Goes (posted held n) (listing (λ k. Bid k (held (suc n) k)) 4 ++ Close ∷ [])
-    (λ s. s ≡ sealed_state (rounds_to held (suc n)) (prices_after made_terms held n) (listing (λ j. eligibility_after made_terms held j n) 12) (listing (held (suc n)) 12) no_lists no_lists)
+    (λ s. s ≡ sealed_state (rounds_to held (suc n)) (prices_after made_terms held n) (listing (λ j. eligibility_after made_terms held j n) 12)
+    (listing (held (suc n)) 12) no_lists no_lists)
 unfolding posted asked_for
 last_round-goes held n may others within =
-    let To : DeskState → Type 0 = λ s. s ≡ sealed_state (rounds_to held (suc n)) (prices_after made_terms held n) (listing (λ j. eligibility_after made_terms held j n) 12) (listing (held (suc n)) 12) no_lists no_lists in
+    let To : DeskState → Type 0 = λ s. s ≡ sealed_state (rounds_to held (suc n)) (prices_after made_terms held n)
+    (listing (λ j. eligibility_after made_terms held j n) 12) (listing (held (suc n)) 12) no_lists no_lists in
     goes-on (posted held n) (listing (λ k. Bid k (held (suc n) k)) 4) (Close ∷ []) (λ s. s ≡ asked_for held n) To
     (four-bids (listing (round_of made_terms held) n) (prices_after made_terms held n) (λ j. eligibility_after made_terms held j n) (held (suc n)) may others)
     (λ s is. subst (λ (s : DeskState). Goes s (Close ∷ []) To) (sym is) (stop-goes held n within))

@@ -1,5 +1,6 @@
 -- At most four bidders win a made auction.
-use Rattle.std.proofs.Common.{◌≡◌, ℕ, zero, suc, ◌-◌, ◌<◌, ◌≤◌, true, false, not, List, [], ◌∷◌, ◌++◌, length, map, reverse, get_or, refl, sym, ◌∙◌, ap, subst, inl, inr, arith}
+use Rattle.std.proofs.Common.{◌≡◌, ℕ, zero, suc, ◌-◌, ◌<◌, ◌≤◌, true, false, not, List, [], ◌∷◌, ◌++◌, length, map, reverse, get_or, refl, sym, ◌∙◌, ap}
+use Rattle.std.proofs.Common.{subst, inl, inr, arith}
 use Rattle.std.specs.Prelude.{IsTrue, nat_le, slice_index, filter}
 use Rattle.std.specs.List.{AllByRecursion}
 use Rattle.std.proofs.lemmas.Bool.{cases_Bool, cases_lt, and_parts, leb-true, false≢true}
@@ -35,8 +36,10 @@ some-held number r k some =
     elim (cases_lt 9 r) [
       | inr early ↦ rw (held-early number r k early) (own-lot (package_of number k) (IsOwn-package_of number k))
       | inl late ↦ elim (cases_lt 4 k) [
-        | inl more ↦ let empty : is_empty (held_by number r k) ≡ true = rw (held-last number r k late, leaves number k more) refl in absurd (false≢true (sym some ∙ empty))
-        | inr few ↦ rw (held-last number r k late, stays number k few) (own-lot (reduced (package_of number k)) (reduced-own (package_of number k) (IsOwn-package_of number k)))
+        | inl more ↦ let empty : is_empty (held_by number r k) ≡ true = rw (held-last number r k late, leaves number k more) refl in
+            absurd (false≢true (sym some ∙ empty))
+        | inr few ↦ rw (held-last number r k late, stays number k few) (own-lot (reduced (package_of number k))
+            (reduced-own (package_of number k) (IsOwn-package_of number k)))
       ]
     ]
 
@@ -52,7 +55,8 @@ each-held : (number j n : ℕ) → AllByRecursion (λ r. IsEmptyOrHasLot r.held)
 each-held number j zero = subst (AllByRecursion (λ (r : OwnRound). IsEmptyOrHasLot r.held)) (sym (none-yet (held_by number) j)) tt
 each-held number j (suc n) =
     subst (AllByRecursion (λ (r : OwnRound). IsEmptyOrHasLot r.held)) (sym (own-rounds (held_by number) j n))
-    (each-push (λ (r : OwnRound). IsEmptyOrHasLot r.held) (map (own_of j) (rounds_to (held_by number) n)) (own_of j (round_of made_terms (held_by number) (suc n))) (each-held number j n)
+    (each-push (λ (r : OwnRound). IsEmptyOrHasLot r.held) (map (own_of j) (rounds_to (held_by number) n))
+    (own_of j (round_of made_terms (held_by number) (suc n))) (each-held number j n)
     (at-listing IsEmptyOrHasLot (held_by number (suc n)) 12 (j - 1) [] (λ some. absurd (false≢true (sym some))) (some-held number (suc n))))
 
 each-clock : (rounds : List OwnRound) (more : List BookBid) → AllByRecursion (λ r. IsEmptyOrHasLot r.held) rounds → AllByRecursion HasLot more
@@ -94,11 +98,18 @@ HaveLots m = (j i : ℕ) → suc i ≤ m.bids j → 1 ≤ slice_index (m.lots j 
 count : (m : Menu) (k : ℕ) (c : List ℕ) → HaveLots m → is_known_after m k c ≡ true → winners_in c ≤ slice_index (packages_after m k c) 0
 count m k [] have known = omega arith
 count m k (zero ∷ c) have known =
-    let both : (nat_le zero (m.bids (suc k)) ≡ true) × (is_known_after m (suc k) c ≡ true) = and_parts (nat_le zero (m.bids (suc k))) (is_known_after m (suc k) c) known in
+    let both : (nat_le zero (m.bids (suc k)) ≡ true) × (is_known_after m (suc k) c ≡ true) = and_parts (nat_le zero (m.bids (suc k)))
+    (is_known_after m (suc k) c) known in
     omega (arith, head-together (m.lots (suc k) zero) (packages_after m (suc k) c), count m (suc k) c have both.1)
 count m k (suc i ∷ c) have known =
-    let both : (nat_le (suc i) (m.bids (suc k)) ≡ true) × (is_known_after m (suc k) c ≡ true) = and_parts (nat_le (suc i) (m.bids (suc k))) (is_known_after m (suc k) c) known in
-    omega (arith, head-together (m.lots (suc k) (suc i)) (packages_after m (suc k) c), count m (suc k) c have both.1, have (suc k) i (leb-true (suc i) (m.bids (suc k)) both.0))
+    let both : (nat_le (suc i) (m.bids (suc k)) ≡ true) × (is_known_after m (suc k) c ≡ true) = and_parts (nat_le (suc i) (m.bids (suc k)))
+    (is_known_after m (suc k) c) known in
+    omega (
+      arith,
+      head-together (m.lots (suc k) (suc i)) (packages_after m (suc k) c),
+      count m (suc k) c have both.1,
+      have (suc k) i (leb-true (suc i) (m.bids (suc k)) both.0),
+    )
 
 head-within : (d rest : List ℕ) (most : ℕ) → is_within d (most ∷ rest) ≡ true → slice_index d 0 ≤ most
 head-within [] rest most within = omega arith
@@ -109,14 +120,17 @@ book-lots : (number : ℕ) (st : DeskState) → IsEnd number st → HaveLots (me
 book-lots number st is j i few =
     let bidders : List Bidder = listing (book_bidder st.terms (λ j. book_bids (standing_in st j))) (length st.terms.bidders) in
     let own : AllByRecursion HasLot (get_or bidders (j - 1) no_bidder).bids =
-    at-listing (λ (b : Bidder). AllByRecursion HasLot b.bids) (book_bidder st.terms (λ j. book_bids (standing_in st j))) (length st.terms.bidders) (j - 1) no_bidder tt (book-has number st is) in
+    at-listing (λ (b : Bidder). AllByRecursion HasLot b.bids) (book_bidder st.terms (λ j. book_bids (standing_in st j))) (length st.terms.bidders)
+    (j - 1) no_bidder tt (book-has number st is) in
     each-at HasLot (get_or bidders (j - 1) no_bidder).bids i no_bid (omega (arith, few)) own
 
 few-in : (number : ℕ) (st : DeskState) (c : List ℕ) → IsEnd number st → IsTrue ((market_of (book_in st)).allowed c) → winners_in c ≤ 4
 few-in number st c is allowed =
     let m : Menu = menu_of (book_in st) in
-    let both : (is_known_after m 0 c ≡ true) × (is_within (packages_after m 0 c) st.terms.supply ≡ true) = and_parts (is_known_after m 0 c) (is_within (packages_after m 0 c) st.terms.supply) allowed in
-    let within : is_within (packages_after m 0 c) (4 ∷ 1 ∷ 14 ∷ 9 ∷ []) ≡ true = subst (λ (t : _). is_within (packages_after m 0 c) t.supply ≡ true) is.terms both.1 in
+    let both : (is_known_after m 0 c ≡ true) × (is_within (packages_after m 0 c) st.terms.supply ≡ true) =
+    and_parts (is_known_after m 0 c) (is_within (packages_after m 0 c) st.terms.supply) allowed in
+    let within : is_within (packages_after m 0 c) (4 ∷ 1 ∷ 14 ∷ 9 ∷ []) ≡ true = subst (λ (t : _). is_within (packages_after m 0 c) t.supply ≡ true) is.terms
+    both.1 in
     omega (arith, count m 0 c (book-lots number st is) both.0, head-within (packages_after m 0 c) (1 ∷ 14 ∷ 9 ∷ []) 4 within)
 
 -- an allowed choice of the book of the made log has at most four winners

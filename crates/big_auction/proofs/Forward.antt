@@ -37,7 +37,8 @@ pub record Goes (st : DeskState) (es : List Event) (To : DeskState → Type 0) :
   pub to : To (after st es)
 
 -- lines that lead to a kind of state, and lines that lead on from each such state, do so one behind the other
-pub goes-on : (st : DeskState) (xs ys : List Event) (Via To : DeskState → Type 0) → Goes st xs Via → ((s : DeskState) → Via s → Goes s ys To) → Goes st (xs ++ ys) To
+pub goes-on : (st : DeskState) (xs ys : List Event) (Via To : DeskState → Type 0) → Goes st xs Via → ((s : DeskState) → Via s → Goes s ys To)
+    → Goes st (xs ++ ys) To
 goes-on st xs ys Via To first next =
     let then : Goes (after st xs) ys To = next (after st xs) first.to in
     record { pass = AllPass-append st xs ys first.pass then.pass; to = subst To (sym (after-append st xs ys)) then.to }
@@ -64,18 +65,21 @@ stands-line terms log st e stands ok =
     let answer : reply_to terms log e ≡ Ok = sym (reply_in-state_of terms log e) ∙ ap (λ (s : DeskState). reply_in s e) stands.state ∙ ok in
     record {
       answered = (answer, stands.answered);
-      state = sym (state_with-state_of terms log e) ∙ ap (λ (s : DeskState). state_with s e) stands.state ∙ cond-true (is_ok_reply (reply_in st e)) (taken st e) st (ap is_ok_reply ok);
+      state = sym (state_with-state_of terms log e) ∙ ap (λ (s : DeskState). state_with s e) stands.state
+          ∙ cond-true (is_ok_reply (reply_in st e)) (taken st e) st (ap is_ok_reply ok);
     }
 
 stands-behind : (terms : Terms) (es log : List Event) (st : DeskState) → Stands terms log st → AllPass st es → Stands terms (reverse es ++ log) (after st es)
 stands-behind terms [] log st stands pass = stands
 stands-behind terms (e ∷ es) log st stands pass =
-    let e-first : reverse (e ∷ es) ++ log ≡ reverse es ++ (e ∷ log) = ap (λ (xs : List Event). xs ++ log) (reverse-append (e ∷ []) es) ∙ append_assoc (reverse es) (e ∷ []) log in
+    let e-first : reverse (e ∷ es) ++ log ≡ reverse es ++ (e ∷ log) = ap (λ (xs : List Event). xs ++ log) (reverse-append (e ∷ []) es)
+    ∙ append_assoc (reverse es) (e ∷ []) log in
     subst (λ (xs : List Event). Stands terms xs (after (taken st e) es)) (sym e-first)
     (stands-behind terms es (e ∷ log) (taken st e) (stands-line terms log st e stands pass.0) pass.1)
 
 -- lines that are all answered Ok from the beginning on
-pub stands-all : (terms : Terms) (es : List Event) (To : DeskState → Type 0) → Goes (state_of terms []) es To → Stands terms (reverse es) (after (state_of terms []) es)
+pub stands-all : (terms : Terms) (es : List Event) (To : DeskState → Type 0) → Goes (state_of terms []) es To
+    → Stands terms (reverse es) (after (state_of terms []) es)
 stands-all terms es To goes =
     subst (λ (xs : List Event). Stands terms xs (after (state_of terms []) es)) (append-nil (reverse es))
     (stands-behind terms es [] (state_of terms []) (record { answered = tt; state = refl }) goes.pass)

@@ -37,7 +37,8 @@ added-none text = sym (append-nil text)
 -- ---- clock bids
 
 -- the clock bid of one bidder more
-pub bids-more : (xs : List Lots) (i : ℕ) (p : Lots) (old now new : List ℕ) → i < length xs → p ≡ get_or xs i p → now ≡ old ++ log_text (bids_for (map counts_of xs) i)
+pub bids-more : (xs : List Lots) (i : ℕ) (p : Lots) (old now new : List ℕ) → i < length xs → p ≡ get_or xs i p
+    → now ≡ old ++ log_text (bids_for (map counts_of xs) i)
     → new ≡ now ++ event_text (Bid (i + 1) (counts_of p)) → new ≡ old ++ log_text (bids_for (map counts_of xs) (i + 1))
 bids-more xs i p old now new low is was added_one =
     let next : i + 1 ≡ suc i = omega arith in
@@ -49,7 +50,8 @@ bids-more xs i p old now new low is was added_one =
 -- ---- drafts
 
 -- a draft with a package of four draws and an amount by the fifth is the drawn one
-pub draft-same : (s s4 k : ℕ) (prices own final lots : List ℕ) (d a : ℕ) → s4 ≡ behind s 4 → lots ≡ drawn_package s own → d ≡ drawn s4 1 501 → a ≡ amount_of prices own final lots (500 + d)
+pub draft-same : (s s4 k : ℕ) (prices own final lots : List ℕ) (d a : ℕ) → s4 ≡ behind s 4 → lots ≡ drawn_package s own → d ≡ drawn s4 1 501
+    → a ≡ amount_of prices own final lots (500 + d)
     → Draft k lots a ≡ drawn_draft s prices k own final
 draft-same s s4 k prices own final lots d a fourth are drew is =
     let fifth : d ≡ drawn s 5 501 = drawn-next s s4 4 d 501 fourth drew in
@@ -62,12 +64,14 @@ unfolding drawn_drafts
 no-drafts s k prices own final = refl
 
 -- one draft more is drawn from the state behind five draws for each before it
-pub drafts-more : (s k i : ℕ) (prices own final : List ℕ) → drawn_drafts s prices k own final (i + 1) ≡ drawn_drafts s prices k own final i ++ drawn_draft (behind s (5 * i)) prices k own final ∷ []
+pub drafts-more : (s k i : ℕ) (prices own final : List ℕ) → drawn_drafts s prices k own final (i + 1) ≡ drawn_drafts s prices k own final i
+    ++ drawn_draft (behind s (5 * i)) prices k own final ∷ []
 unfolding drawn_drafts
 drafts-more s k i prices own final =
     let next : i + 1 ≡ suc i = omega arith in
     let e : suc i - 1 ≡ i = omega arith in
-    ap (drawn_drafts s prices k own final) next ∙ ap (λ (j : ℕ). drawn_drafts s prices k own final i ++ drawn_draft (behind s (5 * j)) prices k own final ∷ []) e
+    ap (drawn_drafts s prices k own final) next ∙ ap (λ (j : ℕ). drawn_drafts s prices k own final i
+    ++ drawn_draft (behind s (5 * j)) prices k own final ∷ []) e
 
 -- so many drafts were added, and drawn
 pub record IsDrafted (s k : ℕ) (prices own final : List ℕ) (i state : ℕ) (old now : List ℕ) : Type 0 where
@@ -94,5 +98,6 @@ drafted-more s k prices own final i state next old now new d is after =
     }
 
 -- so many draws behind a bidder's 100 drafts are 500 more from where they began
-pub state-behind : (s k state next more : ℕ) (prices own final old now : List ℕ) → IsDrafted s k prices own final 100 state old now → next ≡ behind state more → next ≡ behind s (500 + more)
+pub state-behind : (s k state next more : ℕ) (prices own final old now : List ℕ) → IsDrafted s k prices own final 100 state old now → next ≡ behind state more
+    → next ≡ behind s (500 + more)
 state-behind s k state next more prices own final old now d after = after ∙ ap (λ (x : ℕ). behind x more) d.drew ∙ behind-behind s 500 more

@@ -1,5 +1,6 @@
 -- The clock of a made auction, and what it leaves to each bidder.
-use Rattle.std.proofs.Common.{◌≡◌, ℕ, zero, suc, ◌+◌, ◌-◌, ◌<◌, ◌≤◌, true, false, ◌&&◌, List, [], ◌∷◌, ◌++◌, map, get_or, refl, sym, ◌∙◌, ap, subst, inl, inr, arith}
+use Rattle.std.proofs.Common.{◌≡◌, ℕ, zero, suc, ◌+◌, ◌-◌, ◌<◌, ◌≤◌, true, false, ◌&&◌, List, [], ◌∷◌, ◌++◌, map, get_or, refl, sym, ◌∙◌, ap, subst, inl, inr}
+use Rattle.std.proofs.Common.{arith}
 use Rattle.std.specs.Prelude.{◌⊎◌, nat_le, slice_index, flat_map}
 use Rattle.std.specs.List.{AllByRecursion}
 use Rattle.std.proofs.lemmas.Bool.{cases_lt, leb-true, le-leb, lt-leb, lt-ltb, and_from, cond-true, cond-false}
@@ -123,7 +124,8 @@ over-head (a ∷ d) rest most more = rw (lt-leb a most more) refl
 
 over-early : (number n : ℕ) → n < 9 → is_within (demand made_terms (held_by number) (suc n)) made_terms.supply ≡ false
 over-early number n early =
-    let each : (k : ℕ) → 1 ≤ slice_index (held_by number (suc n) k) 0 = λ k. rw (held-early number (suc n) k (omega arith)) (own-lot (package_of number k) (IsOwn-package_of number k)) in
+    let each : (k : ℕ) → 1 ≤ slice_index (held_by number (suc n) k) 0 = λ k. rw (held-early number (suc n) k (omega arith))
+    (own-lot (package_of number k) (IsOwn-package_of number k)) in
     over-head (demand made_terms (held_by number) (suc n)) (1 ∷ 14 ∷ 9 ∷ []) 4 (omega (arith, head-sum (no_lots made_terms) (held_by number (suc n)) 12 each))
 
 within-last : (number : ℕ) → is_within (demand made_terms (held_by number) 10) made_terms.supply ≡ true
@@ -149,12 +151,15 @@ last_held number = listing (held_by number 10) 12
 
 -- the clock of a made auction stops after ten rounds
 pub clock-goes : (number : ℕ) → Goes (posted (held_by number) 0) (clock_lines number)
-    (λ s. s ≡ sealed_state (rounds_to (held_by number) 10) (prices_after made_terms (held_by number) 9) (last_eligibility number) (last_held number) no_lists no_lists)
+    (λ s. s ≡ sealed_state (rounds_to (held_by number) 10) (prices_after made_terms (held_by number) 9) (last_eligibility number)
+    (last_held number) no_lists no_lists)
 clock-goes number =
-    let To : DeskState → Type 0 = λ s. s ≡ sealed_state (rounds_to (held_by number) 10) (prices_after made_terms (held_by number) 9) (last_eligibility number) (last_held number) no_lists no_lists in
+    let To : DeskState → Type 0 = λ s. s ≡ sealed_state (rounds_to (held_by number) 10) (prices_after made_terms (held_by number) 9) (last_eligibility number)
+    (last_held number) no_lists no_lists in
     let last : Goes (posted (held_by number) 9) (bids_of number 10 4 ++ Close ∷ []) To =
     last_round-goes (held_by number) 9 (may-last number 9 refl) (λ k more. held-last number 10 k (omega arith) ∙ leaves number k more) (within-last number) in
-    goes-on (posted (held_by number) 0) (flat_map (round_lines number) (listing (λ r. r) 9)) (bids_of number 10 4 ++ Close ∷ []) (λ s. s ≡ posted (held_by number) 9) To
+    goes-on (posted (held_by number) 0) (flat_map (round_lines number) (listing (λ r. r) 9)) (bids_of number 10 4 ++ Close ∷ [])
+    (λ s. s ≡ posted (held_by number) 9) To
     (goes-flat (round_lines number) 9 (posted (held_by number) 0) (λ n s. s ≡ posted (held_by number) n) refl
     (λ n s low is. subst (λ (s : DeskState). Goes s (round_lines number (suc n)) (λ t. t ≡ posted (held_by number) (suc n))) (sym is)
     (round-goes (held_by number) n low (may-early number n low) (over-early number n low))))
@@ -163,17 +168,24 @@ clock-goes number =
 -- ---- what the clock leaves to a bidder
 
 own_of-round : (held : ℕ → ℕ → List ℕ) (k n : ℕ) → 1 ≤ k → k ≤ 12
-    → own_of k (round_of made_terms held (suc n)) ≡ record { prices = prices_after made_terms held n; eligibility = eligibility_after made_terms held k n; held = held (suc n) k }
+    → own_of k (round_of made_terms held (suc n)) ≡ record {
+      prices = prices_after made_terms held n;
+      eligibility =
+          eligibility_after made_terms held k n;
+      held = held (suc n) k;
+    }
 own_of-round held k n some few =
     let e : suc n - 1 ≡ n = omega arith in
     let at : suc (k - 1) ≡ k = omega arith in
     let eligibility : get_or (listing (λ j. eligibility_after made_terms held j n) 12) (k - 1) 0 ≡ eligibility_after made_terms held k n =
     get_or-listing (λ j. eligibility_after made_terms held j n) 12 (k - 1) 0 (omega arith) ∙ ap (λ (j : ℕ). eligibility_after made_terms held j n) at in
-    let lots : get_or (listing (held (suc n)) 12) (k - 1) [] ≡ held (suc n) k = get_or-listing (held (suc n)) 12 (k - 1) [] (omega arith) ∙ ap (held (suc n)) at in
+    let lots : get_or (listing (held (suc n)) 12) (k - 1) [] ≡ held (suc n) k = get_or-listing (held (suc n)) 12 (k - 1) [] (omega arith)
+    ∙ ap (held (suc n)) at in
     rw (e, eligibility, lots) refl
 
 -- the rounds of a bidder
-pub own-rounds : (held : ℕ → ℕ → List ℕ) (k n : ℕ) → map (own_of k) (rounds_to held (suc n)) ≡ map (own_of k) (rounds_to held n) ++ own_of k (round_of made_terms held (suc n)) ∷ []
+pub own-rounds : (held : ℕ → ℕ → List ℕ) (k n : ℕ) → map (own_of k) (rounds_to held (suc n)) ≡ map (own_of k) (rounds_to held n)
+    ++ own_of k (round_of made_terms held (suc n)) ∷ []
 unfolding rounds_to
 own-rounds held k n = map-append (own_of k) (listing (round_of made_terms held) n) (round_of made_terms held (suc n) ∷ [])
 
@@ -189,32 +201,38 @@ none-yet held k = refl
 
 clock-rounds : (held : ℕ → ℕ → List ℕ) (own final : List ℕ) (k most n : ℕ) → 1 ≤ k → k ≤ 12 → n ≤ suc most → ((r : ℕ) → (held r k ≡ own) ⊎ (held r k ≡ final))
     → AllByRecursion (IsClockRound (prices_after made_terms held most) own final) (map (own_of k) (rounds_to held n))
-clock-rounds held own final k most zero some few low each = subst (AllByRecursion (IsClockRound (prices_after made_terms held most) own final)) (sym (none-yet held k)) tt
+clock-rounds held own final k most zero some few low each = subst (AllByRecursion (IsClockRound (prices_after made_terms held most) own final))
+    (sym (none-yet held k)) tt
 clock-rounds held own final k most (suc n) some few low each =
     let P : OwnRound → Type 0 = IsClockRound (prices_after made_terms held most) own final in
     let e : (most - n) + n ≡ most = omega arith in
     let up : cost_of (prices_after made_terms held n) (held (suc n) k) ≤ cost_of (prices_after made_terms held most) (held (suc n) k) =
-    subst (λ (m : ℕ). cost_of (prices_after made_terms held n) (held (suc n) k) ≤ cost_of (prices_after made_terms held m) (held (suc n) k)) e (cost-rises held n (most - n) (held (suc n) k)) in
+    subst (λ (m : ℕ). cost_of (prices_after made_terms held n) (held (suc n) k) ≤ cost_of (prices_after made_terms held m) (held (suc n) k)) e
+    (cost-rises held n (most - n) (held (suc n) k)) in
     let last : P (own_of k (round_of made_terms held (suc n))) = subst P (sym (own_of-round held k n some few)) (record { held = each (suc n); cost = up }) in
-    subst (AllByRecursion P) (sym (own-rounds held k n)) (each-push P (map (own_of k) (rounds_to held n)) (own_of k (round_of made_terms held (suc n))) (clock-rounds held own final k most n some few (omega arith) each) last)
+    subst (AllByRecursion P) (sym (own-rounds held k n)) (each-push P (map (own_of k) (rounds_to held n)) (own_of k (round_of made_terms held (suc n)))
+    (clock-rounds held own final k most n some few (omega arith) each) last)
 
 held-either : (number k r : ℕ) → (held_by number r k ≡ package_of number k) ⊎ (held_by number r k ≡ final_package_of number k)
 held-either number k r = elim (cases_lt 9 r) [ inl more ↦ inr (held-last number r k more) | inr few ↦ inl (held-early number r k few) ]
 
 reserve-low : (held : ℕ → ℕ → List ℕ) (n : ℕ) (lots : List ℕ) → cost_of made_terms.reserves lots ≤ cost_of (prices_after made_terms held n) lots
-reserve-low held n lots = let e : n + 0 ≡ n = omega arith in subst (λ (m : ℕ). cost_of made_terms.reserves lots ≤ cost_of (prices_after made_terms held m) lots) e (cost-rises held 0 n lots)
+reserve-low held n lots = let e : n + 0 ≡ n = omega arith in subst (λ (m : ℕ). cost_of made_terms.reserves lots ≤ cost_of
+    (prices_after made_terms held m) lots) e (cost-rises held 0 n lots)
 
 abbrev same_rounds : OwnRound → OwnRound → Type 0
 same_rounds r s = r ≡ s
 
-last-parts : (prices : List ℕ) (a b : ℕ) (x y : List ℕ) → a ≡ b → x ≡ y → same_rounds (record { prices = prices; eligibility = a; held = x }) (record { prices = prices; eligibility = b; held = y })
+last-parts : (prices : List ℕ) (a b : ℕ) (x y : List ℕ) → a ≡ b → x ≡ y → same_rounds (record { prices = prices; eligibility = a; held = x })
+    (record { prices = prices; eligibility = b; held = y })
 last-parts prices a b x y e h = rw (e, h) refl
 
 last-eligibility : (number k n : ℕ) → n ≡ 9 → eligibility_after made_terms (held_by number) k n ≡ cost_of made_terms.points (package_of number k)
 last-eligibility number k zero is = absurd (omega arith)
 last-eligibility number k (suc n) is = ap (cost_of made_terms.points) (held-early number (suc n) k (omega arith))
 
-bidding-by : (number k n : ℕ) → 1 ≤ k → k ≤ 12 → n ≡ 9 → IsBidding (map (own_of k) (rounds_to (held_by number) (suc n))) (prices_after made_terms (held_by number) n) (package_of number k) (final_package_of number k) k
+bidding-by : (number k n : ℕ) → 1 ≤ k → k ≤ 12 → n ≡ 9 → IsBidding (map (own_of k) (rounds_to (held_by number) (suc n)))
+    (prices_after made_terms (held_by number) n) (package_of number k) (final_package_of number k) k
 bidding-by number k n some few is =
     let own : List ℕ = package_of number k in
     let final : List ℕ = final_package_of number k in
@@ -226,11 +244,16 @@ bidding-by number k n some few is =
       small = prices-small (held_by number) n (omega arith);
       reserve = reserve-low (held_by number) n;
       clock = clock-rounds (held_by number) own final k n (suc n) some few (omega arith) (held-either number k);
-      last = record { before = map (own_of k) (rounds_to (held_by number) n); are = own-rounds (held_by number) k n ∙ ap (λ (r : OwnRound). map (own_of k) (rounds_to (held_by number) n) ++ r ∷ []) last };
+      last = record {
+        before = map (own_of k) (rounds_to (held_by number) n);
+        are = own-rounds (held_by number) k n
+            ∙ ap (λ (r : OwnRound). map (own_of k) (rounds_to (held_by number) n) ++ r ∷ []) last;
+      };
       stays = λ stay. stays number k (leb-true k 4 stay);
     }
 
 -- behind the ten rounds each bidder has what its lines of the sealed round need
-pub bidding : (number k : ℕ) → 1 ≤ k → k ≤ 12 → IsBidding (map (own_of k) (rounds_to (held_by number) 10)) (final_prices number) (package_of number k) (final_package_of number k) k
+pub bidding : (number k : ℕ) → 1 ≤ k → k ≤ 12 → IsBidding (map (own_of k) (rounds_to (held_by number) 10)) (final_prices number) (package_of number k)
+    (final_package_of number k) k
 unfolding final_prices
 bidding number k some few = bidding-by number k 9 some few refl

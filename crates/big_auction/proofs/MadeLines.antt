@@ -1,5 +1,6 @@
 -- The lines that the program adds are those of the made log.
-use Rattle.std.proofs.Common.{◌≡◌, ℕ, zero, suc, ◌+◌, ◌-◌, ◌*◌, ◌<◌, ◌≤◌, min, List, [], ◌∷◌, ◌++◌, length, map, get_or, refl, sym, ◌∙◌, ap, subst, inl, inr, arith, length-append}
+use Rattle.std.proofs.Common.{◌≡◌, ℕ, zero, suc, ◌+◌, ◌-◌, ◌*◌, ◌<◌, ◌≤◌, min, List, [], ◌∷◌, ◌++◌, length, map, get_or, refl, sym, ◌∙◌, ap, subst, inl, inr}
+use Rattle.std.proofs.Common.{arith, length-append}
 use Rattle.std.specs.Prelude.{flat_map, nat_le, if◌then◌else◌, slice_index, slice_index_or}
 use Rattle.std.specs.List.{AllByRecursion}
 use Rattle.std.proofs.lemmas.Bool.{cases_Bool, cases_lt, le-leb, lt-leb}
@@ -15,7 +16,8 @@ use Rattle.big_auction.specs.declared.values.Lots.{Lots}
 use Rattle.big_auction.specs.Draws.{behind, drawn_package, first_state}
 use Rattle.big_auction.specs.LogText.{event_text, log_text}
 use Rattle.big_auction.specs.MadeAward.{made_terms}
-use Rattle.big_auction.specs.MadeLog.{widest, package_of, last_of, held_by, final_prices, draws_before, drawn_draft, drawn_drafts, last_draft, lines_from, lines_of, clock_lines, made_log}
+use Rattle.big_auction.specs.MadeLog.{widest, package_of, last_of, held_by, final_prices, draws_before, drawn_draft, drawn_drafts, last_draft, lines_from}
+use Rattle.big_auction.specs.MadeLog.{lines_of, clock_lines, made_log}
 use Rattle.big_auction.specs.Parts.{counts_of, held_from, bids_for, last_bids_for, full_round_for, full_rounds_for, lines_for, sealed_for, packages_from}
 use Rattle.big_auction.proofs.Asking.{package_at, package-is}
 use Rattle.big_auction.proofs.Drawing.{behind-none, behind-behind}
@@ -51,7 +53,8 @@ each-push P [] x each last = (last, tt)
 each-push P (y ∷ xs) x each last = (each.0, each-push P xs x each.1 last)
 
 -- one package more, of the next four draws
-pub packed-more : (s i state next : ℕ) (items more : List Lots) (p : Lots) → ArePacked s i state items → counts_of p ≡ drawn_package state widest → next ≡ behind state 4 → more ≡ items ++ p ∷ []
+pub packed-more : (s i state next : ℕ) (items more : List Lots) (p : Lots) → ArePacked s i state items → counts_of p ≡ drawn_package state widest
+    → next ≡ behind state 4 → more ≡ items ++ p ∷ []
     → ArePacked s (i + 1) next more
 packed-more s i state next items more p so_far is after pushed =
     let e : suc i ≡ i + 1 = omega arith in
@@ -77,13 +80,15 @@ rounds-more packages i old now mid new was bids close =
 
 -- one bid more of the last round
 pub last-more : (xs : List Lots) (i : ℕ) (p : Lots) (lots old now new : List ℕ) → i < length xs → p ≡ get_or xs i p → lots ≡ last_of (i + 1) (counts_of p)
-    → now ≡ old ++ log_text (last_bids_for (map counts_of xs) i) → new ≡ now ++ event_text (Bid (i + 1) lots) → new ≡ old ++ log_text (last_bids_for (map counts_of xs) (i + 1))
+    → now ≡ old ++ log_text (last_bids_for (map counts_of xs) i) → new ≡ now ++ event_text (Bid (i + 1) lots)
+    → new ≡ old ++ log_text (last_bids_for (map counts_of xs) (i + 1))
 last-more xs i p lots old now new low is last was added_one =
     let next : i + 1 ≡ suc i = omega arith in
     let one : counts_of p ≡ package_at xs (suc i) = ap counts_of is ∙ sym (package-is xs i p low) in
     let line : Bid (i + 1) lots ≡ Bid (suc i) (last_of (suc i) (package_at xs (suc i))) =
     ap (Bid (i + 1)) last ∙ ap (λ (k : ℕ). Bid k (last_of k (counts_of p))) next ∙ ap (λ (c : List ℕ). Bid (suc i) (last_of (suc i) c)) one in
-    added old now new (last_bids_for (map counts_of xs) i) (Bid (suc i) (last_of (suc i) (package_at xs (suc i)))) was (added_one ∙ ap (λ (e : Event). now ++ event_text e) line)
+    added old now new (last_bids_for (map counts_of xs) i) (Bid (suc i) (last_of (suc i) (package_at xs (suc i)))) was
+    (added_one ∙ ap (λ (e : Event). now ++ event_text e) line)
     ∙ ap (λ (n : ℕ). old ++ log_text (last_bids_for (map counts_of xs) n)) (sym next)
 
 abbrev made_packages : ℕ → List (List ℕ)
@@ -99,14 +104,17 @@ packages-same number = refl
 -- ---- prices
 
 at-package : (number j : ℕ) → 1 ≤ j → j ≤ 12 → slice_index_or (made_packages number) (j - 1) [] ≡ package_of number j
-at-package number j low high = let e : suc (j - 1) ≡ j = omega arith in get_or-listing (package_of number) 12 (j - 1) [] (omega arith) ∙ ap (package_of number) e
+at-package number j low high = let e : suc (j - 1) ≡ j = omega arith in get_or-listing (package_of number) 12 (j - 1) [] (omega arith)
+    ∙ ap (package_of number) e
 
 prices-by : (number n : ℕ) → n ≤ 9 → prices_after made_terms (held_from (made_packages number)) n ≡ prices_after made_terms (held_by number) n
 prices-by number zero few = refl
 prices-by number (suc n) few =
     let asks : demand made_terms (held_from (made_packages number)) (suc n) ≡ demand made_terms (held_by number) (suc n) =
-    sum_of-within (no_lots made_terms) (held_from (made_packages number) (suc n)) (held_by number (suc n)) 12 (λ j low high. at-package number j low high ∙ sym (held-early number (suc n) j few)) in
-    ap (λ (p : List ℕ). raised_prices 1 ((1, 100) ∷ (5, 200) ∷ []) p (demand made_terms (held_from (made_packages number)) (suc n)) made_terms.supply) (prices-by number n (omega arith))
+    sum_of-within (no_lots made_terms) (held_from (made_packages number) (suc n)) (held_by number (suc n)) 12
+    (λ j low high. at-package number j low high ∙ sym (held-early number (suc n) j few)) in
+    ap (λ (p : List ℕ). raised_prices 1 ((1, 100) ∷ (5, 200) ∷ []) p (demand made_terms (held_from (made_packages number)) (suc n)) made_terms.supply)
+    (prices-by number n (omega arith))
     ∙ ap (λ (d : List ℕ). raised_prices 1 ((1, 100) ∷ (5, 200) ∷ []) (prices_after made_terms (held_by number) n) d made_terms.supply) asks
 
 prices-same : (number : ℕ) → prices_after made_terms (held_from (made_packages number)) 9 ≡ final_prices number
@@ -158,7 +166,8 @@ unfolding lines_of
 lines-same number k low high =
     let far : 48 + (500 * (k - 1) + min 4 (k - 1)) ≡ draws_before k = omega arith in
     let own : slice_index_or (made_packages number) (k - 1) [] ≡ package_of number k = at-package number k low high in
-    ap (λ (x : ℕ). lines_from x (final_prices number) k (slice_index_or (made_packages number) (k - 1) []) (last_of k (slice_index_or (made_packages number) (k - 1) [])))
+    ap (λ (x : ℕ). lines_from x (final_prices number) k (slice_index_or (made_packages number) (k - 1) [])
+    (last_of k (slice_index_or (made_packages number) (k - 1) [])))
     (behind-behind (first_state number) 48 (500 * (k - 1) + min 4 (k - 1)) ∙ ap (behind (first_state number)) far)
     ∙ ap (λ (c : List ℕ). lines_from (behind (first_state number) (draws_before k)) (final_prices number) k c (last_of k c)) own
 
@@ -169,7 +178,8 @@ flat-same f g (suc n) same =
     ∙ ap (λ (es : List Event). flat_map g (listing (λ k. k) n) ++ es) (same (suc n) (omega arith) (omega arith)) ∙ sym (flat-more g n)
 
 -- the whole log
-log-by : (number s n : ℕ) (packages : List (List ℕ)) (prices t0 t1 t2 t3 t4 t5 : List ℕ) → packages ≡ made_packages number → prices ≡ final_prices number → s ≡ behind (first_state number) 48 → n ≡ 12
+log-by : (number s n : ℕ) (packages : List (List ℕ)) (prices t0 t1 t2 t3 t4 t5 : List ℕ) → packages ≡ made_packages number → prices ≡ final_prices number
+    → s ≡ behind (first_state number) 48 → n ≡ 12
     → t0 ≡ [] → t1 ≡ t0 ++ log_text (full_rounds_for packages 9) → t2 ≡ t1 ++ log_text (last_bids_for packages 4) → t3 ≡ t2 ++ event_text Close
     → t4 ≡ t3 ++ log_text (sealed_for s prices packages n) → t5 ≡ t4 ++ event_text Close → t5 ≡ log_text (made_log number)
 unfolding made_log
@@ -183,10 +193,12 @@ log-by number s n packages prices t0 t1 t2 t3 t4 t5 pack price state twelve none
     ap (λ (ps : List (List ℕ)). full_rounds_for ps 9 ++ (last_bids_for ps 4 ++ Close ∷ [])) pack ∙ clock-same number in
     let first : t1 ≡ [] ++ log_text (full_rounds_for packages 9) = full ∙ ap (λ (t : List ℕ). t ++ log_text (full_rounds_for packages 9)) none in
     let third : t3 ≡ [] ++ log_text (full_rounds_for packages 9 ++ (last_bids_for packages 4 ++ Close ∷ [])) =
-    added-more [] t1 t3 (full_rounds_for packages 9) (last_bids_for packages 4 ++ Close ∷ []) first (added t1 t2 t3 (last_bids_for packages 4) Close last closed) in
+    added-more [] t1 t3 (full_rounds_for packages 9) (last_bids_for packages 4 ++ Close ∷ []) first
+    (added t1 t2 t3 (last_bids_for packages 4) Close last closed) in
     let fifth : t5 ≡ t3 ++ log_text (flat_map (lines_of number) (listing (λ k. k) 12) ++ Close ∷ []) =
     added t3 t4 t5 (flat_map (lines_of number) (listing (λ k. k) 12)) Close (sealed ∙ ap (λ (es : List Event). t3 ++ log_text es) lines) end in
-    added-more [] t3 t5 (clock_lines number) (flat_map (lines_of number) (listing (λ k. k) 12) ++ Close ∷ []) (third ∙ ap (λ (es : List Event). [] ++ log_text es) clock) fifth
+    added-more [] t3 t5 (clock_lines number) (flat_map (lines_of number) (listing (λ k. k) 12) ++ Close ∷ [])
+    (third ∙ ap (λ (es : List Event). [] ++ log_text es) clock) fifth
 
 -- the same as the program has it
 pub log-made : (number s0 s n : ℕ) (packages : List (List ℕ)) (prices t0 t1 t2 t3 t4 t5 : List ℕ) → s0 ≡ first_state number → packages ≡ packages_from s0 12
@@ -195,7 +207,8 @@ pub log-made : (number s0 s n : ℕ) (packages : List (List ℕ)) (prices t0 t1 
     → t4 ≡ t3 ++ log_text (sealed_for s prices packages n) → t5 ≡ t4 ++ event_text Close → t5 ≡ log_text (made_log number)
 log-made number s0 s n packages prices t0 t1 t2 t3 t4 t5 first pack price state =
     let all : packages ≡ made_packages number = pack ∙ ap (λ (x : ℕ). packages_from x 12) first ∙ packages-same number in
-    log-by number s n packages prices t0 t1 t2 t3 t4 t5 all (price ∙ ap (λ (ps : List (List ℕ)). prices_after made_terms (held_from ps) 9) all ∙ prices-same number) (state ∙ ap (λ (x : ℕ). behind x 48) first)
+    log-by number s n packages prices t0 t1 t2 t3 t4 t5 all (price ∙ ap (λ (ps : List (List ℕ)). prices_after made_terms (held_from ps) 9) all
+    ∙ prices-same number) (state ∙ ap (λ (x : ℕ). behind x 48) first)
 
 -- ---- how many lines
 
@@ -218,7 +231,8 @@ sealed-length : (number n : ℕ) → length (flat_map (lines_of number) (listing
 sealed-length number zero = refl
 sealed-length number (suc n) =
     let one : length (lines_of number (suc n)) ≡ 101 + (if nat_le (suc n) 4 then 1 else 0) = lines-length number (suc n) in
-    let split : length (flat_map (lines_of number) (listing (λ k. k) (suc n))) ≡ length (flat_map (lines_of number) (listing (λ k. k) n) ++ lines_of number (suc n)) = ap (λ (es : List Event). length es) (flat-more (lines_of number) n) in
+    let split : length (flat_map (lines_of number) (listing (λ k. k) (suc n))) ≡ length
+    (flat_map (lines_of number) (listing (λ k. k) n) ++ lines_of number (suc n)) = ap (λ (es : List Event). length es) (flat-more (lines_of number) n) in
     let more : (if nat_le (suc n) 4 then 1 else 0) + min 4 n ≡ min 4 (suc n) =
     elim (cases_lt n 4) [ inl low ↦ rw (le-leb (suc n) 4 (omega arith)) (omega arith) | inr high ↦ rw (lt-leb (suc n) 4 (omega arith)) (omega arith) ] in
     omega (arith, split, length-append (flat_map (lines_of number) (listing (λ k. k) n)) (lines_of number (suc n)), one, sealed-length number n, more)

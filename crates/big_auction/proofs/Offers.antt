@@ -1,5 +1,6 @@
 -- The drafts of a made auction are answered Ok.
-use Rattle.std.proofs.Common.{◌≡◌, ℕ, suc, ◌+◌, ◌-◌, ◌*◌, ◌/◌, ◌<◌, ◌≤◌, min, true, false, ◌||◌, List, [], ◌∷◌, ◌++◌, map, refl, sym, ◌∙◌, subst, inl, inr, arith}
+use Rattle.std.proofs.Common.{◌≡◌, ℕ, suc, ◌+◌, ◌-◌, ◌*◌, ◌/◌, ◌<◌, ◌≤◌, min, true, false, ◌||◌, List, [], ◌∷◌, ◌++◌, map, refl, sym, ◌∙◌, subst, inl, inr}
+use Rattle.std.proofs.Common.{arith}
 use Rattle.std.specs.Prelude.{◌⊎◌, nat_le, slice_index, sum}
 use Rattle.std.specs.List.{AllByRecursion}
 use Rattle.std.proofs.lemmas.Bool.{cases_Bool, le-leb, ne_eqb, or_parts, false≢true}
@@ -24,7 +25,13 @@ use Rattle.big_auction.proofs.SealedRound.{IsKnown, HasRounds, IsDue, Between, W
 
 -- a package of the first rounds is within the supply
 pub own-within : (lots : List ℕ) → IsOwn lots → is_within lots made_terms.supply ≡ true
-own-within lots own = rw (own.are, le-leb own.a 4 (omega (arith, own.few_a)), le-leb own.b 1 own.few_b, le-leb own.c 14 (omega (arith, own.few_c)), le-leb own.e 9 (omega (arith, own.few_e))) refl
+own-within lots own = rw (
+  own.are,
+  le-leb own.a 4 (omega (arith, own.few_a)),
+  le-leb own.b 1 own.few_b,
+  le-leb own.c 14 (omega (arith, own.few_c)),
+  le-leb own.e 9 (omega (arith, own.few_e)),
+) refl
 
 -- it has at most 41 points
 pub own-points : (lots : List ℕ) → IsOwn lots → cost_of made_terms.points lots ≤ 41
@@ -46,13 +53,21 @@ pub drawn-own : (state : ℕ) (own : List ℕ) → IsOwn own → IsOwn (drawn_pa
 drawn-own state own is =
     subst (λ (p : List ℕ). IsOwn (drawn_package state p)) (sym is.are) (IsOwn-drawn state is.a is.b is.c is.e is.some is.few_a is.few_b is.few_c is.few_e)
 
-points-within : (state a b c e : ℕ) → 1 ≤ a → cost_of made_terms.points (drawn_package state (a ∷ b ∷ c ∷ e ∷ [])) ≤ cost_of made_terms.points (a ∷ b ∷ c ∷ e ∷ [])
+points-within : (state a b c e : ℕ) → 1 ≤ a → cost_of made_terms.points (drawn_package state (a ∷ b ∷ c ∷ e ∷ [])) ≤ cost_of made_terms.points
+    (a ∷ b ∷ c ∷ e ∷ [])
 points-within state a b c e some =
-    omega (arith, drawn-below state 1 a (omega arith), drawn-below state 2 (suc b) (omega arith), drawn-below state 3 (suc c) (omega arith), drawn-below state 4 (suc e) (omega arith))
+    omega (
+      arith,
+      drawn-below state 1 a (omega arith),
+      drawn-below state 2 (suc b) (omega arith),
+      drawn-below state 3 (suc c) (omega arith),
+      drawn-below state 4 (suc e) (omega arith),
+    )
 
 drawn-points : (state : ℕ) (own : List ℕ) → IsOwn own → cost_of made_terms.points (drawn_package state own) ≤ cost_of made_terms.points own
 drawn-points state own is =
-    subst (λ (p : List ℕ). cost_of made_terms.points (drawn_package state p) ≤ cost_of made_terms.points p) (sym is.are) (points-within state is.a is.b is.c is.e is.some)
+    subst (λ (p : List ℕ). cost_of made_terms.points (drawn_package state p) ≤ cost_of made_terms.points p) (sym is.are)
+    (points-within state is.a is.b is.c is.e is.some)
 
 -- what a bidder that stays asks for at last is of the same kind as its own package
 pub reduced-own : (own : List ℕ) → IsOwn own → IsOwn (reduced own)
@@ -120,8 +135,10 @@ clock-low prices own final lots amount (r ∷ rounds) are of_own of_final = (
       let is : r.held ≡ lots = is_same-true r.held lots same in
       let cost : cost_of r.prices r.held ≤ cost_of prices lots = subst (λ (p : List ℕ). cost_of r.prices r.held ≤ cost_of prices p) is are.0.cost in
       elim are.0.held [
-        | inl held ↦ let mine : is_same lots own ≡ true = subst (λ (p : List ℕ). is_same p own ≡ true) is (rw held (is_same-refl own)) in omega (arith, cost, of_own mine)
-        | inr held ↦ let mine : is_same lots final ≡ true = subst (λ (p : List ℕ). is_same p final ≡ true) is (rw held (is_same-refl final)) in omega (arith, cost, of_final mine)
+        | inl held ↦ let mine : is_same lots own ≡ true = subst (λ (p : List ℕ). is_same p own ≡ true) is (rw held (is_same-refl own)) in
+            omega (arith, cost, of_own mine)
+        | inr held ↦ let mine : is_same lots final ≡ true = subst (λ (p : List ℕ). is_same p final ≡ true) is (rw held (is_same-refl final)) in
+            omega (arith, cost, of_final mine)
       ]),
   clock-low prices own final lots amount rounds are.1 of_own of_final,
 )
@@ -153,7 +170,8 @@ due-drawn rounds prices own final k state permille few bidding =
       points = omega (arith, own-points lots is);
       some = own-some lots is;
       reserve = kept.reserve;
-      clock = greatest-few lots amount (map clock_bid rounds) (clock-low prices own final lots amount rounds bidding.clock (λ same. omega (arith, kept.of_own same)) (λ same. omega (arith, kept.of_final same)));
+      clock = greatest-few lots amount (map clock_bid rounds) (clock-low prices own final lots amount rounds bidding.clock
+          (λ same. omega (arith, kept.of_own same)) (λ same. omega (arith, kept.of_final same)));
       top = omega (arith, kept.low, small, own-sum lots is);
       fair = record { low = λ h. kept.low; eligible = λ h. drawn-points state own bidding.kind };
       lot = own-lot lots is;
@@ -172,7 +190,8 @@ due-last rounds prices own final k more few stay bidding =
       points = omega (arith, own-points final is);
       some = own-some final is;
       reserve = omega (arith, bidding.reserve final);
-      clock = greatest-few final amount (map clock_bid rounds) (clock-low prices own final final amount rounds bidding.clock (λ same. omega arith) (λ same. omega arith));
+      clock = greatest-few final amount (map clock_bid rounds) (clock-low prices own final final amount rounds bidding.clock (λ same. omega arith)
+          (λ same. omega arith));
       top = omega (arith, small, own-sum final is);
       fair = record { low = λ h. absurd (no h); eligible = λ h. absurd (no h) };
       lot = own-lot final is;
@@ -180,20 +199,24 @@ due-last rounds prices own final k more few stay bidding =
 
 -- ---- the lines of a bidder
 
-drafts-go : (rounds : List Round) (prices eligibility : List ℕ) (held : List (List ℕ)) (state : ℕ) (q own final : List ℕ) (k n : ℕ) (s : DeskState) → n ≤ 100 → IsKnown k
+drafts-go : (rounds : List Round) (prices eligibility : List ℕ) (held : List (List ℕ)) (state : ℕ) (q own final : List ℕ) (k n : ℕ) (s : DeskState) → n ≤ 100
+    → IsKnown k
     → IsBidding (map (own_of k) rounds) q own final k → Within rounds prices eligibility held (last_with q own final) k 0 s
     → Goes s (drawn_drafts state q k own final n) (Within rounds prices eligibility held (last_with q own final) k n)
 unfolding drawn_drafts
 drafts-go rounds prices eligibility held state q own final k n s few known bidding start =
-    goes-listing (λ i. drawn_draft (behind state (5 * (i - 1))) q k own final) n s (λ i. Within rounds prices eligibility held (last_with q own final) k i) start
+    goes-listing (λ i. drawn_draft (behind state (5 * (i - 1))) q k own final) n s (λ i. Within rounds prices eligibility held (last_with q own final) k i)
+    start
     (λ i t low within.
     let x : ℕ = behind state (5 * (suc i - 1)) in
     let f : ℕ = 500 + drawn x 5 501 in
     let permille : f ≤ 1000 = omega (arith, drawn-below x 5 501 (omega arith)) in
-    draft-goes rounds prices eligibility held (last_with q own final) k i (drawn_package x own) (amount_of q own final (drawn_package x own) f) t known (omega arith)
+    draft-goes rounds prices eligibility held (last_with q own final) k i (drawn_package x own) (amount_of q own final (drawn_package x own) f) t known
+    (omega arith)
     (due-drawn (map (own_of k) rounds) q own final k x f permille bidding) within)
 
-last-goes : (rounds : List Round) (prices eligibility : List ℕ) (held : List (List ℕ)) (state : ℕ) (q own final : List ℕ) (k n : ℕ) (s : DeskState) → n < 300 → IsKnown k
+last-goes : (rounds : List Round) (prices eligibility : List ℕ) (held : List (List ℕ)) (state : ℕ) (q own final : List ℕ) (k n : ℕ) (s : DeskState) → n < 300
+    → IsKnown k
     → IsBidding (map (own_of k) rounds) q own final k → Within rounds prices eligibility held (last_with q own final) k n s
     → Goes s (last_draft state q k final ++ Submit k ∷ []) (Between rounds prices eligibility held k)
 last-goes rounds prices eligibility held state q own final k n s few known bidding within =
@@ -209,11 +232,13 @@ last-goes rounds prices eligibility held state q own final k n s few known biddi
     ]
 
 -- all lines of a bidder in the sealed round are answered Ok, behind those of the bidder before it
-pub part-goes : (rounds : List Round) (prices eligibility : List ℕ) (held : List (List ℕ)) (state : ℕ) (q own final : List ℕ) (k : ℕ) (s : DeskState) → IsKnown k
+pub part-goes : (rounds : List Round) (prices eligibility : List ℕ) (held : List (List ℕ)) (state : ℕ) (q own final : List ℕ) (k : ℕ) (s : DeskState)
+    → IsKnown k
     → IsBidding (map (own_of k) rounds) q own final k → Between rounds prices eligibility held (k - 1) s
     → Goes s (lines_from state q k own final) (Between rounds prices eligibility held k)
 part-goes rounds prices eligibility held state q own final k s known bidding between =
     goes-on s (drawn_drafts state q k own final 100) (last_draft (behind state 500) q k final ++ Submit k ∷ [])
     (Within rounds prices eligibility held (last_with q own final) k 100) (Between rounds prices eligibility held k)
-    (drafts-go rounds prices eligibility held state q own final k 100 s (omega arith) known bidding (begins rounds prices eligibility held (last_with q own final) k s known.some between))
+    (drafts-go rounds prices eligibility held state q own final k 100 s (omega arith) known bidding
+    (begins rounds prices eligibility held (last_with q own final) k s known.some between))
     (λ t within. last-goes rounds prices eligibility held (behind state 500) q own final k 100 t (omega arith) known bidding within)

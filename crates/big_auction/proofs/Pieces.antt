@@ -34,7 +34,8 @@ categories t0 t1 t2 t3 t4 a b c d one more next last =
     four t0 t1 t2 t3 t4 a b c d one more next last ∙ ap (λ (t : List ℕ). t0 ++ (a ++ (b ++ (c ++ t)))) (sym (append-nil d))
 
 -- a bidder's name in its table
-pub bidder-name : (k : ℕ) (t0 t1 t2 t3 : List ℕ) → t1 ≡ t0 ++ (table_line (codes "[[bidder]]") ++ (codes "name = " ++ 34 ∷ 98 ∷ [])) → t2 ≡ t1 ++ decimal k → t3 ≡ t2 ++ 34 ∷ 10 ∷ []
+pub bidder-name : (k : ℕ) (t0 t1 t2 t3 : List ℕ) → t1 ≡ t0 ++ (table_line (codes "[[bidder]]") ++ (codes "name = " ++ 34 ∷ 98 ∷ [])) → t2 ≡ t1 ++ decimal k
+    → t3 ≡ t2 ++ 34 ∷ 10 ∷ []
     → t3 ≡ t0 ++ (table_line (codes "[[bidder]]") ++ name_line (made_name k))
 bidder-name k t0 t1 t2 t3 one more last =
     let front : List ℕ = table_line (codes "[[bidder]]") ++ (codes "name = " ++ 34 ∷ 98 ∷ []) in
@@ -48,9 +49,11 @@ pub entrants-more : (i : ℕ) (old now t1 t2 : List ℕ) → now ≡ old ++ flat
 entrants-more i old now t1 t2 was name eligibility =
     let next : i + 1 ≡ suc i = omega arith in
     let texts : List ℕ = flat_map entrant_text (listing made_entrant i) in
-    let one : t2 ≡ now ++ entrant_text (made_entrant (i + 1)) = first-two now t1 t2 (table_line (codes "[[bidder]]")) (name_line (made_name (i + 1))) (number_line (codes "eligibility") 73) name eligibility in
+    let one : t2 ≡ now ++ entrant_text (made_entrant (i + 1)) = first-two now t1 t2 (table_line (codes "[[bidder]]")) (name_line (made_name (i + 1)))
+    (number_line (codes "eligibility") 73) name eligibility in
     let more : flat_map entrant_text (listing made_entrant (suc i)) ≡ texts ++ entrant_text (made_entrant (suc i)) =
-    flat_map-append entrant_text (listing made_entrant i) (made_entrant (suc i) ∷ []) ∙ ap (λ (t : List ℕ). texts ++ t) (append-nil (entrant_text (made_entrant (suc i)))) in
+    flat_map-append entrant_text (listing made_entrant i) (made_entrant (suc i) ∷ []) ∙ ap (λ (t : List ℕ). texts ++ t)
+    (append-nil (entrant_text (made_entrant (suc i)))) in
     two old now t2 texts (entrant_text (made_entrant (i + 1))) was one
     ∙ ap (λ (n : ℕ). old ++ (texts ++ entrant_text (made_entrant n))) next
     ∙ ap (λ (t : List ℕ). old ++ t) (sym more)

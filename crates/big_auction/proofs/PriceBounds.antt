@@ -48,7 +48,8 @@ all-more : (most : ℕ) (prices : List ℕ) → AllByRecursion (IsBetween most) 
 all-more most [] are = tt
 all-more most (p ∷ prices) are = (between-more most p are.0, all-more most prices are.1)
 
-raised-between : (most : ℕ) (prices d supply : List ℕ) → AllByRecursion (IsBetween most) prices → AllByRecursion (IsBetween (2 * most)) (raised_prices 1 thresholds prices d supply)
+raised-between : (most : ℕ) (prices d supply : List ℕ) → AllByRecursion (IsBetween most) prices → AllByRecursion (IsBetween (2 * most))
+    (raised_prices 1 thresholds prices d supply)
 raised-between most [] d supply are = tt
 raised-between most (p ∷ prices) [] supply are = all-more most (p ∷ prices) are
 raised-between most (p ∷ prices) (n ∷ d) [] are = all-more most (p ∷ prices) are
@@ -60,7 +61,13 @@ raised-between most (p ∷ prices) (n ∷ d) (s ∷ supply) are =
 
 -- after n rounds each price is at least 1 and at most 1500 times 2^n
 pub prices-between : (held : ℕ → ℕ → List ℕ) (n : ℕ) → AllByRecursion (IsBetween (1500 * 2 ^ n)) (prices_after made_terms held n)
-prices-between held zero = (record { some = omega arith; top = omega arith }, (record { some = omega arith; top = omega arith }, (record { some = omega arith; top = omega arith }, (record { some = omega arith; top = omega arith }, tt))))
+prices-between held zero = (
+  record { some = omega arith; top = omega arith },
+  (
+    record { some = omega arith; top = omega arith },
+    (record { some = omega arith; top = omega arith }, (record { some = omega arith; top = omega arith }, tt)),
+  ),
+)
 prices-between held (suc n) =
     let e : 2 * (1500 * 2 ^ n) ≡ 1500 * 2 ^ suc n = omega arith in
     subst (λ (most : ℕ). AllByRecursion (IsBetween most) (prices_after made_terms held (suc n))) e
@@ -86,8 +93,10 @@ no_price_top category (p ∷ prices) are =
     rw (le-leb p 68719476736 low) (no_price_top (suc category) prices are.1)
 
 -- what a package costs never falls
-pub cost-rises : (held : ℕ → ℕ → List ℕ) (m n : ℕ) (lots : List ℕ) → cost_of (prices_after made_terms held m) lots ≤ cost_of (prices_after made_terms held (n + m)) lots
-cost-rises held m zero lots = let e : m ≡ 0 + m = omega arith in subst (λ (k : ℕ). cost_of (prices_after made_terms held m) lots ≤ cost_of (prices_after made_terms held k) lots) e (omega arith)
+pub cost-rises : (held : ℕ → ℕ → List ℕ) (m n : ℕ) (lots : List ℕ) → cost_of (prices_after made_terms held m) lots ≤ cost_of
+    (prices_after made_terms held (n + m)) lots
+cost-rises held m zero lots = let e : m ≡ 0 + m = omega arith in subst (λ (k : ℕ). cost_of (prices_after made_terms held m) lots ≤ cost_of
+    (prices_after made_terms held k) lots) e (omega arith)
 cost-rises held m (suc n) lots =
     let e : suc (n + m) ≡ suc n + m = omega arith in
     let low : cost_of (prices_after made_terms held m) lots ≤ cost_of (prices_after made_terms held (suc (n + m))) lots

@@ -1,5 +1,6 @@
 -- The lines of one bidder in the sealed round of a made auction.
-use Rattle.std.proofs.Common.{◌≡◌, ℕ, suc, ◌-◌, ◌<◌, ◌≤◌, Bool, false, not, ◌&&◌, List, [], ◌∷◌, ◌++◌, Option, None, length, map, get_or, set, refl, sym, ◌∙◌, ap, subst, inl, inr, arith}
+use Rattle.std.proofs.Common.{◌≡◌, ℕ, suc, ◌-◌, ◌<◌, ◌≤◌, Bool, false, not, ◌&&◌, List, [], ◌∷◌, ◌++◌, Option, None, length, map, get_or, set, refl, sym, ◌∙◌}
+use Rattle.std.proofs.Common.{ap, subst, inl, inr, arith}
 use Rattle.std.specs.Prelude.{nat_le, nat_lt, slice_index}
 use Rattle.std.specs.List.{AllByRecursion}
 use Rattle.std.proofs.lemmas.Bool.{cases_eq, le-ltb, lt-leb, and_right}
@@ -96,7 +97,8 @@ begins rounds prices eligibility held last k s some b =
       lots_submitted = b.lots_submitted;
     }
 
-each-set : (P : BookBid → Type 0) (lists : List (List BookBid)) (i : ℕ) (list : List BookBid) → i < length lists → AllByRecursion P list → ((j : ℕ) → AllByRecursion P (get_or lists j []))
+each-set : (P : BookBid → Type 0) (lists : List (List BookBid)) (i : ℕ) (list : List BookBid) → i < length lists → AllByRecursion P list
+    → ((j : ℕ) → AllByRecursion P (get_or lists j []))
     → (j : ℕ) → AllByRecursion P (get_or (set lists i list) j [])
 each-set P lists i list low new each j =
     elim (cases_eq j i) [
@@ -105,7 +107,8 @@ each-set P lists i list low new each j =
     ]
 
 -- one draft
-pub draft-goes : (rounds : List Round) (prices eligibility : List ℕ) (held : List (List ℕ)) (last : OwnRound) (k n : ℕ) (lots : List ℕ) (amount : ℕ) (s : DeskState) → IsKnown k
+pub draft-goes : (rounds : List Round) (prices eligibility : List ℕ) (held : List (List ℕ)) (last : OwnRound) (k n : ℕ) (lots : List ℕ) (amount : ℕ)
+    (s : DeskState) → IsKnown k
     → n < 300 → IsDue (map (own_of k) rounds) last lots amount → Within rounds prices eligibility held last k n s
     → Goes s (Draft k lots amount ∷ []) (Within rounds prices eligibility held last k (suc n))
 draft-goes rounds prices eligibility held last k n lots amount s known few due w =
@@ -135,7 +138,8 @@ draft-goes rounds prices eligibility held last k n lots amount s known few due w
                   (
                     ap (λ (b : Bool). when b (reply.BelowClock clock)) (le-ltb _ _ due.clock),
                     (
-                      ap (λ (b : Bool). when b (reply.Full 300)) (and_right (not (has_entry lots own)) (nat_le 300 (length own)) (lt-leb _ _ (omega (arith, w.few, few)))),
+                      ap (λ (b : Bool). when b (reply.Full 300)) (and_right (not (has_entry lots own)) (nat_le 300 (length own))
+                          (lt-leb _ _ (omega (arith, w.few, few)))),
                       (ap (λ (b : Bool). when b (reply.AmountTop MOST_AMOUNT)) (le-ltb _ _ due.top), tt),
                     ),
                   ),
@@ -146,7 +150,8 @@ draft-goes rounds prices eligibility held last k n lots amount s known few due w
         ),
       ),
     ) in
-    let here : get_or (set w.drafts (k - 1) (with_entry lots amount own)) (k - 1) [] ≡ with_entry lots amount own = get_or-set_same w.drafts (k - 1) (with_entry lots amount own) [] low in
+    let here : get_or (set w.drafts (k - 1) (with_entry lots amount own)) (k - 1) [] ≡ with_entry lots amount own =
+    get_or-set_same w.drafts (k - 1) (with_entry lots amount own) [] low in
     let next : Within rounds prices eligibility held last k (suc n) (taken st (Draft k lots amount)) = record {
       drafts = set w.drafts (k - 1) (with_entry lots amount own);
       submitted = w.submitted;
@@ -173,7 +178,8 @@ submit-goes rounds prices eligibility held last k n s known rounds_are w =
     let none : list_fault false made_terms.points (map (own_of k) rounds) own ≡ None =
     ap (λ (rs : List OwnRound). list_fault false made_terms.points rs own) rounds_are.are ∙ no-fault rounds_are.before last own w.fair in
     let ok : reply_in st (Submit k) ≡ reply.Ok =
-    none-holds (when false reply.Stage ∷ when (not (nat_lt 0 k && nat_le k 12)) reply.Unknown ∷ cap_reply (list_fault false made_terms.points (map (own_of k) rounds) own) ∷ [])
+    none-holds (when false reply.Stage ∷ when (not (nat_lt 0 k && nat_le k 12)) reply.Unknown ∷ cap_reply
+    (list_fault false made_terms.points (map (own_of k) rounds) own) ∷ [])
     (refl, (ap (λ (b : Bool). when b reply.Unknown) known.known, (ap cap_reply none, tt))) in
     let next : Between rounds prices eligibility held k (taken st (Submit k)) = record {
       drafts = w.drafts;

@@ -34,7 +34,8 @@ Parts number k s = Between (rounds_to (held_by number) 10) (prices_after made_te
 no-lists : (j : ℕ) → get_or no_lists j [] ≡ []
 no-lists j = elim (cases_lt j 12) [ inl low ↦ get_or-replicate 12 j [] [] low | inr high ↦ get_or_past no_lists j [] high ]
 
-none-yet : (number : ℕ) → Parts number 0 (sealed_state (rounds_to (held_by number) 10) (prices_after made_terms (held_by number) 9) (last_eligibility number) (last_held number) no_lists no_lists)
+none-yet : (number : ℕ) → Parts number 0 (sealed_state (rounds_to (held_by number) 10) (prices_after made_terms (held_by number) 9) (last_eligibility number)
+    (last_held number) no_lists no_lists)
 none-yet number = record {
   drafts = no_lists;
   submitted = no_lists;
@@ -56,7 +57,8 @@ lines-go number k s low parts =
 
 end-goes : (number : ℕ) (s : DeskState) → Parts number 12 s → Goes s (Close ∷ []) (IsEnd number)
 end-goes number s parts =
-    let st : DeskState = sealed_state (rounds_to (held_by number) 10) (prices_after made_terms (held_by number) 9) (last_eligibility number) (last_held number) parts.drafts parts.submitted in
+    let st : DeskState = sealed_state (rounds_to (held_by number) 10) (prices_after made_terms (held_by number) 9) (last_eligibility number)
+    (last_held number) parts.drafts parts.submitted in
     subst (λ (s : DeskState). Goes s (Close ∷ []) (IsEnd number)) (sym parts.is)
     (goes-one st Close (IsEnd number) refl (record { terms = refl; closed = refl; rounds = refl; lots = parts.lots_submitted }))
 
@@ -66,7 +68,8 @@ unfolding made_log
 log-goes number =
     subst (λ (s : DeskState). Goes s (made_log number) (IsEnd number)) (sym (starts number))
     (goes-on (posted (held_by number) 0) (clock_lines number) (flat_map (lines_of number) (listing (λ k. k) 12) ++ Close ∷ [])
-    (λ s. s ≡ sealed_state (rounds_to (held_by number) 10) (prices_after made_terms (held_by number) 9) (last_eligibility number) (last_held number) no_lists no_lists) (IsEnd number)
+    (λ s. s ≡ sealed_state (rounds_to (held_by number) 10) (prices_after made_terms (held_by number) 9) (last_eligibility number)
+    (last_held number) no_lists no_lists) (IsEnd number)
     (clock-goes number)
     (λ s is. subst (λ (s : DeskState). Goes s (flat_map (lines_of number) (listing (λ k. k) 12) ++ Close ∷ []) (IsEnd number)) (sym is)
     (goes-on _ (flat_map (lines_of number) (listing (λ k. k) 12)) (Close ∷ []) (Parts number 12) (IsEnd number)

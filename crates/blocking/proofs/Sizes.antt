@@ -12,11 +12,14 @@ use Rattle.blocking.specs.Look.{CanLook}
 use Rattle.blocking.proofs.Parts.{part-range, more-bidders}
 
 -- den times what a bidder wins is from 0 to below 2^120
-pub low-at : (m : Market) (z : List ℕ) (den : ℤ) (at : List ℤ) → IsMarket m → IsWinning m z → CanLook m z den at → (k : ℕ) → k < length at → (pos 0 ≤ℤ (den *ℤ worth_in m z (k + 1))) × ((den *ℤ worth_in m z (k + 1)) <ℤ pos (2 ^ 120))
-low-at m z den at lawful win c k lt = won-range m lawful z win.passed den _ c.lowered.den_positive c.lowered.range (k + 1) (omega arith) (omega (arith, c.asks.bidders))
+pub low-at : (m : Market) (z : List ℕ) (den : ℤ) (at : List ℤ) → IsMarket m → IsWinning m z → CanLook m z den at → (k : ℕ)
+    → k < length at → (pos 0 ≤ℤ (den *ℤ worth_in m z (k + 1))) × ((den *ℤ worth_in m z (k + 1)) <ℤ pos (2 ^ 120))
+low-at m z den at lawful win c k lt = won-range m lawful z win.passed den _ c.lowered.den_positive c.lowered.range (k + 1) (omega arith)
+    (omega (arith, c.asks.bidders))
 
 -- each payment is from 0 to below 2^120
-pub paid-at : (m : Market) (z : List ℕ) (den : ℤ) (at : List ℤ) → CanLook m z den at → (k : ℕ) → k < length at → (pos 0 ≤ℤ get_or at k (pos 0)) × (get_or at k (pos 0) <ℤ pos (2 ^ 120))
+pub paid-at : (m : Market) (z : List ℕ) (den : ℤ) (at : List ℤ) → CanLook m z den at → (k : ℕ) → k < length at → (pos 0 ≤ℤ get_or at k (pos 0))
+    × (get_or at k (pos 0) <ℤ pos (2 ^ 120))
 paid-at m z den at c k lt =
     let e : suc k - 1 ≡ k = omega arith in
     let is : of_bidder at (suc k) ≡ get_or at k (pos 0) = rw e refl in
@@ -25,7 +28,8 @@ paid-at m z den at c k lt =
     (omega (arith, ints), omega (arith, ints, c.range))
 
 -- what some of the first k bidders pay
-pub row-range : (m : Market) (z : List ℕ) (den : ℤ) (at : List ℤ) → CanLook m z den at → (s : ℕ → Bool) (k : ℕ) → k ≤ length at → (pos 0 ≤ℤ sum_over s (of_bidder at) k) × (sum_over s (of_bidder at) k <ℤ pos (2 ^ 120))
+pub row-range : (m : Market) (z : List ℕ) (den : ℤ) (at : List ℤ) → CanLook m z den at → (s : ℕ → Bool) (k : ℕ)
+    → k ≤ length at → (pos 0 ≤ℤ sum_over s (of_bidder at) k) × (sum_over s (of_bidder at) k <ℤ pos (2 ^ 120))
 row-range m z den at c s k le =
     let n : k ≤ m.bidders = omega (arith, c.asks.bidders) in
     let r = part-range s (of_bidder at) m.bidders k c.not_negative n in

@@ -23,20 +23,24 @@ use Rattle.blocking.specs.Look.{CanLook, IsFound, IsBlock}
 use Rattle.blocking.proofs.Parts.{part-range, small-fits}
 use Rattle.blocking.proofs.Sizes.{row-range}
 
-module _ (m : Market) (lawful : IsMarket m) (z : List ℕ) (win : IsWinning m z) (den : ℤ) (at : List ℤ) (c : CanLook m z den at) (f : List ℕ) (sum : ℤ) (found : IsFound m z den at f sum) where
+module _ (m : Market) (lawful : IsMarket m) (z : List ℕ) (win : IsWinning m z) (den : ℤ) (at : List ℤ) (c : CanLook m z den at) (f : List ℕ) (sum : ℤ)
+    (found : IsFound m z den at f sum) where
   own : IsPaid m z (record { den = den; at = at }) (surpluses_of m z den at)
   own = surpluses-are m z (record { den = den; at = at }) c.asks
 
   -- where the greatest lowered sum isn't above all payments, nothing blocks the point
   pub look-free : sum ≤ℤ paid m (record { den = den; at = at }) → IsUnblocked m z (record { den = den; at = at })
-  look-free le = let is = found.sum in free-unblocked m lawful z (record { den = den; at = at }) (surpluses_of m z den at) own f found.first (omega (arith, ints))
+  look-free le = let is = found.sum in free-unblocked m lawful z (record { den = den; at = at }) (surpluses_of m z den at) own f found.first
+      (omega (arith, ints))
 
   -- where it is above them, something does
   pub look-blocks : paid m (record { den = den; at = at }) <ℤ sum → ¬ IsUnblocked m z (record { den = den; at = at })
-  look-blocks lt free = let is = found.sum in let h = unblocked-free m lawful z (record { den = den; at = at }) (surpluses_of m z den at) own f found.first free in absurd (omega (arith, ints))
+  look-blocks lt free = let is = found.sum in let h = unblocked-free m lawful z (record { den = den; at = at })
+      (surpluses_of m z den at) own f found.first free in absurd (omega (arith, ints))
 
   -- the excess and what the row pays are den times the bound
-  pub look-total : (sum -ℤ paid m (record { den = den; at = at })) +ℤ sum_over (idle_row m z (record { den = den; at = at }) f) (of_bidder at) m.bidders ≡ den *ℤ row_bound m z (idle_row m z (record { den = den; at = at }) f) f
+  pub look-total : (sum -ℤ paid m (record { den = den; at = at })) +ℤ sum_over (idle_row m z (record { den = den; at = at }) f)
+      (of_bidder at) m.bidders ≡ den *ℤ row_bound m z (idle_row m z (record { den = den; at = at }) f) f
   look-total =
       let is = found.sum in
       let a = low-reached m lawful z (record { den = den; at = at }) (surpluses_of m z den at) own f found.first.passed in
@@ -45,7 +49,8 @@ module _ (m : Market) (lawful : IsMarket m) (z : List ℕ) (win : IsWinning m z)
 
   -- the greatest lowered sum isn't below all payments
   pub look-below : paid m (record { den = den; at = at }) ≤ℤ sum
-  look-below = let is = found.sum in let h = not-below m lawful z (record { den = den; at = at }) (surpluses_of m z den at) own f found.first win in omega (arith, ints)
+  look-below = let is = found.sum in let h = not-below m lawful z (record { den = den; at = at }) (surpluses_of m z den at) own f found.first win in
+      omega (arith, ints)
 
   -- what the excess and the row add up to is in the range
   pub look-range : (den *ℤ row_bound m z (idle_row m z (record { den = den; at = at }) f) f) <ℤ pos (2 ^ 120)
@@ -70,19 +75,26 @@ module _ (m : Market) (lawful : IsMarket m) (z : List ℕ) (win : IsWinning m z)
   some-member : paid m (record { den = den; at = at }) <ℤ sum → (x : ℕ) → bits_after z (idle_row m z (record { den = den; at = at }) f) 0 ≡ x → 0 < x
   some-member above zero e =
       let is = found.sum in
-      let none : (j : ℕ) → 0 < j → j ≤ m.bidders → idle_row m z (record { den = den; at = at }) f j ≡ false = λ j q le. same-row j q ∙ ap (λ t. has_bit z t (j - 1)) e ∙ no-bit z (j - 1) in
+      let none : (j : ℕ) → 0 < j → j ≤ m.bidders → idle_row m z (record { den = den; at = at }) f j ≡ false =
+      λ j q le. same-row j q ∙ ap (λ t. has_bit z t (j - 1)) e ∙ no-bit z (j - 1) in
       let h = row-not_empty m lawful z (record { den = den; at = at }) c.lowered.den_positive (surpluses_of m z den at) own f found.first win none in
       absurd (omega (arith, ints))
   some-member above (suc n) e = omega arith
 
   -- the choice with its idle row, the bound of that row and an excess above 0 is a block of the turn
-  pub look-block : (b : Block) → b.row.members ≡ bits_after z (idle_row m z (record { den = den; at = at }) f) 0 → b.row.bound ≡ row_bound m z (idle_row m z (record { den = den; at = at }) f) f
+  pub look-block : (b : Block) → b.row.members ≡ bits_after z (idle_row m z (record { den = den; at = at }) f) 0
+      → b.row.bound ≡ row_bound m z (idle_row m z (record { den = den; at = at }) f) f
       → b.choice ≡ f → b.excess ≡ sum -ℤ paid m (record { den = den; at = at }) → pos 0 <ℤ b.excess → IsBlock m z den at b
   look-block b bits bound choice excess above =
       let is = found.sum in
       let gain : b.excess ≡ lowered_sum m z (record { den = den; at = at }) f -ℤ paid m (record { den = den; at = at }) = omega (arith, ints) in
-      let t = taken-same m z (record { den = den; at = at }) f (idle_row m z (record { den = den; at = at }) f) (row_of z (bits_after z (idle_row m z (record { den = den; at = at }) f) 0)) (lowered_sum m z (record { den = den; at = at }) f -ℤ paid m (record { den = den; at = at })) (λ j q le. same-row j q) (taken m lawful z (record { den = den; at = at }) (surpluses_of m z den at) own f found.first) in
-      let outside = over-same (λ j. not (idle_row m z (record { den = den; at = at }) f j)) (λ j. not (row_of z (bits_after z (idle_row m z (record { den = den; at = at }) f) 0) j)) (worth_in m z) m.bidders (λ j q le. ap not (same-row j q)) in
+      let t = taken-same m z (record { den = den; at = at }) f (idle_row m z (record { den = den; at = at }) f)
+      (row_of z (bits_after z (idle_row m z (record { den = den; at = at }) f) 0))
+      (lowered_sum m z (record { den = den; at = at }) f -ℤ paid m (record { den = den; at = at })) (λ j q le. same-row j q)
+      (taken m lawful z (record { den = den; at = at }) (surpluses_of m z den at) own f found.first) in
+      let outside = over-same (λ j. not (idle_row m z (record { den = den; at = at }) f j))
+      (λ j. not (row_of z (bits_after z (idle_row m z (record { den = den; at = at }) f) 0) j)) (worth_in m z) m.bidders
+      (λ j q le. ap not (same-row j q)) in
       record {
         block = record {
           taken = rw (bits, choice, gain) t;
@@ -94,8 +106,10 @@ module _ (m : Market) (lawful : IsMarket m) (z : List ℕ) (win : IsWinning m z)
 
 -- the excess and what the row pays: their sum is in the range, and is den times the bound
 pub row-total : (m : Market) → IsMarket m → (z : List ℕ) → IsWinning m z → (den : ℤ) (at : List ℤ) → CanLook m z den at → (f : List ℕ) (excess rest : ℤ)
-    → IsFound m z den at f (excess +ℤ paid m (record { den = den; at = at })) → rest ≡ sum_over (idle_row m z (record { den = den; at = at }) f) (of_bidder at) m.bidders
-    → (pos 0 ≤ℤ (excess +ℤ rest)) × ((excess +ℤ rest) <ℤ pos (2 ^ 120)) × (den *ℤ row_bound m z (idle_row m z (record { den = den; at = at }) f) f ≡ excess +ℤ rest)
+    → IsFound m z den at f (excess +ℤ paid m (record { den = den; at = at })) → rest ≡ sum_over (idle_row m z (record { den = den; at = at }) f)
+    (of_bidder at) m.bidders
+    → (pos 0 ≤ℤ (excess +ℤ rest)) × ((excess +ℤ rest) <ℤ pos (2 ^ 120)) × (den *ℤ row_bound m z (idle_row m z (record { den = den; at = at }) f) f ≡ excess +ℤ
+    rest)
 row-total m lawful z win den at c f excess rest found is =
     let total = look-total m lawful z win den at c f (excess +ℤ paid m (record { den = den; at = at })) found in
     let below = look-below m lawful z win den at c f (excess +ℤ paid m (record { den = den; at = at })) found in
@@ -104,11 +118,13 @@ row-total m lawful z win den at c f excess rest found is =
     (omega (arith, ints), omega (arith, ints), omega (arith, ints))
 
 -- the sum that was found, as the excess and all payments
-pub found-again : (m : Market) (z : List ℕ) (den : ℤ) (at : List ℤ) (f : List ℕ) (sum excess : ℤ) → IsFound m z den at f sum → excess ≡ sum -ℤ paid m (record { den = den; at = at }) → IsFound m z den at f (excess +ℤ paid m (record { den = den; at = at }))
+pub found-again : (m : Market) (z : List ℕ) (den : ℤ) (at : List ℤ) (f : List ℕ) (sum excess : ℤ) → IsFound m z den at f sum
+    → excess ≡ sum -ℤ paid m (record { den = den; at = at }) → IsFound m z den at f (excess +ℤ paid m (record { den = den; at = at }))
 found-again m z den at f sum excess found is = record { first = found.first; sum = let s = found.sum in omega (arith, ints) }
 
 -- the excess is in the range
-pub excess-fits : (m : Market) → IsMarket m → (z : List ℕ) → IsWinning m z → (den : ℤ) (at : List ℤ) → CanLook m z den at → (f : List ℕ) (sum : ℤ) → IsFound m z den at f sum → FitsSigned w128 (sum -ℤ paid m (record { den = den; at = at }))
+pub excess-fits : (m : Market) → IsMarket m → (z : List ℕ) → IsWinning m z → (den : ℤ) (at : List ℤ) → CanLook m z den at → (f : List ℕ) (sum : ℤ)
+    → IsFound m z den at f sum → FitsSigned w128 (sum -ℤ paid m (record { den = den; at = at }))
 excess-fits m lawful z win den at c f sum found =
     let total = look-total m lawful z win den at c f sum found in
     let below = look-below m lawful z win den at c f sum found in

@@ -8,7 +8,8 @@ use Rattle.line_text.specs.Decimals.{decimals_text}
 -- the text of two lists of numbers in a row is the text of the first and then that of the second
 pub numbers-append : (ms ns : List ℕ) → decimals_text (ms ++ ns) ≡ decimals_text ms ++ decimals_text ns
 numbers-append [] ns = refl
-numbers-append (m ∷ ms) ns = ap (λ (l : List ℕ). 32 ∷ decimal m ++ l) (numbers-append ms ns) ∙ sym (append_assoc (32 ∷ decimal m) (decimals_text ms) (decimals_text ns))
+numbers-append (m ∷ ms) ns = ap (λ (l : List ℕ). 32 ∷ decimal m ++ l) (numbers-append ms ns)
+    ∙ sym (append_assoc (32 ∷ decimal m) (decimals_text ms) (decimals_text ns))
 
 -- one number more
 pub numbers-push : (ns : List ℕ) (n : ℕ) → decimals_text (ns ++ n ∷ []) ≡ decimals_text ns ++ 32 ∷ decimal n

@@ -58,7 +58,8 @@ winner-at [] i lt = absurd (omega arith)
 winner-at (s ∷ singles) zero lt = refl
 winner-at (s ∷ singles) (suc i) lt = winner-at singles i (omega arith)
 
-module _ (book : Book) (z : List ℕ) (whole : TableValue) (alone : VickreyValue) (weights : List ℕ) (priced : Priced TableValue) (kept : IsBidBook book) (found : AreFound book z whole alone weights priced) where
+module _ (book : Book) (z : List ℕ) (whole : TableValue) (alone : VickreyValue) (weights : List ℕ) (priced : Priced TableValue) (kept : IsBidBook book)
+    (found : AreFound book z whole alone weights priced) where
   lawful : IsMarket (market_of book)
   lawful = market-of_book book (omega (arith, kept.bidders)) kept.not_negative
 
@@ -86,7 +87,8 @@ module _ (book : Book) (z : List ℕ) (whole : TableValue) (alone : VickreyValue
   table_at : (i : ℕ) → i < length alone.singles → IsTableWithout book (single_at alone.singles i).winner (slice_index_or alone.tables i [])
   table_at i lt =
       let inside : i < length (winners_after 0 z) = omega (arith, lt, count, found.tables.count) in
-      let same : slice_index (winners_after 0 z) i ≡ (single_at alone.singles i).winner = ap (λ (l : List ℕ). slice_index l i) (sym found.singles.winners) ∙ winner-at alone.singles i lt in
+      let same : slice_index (winners_after 0 z) i ≡ (single_at alone.singles i).winner = ap (λ (l : List ℕ). slice_index l i) (sym found.singles.winners)
+      ∙ winner-at alone.singles i lt in
       subst (λ (j : ℕ). IsTableWithout book j (slice_index_or alone.tables i [])) same (found.tables.each i inside)
 
   best-part : (j : ℕ) → 0 < j → j ≤ bidders_of book → IsTrue (uses z j) → IsBestPart book j (part_of (parts_from alone.singles alone.tables) j)
@@ -97,7 +99,8 @@ module _ (book : Book) (z : List ℕ) (whole : TableValue) (alone : VickreyValue
       let winner : s.winner ≡ j = p.2 in
       subst (IsBestPart book j) (sym p.4) (record {
         choice = subst (λ (k : ℕ). IsFirstGreatest (allowed_without (market_of book) k) (value_of (market_of book)) s.choice) winner p.3.choice;
-        table = table_of-others book j (slice_index_or alone.tables i []) (subst (λ (k : ℕ). IsTableWithout book k (slice_index_or alone.tables i [])) winner (table_at i p.1));
+        table = table_of-others book j (slice_index_or alone.tables i []) (subst (λ (k : ℕ). IsTableWithout book k (slice_index_or alone.tables i [])) winner
+            (table_at i p.1));
       })
 
   obeys : Obeys (menu_of book) (net_of book) book.supply whole.lines
@@ -106,7 +109,8 @@ module _ (book : Book) (z : List ℕ) (whole : TableValue) (alone : VickreyValue
   top-is : entry_at whole.lines 0 (full book) ≤ℤ value_of (market_of book) z
   top-is =
       let entry = (table.exact 0 (omega arith)).exact (full book) (full-below book.supply) in
-      let fits : IsTrue ((market_of book).allowed entry.reached.0) = subst (λ (l : List ℕ). IsTrue (fits_after (menu_of book) 0 l entry.reached.0)) (left_at-whole book.supply) entry.reached.1 in
+      let fits : IsTrue ((market_of book).allowed entry.reached.0) = subst (λ (l : List ℕ). IsTrue (fits_after (menu_of book) 0 l entry.reached.0))
+      (left_at-whole book.supply) entry.reached.1 in
       let most = found.winning.greatest entry.reached.0 fits in
       let is = entry.reached.2 in
       omega (arith, ints, most, is)
@@ -125,7 +129,8 @@ module _ (book : Book) (z : List ℕ) (whole : TableValue) (alone : VickreyValue
   passes-3 place = record {
     rules = λ k s le lt is. obeys k s le lt;
     top = λ is. top-is;
-    first = λ k lt is. none-earlier (menu_of book) (net_of book) book.supply z found.winning.passed whole.lines table found.winning (value_of (market_of book) z) refl k lt;
+    first = λ k lt is. none-earlier (menu_of book) (net_of book) book.supply z found.winning.passed whole.lines table found.winning
+        (value_of (market_of book) z) refl k lt;
   }
 
   part-passes : (j : ℕ) (part : WithoutValue) → 0 < j → IsBestPart book j part → IsPart book j part
@@ -145,10 +150,14 @@ module _ (book : Book) (z : List ℕ) (whole : TableValue) (alone : VickreyValue
       }
 
   passes-4 : (place : ℕ) → C4 book (cert_found book z whole alone priced) place
-  passes-4 place = record { part = λ some inside used. part-passes place (part_of (parts_from alone.singles alone.tables) place) some (best-part place some inside used) }
+  passes-4 place = record {
+    part = λ some inside used. part-passes place (part_of (parts_from alone.singles alone.tables) place) some
+        (best-part place some inside used);
+  }
 
   passes-9 : (place : ℕ) → C9 book (cert_found book z whole alone priced) place
-  passes-9 = lowered_passes book (cert_found book z whole alone priced) core (table_of-lowered book priced.den _ priced.last.table found.lowered) lawful priced.last.choice own.last.first
+  passes-9 = lowered_passes book (cert_found book z whole alone priced) core (table_of-lowered book priced.den _ priced.last.table found.lowered) lawful
+      priced.last.choice own.last.first
 
   -- the certificate is one that pricing writes
   pub priced_passes : IsPricedCert book (weight_of weights) (cert_found book z whole alone priced)
@@ -161,9 +170,12 @@ module _ (book : Book) (z : List ℕ) (whole : TableValue) (alone : VickreyValue
           c3 = passes-3;
           c4 = passes-4;
           c5 = kept_payments (market_of book) z value whole.lines alone.singles alone.tables priced.den priced.at priced.rows priced.last.table.lines core;
-          c6 = kept_rows (market_of book) z long value whole.lines alone.singles alone.tables priced.den priced.at priced.rows priced.last.table.lines own.shown.kept;
-          c7 = kept_firsts (market_of book) z long weights value whole.lines alone.singles alone.tables priced.den priced.at priced.rows priced.last.table.lines own.shown.first own.shown.first_sums;
-          c8 = kept_seconds (market_of book) z long weights value whole.lines alone.singles alone.tables priced.den priced.at priced.rows priced.last.table.lines refl found.singles count own.shown.first own.shown.second;
+          c6 = kept_rows (market_of book) z long value whole.lines alone.singles alone.tables priced.den priced.at priced.rows priced.last.table.lines
+              own.shown.kept;
+          c7 = kept_firsts (market_of book) z long weights value whole.lines alone.singles alone.tables priced.den priced.at priced.rows
+              priced.last.table.lines own.shown.first own.shown.first_sums;
+          c8 = kept_seconds (market_of book) z long weights value whole.lines alone.singles alone.tables priced.den priced.at priced.rows
+              priced.last.table.lines refl found.singles count own.shown.first own.shown.second;
           c9 = passes-9;
         };
         winning = found.winning;
@@ -177,7 +189,8 @@ module _ (book : Book) (z : List ℕ) (whole : TableValue) (alone : VickreyValue
   choices c allowed = choice_shape (market_of book) lawful (λ j some inside. omega (arith, kept.bids j)) c allowed
 
   others-shape : (i : ℕ) → i < length alone.tables → IsTable (bidders_of book) (states book) (slice_index_or alone.tables i [])
-  others-shape i lt = let inside : i < length alone.singles = omega (arith, lt, count) in shape_of-others book (single_at alone.singles i).winner (slice_index_or alone.tables i []) kept (table_at i inside)
+  others-shape i lt = let inside : i < length alone.singles = omega (arith, lt, count) in shape_of-others book (single_at alone.singles i).winner
+      (slice_index_or alone.tables i []) kept (table_at i inside)
 
   -- it has the shape that a certificate keeps
   pub priced_shape : IsCertificate (bidders_of book) (states book) (cert_found book z whole alone priced)
@@ -191,7 +204,8 @@ module _ (book : Book) (z : List ℕ) (whole : TableValue) (alone : VickreyValue
         withouts = withouts_shape (market_of book) (states book) z long choices alone.singles alone.tables found.singles count others-shape;
         pay = pay_shape (market_of book) z long priced.at own.prices.small;
         few = rows_few z priced.rows own.shown.few found.few.0;
-        rows = rows_shape (market_of book) z long choices priced.den priced.at priced.rows own.shown.kept own.shown.first own.shown.first_sums numbers.0 own.shown.small_seconds;
+        rows = rows_shape (market_of book) z long choices priced.den priced.at priced.rows own.shown.kept own.shown.first own.shown.first_sums numbers.0
+            own.shown.small_seconds;
         lowered = shape_of-all book priced.last.table found.lowered.exact;
       }
 
@@ -200,18 +214,32 @@ module _ (book : Book) (z : List ℕ) (whole : TableValue) (alone : VickreyValue
   width = width-is book (menu_of book) (net_of book) whole.lines table
 
   -- the greatest entry of the table of all bids is the value
-  pub value_found : (most : ℤ) → IsEntry (menu_without book whole.skip) (lowered whole.den (net_of book) whole.surplus) 0 book.supply most → most ≡ value_of (market_of book) z
+  pub value_found : (most : ℤ) → IsEntry (menu_without book whole.skip) (lowered whole.den (net_of book) whole.surplus) 0 book.supply most
+      → most ≡ value_of (market_of book) z
   value_found most entry =
-      let e : IsEntry (menu_without book 0) (lowered (pos 1) (net_of book) whole.surplus) 0 book.supply most = rw (found.plain.skip, found.plain.den) at entry in
+      let e : IsEntry (menu_without book 0) (lowered (pos 1) (net_of book) whole.surplus) 0 book.supply most =
+      rw (found.plain.skip, found.plain.den) at entry in
       greatest-is (market_of book).allowed (value_of (market_of book)) most z (greatest-all book whole.surplus found.plain.zeros most e) found.winning
 
   -- the fields that the program fills
   module _ (den value : ℤ) (table : List (List ℤ)) (withouts : List WithoutPart) (pay : List ℤ) (rows : List CertRow) (lowered_lines : List (List ℤ))
-      (den_is : den ≡ priced.den) (value_is : value ≡ value_of (market_of book) z) (table_is : table ≡ whole.lines) (withouts_are : map without_value withouts ≡ parts_from alone.singles alone.tables)
-      (pay_is : pay ≡ for_bidders z priced.at) (rows_are : map row_value rows ≡ map (row_from z) priced.rows) (lowered_is : lowered_lines ≡ priced.last.table.lines) where
+      (den_is : den ≡ priced.den) (value_is : value ≡ value_of (market_of book) z) (table_is : table ≡ whole.lines)
+      (withouts_are : map without_value withouts ≡ parts_from alone.singles alone.tables)
+      (pay_is : pay ≡ for_bidders z priced.at) (rows_are : map row_value rows ≡ map (row_from z) priced.rows)
+      (lowered_is : lowered_lines ≡ priced.last.table.lines) where
     -- together they are the certificate of what was found
     pub made_is : cert_from den value z table withouts pay rows lowered_lines ≡ cert_found book z whole alone priced
-    made_is = λ t. record { den = den_is t; value = value_is t; choice = z; table = table_is t; withouts = withouts_are t; pay = pay_is t; rows = rows_are t; lowered = lowered_is t }
+    made_is = λ t. record {
+      den = den_is t;
+      value = value_is t;
+      choice = z;
+      table = table_is t;
+      withouts = withouts_are t;
+      pay = pay_is t;
+      rows =
+          rows_are t;
+      lowered = lowered_is t;
+    }
 
     -- the head's table is as wide as there are states
     pub made_width : width_of table ≡ states book

@@ -38,10 +38,12 @@ module _ (m : Menu) (worth : ℕ → ℕ → ℤ) (supply z : List ℕ) (fits : 
   long = omega (arith, known-length m 0 z (fits-known m supply z fits))
 
   -- a bid that fits, and a choice of the others that fits what it leaves
-  pub cons-fits : (k i : ℕ) (left t : List ℕ) → i ≤ m.bids (suc k) → IsTrue (is_within (m.lots (suc k) i) left) → IsTrue (fits_after m (suc k) (less left (m.lots (suc k) i)) t) → IsTrue (fits_after m k left (i ∷ t))
+  pub cons-fits : (k i : ℕ) (left t : List ℕ) → i ≤ m.bids (suc k) → IsTrue (is_within (m.lots (suc k) i) left)
+      → IsTrue (fits_after m (suc k) (less left (m.lots (suc k) i)) t) → IsTrue (fits_after m k left (i ∷ t))
   cons-fits k i left t known own rest =
       fits-cons m k left i t
-      ∙ and_from (nat_le i (m.bids (suc k))) (is_within (m.lots (suc k) i) left && fits_after m (suc k) (less left (m.lots (suc k) i)) t) (le-leb i (m.bids (suc k)) known)
+      ∙ and_from (nat_le i (m.bids (suc k))) (is_within (m.lots (suc k) i) left && fits_after m (suc k) (less left (m.lots (suc k) i)) t)
+      (le-leb i (m.bids (suc k)) known)
       (and_from (is_within (m.lots (suc k) i) left) (fits_after m (suc k) (less left (m.lots (suc k) i)) t) own rest)
 
   record Own (k : ℕ) : Type 0 where
@@ -57,7 +59,8 @@ module _ (m : Menu) (worth : ℕ → ℕ → ℤ) (supply z : List ℕ) (fits : 
       let n = number_of z (suc k) in
       let left = left_after m supply z k in
       let g : IsTrue (fits_after m k left (n ∷ drop (suc k) z)) = subst (λ (l : List ℕ). IsTrue (fits_after m k left l)) (split-at z k lt) f in
-      let p = and_parts (nat_le n (m.bids (suc k))) (is_within (m.lots (suc k) n) left && fits_after m (suc k) (less left (m.lots (suc k) n)) (drop (suc k) z)) (sym (fits-cons m k left n (drop (suc k) z)) ∙ g) in
+      let p = and_parts (nat_le n (m.bids (suc k))) (is_within (m.lots (suc k) n) left && fits_after m (suc k) (less left (m.lots (suc k) n))
+      (drop (suc k) z)) (sym (fits-cons m k left n (drop (suc k) z)) ∙ g) in
       let q = and_parts (is_within (m.lots (suc k) n) left) (fits_after m (suc k) (less left (m.lots (suc k) n)) (drop (suc k) z)) p.1 in
       record { known = leb-true n (m.bids (suc k)) p.0; within = q.0; rest = q.1 }
 
@@ -85,7 +88,8 @@ module _ (m : Menu) (worth : ℕ → ℕ → ℤ) (supply z : List ℕ) (fits : 
       record {
         fits_too = subst (λ (l : List ℕ). IsTrue (fits_after m 0 supply l)) (sym j) g.fits_too;
         sum_is = ap (sum_after worth 0) j ∙ g.sum_is ∙ omega (arith, ints);
-        earlier = λ e. subst (λ (l : List ℕ). IsTrue (is_earlier l z)) (sym j) (g.earlier (subst (λ (l : List ℕ). IsTrue (is_earlier (n ∷ t) l)) (sym (split-at z k lt)) (earlier-rest n t (drop (suc k) z) e)));
+        earlier = λ e. subst (λ (l : List ℕ). IsTrue (is_earlier l z)) (sym j) (g.earlier
+            (subst (λ (l : List ℕ). IsTrue (is_earlier (n ∷ t) l)) (sym (split-at z k lt)) (earlier-rest n t (drop (suc k) z) e)));
       }
 
   -- what the first bidders leave has a place
@@ -120,12 +124,15 @@ module _ (m : Menu) (worth : ℕ → ℕ → ℤ) (supply z : List ℕ) (fits : 
         let place = place_of supply (less left lots) in
         let same : place ≡ place_of supply (less (left_at supply here.place) lots) = ap (λ (l : List ℕ). place_of supply (less l lots)) here.left in
         let there : place < states_of supply = omega (arith, same, place-less_below supply lots here.place here.inside) in
-        let back : left_at supply place ≡ less left lots = ap (left_at supply) same ∙ left_at-less supply lots here.place here.inside ∙ ap (λ (l : List ℕ). less l lots) (sym here.left) in
-        let entry : IsEntry m worth (suc k) (left_at supply place) (entry_at table (suc k) place) = (exact.exact (suc k) (omega (arith, lt))).exact place there in
+        let back : left_at supply place ≡ less left lots = ap (left_at supply) same ∙ left_at-less supply lots here.place here.inside
+        ∙ ap (λ (l : List ℕ). less l lots) (sym here.left) in
+        let entry : IsEntry m worth (suc k) (left_at supply place) (entry_at table (suc k) place) = (exact.exact (suc k) (omega (arith, lt))).exact place
+        there in
         let d = entry.reached.0 in
         let rest : IsTrue (fits_after m (suc k) (less left lots) d) = subst (λ (l : List ℕ). IsTrue (fits_after m (suc k) l d)) back entry.reached.1 in
         let other = swapped k (omega (arith, inside)) (i ∷ d) (cons-fits k i left d known own rest) in
-        let early = other.earlier (subst (λ (l : List ℕ). IsTrue (is_earlier (i ∷ d) l)) (sym (split-at z k inside)) (earlier-number i n d (drop (suc k) z) before)) in
+        let early = other.earlier (subst (λ (l : List ℕ). IsTrue (is_earlier (i ∷ d) l)) (sym (split-at z k inside))
+        (earlier-number i n d (drop (suc k) z) before)) in
         let smaller = first.first (take k z ++ i ∷ d) other.fits_too early in
         let sum = other.sum_is in
         let reached = entry.reached.2 in

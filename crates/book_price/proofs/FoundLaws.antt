@@ -16,20 +16,23 @@ use Rattle.vickrey.specs.VickreyValue.{AreTablesWithout, VickreyValue}
 use Rattle.book_price.specs.Found.{AreFound}
 
 -- the chooser's book and choice are those that are priced
-pub found-by : (book own : Book) (z chosen : List ℕ) (whole : TableValue) (alone : VickreyValue) (weights : List ℕ) (singles : List Single) (priced : Priced TableValue)
+pub found-by : (book own : Book) (z chosen : List ℕ) (whole : TableValue) (alone : VickreyValue) (weights : List ℕ) (singles : List Single)
+    (priced : Priced TableValue)
     → own ≡ book → chosen ≡ z → singles ≡ alone.singles
-    → IsWinning (market_of book) z → IsTableOf book whole → IsPlain whole → AreSingles (market_of book) z alone.singles → AreTablesWithout book (winners_after 0 z) alone.tables
+    → IsWinning (market_of book) z → IsTableOf book whole → IsPlain whole → AreSingles (market_of book) z alone.singles
+    → AreTablesWithout book (winners_after 0 z) alone.tables
     → FewWin z weights → AreWeights (bidders_of book) weights → IsPriced (market_of own) chosen weights singles priced
     → IsLoweredTable own priced.den (surpluses_of (market_of own) chosen priced.den (for_bidders chosen priced.at)) priced.last.table
     → AreFound book z whole alone weights priced
-found-by book own z chosen whole alone weights singles priced same_book same_choice same_singles winning table plain are_singles tables few weighing is lowered = record {
-  winning = winning;
-  table = table;
-  plain = plain;
-  singles = are_singles;
-  tables = tables;
-  few = few;
-  weighing = weighing;
-  priced_is = rw (same_book, same_choice, same_singles) at is;
-  lowered = rw (same_book, same_choice) at lowered;
-}
+found-by book own z chosen whole alone weights singles priced same_book same_choice same_singles winning table plain are_singles tables few weighing is
+    lowered = record {
+      winning = winning;
+      table = table;
+      plain = plain;
+      singles = are_singles;
+      tables = tables;
+      few = few;
+      weighing = weighing;
+      priced_is = rw (same_book, same_choice, same_singles) at is;
+      lowered = rw (same_book, same_choice) at lowered;
+    }

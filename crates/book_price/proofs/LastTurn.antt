@@ -16,5 +16,6 @@ last-point : (z : List ℕ) (den : ℤ) (at : List ℤ) (turns : List Turn) → 
 last-point z den at turns ends = subst (λ (t : List Turn). IsLastPoint (turns_of z t) (point_of z den at)) (sym ends.1) (last-of z den at ends.0)
 
 -- a certificate that has the point at which pricing ended has the point of the last turn
-pub point-is_last : (z : List ℕ) (den : ℤ) (at : List ℤ) (turns : List Turn) (made cert : CertValue) → EndsWith turns (last_turn den at) → cert_point cert ≡ point_of z den at → cert.choice ≡ z → made ≡ cert → IsLastPoint (turns_of made.choice turns) (cert_point made)
+pub point-is_last : (z : List ℕ) (den : ℤ) (at : List ℤ) (turns : List Turn) (made cert : CertValue) → EndsWith turns (last_turn den at)
+    → cert_point cert ≡ point_of z den at → cert.choice ≡ z → made ≡ cert → IsLastPoint (turns_of made.choice turns) (cert_point made)
 point-is_last z den at turns made cert ends point choice is = rw (is, choice, point) (last-point z den at turns ends)

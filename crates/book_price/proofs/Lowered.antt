@@ -85,9 +85,11 @@ module _ (book : Book) (c : CertValue) (core : IsCorePoint (market_of book) c.ch
     obeys-lowered : Obeys (menu_of book) (lowered_net book c) book.supply c.lowered
     obeys-lowered =
         obeys-same (menu_of book) (lowered c.den (net_of book) surpluses) (lowered_net book c) book.supply c.lowered worths-same
-        (exact_obeys (menu_of book) (lowered c.den (net_of book) surpluses) book.supply c.lowered (λ j. idle-none (of_bidder surpluses j) (surplus-any j)) (λ j. refl) exact)
+        (exact_obeys (menu_of book) (lowered c.den (net_of book) surpluses) book.supply c.lowered (λ j. idle-none (of_bidder surpluses j) (surplus-any j))
+        (λ j. refl) exact)
 
-    top-lowered : (lawful : IsMarket (market_of book)) (f : List ℕ) → IsFirstGreatest (market_of book).allowed (lowered_sum (market_of book) c.choice (cert_point c)) f
+    top-lowered : (lawful : IsMarket (market_of book)) (f : List ℕ) → IsFirstGreatest (market_of book).allowed
+        (lowered_sum (market_of book) c.choice (cert_point c)) f
         → entry_at c.lowered 0 (full book) ≤ℤ sum_over everyone (of_bidder c.pay) (bidders_of book)
     top-lowered lawful f best =
         let m = market_of book in
@@ -102,7 +104,8 @@ module _ (book : Book) (c : CertValue) (core : IsCorePoint (market_of book) c.ch
         omega (arith, ints, most, free, is)
 
     -- at a core point the exact table of the lowered worths passes test C9
-    pub lowered_passes : IsMarket (market_of book) → (f : List ℕ) → IsFirstGreatest (market_of book).allowed (lowered_sum (market_of book) c.choice (cert_point c)) f → (place : ℕ) → C9 book c place
+    pub lowered_passes : IsMarket (market_of book) → (f : List ℕ) → IsFirstGreatest (market_of book).allowed
+        (lowered_sum (market_of book) c.choice (cert_point c)) f → (place : ℕ) → C9 book c place
     lowered_passes lawful f best place = record {
       rules = λ k s le lt is. obeys-lowered k s le lt;
       top = λ is. top-lowered lawful f best;

@@ -1,5 +1,6 @@
 -- The members of a row as a list.
-use Rattle.std.specs.Prelude.{◌≡◌, ℕ, zero, suc, ◌-◌, ◌*◌, ◌/◌, ◌%◌, ◌^◌, ◌<◌, ◌≤◌, ◌==◌, Bool, true, false, cond, not, ◌&&◌, ◌||◌, List, [], ◌∷◌, ◌++◌, length, refl}
+use Rattle.std.specs.Prelude.{◌≡◌, ℕ, zero, suc, ◌-◌, ◌*◌, ◌/◌, ◌%◌, ◌^◌, ◌<◌, ◌≤◌, ◌==◌, Bool, true, false, cond, not, ◌&&◌, ◌||◌, List, [], ◌∷◌, ◌++◌}
+use Rattle.std.specs.Prelude.{length, refl}
 use Rattle.std.proofs.Common.{sym, ◌∙◌, ap, arith, inl, inr, ◌⊎◌}
 use Rattle.std.proofs.lemmas.Bool.{cases_Bool, cases_eq, cases_lt, eq-eqb, ne_eqb, false≢true}
 use native.Mathlib.Nat.{pow-suc}
@@ -102,7 +103,8 @@ some-bit [] bits some below = absurd (omega arith)
 some-bit (zero ∷ z) bits some below = let r = some-bit z bits some below in (suc r.0, omega (arith, r.1), r.2)
 some-bit (suc n ∷ z) bits some below = by (cases_Bool ((bits % 2) == 1)) (λ more less. some-bit z (bits / 2) more less)
   where
-    by : ((bits % 2) == 1 ≡ true) ⊎ ((bits % 2) == 1 ≡ false) → (0 < bits / 2 → bits / 2 < 2 ^ winners_in z → (k : ℕ) × (k < length z) × (has_bit z (bits / 2) k ≡ true)) → (k : ℕ) × (k < suc (length z)) × (has_bit (suc n ∷ z) bits k ≡ true)
+    by : ((bits % 2) == 1 ≡ true) ⊎ ((bits % 2) == 1 ≡ false) → (0 < bits / 2 → bits / 2 < 2 ^ winners_in z
+        → (k : ℕ) × (k < length z) × (has_bit z (bits / 2) k ≡ true)) → (k : ℕ) × (k < suc (length z)) × (has_bit (suc n ∷ z) bits k ≡ true)
     by (inl e) next = (0, omega arith, e)
     by (inr e) next =
         let even : ¬ (bits % 2 ≡ 1) = λ q. false≢true (sym e ∙ eq-eqb (bits % 2) 1 q) in

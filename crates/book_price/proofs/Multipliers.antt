@@ -1,5 +1,6 @@
 -- The multipliers of the kept rows of any market pass the tests of multipliers.
-use Rattle.std.specs.Prelude.{◌≡◌, ℕ, zero, suc, ◌-◌, ◌<◌, ◌≤◌, Bool, true, false, cond, IsTrue, List, [], length, map, slice_index_or, ℤ, pos, ◌+ℤ◌, ◌-ℤ◌, ◌*ℤ◌, ◌≤ℤ◌, ◌<ℤ◌, refl}
+use Rattle.std.specs.Prelude.{◌≡◌, ℕ, zero, suc, ◌-◌, ◌<◌, ◌≤◌, Bool, true, false, cond, IsTrue, List, [], length, map, slice_index_or, ℤ, pos, ◌+ℤ◌, ◌-ℤ◌}
+use Rattle.std.specs.Prelude.{◌*ℤ◌, ◌≤ℤ◌, ◌<ℤ◌, refl}
 use Rattle.std.proofs.Common.{sym, ◌∙◌, ap, arith, ◌⊎◌, inl, inr}
 use Rattle.std.proofs.lemmas.Int.{ints}
 use Rattle.std.proofs.lemmas.List.{get_or-map, length-map}
@@ -51,7 +52,8 @@ module _ (z : List ℕ) (k i : ℕ) (inside : k < length z) (place : IsPlace z k
       ap (λ t. cond t x (pos 0)) bit ∙ times_when (has_bit z r.row.members k) x ∙ ap (λ (y : ℤ). x *ℤ y) (sym (place.member r.row.members))
 
   -- the sum over the first n rows that hold the bidder is that by the coefficients of the winner
-  pub holding-is : (number : RowValue → ℤ) (numbers : ℕ → ℤ) → ((q : ℕ) → q < length rows → numbers q ≡ number (row_from z (priced_at rows q))) → (n : ℕ) → n ≤ length rows
+  pub holding-is : (number : RowValue → ℤ) (numbers : ℕ → ℤ) → ((q : ℕ) → q < length rows → numbers q ≡ number (row_from z (priced_at rows q))) → (n : ℕ)
+      → n ≤ length rows
       → sum_holding (map (row_from z) rows) (suc k) number n ≡ sum_at n (coefficients (rows_in rows)) numbers i
   holding-is number numbers h zero le = refl
   holding-is number numbers h (suc n) le =
@@ -66,7 +68,8 @@ module _ (z : List ℕ) (k i : ℕ) (inside : k < length z) (place : IsPlace z k
   -- so is the sum over all rows that hold the bidder
   pub all-holding : (number : RowValue → ℤ) (numbers : ℕ → ℤ) → ((q : ℕ) → q < length rows → numbers q ≡ number (row_from z (priced_at rows q)))
       → sum_holding (map (row_from z) rows) (suc k) number (length (map (row_from z) rows)) ≡ sum_at (length rows) (coefficients (rows_in rows)) numbers i
-  all-holding number numbers h = ap (λ n. sum_holding (map (row_from z) rows) (suc k) number n) (length-map rows (row_from z)) ∙ holding-is number numbers h (length rows) (omega arith)
+  all-holding number numbers h = ap (λ n. sum_holding (map (row_from z) rows) (suc k) number n) (length-map rows (row_from z))
+      ∙ holding-is number numbers h (length rows) (omega arith)
 
 -- a single's choice has the greatest value without it
 single-value : (m : Market) (z : List ℕ) (s : Single) → IsSingle m z s → value_of m s.choice ≡ (s.price +ℤ value_of m z) -ℤ worth_in m z s.winner
@@ -78,7 +81,8 @@ single-value m z s is =
     let same = r.2 in
     omega (arith, ints, above, below, same)
 
-module _ (m : Market) (z : List ℕ) (long : length z ≡ m.bidders) (weights : List ℕ) (value : ℤ) (table : List (List ℤ)) (singles : List Single) (tables : List (List (List ℤ))) (den : ℤ) (at : List ℤ) (rows : List PricedRow) (lowered : List (List ℤ)) where
+module _ (m : Market) (z : List ℕ) (long : length z ≡ m.bidders) (weights : List ℕ) (value : ℤ) (table : List (List ℤ)) (singles : List Single)
+    (tables : List (List (List ℤ))) (den : ℤ) (at : List ℤ) (rows : List PricedRow) (lowered : List (List ℤ)) where
   module _ (first : AreFirst (winners_in z) (length rows) (coefficients (rows_in rows)) (bounds (rows_in rows)) den (nth at) (nth (firsts rows))) where
     first-sign : (place : ℕ) → 0 < place → place ≤ length rows → pos 0 ≤ℤ (row_at_place (map (row_from z) rows) place).first
     first-sign zero some inside = absurd (omega arith)
@@ -89,7 +93,8 @@ module _ (m : Market) (z : List ℕ) (long : length z ≡ m.bidders) (weights : 
         omega (arith, ints, e, f, s)
 
     module _ (sums : SumsTo (winners_in z) (length rows) (coefficients (rows_in rows)) den (nth (firsts rows))) where
-      first-column : (j : ℕ) → 0 < j → j ≤ m.bidders → IsTrue (uses z j) → sum_holding (map (row_from z) rows) j (λ row. row.first) (length (map (row_from z) rows)) ≡ den
+      first-column : (j : ℕ) → 0 < j → j ≤ m.bidders → IsTrue (uses z j) → sum_holding (map (row_from z) rows) j (λ row. row.first)
+          (length (map (row_from z) rows)) ≡ den
       first-column zero some inside used = absurd (omega arith)
       first-column (suc k) some inside used =
           let lt : k < length z = omega (arith, inside, long) in
@@ -105,18 +110,23 @@ module _ (m : Market) (z : List ℕ) (long : length z ≡ m.bidders) (weights : 
 
   module _ (is : value ≡ value_of m z) (are : AreSingles m z singles) (count : length tables ≡ length singles)
       (first : AreFirst (winners_in z) (length rows) (coefficients (rows_in rows)) (bounds (rows_in rows)) den (nth at) (nth (firsts rows)))
-      (second : AreSecond (winners_in z) (length rows) (coefficients (rows_in rows)) (bounds (rows_in rows)) den (nth at) (nth (firsts rows)) (nth (seconds rows)) (nth (prices_of singles)) (weight_at (weights_in z weights))) where
-    vickrey-is : (k : ℕ) → k < length z → uses z (suc k) ≡ true → vickrey_in m (cert_made z value table singles tables den at rows lowered) (suc k) ≡ nth (prices_of singles) (rank z k)
+      (second : AreSecond (winners_in z) (length rows) (coefficients (rows_in rows)) (bounds (rows_in rows)) den (nth at) (nth (firsts rows))
+      (nth (seconds rows)) (nth (prices_of singles)) (weight_at (weights_in z weights))) where
+    vickrey-is : (k : ℕ) → k < length z → uses z (suc k) ≡ true → vickrey_in m (cert_made z value table singles tables den at rows lowered) (suc k) ≡ nth
+        (prices_of singles) (rank z k)
     vickrey-is k lt used =
         let i = rank z k in
         let p = part-of_winner z singles tables are.winners count k lt used in
-        let own = single-value m z (single_at singles i) (each-at (IsSingle m z) singles are.each i (record { winner = 0; price = pos 0; choice = [] }) p.inside) in
+        let own = single-value m z (single_at singles i) (each-at (IsSingle m z) singles are.each i (record { winner = 0; price = pos 0; choice = [] })
+        p.inside) in
         let choice = ap (λ (w : WithoutValue). value_of m w.choice) p.part in
         let won = ap (worth_in m z) p.winner in
-        let price : nth (prices_of singles) i ≡ (single_at singles i).price = get_or-map (λ s. s.price) singles i (record { winner = 0; price = pos 0; choice = [] }) (pos 0) p.inside in
+        let price : nth (prices_of singles) i ≡ (single_at singles i).price = get_or-map (λ s. s.price) singles i
+        (record { winner = 0; price = pos 0; choice = [] }) (pos 0) p.inside in
         omega (arith, ints, own, choice, won, price, is)
 
-    second-sign : (place : ℕ) → 0 < place → place ≤ length rows → (pos 0 <ℤ (row_at_place (map (row_from z) rows) place).first) ⊎ (pos 0 ≤ℤ (row_at_place (map (row_from z) rows) place).second)
+    second-sign : (place : ℕ) → 0 < place → place ≤ length rows → (pos 0 <ℤ (row_at_place (map (row_from z) rows) place).first)
+        ⊎ (pos 0 ≤ℤ (row_at_place (map (row_from z) rows) place).second)
     second-sign zero some inside = absurd (omega arith)
     second-sign (suc i) some inside =
         let e = ap (λ (r : RowValue). r.first) (row-is z rows i inside) in
@@ -130,7 +140,8 @@ module _ (m : Market) (z : List ℕ) (long : length z ≡ m.bidders) (weights : 
         ]
 
     second-column : (j : ℕ) → 0 < j → j ≤ m.bidders → IsTrue (uses z j)
-        → of_bidder (for_bidders z at) j -ℤ (den *ℤ vickrey_in m (cert_made z value table singles tables den at rows lowered) j) ≡ pos (weight_of weights j) *ℤ sum_holding (map (row_from z) rows) j (λ row. row.second) (length (map (row_from z) rows))
+        → of_bidder (for_bidders z at) j -ℤ (den *ℤ vickrey_in m (cert_made z value table singles tables den at rows lowered) j) ≡ pos
+        (weight_of weights j) *ℤ sum_holding (map (row_from z) rows) j (λ row. row.second) (length (map (row_from z) rows))
     second-column zero some inside used = absurd (omega arith)
     second-column (suc k) some inside used =
         let lt : k < length z = omega (arith, inside, long) in
@@ -140,7 +151,8 @@ module _ (m : Market) (z : List ℕ) (long : length z ≡ m.bidders) (weights : 
         let paid : of_bidder (for_bidders z at) (suc k) ≡ nth at (rank z k) = ap (nth (for_bidders z at)) b ∙ place.number at in
         let price = ap (λ (x : ℤ). den *ℤ x) (vickrey-is k lt used) in
         let s = second.sums (rank z k) place.inside in
-        let w : weight_at (weights_in z weights) (rank z k) ≡ pos (weight_of weights (suc k)) = ap pos (weight-rank z weights k lt used ∙ sym (ap (λ n. slice_index_or weights n 0) b)) in
+        let w : weight_at (weights_in z weights) (rank z k) ≡ pos (weight_of weights (suc k)) = ap pos
+        (weight-rank z weights k lt used ∙ sym (ap (λ n. slice_index_or weights n 0) b)) in
         let t = ap (λ (x : ℤ). pos (weight_of weights (suc k)) *ℤ x) held in
         let u = ap (λ (x : ℤ). x *ℤ sum_at (length rows) (coefficients (rows_in rows)) (nth (seconds rows)) (rank z k)) w in
         omega (arith, ints, t, u, paid, price, s)

@@ -1,5 +1,6 @@
 -- The places of the winners among the bidders, and the part of each.
-use Rattle.std.specs.Prelude.{◌≡◌, ℕ, zero, suc, ◌+◌, ◌-◌, ◌/◌, ◌%◌, ◌<◌, ◌≤◌, ◌==◌, true, cond, IsTrue, List, [], ◌∷◌, length, map, slice_index_or, ℤ, pos, refl}
+use Rattle.std.specs.Prelude.{◌≡◌, ℕ, zero, suc, ◌+◌, ◌-◌, ◌/◌, ◌%◌, ◌<◌, ◌≤◌, ◌==◌, true, cond, IsTrue, List, [], ◌∷◌, length, map, slice_index_or, ℤ, pos}
+use Rattle.std.specs.Prelude.{refl}
 use Rattle.std.specs.List.{AllByRecursion}
 use Rattle.std.proofs.Common.{◌∙◌, ap, arith}
 use Rattle.std.proofs.lemmas.Bool.{eq-eqb, ne_eqb, false≢true}
@@ -79,14 +80,16 @@ rest (x ∷ xs) = xs
 abbrev part : ℕ → List ℕ → List (List ℤ) → WithoutValue
 part j choice table = record { winner = j; choice = choice; table = table }
 
-first-part : (x : Single) (singles : List Single) (t : List (List ℤ)) (tables : List (List (List ℤ))) (j : ℕ) → x.winner ≡ j → IsPartAt (x ∷ singles) (t ∷ tables) j 0
+first-part : (x : Single) (singles : List Single) (t : List (List ℤ)) (tables : List (List (List ℤ))) (j : ℕ) → x.winner ≡ j
+    → IsPartAt (x ∷ singles) (t ∷ tables) j 0
 first-part x singles t tables j e = record {
   inside = omega arith;
   winner = e;
   part = ap (λ b. cond b (part x.winner x.choice t) (part_of (parts_from singles tables) j)) (eq-eqb x.winner j e) ∙ ap (λ w. part w x.choice t) e;
 }
 
-next-part : (x : Single) (singles : List Single) (t : List (List ℤ)) (tables : List (List (List ℤ))) (j i : ℕ) → ¬ (x.winner ≡ j) → IsPartAt singles tables j i → IsPartAt (x ∷ singles) (t ∷ tables) j (suc i)
+next-part : (x : Single) (singles : List Single) (t : List (List ℤ)) (tables : List (List (List ℤ))) (j i : ℕ) → ¬ (x.winner ≡ j)
+    → IsPartAt singles tables j i → IsPartAt (x ∷ singles) (t ∷ tables) j (suc i)
 next-part x singles t tables j i other p = record {
   inside = omega (arith, p.inside);
   winner = p.winner;
@@ -108,15 +111,18 @@ place-of (zero ∷ z) (suc k) lt used = loser-place z k (rank z k) (place-of z k
 place-of (suc n ∷ z) zero lt used = first-place z n
 place-of (suc n ∷ z) (suc k) lt used = next-place z n k (rank z k) (place-of z k (omega arith) (one_less z (suc n) k used))
 
-moved : (singles : List Single) (tables : List (List (List ℤ))) (s k i : ℕ) → IsPartAt singles tables (suc (suc s + k)) i → IsPartAt singles tables (suc (s + suc k)) i
+moved : (singles : List Single) (tables : List (List (List ℤ))) (s k i : ℕ) → IsPartAt singles tables (suc (suc s + k)) i
+    → IsPartAt singles tables (suc (s + suc k)) i
 moved singles tables s k i p = let same : suc (suc s + k) ≡ suc (s + suc k) = omega arith in rw same at p
 
 -- the part of a winner, s bidders being passed
-pub part-at : (s : ℕ) (z : List ℕ) (k : ℕ) → k < length z → uses z (suc k) ≡ true → (singles : List Single) (tables : List (List (List ℤ))) → map (λ x. x.winner) singles ≡ winners_after s z → length tables ≡ length singles
+pub part-at : (s : ℕ) (z : List ℕ) (k : ℕ) → k < length z → uses z (suc k) ≡ true → (singles : List Single) (tables : List (List (List ℤ)))
+    → map (λ x. x.winner) singles ≡ winners_after s z → length tables ≡ length singles
     → IsPartAt singles tables (suc (s + k)) (rank z k)
 part-at s [] k lt used singles tables e count = absurd (omega arith)
 part-at s (zero ∷ z) zero lt used singles tables e count = absurd (false≢true used)
-part-at s (zero ∷ z) (suc k) lt used singles tables e count = moved singles tables s k (rank z k) (part-at (suc s) z k (omega arith) (one_less z 0 k used) singles tables e count)
+part-at s (zero ∷ z) (suc k) lt used singles tables e count = moved singles tables s k (rank z k)
+    (part-at (suc s) z k (omega arith) (one_less z 0 k used) singles tables e count)
 part-at s (suc n ∷ z) k lt used [] tables e count = absurd (let l = ap length e in omega (arith, l))
 part-at s (suc n ∷ z) k lt used (x ∷ singles) [] e count = absurd (omega arith)
 part-at s (suc n ∷ z) zero lt used (x ∷ singles) (t ∷ tables) e count =
@@ -127,7 +133,8 @@ part-at s (suc n ∷ z) (suc k) lt used (x ∷ singles) (t ∷ tables) e count =
     (moved singles tables s k (rank z k) (part-at (suc s) z k (omega arith) (one_less z (suc n) k used) singles tables (ap rest e) (omega arith)))
 
 -- the part of bidder k + 1
-pub part-of_winner : (z : List ℕ) (singles : List Single) (tables : List (List (List ℤ))) → map (λ x. x.winner) singles ≡ winners_after 0 z → length tables ≡ length singles → (k : ℕ) → k < length z → uses z (suc k) ≡ true → IsPartAt singles tables (suc k) (rank z k)
+pub part-of_winner : (z : List ℕ) (singles : List Single) (tables : List (List (List ℤ))) → map (λ x. x.winner) singles ≡ winners_after 0 z
+    → length tables ≡ length singles → (k : ℕ) → k < length z → uses z (suc k) ≡ true → IsPartAt singles tables (suc k) (rank z k)
 part-of_winner z singles tables e count k lt used = let same : suc (0 + k) ≡ suc k = omega arith in rw same at (part-at 0 z k lt used singles tables e count)
 
 -- the winner j has a place i among the singles: its part has the choice of that single and the table at that place
@@ -141,7 +148,8 @@ winner_part m z singles tables are count (suc k) some inside used =
     (rank z k, p.inside, p.winner, each-at (IsSingle m z) singles are.each (rank z k) (record { winner = 0; price = pos 0; choice = [] }) p.inside, p.part)
 
 -- the weight of a winner is that of its bidder
-pub weight-rank : (z weights : List ℕ) (k : ℕ) → k < length z → uses z (suc k) ≡ true → slice_index_or (weights_in z weights) (rank z k) 0 ≡ slice_index_or weights k 0
+pub weight-rank : (z weights : List ℕ) (k : ℕ) → k < length z → uses z (suc k) ≡ true → slice_index_or (weights_in z weights)
+    (rank z k) 0 ≡ slice_index_or weights k 0
 weight-rank [] weights k lt used = absurd (omega arith)
 weight-rank (zero ∷ z) weights zero lt used = absurd (false≢true used)
 weight-rank (zero ∷ z) [] (suc k) lt used = weight-rank z [] k (omega arith) (one_less z 0 k used)

@@ -28,10 +28,12 @@ priced_at rows i = slice_index_or rows i no_row
 
 -- the rows of the certificate, counted from 1
 pub row-is : (z : List ℕ) (rows : List PricedRow) (i : ℕ) → i < length rows → row_at_place (map (row_from z) rows) (suc i) ≡ row_from z (priced_at rows i)
-row-is z rows i lt = let b : suc i - 1 ≡ i = omega arith in rw b (get_or-map (row_from z) rows i no_row (record { members = []; first = pos 0; second = pos 0; choice = [] }) lt)
+row-is z rows i lt = let b : suc i - 1 ≡ i = omega arith in rw b (get_or-map (row_from z) rows i no_row
+    (record { members = []; first = pos 0; second = pos 0; choice = [] }) lt)
 
 -- a member is a winner that the choice of the row doesn't use
-module _ (m : Market) (z : List ℕ) (long : length z ≡ m.bidders) (den : ℤ) (at : List ℤ) (r : PricedRow) (kept : IsKept m z den at r) (j : ℕ) (member : IsTrue (is_member (row_from z r).members j)) where
+module _ (m : Market) (z : List ℕ) (long : length z ≡ m.bidders) (den : ℤ) (at : List ℤ) (r : PricedRow) (kept : IsKept m z den at r) (j : ℕ)
+    (member : IsTrue (is_member (row_from z r).members j)) where
   idle : IsTrue (uses z j && not (uses r.choice j))
   idle =
       let inside = member-inside (row_of z r.row.members) (length z) j member in
@@ -55,13 +57,15 @@ module _ (m : Market) (z : List ℕ) (long : length z ≡ m.bidders) (den : ℤ)
       ≡ den *ℤ (value_of m r.choice -ℤ sum_over (λ j. not (is_member (row_from z r).members j)) (worth_in m z) m.bidders)
   row-tight =
       let paid = over-same (is_member (row_from z r).members) (row_of z r.row.members) (of_bidder (for_bidders z at)) m.bidders same in
-      let won = over-same (λ j. not (is_member (row_from z r).members j)) (λ j. not (row_of z r.row.members j)) (worth_in m z) m.bidders (λ j some inside. ap not (same j some inside)) in
+      let won = over-same (λ j. not (is_member (row_from z r).members j)) (λ j. not (row_of z r.row.members j)) (worth_in m z) m.bidders
+      (λ j some inside. ap not (same j some inside)) in
       paid
       ∙ row-asks m z long at r.row.members
       ∙ kept.tight
       ∙ ap (λ (x : ℤ). den *ℤ x) (kept.given.given ∙ ap (λ (x : ℤ). value_of m r.choice -ℤ x) (sym won))
 
-module _ (m : Market) (z : List ℕ) (long : length z ≡ m.bidders) (value : ℤ) (table : List (List ℤ)) (singles : List Single) (tables : List (List (List ℤ))) (den : ℤ) (at : List ℤ) (rows : List PricedRow) (lowered : List (List ℤ)) where
+module _ (m : Market) (z : List ℕ) (long : length z ≡ m.bidders) (value : ℤ) (table : List (List ℤ)) (singles : List Single) (tables : List (List (List ℤ)))
+    (den : ℤ) (at : List ℤ) (rows : List PricedRow) (lowered : List (List ℤ)) where
   row_passes : (r : PricedRow) → IsKept m z den at r → IsTight m (cert_made z value table singles tables den at rows lowered) (row_from z r)
   row_passes r kept = record {
     winners = λ j member. member-wins m z long den at r kept j member;
@@ -70,7 +74,8 @@ module _ (m : Market) (z : List ℕ) (long : length z ≡ m.bidders) (value : �
     tight = row-tight m z long den at r kept;
   }
 
-  row_at-passes : AllByRecursion (IsKept m z den at) rows → (place : ℕ) → 0 < place → place ≤ length rows → IsTight m (cert_made z value table singles tables den at rows lowered) (row_at_place (map (row_from z) rows) place)
+  row_at-passes : AllByRecursion (IsKept m z den at) rows → (place : ℕ) → 0 < place → place ≤ length rows
+      → IsTight m (cert_made z value table singles tables den at rows lowered) (row_at_place (map (row_from z) rows) place)
   row_at-passes kept zero some inside = absurd (omega arith)
   row_at-passes kept (suc i) some inside =
       subst (λ (r : RowValue). IsTight m (cert_made z value table singles tables den at rows lowered) r) (sym (row-is z rows i inside))

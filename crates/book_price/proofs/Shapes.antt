@@ -1,5 +1,6 @@
 -- In any market the rows, the parts and the payments have the shape that a certificate keeps.
-use Rattle.std.specs.Prelude.{◌≡◌, ℕ, zero, suc, ◌-◌, ◌^◌, ◌<◌, ◌≤◌, true, cond, not, IsTrue, List, [], ◌∷◌, length, map, slice_index, slice_index_or, ℤ, pos, negsuc, ◌+ℤ◌, ◌-ℤ◌, ◌*ℤ◌, ◌≤ℤ◌, ◌<ℤ◌, unsigned_abs}
+use Rattle.std.specs.Prelude.{◌≡◌, ℕ, zero, suc, ◌-◌, ◌^◌, ◌<◌, ◌≤◌, true, cond, not, IsTrue, List, [], ◌∷◌, length, map, slice_index, slice_index_or, ℤ, pos}
+use Rattle.std.specs.Prelude.{negsuc, ◌+ℤ◌, ◌-ℤ◌, ◌*ℤ◌, ◌≤ℤ◌, ◌<ℤ◌, unsigned_abs}
 use Rattle.std.specs.List.{AllByRecursion}
 use Rattle.std.proofs.Common.{◌∙◌, ap, arith}
 use Rattle.std.proofs.Math.IntN.{*ℤ_comm}
@@ -66,10 +67,13 @@ numbers_shape den value some low small =
     let more = mul_nonneg value (den -ℤ pos 1) low (omega (arith, ints, some)) in
     let less = mul-sub value den (pos 1) in
     let same = *ℤ-one value in
-    let turned = *ℤ_comm value den in
-    (not_negative-small den (omega (arith, ints, some)) (omega (arith, ints, apart, one, least, small)), not_negative-small value low (omega (arith, ints, apart, one, some, more, less, same, turned, small)))
+    let turned = *ℤ_comm value den in (
+      not_negative-small den (omega (arith, ints, some)) (omega (arith, ints, apart, one, least, small)),
+      not_negative-small value low (omega (arith, ints, apart, one, some, more, less, same, turned, small)),
+    )
 
-module _ (m : Market) (z : List ℕ) (long : length z ≡ m.bidders) (choices : (c : List ℕ) → IsTrue (m.allowed c) → IsChoice m.bidders c) (den : ℤ) (at : List ℤ) (rows : List PricedRow) (kept : AllByRecursion (IsKept m z den at) rows)
+module _ (m : Market) (z : List ℕ) (long : length z ≡ m.bidders) (choices : (c : List ℕ) → IsTrue (m.allowed c) → IsChoice m.bidders c) (den : ℤ)
+    (at : List ℤ) (rows : List PricedRow) (kept : AllByRecursion (IsKept m z den at) rows)
     (first : AreFirst (winners_in z) (length rows) (coefficients (rows_in rows)) (bounds (rows_in rows)) den (nth at) (nth (firsts rows)))
     (sums : SumsTo (winners_in z) (length rows) (coefficients (rows_in rows)) den (nth (firsts rows)))
     (small : InRange den) (seconds_small : AreBelow (2 ^ 109) (seconds rows)) where
@@ -88,8 +92,10 @@ module _ (m : Market) (z : List ℕ) (long : length z ≡ m.bidders) (choices : 
       let place = place-of z k h.1 (bit-wins z (priced_at rows i).row.members k h.2).1 in
       let j = rank z k in
       let term : (nth (firsts rows) i *ℤ coefficients (rows_in rows) i j) ≤ℤ total (length rows) (λ q. nth (firsts rows) q *ℤ coefficients (rows_in rows) q j) =
-      term-le (length rows) (λ q. nth (firsts rows) q *ℤ coefficients (rows_in rows) q j) (λ q l. mul_nonneg (nth (firsts rows) q) (coefficients (rows_in rows) q j) (first.not_negative q l) (omega (arith, ints))) i lt in
-      let one : coefficients (rows_in rows) i j ≡ pos 1 = members-at rows i j lt ∙ place.member (priced_at rows i).row.members ∙ ap (λ b. cond b (pos 1) (pos 0)) h.2 in
+      term-le (length rows) (λ q. nth (firsts rows) q *ℤ coefficients (rows_in rows) q j)
+      (λ q l. mul_nonneg (nth (firsts rows) q) (coefficients (rows_in rows) q j) (first.not_negative q l) (omega (arith, ints))) i lt in
+      let one : coefficients (rows_in rows) i j ≡ pos 1 = members-at rows i j lt ∙ place.member (priced_at rows i).row.members
+      ∙ ap (λ b. cond b (pos 1) (pos 0)) h.2 in
       let e = ap (λ (x : ℤ). nth (firsts rows) i *ℤ x) one in
       let f = first-at rows i lt in
       let s = sums j place.inside in
@@ -102,7 +108,8 @@ module _ (m : Market) (z : List ℕ) (long : length z ≡ m.bidders) (choices : 
   has-member i lt =
       let h = held i lt in
       let b : suc h.0 - 1 ≡ h.0 = omega arith in
-      member-some (row_from z (priced_at rows i)).members (suc h.0) (member-is (row_of z (priced_at rows i).row.members) (length z) (suc h.0) (omega arith) h.1 ∙ ap (has_bit z (priced_at rows i).row.members) b ∙ h.2)
+      member-some (row_from z (priced_at rows i)).members (suc h.0) (member-is (row_of z (priced_at rows i).row.members) (length z) (suc h.0)
+      (omega arith) h.1 ∙ ap (has_bit z (priced_at rows i).row.members) b ∙ h.2)
 
   row-shape : (i : ℕ) → i < length rows → IsRow m.bidders (row_from z (priced_at rows i))
   row-shape i lt = record {
@@ -110,17 +117,20 @@ module _ (m : Market) (z : List ℕ) (long : length z ≡ m.bidders) (choices : 
     members = rw⁻¹ long (members-rise (row_of z (priced_at rows i).row.members) (length z));
     choice = choices (priced_at rows i).choice (kept-at i lt).given.allowed;
     range = (
-      within (priced_at rows i).first den (let f = first-at rows i lt in let s = first.not_negative i lt in omega (arith, ints, f, s)) (first-within i lt) small,
+      within (priced_at rows i).first den (let f = first-at rows i lt in let s = first.not_negative i lt in omega (arith, ints, f, s))
+          (first-within i lt) small,
       less_small (priced_at rows i).second (second-small i lt),
     );
   }
 
-all-shape : (m : Market) (z : List ℕ) (kept : List PricedRow) → ((i : ℕ) → i < length kept → IsRow m.bidders (row_from z (priced_at kept i))) → AreRows m.bidders (map (row_from z) kept)
+all-shape : (m : Market) (z : List ℕ) (kept : List PricedRow) → ((i : ℕ) → i < length kept → IsRow m.bidders (row_from z (priced_at kept i)))
+    → AreRows m.bidders (map (row_from z) kept)
 all-shape m z [] h = tt
 all-shape m z (r ∷ kept) h = (h 0 (omega arith), all-shape m z kept (λ i lt. h (suc i) (omega arith)))
 
 -- the kept rows have the shape that a certificate keeps
-pub rows_shape : (m : Market) (z : List ℕ) → length z ≡ m.bidders → ((c : List ℕ) → IsTrue (m.allowed c) → IsChoice m.bidders c) → (den : ℤ) (at : List ℤ) (rows : List PricedRow)
+pub rows_shape : (m : Market) (z : List ℕ) → length z ≡ m.bidders → ((c : List ℕ) → IsTrue (m.allowed c) → IsChoice m.bidders c)
+    → (den : ℤ) (at : List ℤ) (rows : List PricedRow)
     → AllByRecursion (IsKept m z den at) rows
     → AreFirst (winners_in z) (length rows) (coefficients (rows_in rows)) (bounds (rows_in rows)) den (nth at) (nth (firsts rows))
     → SumsTo (winners_in z) (length rows) (coefficients (rows_in rows)) den (nth (firsts rows))
@@ -134,8 +144,10 @@ pub rows_few : (z : List ℕ) (rows : List PricedRow) → length rows ≤ winner
 rows_few z rows count few = let e = length-map rows (row_from z) in omega (arith, e)
 
 -- the parts of the winners, s bidders being passed
-parts-shape : (bidders width s : ℕ) (z : List ℕ) (singles : List Single) (tables : List (List (List ℤ))) → map (λ x. x.winner) singles ≡ winners_after s z → length tables ≡ length singles
-    → ((i : ℕ) → i < length singles → IsChoice bidders (single_at singles i).choice) → ((i : ℕ) → i < length tables → IsTable bidders width (slice_index_or tables i []))
+parts-shape : (bidders width s : ℕ) (z : List ℕ) (singles : List Single) (tables : List (List (List ℤ))) → map (λ x. x.winner) singles ≡ winners_after s z
+    → length tables ≡ length singles
+    → ((i : ℕ) → i < length singles → IsChoice bidders (single_at singles i).choice)
+    → ((i : ℕ) → i < length tables → IsTable bidders width (slice_index_or tables i []))
     → AreWithouts bidders width (suc s) z (parts_from singles tables)
 parts-shape bidders width s [] [] tables e count choices shaped = tt
 parts-shape bidders width s [] (x ∷ singles) tables e count choices shaped = absurd (let l = ap length e in omega (arith, l))
@@ -143,12 +155,18 @@ parts-shape bidders width s (zero ∷ z) singles tables e count choices shaped =
 parts-shape bidders width s (suc n ∷ z) [] tables e count choices shaped = absurd (let l = ap length e in omega (arith, l))
 parts-shape bidders width s (suc n ∷ z) (x ∷ singles) [] e count choices shaped = absurd (omega arith)
 parts-shape bidders width s (suc n ∷ z) (x ∷ singles) (t ∷ tables) e count choices shaped = (
-  record { winner = front_of x.winner (suc s) (map (λ y. y.winner) singles) (winners_after (suc s) z) e; choice = choices 0 (omega arith); table = shaped 0 (omega arith) },
+  record {
+    winner = front_of x.winner (suc s) (map (λ y. y.winner) singles) (winners_after (suc s) z) e;
+    choice = choices 0 (omega arith);
+    table =
+        shaped 0 (omega arith);
+  },
   parts-shape bidders width (suc s) z singles tables (ap rest e) (omega arith) (λ i lt. choices (suc i) (omega arith)) (λ i lt. shaped (suc i) (omega arith)),
 )
 
 -- the parts without each winner have the shape that a certificate keeps
-pub withouts_shape : (m : Market) (width : ℕ) (z : List ℕ) → length z ≡ m.bidders → ((c : List ℕ) → IsTrue (m.allowed c) → IsChoice m.bidders c) → (singles : List Single) (tables : List (List (List ℤ)))
+pub withouts_shape : (m : Market) (width : ℕ) (z : List ℕ) → length z ≡ m.bidders → ((c : List ℕ) → IsTrue (m.allowed c) → IsChoice m.bidders c)
+    → (singles : List Single) (tables : List (List (List ℤ)))
     → AreSingles m z singles → length tables ≡ length singles → ((i : ℕ) → i < length tables → IsTable m.bidders width (slice_index_or tables i []))
     → AreWithouts m.bidders width 1 z (parts_from singles tables)
 withouts_shape m width z long choices singles tables are count shaped = parts-shape m.bidders width 0 z singles tables are.winners count choice shaped
@@ -156,7 +174,8 @@ withouts_shape m width z long choices singles tables are count shaped = parts-sh
     choice : (i : ℕ) → i < length singles → IsChoice m.bidders (single_at singles i).choice
     choice i lt =
         let s = each-at (IsSingle m z) singles are.each i (record { winner = 0; price = pos 0; choice = [] }) lt in
-        choices (single_at singles i).choice (and_parts (m.allowed (single_at singles i).choice) (not (uses (single_at singles i).choice (single_at singles i).winner)) s.choice.passed).0
+        choices (single_at singles i).choice (and_parts (m.allowed (single_at singles i).choice)
+        (not (uses (single_at singles i).choice (single_at singles i).winner)) s.choice.passed).0
 
 numbers-shape : (at : List ℤ) → AreBelow (2 ^ 109) at → AllInRange at
 numbers-shape [] small = tt
@@ -172,5 +191,6 @@ bidders-shape (suc n ∷ z) [] h = (zero_small, bidders-shape z [] h)
 bidders-shape (suc n ∷ z) (a ∷ at) h = (h.0, bidders-shape z at h.1)
 
 -- each bidder has a payment, and it is in range
-pub pay_shape : (m : Market) (z : List ℕ) → length z ≡ m.bidders → (at : List ℤ) → AreBelow (2 ^ 109) at → (length (for_bidders z at) ≡ m.bidders) × AllInRange (for_bidders z at)
+pub pay_shape : (m : Market) (z : List ℕ) → length z ≡ m.bidders → (at : List ℤ) → AreBelow (2 ^ 109) at → (length (for_bidders z at) ≡ m.bidders)
+    × AllInRange (for_bidders z at)
 pay_shape m z long at small = (all-bidders z at ∙ long, bidders-shape z at (numbers-shape at small))

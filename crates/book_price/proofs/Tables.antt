@@ -20,14 +20,16 @@ use Rattle.vickrey.specs.value_table.specs.TableValue.{IsLoweredTable, IsPlain, 
 use Rattle.vickrey.specs.value_table.proofs.Plain.{plain-range}
 use Rattle.vickrey.specs.VickreyValue.{IsTableWithout}
 
-greatest-same : (p q : List ℕ → Bool) (v w : List ℕ → ℤ) (most : ℤ) → ((c : List ℕ) → p c ≡ q c) → ((c : List ℕ) → v c ≡ w c) → IsGreatestValue p v most → IsGreatestValue q w most
+greatest-same : (p q : List ℕ → Bool) (v w : List ℕ → ℤ) (most : ℤ) → ((c : List ℕ) → p c ≡ q c) → ((c : List ℕ) → v c ≡ w c) → IsGreatestValue p v most
+    → IsGreatestValue q w most
 greatest-same p q v w most tests values g = record {
   reached = (g.reached.0, sym (tests g.reached.0) ∙ g.reached.1, sym (values g.reached.0) ∙ g.reached.2);
   bound = λ c t. rw (← values c) (g.bound c (tests c ∙ t));
 }
 
 -- the same table for another menu and other worths that give the same sums
-exact-same : (m n : Menu) (counts worths : ℕ → ℕ → ℤ) (supply : List ℕ) (table : List (List ℤ)) → m.bidders ≡ n.bidders → ((k : ℕ) (s c : List ℕ) → fits_after m k s c ≡ fits_after n k s c) → ((k : ℕ) (c : List ℕ) → sum_after counts k c ≡ sum_after worths k c)
+exact-same : (m n : Menu) (counts worths : ℕ → ℕ → ℤ) (supply : List ℕ) (table : List (List ℤ)) → m.bidders ≡ n.bidders
+    → ((k : ℕ) (s c : List ℕ) → fits_after m k s c ≡ fits_after n k s c) → ((k : ℕ) (c : List ℕ) → sum_after counts k c ≡ sum_after worths k c)
     → IsExactTable m counts supply table → IsExactTable n worths supply table
 exact-same m n counts worths supply table bidders fits sums e = record {
   lines = e.lines ∙ ap suc bidders;
@@ -35,7 +37,8 @@ exact-same m n counts worths supply table bidders fits sums e = record {
       let line = e.exact k (omega (arith, le, bidders)) in
       record {
         places = line.places;
-        exact = λ s lt. greatest-same (fits_after m k (left_at supply s)) (fits_after n k (left_at supply s)) (sum_after counts k) (sum_after worths k) (get_or (get_or table k []) s (pos 0)) (fits k (left_at supply s)) (sums k) (line.exact s lt);
+        exact = λ s lt. greatest-same (fits_after m k (left_at supply s)) (fits_after n k (left_at supply s)) (sum_after counts k) (sum_after worths k)
+            (get_or (get_or table k []) s (pos 0)) (fits k (left_at supply s)) (sums k) (line.exact s lt);
       };
 }
 
@@ -55,7 +58,8 @@ module _ (book : Book) where
       (λ k s c. refl) (λ k c. sum-plain (net_of book) surplus k c (λ j. refl) (λ i. zeros-at (length book.bidders) (i - 1))) exact
 
   -- the table of the lowered worths
-  pub table_of-lowered : (den : ℤ) (by : List ℤ) (table : TableValue) → IsLoweredTable book den by table → IsExactTable (menu_of book) (lowered den (net_of book) by) book.supply table.lines
+  pub table_of-lowered : (den : ℤ) (by : List ℤ) (table : TableValue) → IsLoweredTable book den by table
+      → IsExactTable (menu_of book) (lowered den (net_of book) by) book.supply table.lines
   table_of-lowered den by table is =
       let exact : IsBookTable book 0 den by table.lines = rw (is.skip, is.den, is.surplus) at is.exact.exact in
       exact-same (menu_without book 0) (menu_of book) (lowered den (net_of book) by) (lowered den (net_of book) by) book.supply table.lines refl
@@ -65,7 +69,8 @@ module _ (book : Book) where
   row-in_range [] small = tt
   row-in_range (x ∷ line) small = (small 0, row-in_range line (λ s. small (suc s)))
 
-  lines-in_range : (count : ℕ) (table : List (List ℤ)) → ((k : ℕ) → k < length table → length (get_or table k []) ≡ count) → ((k s : ℕ) → k < length table → unsigned_abs (get_or (get_or table k []) s (pos 0)) < 2 ^ 120) → AreTableLines count table
+  lines-in_range : (count : ℕ) (table : List (List ℤ)) → ((k : ℕ) → k < length table → length (get_or table k []) ≡ count)
+      → ((k s : ℕ) → k < length table → unsigned_abs (get_or (get_or table k []) s (pos 0)) < 2 ^ 120) → AreTableLines count table
   lines-in_range count [] long small = tt
   lines-in_range count (t ∷ table) long small = (
     long 0 (omega arith),
@@ -74,7 +79,8 @@ module _ (book : Book) where
   )
 
   -- the shape of a table whose sums stay in range
-  pub shape_of-table : (skip : ℕ) (den : ℤ) (surplus : List ℤ) (lines : List (List ℤ)) → IsBookTable book skip den surplus lines → IsInRange book skip den surplus → IsTable (bidders_of book) (states book) lines
+  pub shape_of-table : (skip : ℕ) (den : ℤ) (surplus : List ℤ) (lines : List (List ℤ)) → IsBookTable book skip den surplus lines
+      → IsInRange book skip den surplus → IsTable (bidders_of book) (states book) lines
   shape_of-table skip den surplus lines exact range =
       let m = menu_without book skip in
       let counts = lowered den (net_of book) surplus in
@@ -82,7 +88,12 @@ module _ (book : Book) where
       let capped : AreCapped m counts caps = lowered-capped m.bids (net_of book) den surplus in (
         exact.lines,
         lines-in_range (states_of book.supply) lines (λ k lt. (exact.exact k (omega (arith, lt, exact.lines))).places)
-            (λ k s lt. omega (arith, range, line-sizes m counts book.supply k (get_or lines k []) caps capped (exact.exact k (omega (arith, lt, exact.lines))) s)),
+            (λ k s lt. omega (
+              arith,
+              range,
+              line-sizes m counts book.supply k (get_or lines k []) caps capped
+                  (exact.exact k (omega (arith, lt, exact.lines))) s,
+            )),
       )
 
   -- the table of all bids has the shape of a table of the book

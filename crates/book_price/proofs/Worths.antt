@@ -10,7 +10,8 @@ use Rattle.cert_laws.specs.auction_model.specs.Book.{Book, bids_of, net_of, menu
 use Rattle.cert_laws.specs.row_laws.specs.Winners.{winners_in}
 
 -- the winners of a known choice, k bidders being passed
-pub sum-most : (m : Menu) (worth : ℕ → ℕ → ℤ) → ((j : ℕ) → worth j 0 ≡ pos 0) → ((j i : ℕ) → 0 < j → i ≤ m.bids j → worth j i ≤ℤ pos (2 ^ 42)) → (k : ℕ) (c : List ℕ) → IsTrue (is_known_after m k c)
+pub sum-most : (m : Menu) (worth : ℕ → ℕ → ℤ) → ((j : ℕ) → worth j 0 ≡ pos 0) → ((j i : ℕ) → 0 < j → i ≤ m.bids j → worth j i ≤ℤ pos (2 ^ 42))
+    → (k : ℕ) (c : List ℕ) → IsTrue (is_known_after m k c)
     → sum_after worth k c ≤ℤ pos (winners_in c * 2 ^ 42)
 sum-most m worth none most k [] known = omega (arith, ints)
 sum-most m worth none most k (zero ∷ c) known =
@@ -28,4 +29,5 @@ sum-most m worth none most k (suc i ∷ c) known =
 pub value-most : (book : Book) (z : List ℕ) → ((j i : ℕ) → i ≤ length (bids_of book j) → net_of book j i ≤ℤ pos (2 ^ 42)) → IsTrue ((market_of book).allowed z)
     → value_of (market_of book) z ≤ℤ pos (winners_in z * 2 ^ 42)
 value-most book z most allowed =
-    sum-most (menu_of book) (net_of book) (λ j. refl) (λ j i some. most j i) 0 z (and_parts (is_known_after (menu_of book) 0 z) (is_within (packages_after (menu_of book) 0 z) book.supply) allowed).0
+    sum-most (menu_of book) (net_of book) (λ j. refl) (λ j i some. most j i) 0 z
+    (and_parts (is_known_after (menu_of book) 0 z) (is_within (packages_after (menu_of book) 0 z) book.supply) allowed).0

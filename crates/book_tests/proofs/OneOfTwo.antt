@@ -1,5 +1,6 @@
 -- The market of the tests is a market, its first bid wins, and which choice has the greatest lowered sum.
-use Rattle.std.specs.Prelude.{◌≡◌, ℕ, zero, suc, ◌+◌, ◌-◌, ◌<◌, ◌≤◌, ◌==◌, Bool, true, false, cond, not, nat_le, IsTrue, IsFalse, List, [], ◌∷◌, length, get_or, slice_set, ℤ, pos, ◌-ℤ◌, ◌*ℤ◌, ◌≤ℤ◌, ◌<ℤ◌, refl}
+use Rattle.std.specs.Prelude.{◌≡◌, ℕ, zero, suc, ◌+◌, ◌-◌, ◌<◌, ◌≤◌, ◌==◌, Bool, true, false, cond, not, nat_le, IsTrue, IsFalse, List, [], ◌∷◌, length}
+use Rattle.std.specs.Prelude.{get_or, slice_set, ℤ, pos, ◌-ℤ◌, ◌*ℤ◌, ◌≤ℤ◌, ◌<ℤ◌, refl}
 use Rattle.std.proofs.Common.{arith, sym}
 use Rattle.std.proofs.lemmas.Int.{ints, clamps}
 use Rattle.std.proofs.lemmas.Bool.{false≢true, leb-true, le-leb}
@@ -28,7 +29,8 @@ pub lawful : IsMarket one_of_two
 lawful = record {
   few = omega arith;
   lengths = three (λ c. length c ≡ 2) refl refl refl;
-  numbers = λ c j t some inside. three (λ c. number_of c j ≤ 1) (low 1 0 (j - 1) (omega arith) (omega arith)) (low 0 1 (j - 1) (omega arith) (omega arith)) (low 0 0 (j - 1) (omega arith) (omega arith)) c t;
+  numbers = λ c j t some inside. three (λ c. number_of c j ≤ 1) (low 1 0 (j - 1) (omega arith) (omega arith)) (low 0 1 (j - 1) (omega arith) (omega arith))
+      (low 0 0 (j - 1) (omega arith) (omega arith)) c t;
   empty = refl;
   fewer = λ c j t. three (λ c. IsTrue (at_most_one (slice_set c (j - 1) 0))) (left 1 0 (j - 1) refl) (left 0 1 (j - 1) refl) (left 0 0 (j - 1) refl) c t;
   none = λ j. refl;

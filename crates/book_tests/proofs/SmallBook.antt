@@ -18,10 +18,30 @@ letter : (c : ℕ) → 97 ≤ c → c ≤ 122 → IsNameByte c
 letter c low high = inl (low, high)
 
 east_is : IsName (codes "east")
-east_is = ((omega arith, omega arith), (letter 97 (omega arith) (omega arith), (letter 115 (omega arith) (omega arith), (letter 116 (omega arith) (omega arith), tt))), omega arith)
+east_is = (
+  (omega arith, omega arith),
+  (
+    letter 97 (omega arith) (omega arith),
+    (
+      letter 115 (omega arith) (omega arith),
+      (letter 116 (omega arith) (omega arith), tt),
+    ),
+  ),
+  omega arith,
+)
 
 west_is : IsName (codes "west")
-west_is = ((omega arith, omega arith), (letter 101 (omega arith) (omega arith), (letter 115 (omega arith) (omega arith), (letter 116 (omega arith) (omega arith), tt))), omega arith)
+west_is = (
+  (omega arith, omega arith),
+  (
+    letter 101 (omega arith) (omega arith),
+    (
+      letter 115 (omega arith) (omega arith),
+      (letter 116 (omega arith) (omega arith), tt),
+    ),
+  ),
+  omega arith,
+)
 
 other_name : codes "east" ≢ codes "west"
 other_name is = let heads : 101 ≡ 119 = ap (λ (l : List ℕ). get_or l 0 0) is in omega (arith, heads)
@@ -55,6 +75,7 @@ small_rules = record {
 }
 
 -- whatever makes the lists of that book
-pub small_lists : (supply none reserves : List ℕ) (nobody first both : List Bidder) (one two : List ℕ) (east west : List BookBid) → supply ≡ 3 ∷ [] → none ≡ [] → reserves ≡ none ++ 10 ∷ [] → nobody ≡ [] → first ≡ nobody ++ bidder one east ∷ [] → both ≡ first ++ bidder two west ∷ []
+pub small_lists : (supply none reserves : List ℕ) (nobody first both : List Bidder) (one two : List ℕ) (east west : List BookBid) → supply ≡ 3 ∷ []
+    → none ≡ [] → reserves ≡ none ++ 10 ∷ [] → nobody ≡ [] → first ≡ nobody ++ bidder one east ∷ [] → both ≡ first ++ bidder two west ∷ []
     → one ≡ codes "east" → two ≡ codes "west" → east ≡ bid 1 20 ∷ bid 3 44 ∷ [] → west ≡ bid 2 24 ∷ [] → IsBookWithinLimits (book_of supply reserves both)
 small_lists supply none reserves nobody first both one two east west a b c d e f g h i j = rw (f, e, d, c, b, a, g, h, i, j) small_rules

@@ -1,5 +1,6 @@
 -- Lists of entries that have names: one entry is looked up, and one is changed.
-use Rattle.std.proofs.Common.{◌≡◌, ◌≢◌, ℕ, suc, ◌+◌, ◌≤◌, ◌<◌, Bool, true, false, not, cond, Option, Some, List, [], ◌∷◌, length, get_or, find, is_some, unwrap_or, take, ◌||◌, ◌++◌, AllPairs, refl, sym, ap, ◌∙◌, arith}
+use Rattle.std.proofs.Common.{◌≡◌, ◌≢◌, ℕ, suc, ◌+◌, ◌≤◌, ◌<◌, Bool, true, false, not, cond, Option, Some, List, [], ◌∷◌, length, get_or, find, is_some}
+use Rattle.std.proofs.Common.{unwrap_or, take, ◌||◌, ◌++◌, AllPairs, refl, sym, ap, ◌∙◌, arith}
 use Rattle.std.proofs.Math.ListN.{set}
 use Rattle.std.specs.List.{position_or_len, position, list_any}
 use Rattle.std.specs.Option.{option_map_or}
@@ -74,7 +75,8 @@ set_changes name_of xs name i d y known first same =
       was = at.found ∙ ap Some (sym here);
       is = find-set (named name_of name) xs i y first (omega (arith, at.within)) (ap (λ (n : List ℕ). bytes_eq n name) same ∙ passes);
       others = λ other ne.
-          let fails : bytes_eq (name_of (get_or xs i d)) other ≡ false = false_from_ne_true _ (λ t. ne (sym ((bytes_eq-Decides (name_of (get_or xs i d)) other).0 t) ∙ old_is)) in
+          let fails : bytes_eq (name_of (get_or xs i d)) other ≡ false = false_from_ne_true _
+          (λ t. ne (sym ((bytes_eq-Decides (name_of (get_or xs i d)) other).0 t) ∙ old_is)) in
           find_past (named name_of other) xs i y d fails (ap (λ (n : List ℕ). bytes_eq n other) same ∙ fails);
     }
 
@@ -90,7 +92,8 @@ pub place_within : {A : Type 0} (p : A → Bool) (xs : List A) → is_some (find
 place_within p xs known = (first_found p xs known).within
 
 -- the first place, out of what `position` gives
-pub place_is : {A : Type 0} (p : A → Bool) (xs : List A) (o : Option ℕ) (i : ℕ) → is_some (find p xs) ≡ true → o ≡ position p xs → i ≡ unwrap_or o (length xs) → i ≡ position_or_len p xs
+pub place_is : {A : Type 0} (p : A → Bool) (xs : List A) (o : Option ℕ) (i : ℕ) → is_some (find p xs) ≡ true → o ≡ position p xs → i ≡ unwrap_or o (length xs)
+    → i ≡ position_or_len p xs
 place_is p xs o i known at is =
     let within = place_within p xs known in
     let some : position p xs ≡ Some (position_or_len p xs) = grind arith in
@@ -148,15 +151,19 @@ AreNames name_of text_of xs texts = (q : List ℕ) → list_any (named name_of q
 
 -- one more text, whose name is among the entries
 pub names_kept : {A S : Type 0} (name_of : A → List ℕ) (text_of : S → List ℕ) (xs : List A) (texts : List S) (i : ℕ) (d : S) → i < length texts
-    → AreNames name_of text_of xs (take i texts) → list_any (named name_of (text_of (get_or texts i d))) xs ≡ true → AreNames name_of text_of xs (take (i + 1) texts)
+    → AreNames name_of text_of xs (take i texts) → list_any (named name_of (text_of (get_or texts i d))) xs ≡ true
+    → AreNames name_of text_of xs (take (i + 1) texts)
 names_kept name_of text_of xs texts i d lt names known q =
-    let more : list_any (named text_of q) (take (i + 1) texts) ≡ (list_any (named text_of q) (take i texts) || bytes_eq (text_of (get_or texts i d)) q) = list_any_more (named text_of q) texts i d lt in
-    elim (bytes_eq (text_of (get_or texts i d)) q) as (λ (b : Bool). bytes_eq (text_of (get_or texts i d)) q ≡ b → list_any (named name_of q) xs ≡ list_any (named text_of q) (take (i + 1) texts)) [
+    let more : list_any (named text_of q) (take (i + 1) texts) ≡ (list_any (named text_of q) (take i texts) || bytes_eq (text_of (get_or texts i d)) q) =
+    list_any_more (named text_of q) texts i d lt in
+    elim (bytes_eq (text_of (get_or texts i d)) q) as (λ (b : Bool). bytes_eq (text_of (get_or texts i d)) q ≡ b
+    → list_any (named name_of q) xs ≡ list_any (named text_of q) (take (i + 1) texts)) [
       | true ↦ λ t.
           let here : text_of (get_or texts i d) ≡ q = (bytes_eq-Decides (text_of (get_or texts i d)) q).0 t in
           let there : list_any (named name_of q) xs ≡ true = sym (ap (λ (n : List ℕ). list_any (named name_of n) xs) here) ∙ known in
           there ∙ sym (more ∙ ap (λ (b : Bool). list_any (named text_of q) (take i texts) || b) t ∙ or-true (list_any (named text_of q) (take i texts)))
-      | false ↦ λ f. names q ∙ sym (more ∙ ap (λ (b : Bool). list_any (named text_of q) (take i texts) || b) f ∙ or-false (list_any (named text_of q) (take i texts)))
+      | false ↦ λ f. names q ∙ sym (more ∙ ap (λ (b : Bool). list_any (named text_of q) (take i texts) || b) f
+          ∙ or-false (list_any (named text_of q) (take i texts)))
     ] refl
 
 -- one more text, and an entry of its name
@@ -173,7 +180,8 @@ abbrev pub AreApart : {A : Type 0} → (A → List ℕ) → List A → Type 0
 AreApart name_of xs = AllPairs (λ x y. name_of x ≢ name_of y) xs
 
 -- no two entries have one name after one more whose name none of them has
-pub apart_more : {A : Type 0} (name_of : A → List ℕ) (xs : List A) (y : A) → AreApart name_of xs → list_any (named name_of (name_of y)) xs ≡ false → AreApart name_of (xs ++ y ∷ [])
+pub apart_more : {A : Type 0} (name_of : A → List ℕ) (xs : List A) (y : A) → AreApart name_of xs → list_any (named name_of (name_of y)) xs ≡ false
+    → AreApart name_of (xs ++ y ∷ [])
 apart_more name_of xs y apart none = all_pairs_push (λ x z. name_of x ≢ name_of z) xs y apart (λ k d lt same.
     let t : bytes_eq (name_of (get_or xs k d)) (name_of y) ≡ true = (bytes_eq-Decides (name_of (get_or xs k d)) (name_of y)).1 same in
     let some : list_any (named name_of (name_of y)) xs ≡ true = list_any_at (named name_of (name_of y)) xs k d lt t in

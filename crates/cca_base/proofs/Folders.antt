@@ -1,5 +1,6 @@
 -- What a change of one entry means for the files of a list.
-use Rattle.std.proofs.Common.{◌≡◌, ℕ, ◌-◌, ◌≤◌, Bool, true, false, cond, Option, Some, None, List, [], ◌∷◌, All, find, is_some, unwrap_or, refl, sym, ap, subst, arith, ◌∙◌, IfSome, Result, Ok, Err, OnErr}
+use Rattle.std.proofs.Common.{◌≡◌, ℕ, ◌-◌, ◌≤◌, Bool, true, false, cond, Option, Some, None, List, [], ◌∷◌, All, find, is_some, unwrap_or, refl, sym, ap}
+use Rattle.std.proofs.Common.{subst, arith, ◌∙◌, IfSome, Result, Ok, Err, OnErr}
 use Rattle.std.specs.Option.{option_map, option_and_then, option_map_or}
 use Rattle.std.proofs.lemmas.List.Elements.{All-head, All-tail}
 use Rattle.cca_base.specs.Files.{KeepsFiles, CountsOnly, Becomes}
@@ -19,7 +20,8 @@ no_room n = cc
 abbrev pub name_by : {A : Type 0} → (A → Seen) → A → List ℕ
 name_by seen f = (seen f).name
 
-module _ {A : Type 0} (seen : A → Seen) (told : Bool) (name : List ℕ) (xs ys : List A) (old new : A) (change : ChangesOne name (entry_of seen xs) (entry_of seen ys) old new) where
+module _ {A : Type 0} (seen : A → Seen) (told : Bool) (name : List ℕ) (xs ys : List A) (old new : A)
+    (change : ChangesOne name (entry_of seen xs) (entry_of seen ys) old new) where
   -- a change that leaves bytes and room changes no file
   pub folder_keeps : (seen new).file ≡ (seen old).file → (seen new).room ≡ (seen old).room → KeepsFiles (folder_of seen told xs) (folder_of seen told ys)
   folder_keeps file room = record {
@@ -77,7 +79,8 @@ module _ {A : Type 0} (fresh : A → Type 0) (p : A → Bool) where
       ]
 
   -- what no fresh entry shows isn't shown
-  pub fresh_nowhere : {B : Type 0} (view : A → Option B) → ((f : A) → fresh f → view f ≡ None) → (xs : List A) → All fresh xs → option_and_then view (find p xs) ≡ None
+  pub fresh_nowhere : {B : Type 0} (view : A → Option B) → ((f : A) → fresh f → view f ≡ None) → (xs : List A) → All fresh xs
+      → option_and_then view (find p xs) ≡ None
   fresh_nowhere view is [] all = refl
   fresh_nowhere view is (x ∷ xs) all =
       elim (p x) as (λ (b : Bool). option_and_then view (cond b (Some x) (find p xs)) ≡ None) [

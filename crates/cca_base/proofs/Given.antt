@@ -1,5 +1,6 @@
 -- What loads gave, one call after another.
-use Rattle.std.proofs.Common.{inl, inr, ◌≡◌, ℕ, zero, suc, ◌+◌, ◌-◌, ◌≤◌, ◌<◌, Bool, true, false, cond, Option, Some, None, IfSome, unwrap_or, List, [], ◌∷◌, ◌++◌, length, take, drop, refl, sym, ap, subst, ◌∙◌, arith, IsTrue, length-append, length-take, append_assoc, IsSomeAnd}
+use Rattle.std.proofs.Common.{inl, inr, ◌≡◌, ℕ, zero, suc, ◌+◌, ◌-◌, ◌≤◌, ◌<◌, Bool, true, false, cond, Option, Some, None, IfSome, unwrap_or, List, [], ◌∷◌}
+use Rattle.std.proofs.Common.{◌++◌, length, take, drop, refl, sym, ap, subst, ◌∙◌, arith, IsTrue, length-append, length-take, append_assoc, IsSomeAnd}
 use Rattle.std.proofs.Math.Seq.{take-append_seam, drop-append_seam, take-length, drop-length}
 use Rattle.std.proofs.Math.Seq.{take-add}
 use Rattle.std.proofs.lemmas.List.{take_all, append-nil}
@@ -31,10 +32,12 @@ since_is old new since is =
     ap (λ (k : ℕ). take k new.gave) long ∙ ap (λ (l : List Given). take (length since) l) is ∙ take-append_seam since old.gave
 
 -- files agree with what was given, by the list of it
-pub agrees_by : (files : Contents) (old new : Folder) (since : List Given) → new.gave ≡ since ++ old.gave → AllByRecursion (AgreesWith files) since → Agrees files old new
+pub agrees_by : (files : Contents) (old new : Folder) (since : List Given) → new.gave ≡ since ++ old.gave → AllByRecursion (AgreesWith files) since
+    → Agrees files old new
 agrees_by files old new since is all = record { each = subst (AllByRecursion (AgreesWith files)) (sym (since_is old new since is)) all }
 
-all_by : (files : Contents) (old new : Folder) (since : List Given) → new.gave ≡ since ++ old.gave → Agrees files old new → AllByRecursion (AgreesWith files) since
+all_by : (files : Contents) (old new : Folder) (since : List Given) → new.gave ≡ since ++ old.gave → Agrees files old new
+    → AllByRecursion (AgreesWith files) since
 all_by files old new since is agrees = subst (AllByRecursion (AgreesWith files)) (since_is old new since is) agrees.each
 
 -- where the bytes are told, the files agree with what was given
@@ -86,7 +89,17 @@ whole_slice len new old same is =
 
 -- files that were kept are kept where both have given and taken the same besides
 pub keeps_calls : (a b : Folder) (gave took : List Given) → KeepsFiles a b → KeepsFiles (with_calls a gave took) (with_calls b gave took)
-keeps_calls a b gave took kept = record { knows = kept.knows; told = kept.told; file = kept.file; room = kept.room; took = refl; since = []; gave = refl; agrees = λ tells. tt }
+keeps_calls a b gave took kept = record {
+  knows = kept.knows;
+  told = kept.told;
+  file = kept.file;
+  room = kept.room;
+  took = refl;
+  since = [];
+  gave =
+      refl;
+  agrees = λ tells. tt;
+}
 
 pub keeps_with : (a b : Folder) (gave : List Given) → KeepsFiles a b → KeepsFiles (with_gave a gave) (with_gave b gave)
 keeps_with a b gave kept = record {
@@ -101,7 +114,8 @@ keeps_with a b gave kept = record {
 }
 
 -- a file that is told became what it was with a piece behind it
-pub becomes_with : (name : List ℕ) (a b : Folder) (gave : List Given) (piece : List ℕ) (n : ℕ) → IsTrue a.told → Becomes name a b (Some (unwrap_or (a.file name) [] ++ piece)) [] n
+pub becomes_with : (name : List ℕ) (a b : Folder) (gave : List Given) (piece : List ℕ) (n : ℕ) → IsTrue a.told
+    → Becomes name a b (Some (unwrap_or (a.file name) [] ++ piece)) [] n
     → Becomes name (with_gave a gave) (with_gave b gave) (Some (unwrap_or (a.file name) [] ++ piece)) piece n
 becomes_with name a b gave piece n tells h = record {
   knows = h.knows;
@@ -141,11 +155,13 @@ gave_both a b c first next = next.gave ∙ ap (λ (l : List Given). next.since +
 -- what agrees with both calls agrees with each
 pub agrees_first : (files : Contents) (a b c : Folder) → KeepsFiles a b → KeepsFiles b c → Agrees files a c → Agrees files a b
 agrees_first files a b c first next agrees =
-    agrees_by files a b first.since first.gave ((all_parts (AgreesWith files) next.since first.since).0 (all_by files a c (next.since ++ first.since) (gave_both a b c first next) agrees)).1
+    agrees_by files a b first.since first.gave ((all_parts (AgreesWith files) next.since first.since).0
+    (all_by files a c (next.since ++ first.since) (gave_both a b c first next) agrees)).1
 
 pub agrees_next : (files : Contents) (a b c : Folder) → KeepsFiles a b → KeepsFiles b c → Agrees files a c → Agrees files b c
 agrees_next files a b c first next agrees =
-    agrees_by files b c next.since next.gave ((all_parts (AgreesWith files) next.since first.since).0 (all_by files a c (next.since ++ first.since) (gave_both a b c first next) agrees)).0
+    agrees_by files b c next.since next.gave ((all_parts (AgreesWith files) next.since first.since).0
+    (all_by files a c (next.since ++ first.since) (gave_both a b c first next) agrees)).0
 
 pub agrees_both : (files : Contents) (a b c : Folder) → KeepsFiles a b → KeepsFiles b c → Agrees files a b → Agrees files b c → Agrees files a c
 agrees_both files a b c first next one other =
@@ -154,7 +170,10 @@ agrees_both files a b c first next one other =
 
 -- the same where as much was given by another moment
 pub agrees_same : (files : Contents) (a b c : Folder) → c.gave ≡ b.gave → Agrees files a b → Agrees files a c
-agrees_same files a b c same agrees = record { each = subst (λ (l : List Given). AllByRecursion (AgreesWith files) (take (length l - length a.gave) l)) (sym same) agrees.each }
+agrees_same files a b c same agrees = record {
+  each = subst (λ (l : List Given). AllByRecursion (AgreesWith files) (take (length l - length a.gave) l))
+      (sym same) agrees.each;
+}
 
 -- one load, as a list of what was given
 pub agrees_load : (files : Contents) (a b : Folder) (g : Given) → b.gave ≡ g ∷ a.gave → Agrees files a b → AgreesWith files g
@@ -172,7 +191,8 @@ pub is_file : (o : Option (List ℕ)) (P : List ℕ → Type 0) (file : List ℕ
 is_file o P file is h = subst (λ (x : Option (List ℕ)). IsSomeAnd x P) (sym is) h
 
 -- the front of a buffer stands where the whole buffer's front does
-pub stands_front : (file buffer : List ℕ) (at room n : ℕ) → n ≤ length buffer → Stands file at room (take n buffer) (length (take n buffer)) → Stands file at room buffer n
+pub stands_front : (file buffer : List ℕ) (at room n : ℕ) → n ≤ length buffer → Stands file at room (take n buffer) (length (take n buffer))
+    → Stands file at room buffer n
 stands_front file buffer at room n le h =
     let long : length (take n buffer) ≡ n = omega (arith, length-take n buffer) in
     record {
@@ -181,7 +201,8 @@ stands_front file buffer at room n le h =
       some = λ lt some. omega (arith, h.some lt some, long);
     }
 
-pub front_stands : (file buffer : List ℕ) (at room n : ℕ) → n ≤ length buffer → Stands file at room buffer n → Stands file at room (take n buffer) (length (take n buffer))
+pub front_stands : (file buffer : List ℕ) (at room n : ℕ) → n ≤ length buffer → Stands file at room buffer n
+    → Stands file at room (take n buffer) (length (take n buffer))
 front_stands file buffer at room n le h =
     let long : length (take n buffer) ≡ n = omega (arith, length-take n buffer) in
     record {
@@ -191,10 +212,12 @@ front_stands file buffer at room n le h =
     }
 
 -- a piece behind what was read so far, in a file that goes on
-pub stands_behind : (bytes piece rest : List ℕ) (room : ℕ) → (0 < length rest → 0 < room → 0 < length piece) → Stands (bytes ++ (piece ++ rest)) (length bytes) room piece (length piece)
+pub stands_behind : (bytes piece rest : List ℕ) (room : ℕ) → (0 < length rest → 0 < room → 0 < length piece)
+    → Stands (bytes ++ (piece ++ rest)) (length bytes) room piece (length piece)
 stands_behind bytes piece rest room some =
     let behind : drop (length bytes) (bytes ++ (piece ++ rest)) ≡ piece ++ rest = drop-append_seam bytes (piece ++ rest) in
-    let long : length (bytes ++ (piece ++ rest)) ≡ length bytes + (length piece + length rest) = omega (arith, length-append bytes (piece ++ rest), length-append piece rest) in
+    let long : length (bytes ++ (piece ++ rest)) ≡ length bytes + (length piece + length rest) = omega
+    (arith, length-append bytes (piece ++ rest), length-append piece rest) in
     record {
       bytes = take-length piece ∙ sym (ap (λ (l : List ℕ). take (length piece) l) behind ∙ take-append_seam piece rest);
       within = omega (arith, long);
@@ -240,18 +263,22 @@ front_none name a = record {
   enough = λ files rest is. agrees_still files a;
 }
 
-module _ (name : List ℕ) (a b c : Folder) (bytes buffer : List ℕ) (room n : ℕ) (le : n ≤ length buffer) (front : GaveFront name a b bytes) (kept : KeepsFiles b c) (gave : c.gave ≡ next_load name (length bytes) room buffer n ∷ b.gave) where
+module _ (name : List ℕ) (a b c : Folder) (bytes buffer : List ℕ) (room n : ℕ) (le : n ≤ length buffer) (front : GaveFront name a b bytes)
+    (kept : KeepsFiles b c) (gave : c.gave ≡ next_load name (length bytes) room buffer n ∷ b.gave) where
   -- the file that the load saw, which goes on from what was given before
-  seen : (files : Contents) → Agrees files a c → (file : List ℕ) × (files name ≡ Some file) × (bytes ≡ take (length bytes) file) × Stands file (length bytes) room buffer n
+  seen : (files : Contents) → Agrees files a c → (file : List ℕ) × (files name ≡ Some file) × (bytes ≡ take (length bytes) file)
+      × Stands file (length bytes) room buffer n
   seen files agrees =
       let before = agrees_first files a b c front.kept kept agrees in
       let load = agrees_load files b c (next_load name (length bytes) room buffer n) gave (agrees_next files a b c front.kept kept agrees) in
       let f = some_file (files name) (λ file. Stands file (length bytes) room (take n buffer) (length (take n buffer))) load in
       (f.0, f.1, front.held files before f.0 f.1, stands_front f.0 buffer (length bytes) room n le f.2)
 
-  joined : (files : Contents) (file : List ℕ) → files name ≡ Some file → Agrees files a b → Stands file (length bytes) room (take n buffer) (length (take n buffer)) → Agrees files a c
+  joined : (files : Contents) (file : List ℕ) → files name ≡ Some file → Agrees files a b → Stands file (length bytes) room (take n buffer)
+      (length (take n buffer)) → Agrees files a c
   joined files file is before stands =
-      agrees_both files a b c front.kept kept before (agrees_one files b c (next_load name (length bytes) room buffer n) gave (is_file (files name) (λ f. Stands f (length bytes) room (take n buffer) (length (take n buffer))) file is stands))
+      agrees_both files a b c front.kept kept before (agrees_one files b c (next_load name (length bytes) room buffer n) gave
+      (is_file (files name) (λ f. Stands f (length bytes) room (take n buffer) (length (take n buffer))) file is stands))
 
   -- one more load that gave something
   pub front_more : 0 < n → GaveFront name a c (bytes ++ take n buffer)
@@ -264,7 +291,8 @@ module _ (name : List ℕ) (a b c : Folder) (bytes buffer : List ℕ) (room n : 
     enough = λ files rest is.
         let long : length (take n buffer) ≡ n = omega (arith, length-take n buffer, le) in
         let whole : files name ≡ Some (bytes ++ (take n buffer ++ rest)) = is ∙ ap Some (append_assoc bytes (take n buffer) rest) in
-        joined files (bytes ++ (take n buffer ++ rest)) whole (front.enough files (take n buffer ++ rest) whole) (stands_behind bytes (take n buffer) rest room (λ more has. omega (arith, long, some)));
+        joined files (bytes ++ (take n buffer ++ rest)) whole (front.enough files (take n buffer ++ rest) whole)
+        (stands_behind bytes (take n buffer) rest room (λ more has. omega (arith, long, some)));
   }
 
   -- a load with room that gave nothing
@@ -323,7 +351,8 @@ of_none a = record { agree = λ files hold. agrees_still files a }
 pub of_both : (xs ys : List Content) (a b c : Folder) → GaveOf xs a b → GaveOf ys b c → KeepsFiles a b → KeepsFiles b c → GaveOf (xs ++ ys) a c
 of_both xs ys a b c one other first next = record {
   agree = λ files hold.
-      agrees_both files a b c first next (one.agree files ((all_parts (held_in files) xs ys).0 hold).0) (other.agree files ((all_parts (held_in files) xs ys).0 hold).1);
+      agrees_both files a b c first next (one.agree files ((all_parts (held_in files) xs ys).0 hold).0)
+      (other.agree files ((all_parts (held_in files) xs ys).0 hold).1);
 }
   where
     held_in : Contents → Content → Type 0

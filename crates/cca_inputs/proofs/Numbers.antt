@@ -42,7 +42,8 @@ pub none-said : (w : List ℕ) → ((n : ℕ) → n < 2 ^ 120 → w ≡ decimal 
 none-said w none =
     elim (cases_Bool (nat_lt (digits_value 10 w) (2 ^ 32))) [
       | inl e ↦ elim (cases_Bool (bytes_eq w (decimal (digits_value 10 w)))) [
-        | inl same ↦ (let lt : digits_value 10 w < 2 ^ 32 = grind (arith, nat_tests, e) in absurd (none (digits_value 10 w) (omega (arith, lt)) ((bytes_eq-Decides w (decimal (digits_value 10 w))).0 same)))
+        | inl same ↦ (let lt : digits_value 10 w < 2 ^ 32 = grind (arith, nat_tests, e) in
+            absurd (none (digits_value 10 w) (omega (arith, lt)) ((bytes_eq-Decides w (decimal (digits_value 10 w))).0 same)))
         | inr other ↦ not-first (bytes_eq w (decimal (digits_value 10 w))) (nat_lt (digits_value 10 w) (2 ^ 32)) (digits_value 10 w) other
       ]
       | inr e ↦ not-second (bytes_eq w (decimal (digits_value 10 w))) (nat_lt (digits_value 10 w) (2 ^ 32)) (digits_value 10 w) e

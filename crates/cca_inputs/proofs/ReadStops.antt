@@ -15,7 +15,8 @@ use Rattle.cca_inputs.specs.declared.status.Status.TheVariants.{Memory}
 
 module _ (kind : FileKind) (most : ℕ) (halts : List ℕ → Status → Type 0) (name : List ℕ) (old new : Folder) where
   -- the file isn't read whole
-  pub stops-read : (stop : ReadStop) → (stop ≡ read.Fault → Rose (old.load_faults name) (new.load_faults name)) → (IsSome (old.room name) → stop ≡ read.Fault → ⊥)
+  pub stops-read : (stop : ReadStop) → (stop ≡ read.Fault → Rose (old.load_faults name) (new.load_faults name))
+      → (IsSome (old.room name) → stop ≡ read.Fault → ⊥)
       → (stop ≡ read.TooLong → GaveMore name old new most) → InputStops kind most halts name old new (read_status kind most stop)
   stops-read read.Fault fault none long = inr (inl (refl, fault refl, λ some. none some refl))
   stops-read read.TooLong fault none long = inr (inr (
@@ -27,7 +28,8 @@ module _ (kind : FileKind) (most : ℕ) (halts : List ℕ → Status → Type 0)
   stops-read read.Memory fault none long = inl refl
 
   -- its bytes stop the run
-  pub stops-value : {V : Type 0} (bytes : List ℕ) (r : Result V Status) → IfErr r (λ s. (s ≡ Memory) ⊎ (IsStop s × halts bytes s)) → GaveAll name old new bytes → length bytes ≤ most
+  pub stops-value : {V : Type 0} (bytes : List ℕ) (r : Result V Status) → IfErr r (λ s. (s ≡ Memory) ⊎ (IsStop s × halts bytes s))
+      → GaveAll name old new bytes → length bytes ≤ most
       → IfErr r (InputStops kind most halts name old new)
   stops-value bytes (Ok v) stop all short = tt
   stops-value bytes (Err s) stop all short = elim stop [

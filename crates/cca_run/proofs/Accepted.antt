@@ -1,5 +1,6 @@
 -- A certificate that pricing writes is accepted by the checker, of a book and of the book of a log.
-use Rattle.std.specs.Prelude.{◌≡◌, ℕ, ℤ, false, ◌≤◌, ◌<◌, ◌^◌, Option, Some, None, Result, Ok, Err, slice_index_or, List, [], ◌∷◌, ◌++◌, codes, length, pos, reverse, ◌≤ℤ◌, refl}
+use Rattle.std.specs.Prelude.{◌≡◌, ℕ, ℤ, false, ◌≤◌, ◌<◌, ◌^◌, Option, Some, None, Result, Ok, Err, slice_index_or, List, [], ◌∷◌, ◌++◌, codes, length, pos}
+use Rattle.std.specs.Prelude.{reverse, ◌≤ℤ◌, refl}
 use Rattle.std.proofs.Common.{inl, inr, sym, ◌∙◌, ap, subst, arith}
 use Rattle.cca_work.specs.cca_inputs.specs.line_text.specs.LineText.{Said, stated, Says, text_of}
 use Rattle.cca_work.specs.outcome.specs.auction_model.specs.Book.{Book, market_of}
@@ -23,7 +24,8 @@ use Rattle.cca_work.specs.place_price.specs.cert_laws.specs.BookSizes.{IsWithinS
 use Rattle.cca_work.specs.place_price.specs.cert_laws.specs.Priced.{IsPricedCert}
 use Rattle.cca_work.specs.place_price.specs.cert_laws.specs.Sound.{cert_point, cert_prices}
 use Rattle.cca_work.specs.place_price.specs.cert_laws.specs.Tests.{FailsFirst, Holds, bidders_of, states}
-use Rattle.cca_work.specs.cca_inputs.specs.limits.specs.declared.TheConstants.{AWARD_BYTES, BOOK_BYTES, CERT_BYTES, LOG_BYTES, MOST_WINNERS, WEIGHTS_BYTES, PRICED_CERT_BYTES}
+use Rattle.cca_work.specs.cca_inputs.specs.limits.specs.declared.TheConstants.{AWARD_BYTES, BOOK_BYTES, CERT_BYTES, LOG_BYTES, MOST_WINNERS, WEIGHTS_BYTES}
+use Rattle.cca_work.specs.cca_inputs.specs.limits.specs.declared.TheConstants.{PRICED_CERT_BYTES}
 use Rattle.cca_work.specs.outcome.specs.print_form.specs.Prices.{IsPriceText}
 use Rattle.cca_work.specs.big_auction.specs.row_laws.specs.Winners.{winners_in}
 use Rattle.cca_work.specs.outcome.specs.value_table.proofs.Plain.{net-small}
@@ -71,8 +73,10 @@ sizes-of book rules = record {
 }
 
 -- the two prints, where the prices are one text
-yes-printed : (lines prices others printed : List ℕ) → lines ≡ [] → others ≡ prices → printed ≡ lines ++ prices → codes "yes\n" ++ others ≡ codes "yes\n" ++ printed
-yes-printed lines prices others printed none same whole = ap (λ (t : List ℕ). codes "yes\n" ++ t) (same ∙ ap (λ (l : List ℕ). l ++ prices) (sym none) ∙ sym whole)
+yes-printed : (lines prices others printed : List ℕ) → lines ≡ [] → others ≡ prices → printed ≡ lines ++ prices
+    → codes "yes\n" ++ others ≡ codes "yes\n" ++ printed
+yes-printed lines prices others printed none same whole = ap (λ (t : List ℕ). codes "yes\n" ++ t)
+    (same ∙ ap (λ (l : List ℕ). l ++ prices) (sym none) ∙ sym whole)
 
 -- a text with a line has a byte
 some-byte : (first rest : List ℕ) → 0 < length (first ++ 10 ∷ rest)
@@ -114,11 +118,14 @@ two-ends records (Err stop) follows others o p R none on x y = absurd (none (rep
 
 -- what the laws of the crates below say
 module _ (one_cert : (bidders number : ℕ) (bytes : List ℕ) (x y : Said CertValue ℕ) → CertSays bidders number bytes x → CertSays bidders number bytes y → x ≡ y)
-    (text_of_cert : (bidders number : ℕ) (c : CertValue) → bidders < 2 ^ 100 → IsCertificate bidders number c → CertSays bidders number (cert_text c) (stated c))
-    (short_text : (book : Book) (w : ℕ → ℕ) (c : CertValue) → IsWithinSizes book → IsCertificate (bidders_of book) (states book) c → IsPricedCert book w c → winners_in c.choice ≤ MOST_WINNERS → length (cert_text c) < PRICED_CERT_BYTES)
+    (text_of_cert : (bidders number : ℕ) (c : CertValue) → bidders < 2 ^ 100 → IsCertificate bidders number c
+    → CertSays bidders number (cert_text c) (stated c))
+    (short_text : (book : Book) (w : ℕ → ℕ) (c : CertValue) → IsWithinSizes book → IsCertificate (bidders_of book) (states book) c → IsPricedCert book w c
+    → winners_in c.choice ≤ MOST_WINNERS → length (cert_text c) < PRICED_CERT_BYTES)
     (not_both : (book : Book) (w : ℕ → ℕ) (c : CertValue) (t p : ℕ) → Holds book w c → FailsFirst book w c t p → ⊥)
     (one_prices : (book : Book) (z : List ℕ) (v w : ℕ → ℤ) (p q : Point) (t u : List ℕ) → length z ≡ (market_of book).bidders → pos 1 ≤ℤ p.den → pos 1 ≤ℤ q.den
-    → SamePoint (market_of book) p q → ((j : ℕ) → 0 < j → j ≤ (market_of book).bidders → v j ≡ w j) → IsPriceText book z v p t → IsPriceText book z w q u → t ≡ u) where
+    → SamePoint (market_of book) p q → ((j : ℕ) → 0 < j → j ≤ (market_of book).bidders → v j ≡ w j) → IsPriceText book z v p t → IsPriceText book z w q u
+    → t ≡ u) where
   -- the verdict on a certificate for which all tests hold
   judged : (book : Book) (weights : List ℕ) (form : PriceForm) (c : CertValue) (t : List ℕ) (p : Outcome) → IsPricing book weights form c t
       → VerdictGives book weights c p
@@ -128,8 +135,10 @@ module _ (one_cert : (bidders number : ℕ) (bytes : List ℕ) (x y : Said CertV
     ap (λ (x : Outcome). x.status) ends,
     λ e. (
         let den = is.priced.outcome.core.den_positive in
-        let plain : ArePriceLines false book c.choice (cert_prices book c) (cert_point c) is.turns t = subst (λ (f : PriceForm). ArePrinted f book c is.turns t) e is.printed in
-        let same : prices ≡ plain.prices = one_prices book c.choice (cert_prices book c) (cert_prices book c) (cert_point c) (cert_point c) prices plain.prices is.certificate.choice.0 den den
+        let plain : ArePriceLines false book c.choice (cert_prices book c) (cert_point c) is.turns t =
+        subst (λ (f : PriceForm). ArePrinted f book c is.turns t) e is.printed in
+        let same : prices ≡ plain.prices = one_prices book c.choice (cert_prices book c) (cert_prices book c) (cert_point c)
+        (cert_point c) prices plain.prices is.certificate.choice.0 den den
         (λ j some le. refl) (λ j some le. refl) are plain.are_prices in
         ap (λ (x : Outcome). x.printed) ends ∙ whole ∙ yes-printed plain.lines plain.prices prices t plain.are_rounds same plain.whole
         ),
@@ -168,7 +177,8 @@ module _ (one_cert : (bidders number : ℕ) (bytes : List ℕ) (x y : Said CertV
 
   -- of the files of `price` and `check`
   pub accepted : ((bytes : List ℕ) (x y : Said Book Excess) → Says IsBook lines bytes x → Says IsBook lines bytes y → x ≡ y)
-      → (book cert : List ℕ) (form : PriceForm) (file later : List ℕ → Option (List ℕ)) (o p : Outcome) → FilesGive (price book cert form) file o → HoldsCert (book ∷ []) cert file later o
+      → (book cert : List ℕ) (form : PriceForm) (file later : List ℕ → Option (List ℕ)) (o p : Outcome) → FilesGive (price book cert form) file o
+      → HoldsCert (book ∷ []) cert file later o
       → FilesGive (check book cert) later p → Accepts form o p
   accepted one_book book cert form file later o p prices holds checks =
       value-inputs kinds.Book BOOK_BYTES BookAnswers (λ b. PriceGives b (ones b) form) (λ b. CertGives b (later cert) (VerdictGives b (ones b)))
@@ -180,7 +190,8 @@ module _ (one_cert : (bidders number : ℕ) (bytes : List ℕ) (x y : Said CertV
       same-book : (bytes : List ℕ) (x y : Answer Book) → BookAnswers bytes x → BookAnswers bytes y → x ≡ y
       same-book bytes x y a b = a.2 ∙ ap book_answer (one_book bytes a.0 b.0 a.1 b.1) ∙ sym b.2
 
-      on : (b : Book) (bytes : List ℕ) → BookAnswers bytes (value b) → PriceGives b (ones b) form o → CertGives b (later cert) (VerdictGives b (ones b)) p → Accepts form o p
+      on : (b : Book) (bytes : List ℕ) → BookAnswers bytes (value b) → PriceGives b (ones b) form o → CertGives b (later cert) (VerdictGives b (ones b)) p
+          → Accepts form o p
       on b bytes says x y =
           of-cert b (ones b) form o p holds.text (file cert) (book-kept bytes b says) x holds.appended holds.held_nothing
           (subst (λ (c : Option (List ℕ)). CertGives b c (VerdictGives b (ones b)) p) holds.cert_holds y)
@@ -227,8 +238,10 @@ module _ (one_cert : (bidders number : ℕ) (bytes : List ℕ) (x y : Said CertV
 
   -- of the files of `award` and `audit`
   module _ (one_log_answer : (terms : Terms) (bytes : List ℕ) (x y : Answer (List Event)) → LogAnswers terms bytes x → LogAnswers terms bytes y → x ≡ y)
-      (rules_log : (terms : Terms) (rows : List (List (List ℕ))) (events : List Event) (book : Book) → IsAward terms → AreLog terms rows events → end_of terms (reverse events) ≡ Ok book → IsBidBook book)
-      (terms log cert : List ℕ) (form : PriceForm) (file later : List ℕ → Option (List ℕ)) (o p : Outcome) (holds : HoldsCert (terms ∷ log ∷ []) cert file later o) where
+      (rules_log : (terms : Terms) (rows : List (List (List ℕ))) (events : List Event) (book : Book) → IsAward terms → AreLog terms rows events
+      → end_of terms (reverse events) ≡ Ok book → IsBidBook book)
+      (terms log cert : List ℕ) (form : PriceForm) (file later : List ℕ → Option (List ℕ)) (o p : Outcome)
+      (holds : HoldsCert (terms ∷ log ∷ []) cert file later o) where
     none-stops : NoStop o
     none-stops status is = nothing-appended status o holds.text is holds.appended
 
@@ -239,14 +252,17 @@ module _ (one_cert : (bidders number : ℕ) (bytes : List ℕ) (x y : Said CertV
     abbrev Checks : Book → Outcome → Type 0
     Checks b x = CertGives b (later cert) (VerdictGives b (ones b)) x
 
-    on-book : (t : Terms) (rows : List (List (List ℕ))) (events : List Event) → IsAward t → AreLog t rows events → (b : Book) → end_of t (reverse events) ≡ Ok b → Prices b o → Checks b p → Accepts form o p
+    on-book : (t : Terms) (rows : List (List (List ℕ))) (events : List Event) → IsAward t → AreLog t rows events → (b : Book)
+        → end_of t (reverse events) ≡ Ok b → Prices b o → Checks b p → Accepts form o p
     on-book t rows events rules states_all b is x y =
         of-cert b (ones b) form o p holds.text (file cert) (rules_log t rows events b rules states_all is) x holds.appended holds.held_nothing
         (subst (λ (c : Option (List ℕ)). CertGives b c (VerdictGives b (ones b)) p) holds.cert_holds y)
 
-    on-log : (t : Terms) → IsAward t → (events : List Event) (bytes : List ℕ) → LogAnswers t bytes (value events) → BookOfLogGives t events Prices o → BookOfLogGives t events Checks p → Accepts form o p
+    on-log : (t : Terms) → IsAward t → (events : List Event) (bytes : List ℕ) → LogAnswers t bytes (value events) → BookOfLogGives t events Prices o
+        → BookOfLogGives t events Checks p → Accepts form o p
     on-log t rules events bytes says x y =
-        two-ends (length events) (end_of t (reverse events)) Prices Checks o p (Accepts form o p) none-stops (on-book t (log_records bytes) events rules says) x y
+        two-ends (length events) (end_of t (reverse events)) Prices Checks o p (Accepts form o p) none-stops
+        (on-book t (log_records bytes) events rules says) x y
 
     on-award : (t : Terms) (bytes : List ℕ) → AwardAnswers bytes (value t) → LogGives t (file log) (λ events. BookOfLogGives t events Prices) o
         → LogGives t (later log) (λ events. BookOfLogGives t events Checks) p → Accepts form o p

@@ -12,15 +12,19 @@ use Rattle.cca_run.specs.Headline.{HoldsAdmittedBids, book_of}
 
 -- by what the rules say of each bidder
 pub admitted-bids : ((terms : Terms) (log : List Event) → length (book_of_log terms log).bidders ≡ length terms.bidders)
-    → ((terms : Terms) (log : List Event) (j : ℕ) → 1 ≤ j → j ≤ length terms.bidders → bidder_of (book_of_log terms log) j ≡ book_bidder terms (bids_in_book terms log) j)
-    → ((terms : Terms) (log : List Event) (j : ℕ) (lots : List ℕ) → has_entry lots (bids_in_book terms log j) ≡ (not (is_empty lots) && has_entry lots (pairs_of (standing terms (admitted terms log) j))))
-    → ((terms : Terms) (log : List Event) (j : ℕ) → AllByRecursion (IsGreatestFor (pairs_of (standing terms (admitted terms log) j))) (bids_in_book terms log j))
+    → ((terms : Terms) (log : List Event) (j : ℕ) → 1 ≤ j → j ≤ length terms.bidders → bidder_of (book_of_log terms log) j ≡ book_bidder terms
+    (bids_in_book terms log) j)
+    → ((terms : Terms) (log : List Event) (j : ℕ) (lots : List ℕ) → has_entry lots (bids_in_book terms log j) ≡
+    (not (is_empty lots) && has_entry lots (pairs_of (standing terms (admitted terms log) j))))
+    → ((terms : Terms) (log : List Event) (j : ℕ) → AllByRecursion (IsGreatestFor (pairs_of (standing terms (admitted terms log) j)))
+    (bids_in_book terms log j))
     → (terms : Terms) (lines : List Event) → HoldsAdmittedBids terms lines (book_of terms lines)
 admitted-bids count each packages amounts terms lines = record {
   bidders = count terms (reverse lines);
   packages = λ j some within lots. ap (has_entry lots) (bids j some within) ∙ packages terms (reverse lines) j lots;
   amounts = λ j some within.
-      subst (AllByRecursion (IsGreatestFor (pairs_of (standing terms (admitted terms (reverse lines)) j)))) (sym (bids j some within)) (amounts terms (reverse lines) j);
+      subst (AllByRecursion (IsGreatestFor (pairs_of (standing terms (admitted terms (reverse lines)) j)))) (sym (bids j some within))
+      (amounts terms (reverse lines) j);
 }
   where
     bids : (j : ℕ) → 1 ≤ j → j ≤ length terms.bidders → bids_of (book_of terms lines) j ≡ bids_in_book terms (reverse lines) j

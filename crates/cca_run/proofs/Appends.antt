@@ -33,7 +33,8 @@ as-fault (Fault n) = (n, refl)
 
 -- of one text a front was appended
 pub part-one : (command : CommandValue) (text : FileText) (name : List ℕ) (old new : Folder) (n : ℕ) → output_as command text.kind ≡ Some name
-    → Rose (old.append_faults name) (new.append_faults name) → n < length text.text → Adds name old new text.text n → (HasRoom (old.room name) (length text.text) → ⊥) → FailsAt command (text ∷ []) old new text.kind
+    → Rose (old.append_faults name) (new.append_faults name) → n < length text.text → Adds name old new text.text n
+    → (HasRoom (old.room name) (length text.text) → ⊥) → FailsAt command (text ∷ []) old new text.kind
 part-one command text name old new n output rose less adds full = record {
   name = name;
   output = output;
@@ -55,11 +56,13 @@ part-one command text name old new n output rose less adds full = record {
 }
 
 -- the files that one text leaves are those that the next begins with
-joined : (command : CommandValue) (text : FileText) (rest : List FileText) (old mid new : Folder) → AppendsAll command (text ∷ []) old mid → AppendsAll command rest mid new → AppendsAll command (text ∷ rest) old new
+joined : (command : CommandValue) (text : FileText) (rest : List FileText) (old mid new : Folder) → AppendsAll command (text ∷ []) old mid
+    → AppendsAll command rest mid new → AppendsAll command (text ∷ rest) old new
 joined command text rest old mid new one others = (one.0, one.1, all-on command one.0 mid new one.2 rest others)
 
 -- an append failed at the only text, and so at the first of more
-fails-first : (command : CommandValue) (text : FileText) (rest : List FileText) (old new : Folder) (kind : FileKind) → FailsAt command (text ∷ []) old new kind → FailsAt command (text ∷ rest) old new kind
+fails-first : (command : CommandValue) (text : FileText) (rest : List FileText) (old new : Folder) (kind : FileKind)
+    → FailsAt command (text ∷ []) old new kind → FailsAt command (text ∷ rest) old new kind
 fails-first command text rest old new kind f =
     let p = f.part in
     record {
@@ -83,7 +86,8 @@ fails-first command text rest old new kind f =
     }
 
 -- an append failed behind the first text, which was appended whole
-fails-later : (command : CommandValue) (text : FileText) (rest : List FileText) (old mid new : Folder) (kind : FileKind) → AppendsAll command (text ∷ []) old mid → OnlyAppends command old mid
+fails-later : (command : CommandValue) (text : FileText) (rest : List FileText) (old mid new : Folder) (kind : FileKind)
+    → AppendsAll command (text ∷ []) old mid → OnlyAppends command old mid
     → FailsAt command rest mid new kind → FailsAt command (text ∷ rest) old new kind
 fails-later command text rest old mid new kind one counts f =
     let p = f.part in
@@ -112,21 +116,26 @@ pub rest-is : (t : FileText) (texts : List FileText) → take (length (t ∷ tex
 rest-is t texts = take_all (length (t ∷ texts) - 1) texts (omega arith)
 
 -- the first text was appended, and the others ended so
-pub ends-later : (command : CommandValue) (text : FileText) (rest : List FileText) (old mid new : Folder) → AppendsAll command (text ∷ []) old mid → OnlyAppends command old mid
+pub ends-later : (command : CommandValue) (text : FileText) (rest : List FileText) (old mid new : Folder) → AppendsAll command (text ∷ []) old mid
+    → OnlyAppends command old mid
     → (result : Result Unit FileKind) → AppendEnds command rest mid new result → AppendEnds command (text ∷ rest) old new result
 ends-later command text rest old mid new one counts (Ok u) all = joined command text rest old mid new one all
 ends-later command text rest old mid new one counts (Err kind) f = fails-later command text rest old mid new kind one counts f
 
 -- over a slice that has a first text: it was appended, and the others ended so
-pub slice-later : (command : CommandValue) (texts : List FileText) (first : FileText) (old mid new : Folder) → 1 ≤ length texts → first ≡ get_or texts 0 first → AppendsAll command (first ∷ []) old mid
-    → OnlyAppends command old mid → (result : Result Unit FileKind) → AppendEnds command (take (length texts - 1) (drop 1 texts)) mid new result → AppendEnds command texts old new result
+pub slice-later : (command : CommandValue) (texts : List FileText) (first : FileText) (old mid new : Folder) → 1 ≤ length texts → first ≡ get_or texts 0 first
+    → AppendsAll command (first ∷ []) old mid
+    → OnlyAppends command old mid → (result : Result Unit FileKind) → AppendEnds command (take (length texts - 1) (drop 1 texts)) mid new result
+    → AppendEnds command texts old new result
 slice-later command [] first old mid new some is one counts result ends = absurd (omega (arith, some))
 slice-later command (t ∷ texts) first old mid new some is one counts result ends =
     let same : t ≡ first = cc in
-    ends-later command t texts old mid new (subst (λ (x : FileText). AppendsAll command (x ∷ []) old mid) (sym same) one) counts result (subst (λ (l : List FileText). AppendEnds command l mid new result) (rest-is t texts) ends)
+    ends-later command t texts old mid new (subst (λ (x : FileText). AppendsAll command (x ∷ []) old mid) (sym same) one) counts result
+    (subst (λ (l : List FileText). AppendEnds command l mid new result) (rest-is t texts) ends)
 
 -- over such a slice: the append of the first failed
-pub slice-first : (command : CommandValue) (texts : List FileText) (first : FileText) (old new : Folder) (kind : FileKind) → 1 ≤ length texts → first ≡ get_or texts 0 first
+pub slice-first : (command : CommandValue) (texts : List FileText) (first : FileText) (old new : Folder) (kind : FileKind) → 1 ≤ length texts
+    → first ≡ get_or texts 0 first
     → AppendEnds command (first ∷ []) old new (Err kind) → AppendEnds command texts old new (Err kind)
 slice-first command [] first old new kind some is fails = absurd (omega (arith, some))
 slice-first command (t ∷ texts) first old new kind some is fails =

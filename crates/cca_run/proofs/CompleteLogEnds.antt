@@ -78,9 +78,12 @@ module _ (prices : Book → Outcome → Type 0) (priced : (book : Book) (o : Out
       by (Some stop) some given = stopped-at stop (λ same. never-open terms log (some ∙ ap Some same)) given
 
 -- an input whose bytes answer with one value is too long, or goes on from it
-reads-on : {V : Type 0} (kind : FileKind) (most : ℕ) (says : List ℕ → Answer V → Type 0) (content : Option (List ℕ)) (bytes : List ℕ) (v : V) (follows : V → Outcome → Type 0) (o : Outcome) → content ≡ Some bytes
-    → ((a : Answer V) → says bytes a → a ≡ value v) → (follows v o → IsDoneOrLimited o.status) → InputGives kind most says content follows o → IsDoneOrLimited o.status
-reads-on {V} kind most says content bytes v follows o here one next gives = by (subst (λ (c : Option (List ℕ)). InputGives kind most says c follows o) here gives)
+reads-on : {V : Type 0} (kind : FileKind) (most : ℕ) (says : List ℕ → Answer V → Type 0) (content : Option (List ℕ)) (bytes : List ℕ) (v : V)
+    (follows : V → Outcome → Type 0) (o : Outcome) → content ≡ Some bytes
+    → ((a : Answer V) → says bytes a → a ≡ value v) → (follows v o → IsDoneOrLimited o.status) → InputGives kind most says content follows o
+    → IsDoneOrLimited o.status
+reads-on {V} kind most says content bytes v follows o here one next gives = by (subst (λ (c : Option (List ℕ)). InputGives kind most says c follows o) here
+    gives)
   where
     by : InputGives kind most says (Some bytes) follows o → IsDoneOrLimited o.status
     by (answer, answers, given) =
@@ -96,13 +99,16 @@ prices-end form book o (inr (z, many, told)) = told-as o _ tt told
 
 -- by the law that the bytes of a log say one thing
 pub complete-ends : ((terms : Terms) (bytes : List ℕ) (x y : Answer (List Event)) → LogAnswers terms bytes x → LogAnswers terms bytes y → x ≡ y)
-    → (file : List ℕ → Option (List ℕ)) (terms log cert : List ℕ) (form : PriceForm) (t : Terms) (lines : List Event) (o : Outcome) → IsAuction file terms log t lines
+    → (file : List ℕ → Option (List ℕ)) (terms log cert : List ℕ) (form : PriceForm) (t : Terms) (lines : List Event) (o : Outcome)
+    → IsAuction file terms log t lines
     → FilesGive (award terms log cert form) file o → IsDoneOrLimited o.status
 complete-ends one_log file terms log cert form t lines o auction gives =
     let a = auction.award_states in
     let l = auction.log_states in
-    reads-on kinds.Award AWARD_BYTES AwardAnswers (file terms) a.bytes t (λ t. LogGives t (file log) (λ events. BookOfLogGives t events (λ b. PriceGives b (ones b) form))) o a.here
+    reads-on kinds.Award AWARD_BYTES AwardAnswers (file terms) a.bytes t (λ t. LogGives t (file log)
+    (λ events. BookOfLogGives t events (λ b. PriceGives b (ones b) form))) o a.here
     (λ x says. says.0 ∙ ap award_answer a.said)
-    (λ first. reads-on kinds.Log LOG_BYTES (LogAnswers t) (file log) l.bytes lines (λ events. BookOfLogGives t events (λ b. PriceGives b (ones b) form)) o l.here
+    (λ first. reads-on kinds.Log LOG_BYTES (LogAnswers t) (file log) l.bytes lines (λ events. BookOfLogGives t events (λ b. PriceGives b (ones b) form)) o
+    l.here
     (λ x says. one_log t l.bytes x (value lines) says l.said)
     (λ second. ended (λ b. PriceGives b (ones b) form) (prices-end form) (length lines) o t (reverse lines) auction.complete second) first) gives

@@ -22,8 +22,10 @@ use Rattle.cca_run.proofs.Moved.{all-on, upto-on}
 use Rattle.cca_run.proofs.Named.{never-out}
 
 -- an append failed, and its line was printed or its front
-pub append-failed : (command : CommandValue) (old new : Folder) (before now : Output) (printed line : List ℕ) (appended : List FileText) (kind : FileKind) (result : Status) → FailsAt command appended old new kind
-    → OnlyAppends command old new → before.faults ≤ now.faults → line ≡ status_line (WriteFault kind) → Prints before now line (WriteFault kind) result → FinishEnds command old new before now printed appended result
+pub append-failed : (command : CommandValue) (old new : Folder) (before now : Output) (printed line : List ℕ) (appended : List FileText) (kind : FileKind)
+    (result : Status) → FailsAt command appended old new kind
+    → OnlyAppends command old new → before.faults ≤ now.faults → line ≡ status_line (WriteFault kind) → Prints before now line (WriteFault kind) result
+    → FinishEnds command old new before now printed appended result
 append-failed command old new before now printed line appended kind result fails counts le is prints = record {
   done = λ e. absurd (not-done prints e);
   others = ended prints;
@@ -46,8 +48,10 @@ append-failed command old new before now printed line appended kind result fails
     ended (inl w) = inr (kind, w.0)
     ended (inr w) = inr (Out, w.0)
 
-    cause : Prints before now line (WriteFault kind) result → (other : FileKind) → result ≡ WriteFault other → ((other ≡ Out) × Rose before.faults now.faults) ⊎ (FailsAt command appended old new other)
-    cause (inl w) other e = let x : WriteFault kind ≡ WriteFault other = sym w.0 ∙ e in let same : kind ≡ other = cc in inr (subst (FailsAt command appended old new) same fails)
+    cause : Prints before now line (WriteFault kind) result → (other : FileKind) → result ≡ WriteFault other
+        → ((other ≡ Out) × Rose before.faults now.faults) ⊎ (FailsAt command appended old new other)
+    cause (inl w) other e = let x : WriteFault kind ≡ WriteFault other = sym w.0 ∙ e in let same : kind ≡ other = cc in
+        inr (subst (FailsAt command appended old new) same fails)
     cause (inr w) other e = let x : WriteFault Out ≡ WriteFault other = sym w.0 ∙ e in let same : Out ≡ other = cc in inl (sym same, w.1)
 
     whole : Prints before now line (WriteFault kind) result → IsHindered result → Puts before now (status_line result) (length (status_line result))
@@ -55,13 +59,16 @@ append-failed command old new before now printed line appended kind result fails
     whole (inr w) h = absurd (subst IsHindered w.0 h)
 
     front : Prints before now line (WriteFault kind) result → result ≡ WriteFault Out → (text : List ℕ) × (n : ℕ) × (n < length text) × Puts before now text n
-        × (((text ≡ printed) × AppendsAll command appended old new) ⊎ ((other : FileKind) × FailsAt command appended old new other × (text ≡ status_line (WriteFault other)))) × (HasRoom before.room (length text) → ⊥)
+        × (((text ≡ printed) × AppendsAll command appended old new) ⊎ ((other : FileKind) × FailsAt command appended old new other
+        × (text ≡ status_line (WriteFault other)))) × (HasRoom before.room (length text) → ⊥)
     front (inl w) e = let x : WriteFault kind ≡ WriteFault Out = sym w.0 ∙ e in let same : kind ≡ Out = cc in absurd (not-out same)
     front (inr w) e = let cut = w.2 in (line, cut.0, cut.1, cut.2, inr (kind, fails, is), w.3)
 
 -- the work was worked out, and the command ended
-module _ (command : CommandValue) (old mid new : Folder) (before now : Output) (printed : List ℕ) (appended : List FileText) (result : Status) (reads : OnlyReads command old mid)
-    (e : FinishEnds command mid new before now printed appended result) (given : (files : List ℕ → Option (List ℕ)) → Agrees files old mid → FilesGive command files (done printed appended)) where
+module _ (command : CommandValue) (old mid new : Folder) (before now : Output) (printed : List ℕ) (appended : List FileText) (result : Status)
+    (reads : OnlyReads command old mid)
+    (e : FinishEnds command mid new before now printed appended result) (given : (files : List ℕ → Option (List ℕ)) → Agrees files old mid
+    → FilesGive command files (done printed appended)) where
   -- appends gave nothing more
   earlier : (files : List ℕ → Option (List ℕ)) → Agrees files old new → Agrees files old mid
   earlier files agrees = agrees_same files old new mid (sym e.counts.gave) agrees
@@ -88,7 +95,8 @@ module _ (command : CommandValue) (old mid new : Folder) (before now : Output) (
   write-fault : (kind : FileKind) → result ≡ WriteFault kind → IsWriteFault (Some command) old new before now kind
   write-fault kind w = by kind w (e.cause kind w)
     where
-      by : (kind : FileKind) → result ≡ WriteFault kind → ((kind ≡ Out) × Rose before.faults now.faults) ⊎ (FailsAt command appended mid new kind) → IsWriteFault (Some command) old new before now kind
+      by : (kind : FileKind) → result ≡ WriteFault kind → ((kind ≡ Out) × Rose before.faults now.faults) ⊎ (FailsAt command appended mid new kind)
+          → IsWriteFault (Some command) old new before now kind
       by Award w (inl x) = let no : Award ≡ Out = x.0 in absurd cc
       by Award w (inr f) = fails-to Award f
       by Log w (inl x) = let no : Log ≡ Out = x.0 in absurd cc
@@ -110,7 +118,8 @@ module _ (command : CommandValue) (old mid new : Folder) (before now : Output) (
   pub run-ends : RunEnds (Some command) old new before now result
   run-ends = record {
     words = λ w. no-other _ (λ kind x. let y : WriteFault kind ≡ Words = sym x ∙ w in absurd cc) (λ x. let y : Done ≡ Words = sym x ∙ w in absurd cc);
-    read_fault = λ kind r. no-other _ (λ other x. let y : WriteFault other ≡ ReadFault kind = sym x ∙ r in absurd cc) (λ x. let y : Done ≡ ReadFault kind = sym x ∙ r in absurd cc);
+    read_fault = λ kind r. no-other _ (λ other x. let y : WriteFault other ≡ ReadFault kind = sym x ∙ r in absurd cc)
+        (λ x. let y : Done ≡ ReadFault kind = sym x ∙ r in absurd cc);
     write_fault = write-fault;
     answer = λ files agrees decided. no-other _ (λ kind w. absurd (subst IsDecided w decided))
         (λ d. let x = e.done d in (done printed appended, given files (earlier files agrees), sym d, x.0, all-on command old mid new reads.kept appended x.1));

@@ -42,7 +42,8 @@ use Rattle.cca_run.proofs.Same.{within-says}
 use Rattle.cca_run.proofs.LogBooks.{logged}
 
 -- an input of a run that is done has a value, from which the run went on
-pub record HasValue {V : Type 0} (most : ℕ) (says : List ℕ → Answer V → Type 0) (content : Option (List ℕ)) (follows : V → Outcome → Type 0) (o : Outcome) : Type 0 where
+pub record HasValue {V : Type 0} (most : ℕ) (says : List ℕ → Answer V → Type 0) (content : Option (List ℕ)) (follows : V → Outcome → Type 0)
+    (o : Outcome) : Type 0 where
   -- the bytes of its file
   pub bytes : List ℕ
   -- the value from which the run goes on
@@ -65,7 +66,8 @@ within-most most says bytes v answers =
     ]
 
 -- no stop is Done
-never-done : {V : Type 0} (most : ℕ) (says : List ℕ → Answer V → Type 0) (bytes : List ℕ) (s : Status) → ((bytes : List ℕ) → says bytes (stops Done) → ⊥) → FileAnswers most says bytes (stops s) → s ≡ Done → ⊥
+never-done : {V : Type 0} (most : ℕ) (says : List ℕ → Answer V → Type 0) (bytes : List ℕ) (s : Status) → ((bytes : List ℕ) → says bytes (stops Done) → ⊥)
+    → FileAnswers most says bytes (stops s) → s ≡ Done → ⊥
 never-done {V} most says bytes s none answers is =
     elim (cases_lt most (length bytes)) [
       | inl over ↦ (let long = answers.long over in absurd cc)
@@ -73,13 +75,22 @@ never-done {V} most says bytes s none answers is =
     ]
 
 -- where no bytes say Done of themselves, each input of a run that is done has a value
-pub has-value : {V : Type 0} (kind : FileKind) (most : ℕ) (says : List ℕ → Answer V → Type 0) (content : Option (List ℕ)) (follows : V → Outcome → Type 0) (o : Outcome) → ((bytes : List ℕ) → says bytes (stops Done) → ⊥)
+pub has-value : {V : Type 0} (kind : FileKind) (most : ℕ) (says : List ℕ → Answer V → Type 0) (content : Option (List ℕ)) (follows : V → Outcome → Type 0)
+    (o : Outcome) → ((bytes : List ℕ) → says bytes (stops Done) → ⊥)
     → InputGives kind most says content follows o → o.status ≡ Done → HasValue most says content follows o
 has-value kind most says None follows o none gives ends = let no = sym (ap (λ (x : Outcome). x.status) gives) ∙ ends in absurd cc
 has-value {V} kind most says (Some bytes) follows o none (answer, answers, gives) ends = by answer answers gives
   where
     by : (answer : Answer V) → FileAnswers most says bytes answer → AnswerGives answer follows o → HasValue most says (Some bytes) follows o
-    by (value v) answers gives = record { bytes = bytes; of = v; here = refl; short = within-most most says bytes v answers; says_it = within-says most says bytes v answers; goes_on = gives }
+    by (value v) answers gives = record {
+      bytes = bytes;
+      of = v;
+      here = refl;
+      short = within-most most says bytes v answers;
+      says_it =
+          within-says most says bytes v answers;
+      goes_on = gives;
+    }
     by (stops s) answers gives = absurd (never-done most says bytes s none answers (sym (ap (λ (x : Outcome). x.status) gives) ∙ ends))
 
 -- the bytes of an award never say Done
@@ -120,13 +131,15 @@ cert-never book bytes (said, says, is) = by said is
 states-cert : (book : Book) (bytes : List ℕ) (c : CertValue) → CertAnswers book bytes (value c) → CertSays (bidders_of book) (states book) bytes (stated c)
 states-cert book bytes c (said, says, is) = by said says is
   where
-    by : (said : Said CertValue ℕ) → CertSays (bidders_of book) (states book) bytes said → value c ≡ cert_answer said → CertSays (bidders_of book) (states book) bytes (stated c)
+    by : (said : Said CertValue ℕ) → CertSays (bidders_of book) (states book) bytes said → value c ≡ cert_answer said
+        → CertSays (bidders_of book) (states book) bytes (stated c)
     by (stated d) says is = let same : d ≡ c = cc in subst (λ (x : CertValue). CertSays (bidders_of book) (states book) bytes (stated x)) same says
     by (faulty place) says is = absurd cc
     by (beyond place) says is = absurd cc
 
 -- a log of a run that is done leads to a book
-pub has-book : (records : ℕ) (end : Result Book ReplayStop) (follows : Book → Outcome → Type 0) (o : Outcome) → EndGives records end follows o → o.status ≡ Done → (book : Book) × (end ≡ Ok book) × follows book o
+pub has-book : (records : ℕ) (end : Result Book ReplayStop) (follows : Book → Outcome → Type 0) (o : Outcome) → EndGives records end follows o
+    → o.status ≡ Done → (book : Book) × (end ≡ Ok book) × follows book o
 has-book records (Ok book) follows o gives ends = (book, refl, gives)
 has-book records (Err (Rounds count)) follows o gives ends = let no = sym (ap (λ (x : Outcome). x.status) gives) ∙ ends in absurd cc
 has-book records (Err (Price price)) follows o gives ends = let no = sym (ap (λ (x : Outcome). x.status) gives) ∙ ends in absurd cc
@@ -136,7 +149,8 @@ has-book records (Err Open) follows o gives ends = let no = sym (ap (λ (x : Out
 one-each : (book : Book) (j : ℕ) → 0 < j → j ≤ (market_of book).bidders → weight_of (ones book) j ≡ 1
 one-each book j some inside = get_or-replicate {A = ℕ} (bidders_of book) (j - 1) 1 0 (omega (arith, some, inside))
 
-module _ (plain : (m : Market) (w : ℕ → ℕ) (z : List ℕ) (p : Point) → ((j : ℕ) → 0 < j → j ≤ m.bidders → w j ≡ 1) → IsWinning m z → IsCoreOutcome m w z p → IsAuctionOutcome m z p)
+module _ (plain : (m : Market) (w : ℕ → ℕ) (z : List ℕ) (p : Point) → ((j : ℕ) → 0 < j → j ≤ m.bidders → w j ≡ 1) → IsWinning m z → IsCoreOutcome m w z p
+    → IsAuctionOutcome m z p)
     (admitted : (terms : Terms) (lines : List Event) → HoldsAdmittedBids terms lines (book_of terms lines)) where
   -- a yes, by what is known of each file
   pub audited : (file : List ℕ → Option (List ℕ)) (terms log cert : List ℕ) (o : Outcome) → FilesGive (audit terms log cert) file o → o.status ≡ Done
@@ -144,13 +158,16 @@ module _ (plain : (m : Market) (w : ℕ → ℕ) (z : List ℕ) (p : Point) → 
   audited file terms log cert o gives ends =
       let a = has-value kinds.Award AWARD_BYTES AwardAnswers (file terms)
       (λ t. LogGives t (file log) (λ events. BookOfLogGives t events (λ b. CertGives b (file cert) (VerdictGives b (ones b))))) o award-never gives ends in
-      let l = has-value kinds.Log LOG_BYTES (LogAnswers a.of) (file log) (λ events. BookOfLogGives a.of events (λ b. CertGives b (file cert) (VerdictGives b (ones b)))) o (log-never a.of) a.goes_on ends in
+      let l = has-value kinds.Log LOG_BYTES (LogAnswers a.of) (file log) (λ events. BookOfLogGives a.of events
+      (λ b. CertGives b (file cert) (VerdictGives b (ones b)))) o (log-never a.of) a.goes_on ends in
       let b = has-book (length l.of) (end_of a.of (reverse l.of)) (λ b. CertGives b (file cert) (VerdictGives b (ones b))) o l.goes_on ends in
       let c = has-value kinds.Cert CERT_BYTES (CertAnswers b.0) (file cert) (VerdictGives b.0 (ones b.0)) o (cert-never b.0) b.2 ends in
       by a l b c c.goes_on
     where
-      by : (a : HasValue AWARD_BYTES AwardAnswers (file terms) (λ t. LogGives t (file log) (λ events. BookOfLogGives t events (λ b. CertGives b (file cert) (VerdictGives b (ones b))))) o)
-          (l : HasValue LOG_BYTES (LogAnswers a.of) (file log) (λ events. BookOfLogGives a.of events (λ b. CertGives b (file cert) (VerdictGives b (ones b)))) o)
+      by : (a : HasValue AWARD_BYTES AwardAnswers (file terms) (λ t. LogGives t (file log)
+          (λ events. BookOfLogGives t events (λ b. CertGives b (file cert) (VerdictGives b (ones b))))) o)
+          (l : HasValue LOG_BYTES (LogAnswers a.of) (file log) (λ events. BookOfLogGives a.of events (λ b. CertGives b (file cert) (VerdictGives b (ones b))))
+          o)
           (b : (book : Book) × (end_of a.of (reverse l.of) ≡ Ok book) × CertGives book (file cert) (VerdictGives book (ones book)) o)
           (c : HasValue CERT_BYTES (CertAnswers b.0) (file cert) (VerdictGives b.0 (ones b.0)) o)
           → VerdictGives b.0 (ones b.0) c.of o → IsAudited file terms log cert o.printed × (o.appended ≡ [])
@@ -167,27 +184,40 @@ module _ (plain : (m : Market) (w : ℕ → ℕ) (z : List ℕ) (p : Point) → 
               };
               bids = admitted a.of l.of;
               certificate = c.of;
-              cert_states = record { bytes = c.bytes; here = c.here; said = subst (λ (k : Book). CertSays (bidders_of k) (states k) c.bytes (stated c.of)) log_of.is (states-cert b.0 c.bytes c.of c.says_it) };
-              outcome = subst (λ (k : Book). IsAuctionOutcome (market_of k) c.of.choice (cert_point c.of)) log_of.is (plain (market_of b.0) (weight_of (ones b.0)) c.of.choice (cert_point c.of) (one-each b.0) sound.winning sound.outcome);
+              cert_states = record {
+                bytes = c.bytes;
+                here = c.here;
+                said = subst (λ (k : Book). CertSays (bidders_of k) (states k) c.bytes (stated c.of))
+                    log_of.is (states-cert b.0 c.bytes c.of c.says_it);
+              };
+              outcome = subst (λ (k : Book). IsAuctionOutcome (market_of k) c.of.choice (cert_point c.of)) log_of.is
+                  (plain (market_of b.0) (weight_of (ones b.0)) c.of.choice (cert_point c.of) (one-each b.0) sound.winning sound.outcome);
               vickrey = subst (λ (k : Book). AreVickreyPrices (market_of k) c.of.choice (cert_prices k c.of)) log_of.is sound.vickrey;
-              yes = subst (λ (k : Book). IsYesText k c.of o.printed) log_of.is (subst (λ (t : List ℕ). IsYesText b.0 c.of t) (sym (ap (λ (x : Outcome). x.printed) told)) is_yes);
+              yes = subst (λ (k : Book). IsYesText k c.of o.printed) log_of.is (subst (λ (t : List ℕ). IsYesText b.0 c.of t)
+                  (sym (ap (λ (x : Outcome). x.printed) told)) is_yes);
             },
             ap (λ (x : Outcome). x.appended) told,
           )
 
   -- what was written, by what is known of each file
-  module _ (short_text : (book : Book) (w : ℕ → ℕ) (c : CertValue) → IsWithinSizes book → IsCertificate (bidders_of book) (states book) c → IsPricedCert book w c → winners_in c.choice ≤ MOST_WINNERS → length (cert_text c) < PRICED_CERT_BYTES)
-      (rules_log : (terms : Terms) (rows : List (List (List ℕ))) (events : List Event) (book : Book) → IsAward terms → AreLog terms rows events → end_of terms (reverse events) ≡ Ok book → IsBidBook book) where
+  module _ (short_text : (book : Book) (w : ℕ → ℕ) (c : CertValue) → IsWithinSizes book → IsCertificate (bidders_of book) (states book) c
+      → IsPricedCert book w c → winners_in c.choice ≤ MOST_WINNERS → length (cert_text c) < PRICED_CERT_BYTES)
+      (rules_log : (terms : Terms) (rows : List (List (List ℕ))) (events : List Event) (book : Book) → IsAward terms → AreLog terms rows events
+      → end_of terms (reverse events) ≡ Ok book → IsBidBook book) where
     -- where `award` is done, its files state an auction, of whose outcome a certificate was appended
-    pub awarded : (file : List ℕ → Option (List ℕ)) (terms log cert : List ℕ) (form : PriceForm) (o : Outcome) → FilesGive (award terms log cert form) file o → o.status ≡ Done
+    pub awarded : (file : List ℕ → Option (List ℕ)) (terms log cert : List ℕ) (form : PriceForm) (o : Outcome) → FilesGive (award terms log cert form) file o
+        → o.status ≡ Done
         → (text : List ℕ) × IsAwarded file terms log text × (o.appended ≡ cert_file text ∷ [])
     awarded file terms log cert form o gives ends =
-        let a = has-value kinds.Award AWARD_BYTES AwardAnswers (file terms) (λ t. LogGives t (file log) (λ events. BookOfLogGives t events (λ b. PriceGives b (ones b) form))) o award-never gives ends in
-        let l = has-value kinds.Log LOG_BYTES (LogAnswers a.of) (file log) (λ events. BookOfLogGives a.of events (λ b. PriceGives b (ones b) form)) o (log-never a.of) a.goes_on ends in
+        let a = has-value kinds.Award AWARD_BYTES AwardAnswers (file terms) (λ t. LogGives t (file log)
+        (λ events. BookOfLogGives t events (λ b. PriceGives b (ones b) form))) o award-never gives ends in
+        let l = has-value kinds.Log LOG_BYTES (LogAnswers a.of) (file log) (λ events. BookOfLogGives a.of events (λ b. PriceGives b (ones b) form)) o
+        (log-never a.of) a.goes_on ends in
         let b = has-book (length l.of) (end_of a.of (reverse l.of)) (λ b. PriceGives b (ones b) form) o l.goes_on ends in
         by a l b b.2
       where
-        by : (a : HasValue AWARD_BYTES AwardAnswers (file terms) (λ t. LogGives t (file log) (λ events. BookOfLogGives t events (λ b. PriceGives b (ones b) form))) o)
+        by : (a : HasValue AWARD_BYTES AwardAnswers (file terms) (λ t. LogGives t (file log)
+            (λ events. BookOfLogGives t events (λ b. PriceGives b (ones b) form))) o)
             (l : HasValue LOG_BYTES (LogAnswers a.of) (file log) (λ events. BookOfLogGives a.of events (λ b. PriceGives b (ones b) form)) o)
             (b : (book : Book) × (end_of a.of (reverse l.of) ≡ Ok book) × PriceGives book (ones book) form o)
             → PriceGives b.0 (ones b.0) form o → (text : List ℕ) × IsAwarded file terms log text × (o.appended ≡ cert_file text ∷ [])
@@ -206,9 +236,11 @@ module _ (plain : (m : Market) (w : ℕ → ℕ) (z : List ℕ) (p : Point) → 
                 bids = admitted a.of l.of;
                 certificate = c;
                 priced = subst (λ (k : Book). IsPricedCert k (weight_of (ones k)) c) log_of.is is.priced;
-                outcome = subst (λ (k : Book). IsAuctionOutcome (market_of k) c.choice (cert_point c)) log_of.is (plain (market_of b.0) (weight_of (ones b.0)) c.choice (cert_point c) (one-each b.0) is.priced.winning is.priced.outcome);
+                outcome = subst (λ (k : Book). IsAuctionOutcome (market_of k) c.choice (cert_point c)) log_of.is
+                    (plain (market_of b.0) (weight_of (ones b.0)) c.choice (cert_point c) (one-each b.0) is.priced.winning is.priced.outcome);
                 whole = refl;
-                short = short_text b.0 (weight_of (ones b.0)) c (sizes-of b.0 (rules_log a.of (log_records l.bytes) l.of b.0 a.says_it.1 l.says_it b.1)) is.certificate is.priced is.few.0;
+                short = short_text b.0 (weight_of (ones b.0)) c (sizes-of b.0 (rules_log a.of (log_records l.bytes) l.of b.0 a.says_it.1 l.says_it b.1))
+                    is.certificate is.priced is.few.0;
               },
               ap (λ (x : Outcome). x.appended) told,
             )

@@ -11,16 +11,19 @@ use Rattle.cca_work.specs.cca_inputs.specs.declared.status.FileKind.{FileKind}
 use Rattle.cca_work.specs.cca_inputs.specs.declared.status.FileKind.TheVariants.{Out}
 
 -- the name of the file that is found is among the names
-found : (q : FileUse → Bool) (files : List FileUse) (name : List ℕ) → option_map (λ f. f.name) (find q files) ≡ Some name → Contains (map (λ f. f.name) files) name
+found : (q : FileUse → Bool) (files : List FileUse) (name : List ℕ) → option_map (λ f. f.name) (find q files) ≡ Some name
+    → Contains (map (λ f. f.name) files) name
 found q [] name is = absurd cc
 found q (f ∷ files) name is =
     elim (cases_Bool (q f)) [
       | inl e ↦ (let same : Some f.name ≡ Some name = rw e at is in (0, omega arith, cc))
-      | inr e ↦ (let rest : option_map (λ f. f.name) (find q files) ≡ Some name = rw e at is in let w = found q files name rest in (suc w.0, (let l = w.1 in omega (arith, l)), w.2))
+      | inr e ↦ (let rest : option_map (λ f. f.name) (find q files) ≡ Some name = rw e at is in let w = found q files name rest in
+          (suc w.0, (let l = w.1 in omega (arith, l)), w.2))
     ]
 
 -- what holds of all names holds of those that pass a test
-kept : (p : FileUse → Bool) (P : List ℕ → Type 0) (files : List FileUse) → AllByRecursion (λ f. P f.name) files → AllByRecursion (λ f. P f.name) (filter p files)
+kept : (p : FileUse → Bool) (P : List ℕ → Type 0) (files : List FileUse) → AllByRecursion (λ f. P f.name) files
+    → AllByRecursion (λ f. P f.name) (filter p files)
 kept p P [] all = tt
 kept p P (f ∷ files) all =
     elim (cases_Bool (p f)) [

@@ -21,12 +21,14 @@ use Rattle.cca_run.proofs.Same.{two-inputs}
 module _ (one_log_answer : (terms : Terms) (bytes : List ℕ) (x y : Answer (List Event)) → LogAnswers terms bytes x → LogAnswers terms bytes y → x ≡ y)
     (one_text : (bytes other : List ℕ) (book : Book) → Says IsBook lines bytes (stated book) → Says IsBook lines other (stated book) → bytes ≡ other) where
   -- what a log leads to gives one outcome
-  one-replies : (records : ℕ) (replies : List ℕ) (end : Result Book ReplayStop) (o p : Outcome) → RepliesGive records replies end o → RepliesGive records replies end p → o ≡ p
+  one-replies : (records : ℕ) (replies : List ℕ) (end : Result Book ReplayStop) (o p : Outcome) → RepliesGive records replies end o
+      → RepliesGive records replies end p → o ≡ p
   one-replies records replies (Ok book) o p x y = x.2 ∙ ap (λ (t : List ℕ). done replies (book_file t ∷ [])) (one_text x.0 y.0 book x.1 y.1) ∙ sym y.2
   one-replies records replies (Err stop) o p x y = x ∙ sym y
 
   -- the files do
-  pub one-auction : (award log book : List ℕ) (file : List ℕ → Option (List ℕ)) (o p : Outcome) → FilesGive (auction award log book) file o → FilesGive (auction award log book) file p → o ≡ p
+  pub one-auction : (award log book : List ℕ) (file : List ℕ → Option (List ℕ)) (o p : Outcome) → FilesGive (auction award log book) file o
+      → FilesGive (auction award log book) file p → o ≡ p
   one-auction award log book file o p x y =
       let contents = contents_of (auction award log book) file in
       two-inputs Award AWARD_BYTES AwardAnswers (λ terms. LogGives terms (contents Log) (AuctionGives terms)) (λ terms. LogGives terms (contents Log)

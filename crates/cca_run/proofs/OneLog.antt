@@ -13,7 +13,8 @@ pub one_award-answer : (bytes : List ℕ) (a b : Answer Terms) → AwardAnswers 
 one_award-answer bytes a b x y = x.0 ∙ sym y.0
 
 -- what the laws of logs say
-module _ (one_log : (terms : Terms) (rows : List (List (List ℕ))) (events others : List Event) → AreLog terms rows events → AreLog terms rows others → events ≡ others)
+module _ (one_log : (terms : Terms) (rows : List (List (List ℕ))) (events others : List Event) → AreLog terms rows events → AreLog terms rows others
+    → events ≡ others)
     (one_fault : (terms : Terms) (rows : List (List (List ℕ))) (m n : ℕ) → IsFirstFault terms rows m → IsFirstFault terms rows n → m ≡ n)
     (no_fault : (terms : Terms) (rows : List (List (List ℕ))) (events : List Event) (n : ℕ) → AreLog terms rows events → IsFirstFault terms rows n → ⊥)
     (not_many : (terms : Terms) (rows : List (List (List ℕ))) (events : List Event) → AreLog terms rows events → AreTooMany terms rows → ⊥)

@@ -1,5 +1,6 @@
 -- Two texts that are put one after the other.
-use Rattle.std.proofs.Common.{inr, ◌≡◌, ◌∙◌, ℕ, ◌≤◌, ◌+◌, ◌-◌, Bool, true, false, Option, Some, None, List, ◌++◌, length, take, refl, sym, ap, subst, arith, append_assoc}
+use Rattle.std.proofs.Common.{inr, ◌≡◌, ◌∙◌, ℕ, ◌≤◌, ◌+◌, ◌-◌, Bool, true, false, Option, Some, None, List, ◌++◌, length, take, refl, sym, ap, subst, arith}
+use Rattle.std.proofs.Common.{append_assoc}
 use Rattle.std.specs.Option.{option_map, IfSome}
 use Rattle.std.proofs.lemmas.List.{length-append, take-append-le}
 use Rattle.std.proofs.Math.Seq.{take-length, take-append-add}
@@ -14,7 +15,8 @@ use Rattle.cca_work.proofs.Counts.{rose-from}
 grown : (a b : List ℕ) (n : ℕ) (x y z : List ℕ) → y ≡ x ++ take (length a) a → z ≡ y ++ take n b → z ≡ x ++ take (length a + n) (a ++ b)
 grown a b n x y z is then =
     then ∙ ap (λ (u : List ℕ). u ++ take n b) is
-    ∙ append_assoc x (take (length a) a) (take n b) ∙ ap (λ (p : List ℕ). x ++ p) (ap (λ (p : List ℕ). p ++ take n b) (take-length a) ∙ sym (take-append-add a b n))
+    ∙ append_assoc x (take (length a) a) (take n b) ∙ ap (λ (p : List ℕ). x ++ p)
+    (ap (λ (p : List ℕ). p ++ take n b) (take-length a) ∙ sym (take-append-add a b n))
 
 left : (m n : ℕ) (x y z : Option ℕ) → y ≡ option_map (λ r. r - m) x → z ≡ option_map (λ r. r - n) y → z ≡ option_map (λ r. r - (m + n)) x
 left m n None y z is then = then ∙ ap (option_map (λ r. r - n)) is
@@ -48,18 +50,39 @@ room-behind None y a b is has = absurd has
 room-behind (Some r) y a b is has = subst (λ (o : Option ℕ). HasRoom o (length b)) (sym is) (omega (arith, has, length-append a b))
 
 -- the first wasn't written whole
-pub first-fails : (old new : Output) (a b : List ℕ) (status : Status) (whole : Bool) → whole ≡ false → Written old new a whole → Prints old new (a ++ b) status (WriteFault Out)
+pub first-fails : (old new : Output) (a b : List ℕ) (status : Status) (whole : Bool) → whole ≡ false → Written old new a whole
+    → Prints old new (a ++ b) status (WriteFault Out)
 first-fails old new a b status whole is written = by (subst (Written old new a) is written)
   where
     by : Written old new a false → Prints old new (a ++ b) status (WriteFault Out)
     by w = let cut = w.1 in
-        inr (refl, w.0, (cut.0, (let l = cut.1 in omega (arith, l, length-append a b)), puts-first old new a b cut.0 (let l = cut.1 in omega (arith, l)) cut.2), λ has. w.2 (room-first old.room a b has))
+        inr (
+          refl,
+          w.0,
+          (
+            cut.0,
+            (let l = cut.1 in omega (arith, l, length-append a b)),
+            puts-first old new a b cut.0
+                (let l = cut.1 in omega (arith, l)) cut.2,
+          ),
+          λ has. w.2 (room-first old.room a b has),
+        )
 
 -- the second wasn't written whole
-pub second-fails : (old mid new : Output) (a b : List ℕ) (status : Status) (one whole : Bool) → old.faults ≤ mid.faults → one ≡ true → whole ≡ false → Written old mid a one → Written mid new b whole
+pub second-fails : (old mid new : Output) (a b : List ℕ) (status : Status) (one whole : Bool) → old.faults ≤ mid.faults → one ≡ true → whole ≡ false
+    → Written old mid a one → Written mid new b whole
     → Prints old new (a ++ b) status (WriteFault Out)
 second-fails old mid new a b status one whole le first is p q = by (subst (Written old mid a) first p) (subst (Written mid new b) is q)
   where
     by : Written old mid a true → Written mid new b false → Prints old new (a ++ b) status (WriteFault Out)
     by p w = let cut = w.1 in
-        inr (refl, rose-from old.faults mid.faults new.faults le w.0, (length a + cut.0, (let l = cut.1 in omega (arith, l, length-append a b)), puts-on old mid new a b cut.0 p cut.2), λ has. w.2 (room-behind old.room mid.room a b p.room has))
+        inr (
+          refl,
+          rose-from old.faults mid.faults new.faults le w.0,
+          (
+            length a + cut.0,
+            (let l = cut.1 in omega (arith, l, length-append a b)),
+            puts-on old mid new a b cut.0 p cut.2,
+          ),
+          λ has. w.2 (room-behind old.room mid.room a b p.room has),
+        )

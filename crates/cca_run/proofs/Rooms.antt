@@ -1,5 +1,6 @@
 -- Over files and an output with room no fault comes.
-use Rattle.std.proofs.Common.{inl, inr, ◌≡◌, ◌⊎◌, ◌∙◌, ℕ, ◌+◌, ◌-◌, ◌≤◌, Bool, true, false, Option, Some, None, List, [], ◌∷◌, ◌++◌, length, refl, sym, ap, subst, arith}
+use Rattle.std.proofs.Common.{inl, inr, ◌≡◌, ◌⊎◌, ◌∙◌, ℕ, ◌+◌, ◌-◌, ◌≤◌, Bool, true, false, Option, Some, None, List, [], ◌∷◌, ◌++◌, length, refl, sym, ap}
+use Rattle.std.proofs.Common.{subst, arith}
 use Rattle.std.specs.Prelude.{Contains, if◌then◌else◌}
 use Rattle.std.specs.Option.{option_map, option_map_or}
 use Rattle.std.specs.Str.{bytes_eq}
@@ -36,19 +37,23 @@ goes-to : (command : CommandValue) (name to : List ℕ) (t : FileText) → outpu
 goes-to command name to t is = ap (λ (o : Option (List ℕ)). option_map_or (bytes_eq name) o false) is
 
 -- it counts where it goes, and nowhere else
-counted : (command : CommandValue) (name : List ℕ) (t : FileText) (b : Bool) (m : ℕ) → goes_to command name t ≡ b → m ≡ (if b then length t.text else 0) → (rest : ℕ)
+counted : (command : CommandValue) (name : List ℕ) (t : FileText) (b : Bool) (m : ℕ) → goes_to command name t ≡ b → m ≡ (if b then length t.text else 0)
+    → (rest : ℕ)
     → (if goes_to command name t then length t.text else 0) + rest ≡ m + rest
 counted command name t b m is m_is rest = ap (λ (x : Bool). (if x then length t.text else 0) + rest) is ∙ ap (λ (x : ℕ). x + rest) (sym m_is)
 
 -- when these texts were appended, there is room for what else fitted
 behind-texts : (command : CommandValue) (name : List ℕ) (texts : List FileText) (old new : Folder) → AppendsAll command texts old new → (n : ℕ)
     → HasRoom (old.room name) (appended_to command name texts + n) → HasRoom (new.room name) n
-behind-texts command name [] old new kept n has = subst (λ (r : List ℕ → Option ℕ). HasRoom (r name) n) (sym kept.room) (less-room (old.room name) n (0 + n) (omega arith) has)
-behind-texts command name (t ∷ texts) old new (between, one, rest) n has = behind-texts command name texts between new rest n (here (cases_Bool (bytes_eq name one.name)))
+behind-texts command name [] old new kept n has = subst (λ (r : List ℕ → Option ℕ). HasRoom (r name) n) (sym kept.room)
+    (less-room (old.room name) n (0 + n) (omega arith) has)
+behind-texts command name (t ∷ texts) old new (between, one, rest) n has = behind-texts command name texts between new rest n
+    (here (cases_Bool (bytes_eq name one.name)))
   where
     is_room : (m : ℕ) → (if goes_to command name t then length t.text else 0) + appended_to command name texts ≡ m + appended_to command name texts
         → HasRoom (old.room name) (m + (appended_to command name texts + n))
-    is_room m is = less-room (old.room name) (m + (appended_to command name texts + n)) (((if goes_to command name t then length t.text else 0) + appended_to command name texts) + n)
+    is_room m is = less-room (old.room name) (m + (appended_to command name texts + n))
+        (((if goes_to command name t then length t.text else 0) + appended_to command name texts) + n)
         (omega (arith, is)) has
 
     here : (bytes_eq name one.name ≡ true) ⊎ (bytes_eq name one.name ≡ false) → HasRoom (between.room name) (appended_to command name texts + n)
@@ -56,7 +61,8 @@ behind-texts command name (t ∷ texts) old new (between, one, rest) n has = beh
         let is : name ≡ one.name = (bytes_eq-Decides name one.name).0 same in
         room-left (old.room name) (between.room name) (length t.text) (appended_to command name texts + n)
         (subst (λ (x : List ℕ). between.room x ≡ option_map (λ r. r - length t.text) (old.room x)) (sym is) one.whole.room)
-        (is_room (length t.text) (counted command name t true (length t.text) (goes-to command name one.name t one.output ∙ same) refl (appended_to command name texts)))
+        (is_room (length t.text) (counted command name t true (length t.text) (goes-to command name one.name t one.output ∙ same) refl
+        (appended_to command name texts)))
     here (inr apart) =
         let other : name ≡ one.name → ⊥ = λ is. true≢false (sym ((bytes_eq-Decides name one.name).1 is) ∙ apart) in
         subst (λ (r : Option ℕ). HasRoom r (appended_to command name texts + n)) (sym (one.whole.other_rooms name other))
@@ -82,8 +88,10 @@ module _ (command : CommandValue) (old new : Folder) (kind : FileKind) (fault : 
   -- its file had no room for all that goes to it
   had-no_room : HasRoom (old.room part.name) (appended_to command part.name fault.appended) → ⊥
   had-no_room has = part.no_room (behind-texts command part.name part.before old part.between part.whole (length part.text)
-      (less-room (old.room part.name) (appended_to command part.name part.before + length part.text) (appended_to command part.name (part.before ++ text ∷ part.behind))
-      (among-texts command part.name part.before text part.behind (goes-to command part.name part.name text part.output ∙ (bytes_eq-Decides part.name part.name).1 refl))
+      (less-room (old.room part.name) (appended_to command part.name part.before + length part.text)
+      (appended_to command part.name (part.before ++ text ∷ part.behind))
+      (among-texts command part.name part.before text part.behind (goes-to command part.name part.name text part.output
+      ∙ (bytes_eq-Decides part.name part.name).1 refl))
       (subst (λ (texts : List FileText). HasRoom (old.room part.name) (appended_to command part.name texts)) part.split has)))
 
 module _ (words : List (List ℕ)) (old new : Folder) (before now : Output) (agrees : Agrees old.file old new) (has : HasRooms words old before) where
@@ -93,7 +101,8 @@ module _ (words : List (List ℕ)) (old new : Folder) (before now : Output) (agr
     where
       by : (command : Option CommandValue) → command_of words ≡ command → IsReadFault command old new kind → ⊥
       by None is fault = fault
-      by (Some command) is fault = fault.no_room (has.reads fault.name (subst (λ (c : Option CommandValue). Contains (inputs c) fault.name) (sym is) (input-among command kind fault.name fault.input)))
+      by (Some command) is fault = fault.no_room (has.reads fault.name (subst (λ (c : Option CommandValue). Contains (inputs c) fault.name) (sym is)
+          (input-among command kind fault.name fault.input)))
 
   -- no append fails
   no-append : (kind : FileKind) → IsFileFault (command_of words) old new kind → ⊥

@@ -35,7 +35,8 @@ record IsDone (command : Option CommandValue) (files : List ℕ → Option (List
   puts : Puts before now outcome.printed (length outcome.printed)
   appends : Appended command outcome.appended old new
 
-is-done : (command : Option CommandValue) (old new : Folder) (before now : Output) (result : Status) → RunEnds command old new before now result → (files : List ℕ → Option (List ℕ)) → Agrees files old new → result ≡ Done → IsDone command files old new before now
+is-done : (command : Option CommandValue) (old new : Folder) (before now : Output) (result : Status) → RunEnds command old new before now result
+    → (files : List ℕ → Option (List ℕ)) → Agrees files old new → result ≡ Done → IsDone command files old new before now
 is-done command old new before now result ends files agrees done =
     let a = ends.answer files agrees (subst IsDecided (sym done) tt) in
     record { outcome = a.0; gives = a.1; ends = a.2 ∙ done; puts = a.3; appends = a.4 }
@@ -71,7 +72,8 @@ record IsAwardDone (files : List ℕ → Option (List ℕ)) (old new : Folder) (
   appends : AppendsAll (award terms log cert form) (cert_file text ∷ []) old new
 
 award-done : AwardLaw → (command : Option CommandValue) (old new : Folder) (before now : Output) (result : Status) → RunEnds command old new before now result
-    → (terms log cert : List ℕ) (form : PriceForm) → command ≡ Some (award terms log cert form) → (files : List ℕ → Option (List ℕ)) → Agrees files old new → result ≡ Done → IsAwardDone files old new terms log cert form
+    → (terms log cert : List ℕ) (form : PriceForm) → command ≡ Some (award terms log cert form) → (files : List ℕ → Option (List ℕ)) → Agrees files old new
+    → result ≡ Done → IsAwardDone files old new terms log cert form
 award-done law command old new before now result ends terms log cert form is files agrees done =
     let d = is-done command old new before now result ends files agrees done in
     let gives = subst (λ (k : Option CommandValue). WordsGive k files d.outcome) is d.gives in
@@ -87,12 +89,14 @@ award-done law command old new before now result ends terms log cert form is fil
     }
 
 -- a fault of reading was counted
-no-read : (command : Option CommandValue) (old new : Folder) (before now : Output) (kind : FileKind) → HasNoFault command old new before now → IsReadFault command old new kind → ⊥
+no-read : (command : Option CommandValue) (old new : Folder) (before now : Output) (kind : FileKind) → HasNoFault command old new before now
+    → IsReadFault command old new kind → ⊥
 no-read None old new before now kind none fault = fault
 no-read (Some command) old new before now kind none fault = none.loads fault.name (input-among command kind fault.name fault.input) fault.rose
 
 -- a fault of writing was counted
-no-write : (command : Option CommandValue) (old new : Folder) (before now : Output) (kind : FileKind) → HasNoFault command old new before now → IsWriteFault command old new before now kind → ⊥
+no-write : (command : Option CommandValue) (old new : Folder) (before now : Output) (kind : FileKind) → HasNoFault command old new before now
+    → IsWriteFault command old new before now kind → ⊥
 no-write None old new before now kinds.Award none fault = fault
 no-write None old new before now kinds.Log none fault = fault
 no-write None old new before now kinds.Book none fault = fault
@@ -101,17 +105,22 @@ no-write None old new before now kinds.Weights none fault = fault
 no-write None old new before now kinds.Slots none fault = fault
 no-write None old new before now kinds.Edits none fault = fault
 no-write None old new before now kinds.Out none fault = none.puts fault
-no-write (Some command) old new before now kinds.Award none fault = none.appends fault.name (output-among command kinds.Award fault.name fault.output) fault.rose
+no-write (Some command) old new before now kinds.Award none fault = none.appends fault.name (output-among command kinds.Award fault.name fault.output)
+    fault.rose
 no-write (Some command) old new before now kinds.Log none fault = none.appends fault.name (output-among command kinds.Log fault.name fault.output) fault.rose
 no-write (Some command) old new before now kinds.Book none fault = none.appends fault.name (output-among command kinds.Book fault.name fault.output) fault.rose
 no-write (Some command) old new before now kinds.Cert none fault = none.appends fault.name (output-among command kinds.Cert fault.name fault.output) fault.rose
-no-write (Some command) old new before now kinds.Weights none fault = none.appends fault.name (output-among command kinds.Weights fault.name fault.output) fault.rose
-no-write (Some command) old new before now kinds.Slots none fault = none.appends fault.name (output-among command kinds.Slots fault.name fault.output) fault.rose
-no-write (Some command) old new before now kinds.Edits none fault = none.appends fault.name (output-among command kinds.Edits fault.name fault.output) fault.rose
+no-write (Some command) old new before now kinds.Weights none fault = none.appends fault.name (output-among command kinds.Weights fault.name fault.output)
+    fault.rose
+no-write (Some command) old new before now kinds.Slots none fault = none.appends fault.name (output-among command kinds.Slots fault.name fault.output)
+    fault.rose
+no-write (Some command) old new before now kinds.Edits none fault = none.appends fault.name (output-among command kinds.Edits fault.name fault.output)
+    fault.rose
 no-write (Some command) old new before now kinds.Out none fault = none.puts fault
 
 -- without a fault a status is decided, or there was no memory
-pub run-complete : (command : Option CommandValue) (old new : Folder) (before now : Output) (result : Status) → RunEnds command old new before now result → HasNoFault command old new before now
+pub run-complete : (command : Option CommandValue) (old new : Folder) (before now : Output) (result : Status) → RunEnds command old new before now result
+    → HasNoFault command old new before now
     → (result ≡ Memory) ⊎ IsDecided result
 run-complete command old new before now Done ends none = inr tt
 run-complete command old new before now (No of test place) ends none = inr tt
@@ -123,7 +132,8 @@ run-complete command old new before now Memory ends none = inl refl
 run-complete command old new before now (Limit which count) ends none = inr tt
 
 -- what a text that was appended whole to a file that is none of these leaves in the files
-appended-cert : (terms log cert text : List ℕ) (form : PriceForm) (old new : Folder) (o : Outcome) → IsApart terms log cert → IsTrue old.told → o.appended ≡ cert_file text ∷ [] → HoldsNothing (old.file cert)
+appended-cert : (terms log cert text : List ℕ) (form : PriceForm) (old new : Folder) (o : Outcome) → IsApart terms log cert → IsTrue old.told
+    → o.appended ≡ cert_file text ∷ [] → HoldsNothing (old.file cert)
     → AppendsAll (award terms log cert form) (cert_file text ∷ []) old new → HoldsCert (terms ∷ log ∷ []) cert old.file new.file o
 appended-cert terms log cert text form old new o apart told some nothing (between, one, kept) = record {
   text = text;
@@ -143,7 +153,8 @@ appended-cert terms log cert text form old new o apart told some nothing (betwee
     in_new name = ap (λ (f : List ℕ → Option (List ℕ)). f name) kept.file
 
 -- the same of files that held something, with what was taken behind it
-appended-behind : (terms log cert text : List ℕ) (form : PriceForm) (given : List ℕ → Option (List ℕ)) (old new : Folder) (o : Outcome) → IsApart terms log cert → o.appended ≡ cert_file text ∷ [] → HoldsNothing (given cert)
+appended-behind : (terms log cert text : List ℕ) (form : PriceForm) (given : List ℕ → Option (List ℕ)) (old new : Folder) (o : Outcome)
+    → IsApart terms log cert → o.appended ≡ cert_file text ∷ [] → HoldsNothing (given cert)
     → AppendsAll (award terms log cert form) (cert_file text ∷ []) old new → HoldsCert (terms ∷ log ∷ []) cert given (after given old new) o
 appended-behind terms log cert text form given old new o apart some nothing (between, one, kept) = record {
   text = text;

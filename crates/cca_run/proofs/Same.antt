@@ -13,7 +13,11 @@ Same o p = (o.status ≡ p.status) × (o.printed ≡ p.printed)
 
 -- outcomes that are the same as two that are
 pub both : (o p x y : Outcome) → o ≡ x → p ≡ y → Same x y → Same o p
-both o p x y a b s = (ap (λ (z : Outcome). z.status) a ∙ s.0 ∙ sym (ap (λ (z : Outcome). z.status) b), ap (λ (z : Outcome). z.printed) a ∙ s.1 ∙ sym (ap (λ (z : Outcome). z.printed) b))
+both o p x y a b s = (
+  ap (λ (z : Outcome). z.status) a ∙ s.0 ∙ sym (ap (λ (z : Outcome). z.status) b),
+  ap (λ (z : Outcome). z.printed) a ∙ s.1
+      ∙ sym (ap (λ (z : Outcome). z.printed) b),
+)
 
 -- two that are one
 pub equal : (o p x : Outcome) → o ≡ x → p ≡ x → Same o p
@@ -24,7 +28,8 @@ pub printed-same : (t u : List ℕ) (a b : List FileText) → t ≡ u → Same (
 printed-same t u a b e = (refl, e)
 
 -- an input has one answer
-pub one-answer : {V : Type 0} (most : ℕ) (says : List ℕ → Answer V → Type 0) (one : (bytes : List ℕ) (a b : Answer V) → says bytes a → says bytes b → a ≡ b) (bytes : List ℕ) (a b : Answer V)
+pub one-answer : {V : Type 0} (most : ℕ) (says : List ℕ → Answer V → Type 0) (one : (bytes : List ℕ) (a b : Answer V) → says bytes a → says bytes b → a ≡ b)
+    (bytes : List ℕ) (a b : Answer V)
     → FileAnswers most says bytes a → FileAnswers most says bytes b → a ≡ b
 one-answer most says one bytes a b x y =
     elim (cases_lt most (length bytes)) [

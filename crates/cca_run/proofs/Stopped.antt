@@ -29,26 +29,30 @@ module _ (before now : Output) (text : List ℕ) (status result : Status) (print
   abbrev Full : Type 0
   Full = HasRoom before.room (length text) → ⊥
 
-  as-result : (P : Type 0) → (result ≡ status → Puts before now text (length text) → P) → (result ≡ WriteFault Out → Rose before.faults now.faults → Front → Full → P) → P
+  as-result : (P : Type 0) → (result ≡ status → Puts before now text (length text) → P)
+      → (result ≡ WriteFault Out → Rose before.faults now.faults → Front → Full → P) → P
   as-result P whole cut = elim prints [
     | inl w ↦ whole w.0 w.1
     | inr w ↦ cut w.0 w.1 w.2 w.3
   ]
 
 -- the words say no command
-module _ (folder : Folder) (before now : Output) (line : List ℕ) (result : Status) (is : line ≡ status_line Words) (prints : Prints before now line Words result) where
+module _ (folder : Folder) (before now : Output) (line : List ℕ) (result : Status) (is : line ≡ status_line Words)
+    (prints : Prints before now line Words result) where
   keeps : KeepsFiles folder folder
   keeps = keeps_still folder
 
 -- the way to the work of a command stopped
-module _ (command : CommandValue) (old new : Folder) (before now : Output) (stop : Stop) (result : Status) (reads : OnlyReads command old new) (stops : StopsBy command old new stop)
+module _ (command : CommandValue) (old new : Folder) (before now : Output) (stop : Stop) (result : Status) (reads : OnlyReads command old new)
+    (stops : StopsBy command old new stop)
     (prints : Prints before now (text_before stop ++ status_line stop.status) stop.status result) where
   abbrev text : List ℕ
   text = text_before stop ++ status_line stop.status
 
   -- by each of the three ways
   by-way : (P : Type 0) → (stop ≡ bare Memory → P) → ((kind : FileKind) → stop ≡ bare (ReadFault kind) → FailsToRead command old new kind → P)
-      → (IsStop stop.status → ((files : List ℕ → Option (List ℕ)) → Agrees files old new → FilesGive command files (stopped_after (text_before stop) stop.status)) → P) → P
+      → (IsStop stop.status → ((files : List ℕ → Option (List ℕ)) → Agrees files old new → FilesGive command files
+      (stopped_after (text_before stop) stop.status)) → P) → P
   by-way P memory fault given = elim stops [
     | inl m ↦ memory m
     | inr rest ↦ elim rest [
@@ -61,7 +65,8 @@ module _ (command : CommandValue) (old new : Folder) (before now : Output) (stop
   status-of s is = ap (λ (x : Stop). x.status) is
 
   never-words : stop.status ≡ Words → ⊥
-  never-words w = by-way ⊥ (λ m. let x : Memory ≡ Words = sym (status-of _ m) ∙ w in cc) (λ kind m f. let x : ReadFault kind ≡ Words = sym (status-of _ m) ∙ w in cc) (λ s g. subst IsStop w s)
+  never-words w = by-way ⊥ (λ m. let x : Memory ≡ Words = sym (status-of _ m) ∙ w in cc)
+      (λ kind m f. let x : ReadFault kind ≡ Words = sym (status-of _ m) ∙ w in cc) (λ s g. subst IsStop w s)
 
   never-wrote : (kind : FileKind) → stop.status ≡ WriteFault kind → ⊥
   never-wrote kind w = by-way ⊥ (λ m. let x : Memory ≡ WriteFault kind = sym (status-of _ m) ∙ w in cc)
@@ -75,13 +80,15 @@ module _ (command : CommandValue) (old new : Folder) (before now : Output) (stop
   read-fault : (kind : FileKind) → result ≡ ReadFault kind → IsReadFault (Some command) old new kind
   read-fault kind r = as-result before now text stop.status result prints _
       (λ e w. by-way _ (λ m. let x : Memory ≡ ReadFault kind = sym (status-of _ m) ∙ sym e ∙ r in absurd cc)
-      (λ other m f. let x : ReadFault other ≡ ReadFault kind = sym (status-of _ m) ∙ sym e ∙ r in let same : other ≡ kind = cc in subst (FailsToRead command old new) same f)
+      (λ other m f. let x : ReadFault other ≡ ReadFault kind = sym (status-of _ m) ∙ sym e ∙ r in let same : other ≡ kind = cc in
+      subst (FailsToRead command old new) same f)
       (λ s g. absurd (subst IsStop (sym e ∙ r) s)))
       (λ e rose cut full. let x : WriteFault Out ≡ ReadFault kind = sym e ∙ r in absurd cc)
 
   -- a hindered stop prints its line alone
   line-alone : IsHindered stop.status → text ≡ status_line stop.status
-  line-alone h = by-way _ (λ m. ap (λ (x : Stop). text_before x ++ status_line stop.status) m) (λ kind m f. ap (λ (x : Stop). text_before x ++ status_line stop.status) m) (λ s g. absurd (both stop.status s h))
+  line-alone h = by-way _ (λ m. ap (λ (x : Stop). text_before x ++ status_line stop.status) m)
+      (λ kind m f. ap (λ (x : Stop). text_before x ++ status_line stop.status) m) (λ s g. absurd (both stop.status s h))
     where
       both : (s : Status) → IsStop s → IsHindered s → ⊥
       both s a b = clash s a b
@@ -92,7 +99,8 @@ module _ (command : CommandValue) (old new : Folder) (before now : Output) (stop
           clash Memory a b = a
           clash s a b = b
 
-  due : (files : List ℕ → Option (List ℕ)) → Agrees files old new → ((o : Outcome) × WordsGive (Some command) files o × (text ≡ o.printed) × Appended (Some command) o.appended old new) ⊎ ((status : Status) × IsHindrance (Some command) old new status × (text ≡ status_line status))
+  due : (files : List ℕ → Option (List ℕ)) → Agrees files old new → ((o : Outcome) × WordsGive (Some command) files o × (text ≡ o.printed)
+      × Appended (Some command) o.appended old new) ⊎ ((status : Status) × IsHindrance (Some command) old new status × (text ≡ status_line status))
   due files agrees = by-way _
       (λ m. inr (Memory, (tt, reads.kept), ap (λ (x : Stop). text_before x ++ status_line x.status) m))
       (λ kind m f. inr (ReadFault kind, (f, reads.kept), ap (λ (x : Stop). text_before x ++ status_line x.status) m))
@@ -101,7 +109,8 @@ module _ (command : CommandValue) (old new : Folder) (before now : Output) (stop
   -- the files and the output are as a run that stopped leaves them
   pub stop-ends : RunEnds (Some command) old new before now result
   stop-ends = record {
-    words = λ r. as-result before now text stop.status result prints _ (λ e w. absurd (never-words (sym e ∙ r))) (λ e rose cut full. let x : WriteFault Out ≡ Words = sym e ∙ r in absurd cc);
+    words = λ r. as-result before now text stop.status result prints _ (λ e w. absurd (never-words (sym e ∙ r)))
+        (λ e rose cut full. let x : WriteFault Out ≡ Words = sym e ∙ r in absurd cc);
     read_fault = read-fault;
     write_fault = λ kind r. let o = put-failed kind r in subst (λ (k : FileKind). IsWriteFault (Some command) old new before now k) o.0 o.1;
     answer = λ files agrees decided. as-result before now text stop.status result prints _
@@ -117,11 +126,13 @@ module _ (command : CommandValue) (old new : Folder) (before now : Output) (stop
           | inl x ↦ (let y : WriteFault Out ≡ Words = sym e ∙ x in cc)
           | inr x ↦ subst IsHindered e x
         ]));
-    front = λ r. as-result before now text stop.status result prints _ (λ e w. absurd (never-wrote Out (sym e ∙ r))) (λ e rose cut full. (text, cut.0, cut.1, cut.2, due, full));
+    front = λ r. as-result before now text stop.status result prints _ (λ e w. absurd (never-wrote Out (sym e ∙ r)))
+        (λ e rose cut full. (text, cut.0, cut.1, cut.2, due, full));
     kept = λ k. reads.kept;
     told = agrees_told old new reads.kept;
     loaded = reads.loaded;
     files = inl reads.kept;
     loads = reads.loads;
-    appends = subst (λ (c : List ℕ → ℕ). CountsAmong (outputs_of command) old.append_faults c) (sym reads.appends) (among-none (outputs_of command) old.append_faults);
+    appends = subst (λ (c : List ℕ → ℕ). CountsAmong (outputs_of command) old.append_faults c) (sym reads.appends)
+        (among-none (outputs_of command) old.append_faults);
   }

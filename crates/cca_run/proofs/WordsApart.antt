@@ -110,7 +110,8 @@ differ : (x y : List ℕ) → bytes_eq x y ≡ false → x ≢ y
 differ x y apart same = let is = (bytes_eq-Decides x y).1 same in absurd cc
 
 -- a name that isn't among others isn't among some of them
-kept-apart : (f : List ℕ) (p : FileUse → Bool) (files : List FileUse) → is_among f (map (λ g. g.name) files) ≡ false → is_among f (map (λ g. g.name) (filter p files)) ≡ false
+kept-apart : (f : List ℕ) (p : FileUse → Bool) (files : List FileUse) → is_among f (map (λ g. g.name) files) ≡ false
+    → is_among f (map (λ g. g.name) (filter p files)) ≡ false
 kept-apart f p [] none = none
 kept-apart f p (g ∷ files) none =
     let parts = neither (bytes_eq f g.name) (is_among f (map (λ h. h.name) files)) none in
@@ -120,7 +121,8 @@ kept-apart f p (g ∷ files) none =
       | inr drops ↦ rw drops behind
     ]
 
-some-apart : (p : FileUse → Bool) (files : List FileUse) → are_file_words (map (λ g. g.name) files) ≡ true → are_file_words (map (λ g. g.name) (filter p files)) ≡ true
+some-apart : (p : FileUse → Bool) (files : List FileUse) → are_file_words (map (λ g. g.name) files) ≡ true
+    → are_file_words (map (λ g. g.name) (filter p files)) ≡ true
 some-apart p [] apart = apart
 some-apart p (g ∷ files) apart =
     let parts = and-both (is_file_word g.name) (not (is_among g.name (map (λ h. h.name) files)) && are_file_words (map (λ h. h.name) files)) apart in

@@ -31,7 +31,11 @@ module _ (book : Book) (weights name : List ℕ) (old new : Folder) (loads : Onl
   given-by : (file : Option (List ℕ)) (s : Status) → Halts CERT_BYTES (StopsCheck book weights) file s → Given file (stopped s)
   given-by file s h = subst (λ (content : Option (List ℕ)). Given content (stopped s)) (sym h.here) (elim (cases_lt CERT_BYTES (length h.bytes)) [
     | inl over ↦ (stops s, record { text = λ short. absurd (omega (arith, short, over)); long = λ more. ap stops (h.long more) }, refl)
-    | inr short ↦ (let t = check-turn book weights h.bytes s (h.text short) in (t.0, record { text = λ less. t.1; long = λ over. absurd (omega (arith, short, over)) }, t.2))
+    | inr short ↦ (let t = check-turn book weights h.bytes s (h.text short) in (
+      t.0,
+      record { text = λ less. t.1; long = λ over. absurd (omega (arith, short, over)) },
+      t.2,
+    ))
   ])
 
   -- it stopped the run

@@ -33,7 +33,13 @@ den-range (pos d) low high = omega (arith, ints, high)
 den-range (negsuc d) low high = absurd (omega (arith, ints, low))
 
 payments-of : (z weights : List ℕ) (t : Turn) → IsPointOfTurn z weights t → ArePayments z t.den t.at
-payments-of z weights t p = record { den_positive = p.den_positive; den_range = den-range t.den p.den_positive p.den_small; winners = p.winners; not_negative = p.not_negative }
+payments-of z weights t p = record {
+  den_positive = p.den_positive;
+  den_range = den-range t.den p.den_positive p.den_small;
+  winners =
+      p.winners;
+  not_negative = p.not_negative;
+}
 
 -- the turns can be printed
 pub can-print : (z weights : List ℕ) (turns : List Turn) → AllByRecursion (IsPointOfTurn z weights) turns → AllByRecursion (CanPrintTurn z) turns
@@ -41,8 +47,10 @@ can-print z weights [] all = tt
 can-print z weights (t ∷ turns) all = (record { payments = payments-of z weights t all.0; excess = all.0.excess }, can-print z weights turns all.1)
 
 -- a priced book gives its prices and its certificate
-pub priced : (book : BookValue) (weights : List ℕ) (form : PriceForm) (cert : Certificate) (turns : List Turn) (text appended : List ℕ) → IsFor (bidders_of book) (states book) cert
-    → IsPricedCert book (weight_of weights) (cert_value cert) → FewWin cert.choice weights → IsPricingRun (market_of book) (weight_of weights) cert.choice (turns_of cert.choice turns)
+pub priced : (book : BookValue) (weights : List ℕ) (form : PriceForm) (cert : Certificate) (turns : List Turn) (text appended : List ℕ)
+    → IsFor (bidders_of book) (states book) cert
+    → IsPricedCert book (weight_of weights) (cert_value cert) → FewWin cert.choice weights → IsPricingRun (market_of book) (weight_of weights) cert.choice
+    (turns_of cert.choice turns)
     → IsLastPoint (turns_of cert.choice turns) (cert_point (cert_value cert)) → ArePrinted form book (cert_value cert) (turns_of cert.choice turns) text
     → appended ≡ cert_text (cert_value cert) → PriceGives book weights form (done text (cert_file appended ∷ []))
 priced book weights form cert turns text appended shape is few run last printed written =
@@ -50,7 +58,8 @@ priced book weights form cert turns text appended shape is few run last printed 
       cert_value cert,
       text,
       record {
-        certificate = subst (λ (b : ℕ). IsCertificate b (states book) (cert_value cert)) shape.bidders_are (subst (λ (s : ℕ). IsCertificate (length cert.choice) s (cert_value cert)) shape.states_are cert.rules);
+        certificate = subst (λ (b : ℕ). IsCertificate b (states book) (cert_value cert)) shape.bidders_are
+            (subst (λ (s : ℕ). IsCertificate (length cert.choice) s (cert_value cert)) shape.states_are cert.rules);
         priced = is;
         few = few;
         turns = turns_of cert.choice turns;
@@ -62,9 +71,11 @@ priced book weights form cert turns text appended shape is few run last printed 
     )
 
 -- a certificate for which all tests hold has the facts that are printed
-pub has-facts : (book : BookValue) (w : ℕ → ℕ) (cert : Certificate) → IsFor (bidders_of book) (states book) cert → Holds book w (cert_value cert) → HasFacts book (cert_value cert)
+pub has-facts : (book : BookValue) (w : ℕ → ℕ) (cert : Certificate) → IsFor (bidders_of book) (states book) cert → Holds book w (cert_value cert)
+    → HasFacts book (cert_value cert)
 has-facts book w cert shape holds = record {
-  certificate = subst (λ (b : ℕ). IsCertificate b (states book) (cert_value cert)) shape.bidders_are (subst (λ (s : ℕ). IsCertificate (length cert.choice) s (cert_value cert)) shape.states_are cert.rules);
+  certificate = subst (λ (b : ℕ). IsCertificate b (states book) (cert_value cert)) shape.bidders_are
+      (subst (λ (s : ℕ). IsCertificate (length cert.choice) s (cert_value cert)) shape.states_are cert.rules);
   sizes = holds.c1;
   choice = holds.c2;
   parts = holds.c4;
@@ -72,10 +83,12 @@ has-facts book w cert shape holds = record {
 }
 
 -- the turns can be printed beside the facts
-pub can_print-facts : (book : BookValue) (c : CertValue) (facts : CertFacts) (turns : List Turn) → AreFacts book c facts → AllByRecursion (CanPrintTurn c.choice) turns → AllByRecursion (CanPrintTurn facts.choice) turns
+pub can_print-facts : (book : BookValue) (c : CertValue) (facts : CertFacts) (turns : List Turn) → AreFacts book c facts
+    → AllByRecursion (CanPrintTurn c.choice) turns → AllByRecursion (CanPrintTurn facts.choice) turns
 can_print-facts book c facts turns are can = subst (λ (z : List ℕ). AllByRecursion (CanPrintTurn z) turns) (sym are.choice) can
 
 -- a certificate for which all tests hold gives yes
-pub accepts : (book : BookValue) (weights : List ℕ) (c : CertValue) (text : List ℕ) (appended : List FileText) → appended ≡ [] → Holds book (weight_of weights) c → IsSound book (weight_of weights) c
+pub accepts : (book : BookValue) (weights : List ℕ) (c : CertValue) (text : List ℕ) (appended : List FileText) → appended ≡ []
+    → Holds book (weight_of weights) c → IsSound book (weight_of weights) c
     → IsYesText book c text → VerdictGives book weights c (done text appended) × (map (λ t. t.kind) appended ≡ [])
 accepts book weights c text appended none holds sound shown = (inl (holds, sound, (text, shown, ap (done text) none)), ap (map (λ (t : FileText). t.kind)) none)

@@ -67,7 +67,13 @@ agree-own command files (kind ∷ seen) = (refl, agree-own command files seen)
 -- nothing was read
 pub begins : (command : CommandValue) (old : Folder) → IsAt command old old [] (CommandGives command)
 begins command old = record {
-  reads = record { kept = keeps_still old; loads = among-none (inputs_of command) old.load_faults; appends = refl; loaded = loaded-none (inputs_of command) old };
+  reads = record {
+    kept = keeps_still old;
+    loads = among-none (inputs_of command) old.load_faults;
+    appends = refl;
+    loaded =
+        loaded-none (inputs_of command) old;
+  };
   count = refl;
   leads = λ files agrees contents agree o gives. gives;
 }
@@ -78,12 +84,14 @@ abbrev reads-on : (command : CommandValue) (old mid new : Folder) (name : List �
 reads-on command old mid new name within a next b = record {
   loaded = loaded-more (inputs_of command) name old mid new a.loaded within next b.some a.kept b.kept;
   kept = keeps_more old mid new a.kept b.kept;
-  loads = among-then (inputs_of command) old.load_faults mid.load_faults new.load_faults a.loads (among-one (inputs_of command) name mid.load_faults new.load_faults within b.count);
+  loads = among-then (inputs_of command) old.load_faults mid.load_faults new.load_faults a.loads
+      (among-one (inputs_of command) name mid.load_faults new.load_faults within b.count);
   appends = b.appends ∙ a.appends;
 }
 
 module _ {V : Type 0} (command : CommandValue) (old mid new : Folder) (seen : List FileKind) (kind : FileKind) (most : ℕ) (says : List ℕ → Answer V → Type 0)
-    (follows : Contents → V → Outcome → Type 0) (name : List ℕ) (input : input_as command kind ≡ Some name) (within : Contains (inputs_of command) name) (next : within.0 ≡ length seen)
+    (follows : Contents → V → Outcome → Type 0) (name : List ℕ) (input : input_as command kind ≡ Some name) (within : Contains (inputs_of command) name)
+    (next : within.0 ≡ length seen)
     (at : IsAt command old mid seen (λ contents. InputGives kind most says (contents kind) (follows contents))) (loads : OnlyLoads name mid new) where
   same-file : (files : Held) → contents_of command files kind ≡ files name
   same-file files = ap (option_and_then files) input
@@ -102,11 +110,13 @@ module _ {V : Type 0} (command : CommandValue) (old mid new : Folder) (seen : Li
       → IsAt command old new (kind ∷ seen) (λ contents. follows contents v)
   reads-next v bytes short said here = record {
     reads = read;
-    count = count-more (inputs_of command) name old mid new at.reads.loaded within (at.count ∙ sym next) loads.some at.reads.kept loads.kept (length seen) at.count;
+    count = count-more (inputs_of command) name old mid new at.reads.loaded within (at.count ∙ sym next) loads.some at.reads.kept loads.kept
+        (length seen) at.count;
     leads = λ files agrees contents agree o gives.
         let is : contents kind ≡ Some bytes = agree.0 ∙ same-file files ∙ here.held files (last files agrees) in
         let answers : FileAnswers most says bytes (value v) = record { text = λ _. said; long = λ over. absurd (omega (arith, short, over)) } in
-        at.leads files (before files agrees) contents agree.1 o (subst (λ (content : Option (List ℕ)). InputGives kind most says content (follows contents) o) (sym is) (value v, answers, gives));
+        at.leads files (before files agrees) contents agree.1 o (subst (λ (content : Option (List ℕ)). InputGives kind most says content (follows contents) o)
+        (sym is) (value v, answers, gives));
   }
 
   -- what the bytes of an input within the limit say so that the run stops with this status
@@ -115,7 +125,8 @@ module _ {V : Type 0} (command : CommandValue) (old mid new : Folder) (seen : Li
 
   -- the next input stopped it, or what its value gives did
   pub stops-with : (halts : List ℕ → Status → Type 0) → ((contents : Contents) (bytes : List ℕ) (s : Status) → halts bytes s → Stopping contents bytes s)
-      → ((files : Held) → missing kind (contents_of command files) kind ≡ None) → ((files : Held) → Agree command files (missing kind (contents_of command files)) seen)
+      → ((files : Held) → missing kind (contents_of command files) kind ≡ None) →
+      ((files : Held) → Agree command files (missing kind (contents_of command files)) seen)
       → (s : Status) → InputStops kind most halts name mid new s → Works command old new (Err (bare s))
   stops-with halts turn gone agree s stop = record { out = by stop; reads = read }
     where
@@ -130,7 +141,8 @@ module _ {V : Type 0} (command : CommandValue) (old mid new : Folder) (seen : Li
           rose = rose-from (old.load_faults name) (mid.load_faults name) (new.load_faults name) (at.reads.loads.not_less name) fault.1;
           no_room = λ some. fault.2 (subst (λ (r : List ℕ → Option ℕ). IsSome (r name)) (sym at.reads.kept.room) some);
           reached = λ files agrees. at.leads files (before files agrees) (missing kind (contents_of command files)) (agree files) (stopped (ReadFault kind))
-              (subst (λ (content : Option (List ℕ)). InputGives kind most says content (follows (missing kind (contents_of command files))) (stopped (ReadFault kind))) (sym (gone files)) refl);
+              (subst (λ (content : Option (List ℕ)). InputGives kind most says content (follows (missing kind (contents_of command files)))
+              (stopped (ReadFault kind))) (sym (gone files)) refl);
         },
       ))
       by (inr (inr given)) = inr (inr (
@@ -139,24 +151,30 @@ module _ {V : Type 0} (command : CommandValue) (old mid new : Folder) (seen : Li
             let h = given.1 files (last files agrees) in
             let is : contents_of command files kind ≡ Some h.bytes = same-file files ∙ h.here in
             at.leads files (before files agrees) (contents_of command files) (agree-own command files seen) (stopped s)
-            (subst (λ (content : Option (List ℕ)). InputGives kind most says content (follows (contents_of command files)) (stopped s)) (sym is) (given-by files h)),
+            (subst (λ (content : Option (List ℕ)). InputGives kind most says content (follows (contents_of command files)) (stopped s)) (sym is)
+            (given-by files h)),
       ))
         where
-          given-by : (files : Held) (h : Halts most halts (files name) s) → InputGives kind most says (Some h.bytes) (follows (contents_of command files)) (stopped s)
+          given-by : (files : Held) (h : Halts most halts (files name) s) → InputGives kind most says (Some h.bytes) (follows (contents_of command files))
+              (stopped s)
           given-by files h = elim (cases_lt most (length h.bytes)) [
             | inl over ↦ (stops s, record { text = λ short. absurd (omega (arith, short, over)); long = λ more. ap stops (h.long more) }, refl)
-            | inr short ↦ (let t = turn (contents_of command files) h.bytes s (h.text short) in (t.0, record { text = λ less. t.1; long = λ over. absurd (omega (arith, short, over)) }, t.2))
+            | inr short ↦ (let t = turn (contents_of command files) h.bytes s (h.text short) in
+                (t.0, record { text = λ less. t.1; long = λ over. absurd (omega (arith, short, over)) }, t.2))
           ]
 
   -- the next input stopped it
   pub stops-next : (halts : List ℕ → Status → Type 0) → ((bytes : List ℕ) (s : Status) → halts bytes s → says bytes (stops s))
-      → ((files : Held) → missing kind (contents_of command files) kind ≡ None) → ((files : Held) → Agree command files (missing kind (contents_of command files)) seen)
+      → ((files : Held) → missing kind (contents_of command files) kind ≡ None) →
+      ((files : Held) → Agree command files (missing kind (contents_of command files)) seen)
       → (s : Status) → InputStops kind most halts name mid new s → Works command old new (Err (bare s))
   stops-next halts turn gone agree s stop = stops-with halts (λ contents bytes status halt. (stops status, turn bytes status halt, refl)) gone agree s stop
 
 -- the kinds of texts are those of outputs
-outputs_of-kinds : (command : CommandValue) (texts : List FileText) (kinds : List FileKind) → map (λ t. t.kind) texts ≡ kinds → AllByRecursion (λ kind. IsSome (output_as command kind)) kinds → AreOutputs command texts
-outputs_of-kinds command texts kinds is all = by texts (subst (λ (ks : List FileKind). AllByRecursion (λ kind. IsSome (output_as command kind)) ks) (sym is) all)
+outputs_of-kinds : (command : CommandValue) (texts : List FileText) (kinds : List FileKind) → map (λ t. t.kind) texts ≡ kinds
+    → AllByRecursion (λ kind. IsSome (output_as command kind)) kinds → AreOutputs command texts
+outputs_of-kinds command texts kinds is all = by texts (subst (λ (ks : List FileKind). AllByRecursion (λ kind. IsSome (output_as command kind)) ks)
+    (sym is) all)
   where
     by : (texts : List FileText) → AllByRecursion (λ kind. IsSome (output_as command kind)) (map (λ t. t.kind) texts) → AreOutputs command texts
     by [] all = tt
@@ -175,23 +193,30 @@ works command old new seen rest at kinds outputs result is = record { out = by r
     none = λ name. None
 
     by : (result : Result Work Stop) → ((files : Held) → IsWork (rest (contents_of command files)) kinds result) → WorksOut command old new result
-    by (Ok work) is = (outputs_of-kinds command work.appended.items kinds (let one = is none in one.1) outputs, given (done work.printed work.appended.items) (λ files. let one = is files in one.0))
+    by (Ok work) is = (
+      outputs_of-kinds command work.appended.items kinds (let one = is none in one.1) outputs,
+      given (done work.printed work.appended.items) (λ files. let one = is files in one.0),
+    )
     by (Err stop) is = elim (is none) [
       | inl memory ↦ inl memory
       | inr x ↦ inr (inr (x.0, λ files agrees. stopped-by stop files (is files) x.0 agrees))
     ]
       where
-        stopped-by : (stop : Stop) (files : Held) → IsWork (rest (contents_of command files)) kinds (Err stop) → IsStop stop.status → Agrees files old new → FilesGive command files (stopped_after (text_before stop) stop.status)
+        stopped-by : (stop : Stop) (files : Held) → IsWork (rest (contents_of command files)) kinds (Err stop) → IsStop stop.status → Agrees files old new
+            → FilesGive command files (stopped_after (text_before stop) stop.status)
         stopped-by stop files (inl memory) is_stop agrees = absurd (subst (λ (x : Stop). IsStop x.status) memory is_stop)
         stopped-by stop files (inr x) is_stop agrees = at.leads files agrees (contents_of command files) (agree-own command files seen) _ x.1
 
 -- behind some inputs there was no memory
-pub no-memory : (command : CommandValue) (old new : Folder) (seen : List FileKind) (rest : Contents → Outcome → Type 0) → IsAt command old new seen rest → Works command old new (Err (bare Memory))
+pub no-memory : (command : CommandValue) (old new : Folder) (seen : List FileKind) (rest : Contents → Outcome → Type 0) → IsAt command old new seen rest
+    → Works command old new (Err (bare Memory))
 no-memory command old new seen rest at = record { out = inl refl; reads = at.reads }
 
 -- the log that was read leads to a book
-pub book-next : (command : CommandValue) (old new : Folder) (seen : List FileKind) (terms : Terms) (events : List Event) (follows : Contents → Book → Outcome → Type 0) (book : Book)
-    → IsAt command old new seen (λ contents. BookOfLogGives terms events (follows contents)) → end_of terms (reverse events) ≡ Ok book → IsAt command old new seen (λ contents. follows contents book)
+pub book-next : (command : CommandValue) (old new : Folder) (seen : List FileKind) (terms : Terms) (events : List Event)
+    (follows : Contents → Book → Outcome → Type 0) (book : Book)
+    → IsAt command old new seen (λ contents. BookOfLogGives terms events (follows contents)) → end_of terms (reverse events) ≡ Ok book
+    → IsAt command old new seen (λ contents. follows contents book)
 book-next command old new seen terms events follows book at is = record {
   reads = at.reads;
   count = at.count;
@@ -206,8 +231,10 @@ stop-given records (Price price) = tt
 stop-given records Open = tt
 
 -- the log that was read leads to no book, or there was no memory
-pub book-stops : (command : CommandValue) (old new : Folder) (seen : List FileKind) (terms : Terms) (events : List Event) (follows : Contents → Book → Outcome → Type 0) (stop : Stop)
-    → IsAt command old new seen (λ contents. BookOfLogGives terms events (follows contents)) → HasBook terms events (Err stop) → Works command old new (Err stop)
+pub book-stops : (command : CommandValue) (old new : Folder) (seen : List FileKind) (terms : Terms) (events : List Event)
+    (follows : Contents → Book → Outcome → Type 0) (stop : Stop)
+    → IsAt command old new seen (λ contents. BookOfLogGives terms events (follows contents)) → HasBook terms events (Err stop)
+    → Works command old new (Err stop)
 book-stops command old new seen terms events follows stop at (inl memory) = record { out = inl memory; reads = at.reads }
 book-stops command old new seen terms events follows stop at (inr (why, is, told)) = record { out = inr (inr (subst Given (sym told) given)); reads = at.reads }
   where
@@ -218,7 +245,8 @@ book-stops command old new seen terms events follows stop at (inr (why, is, told
     given = (
       stop-given (length events) why,
       λ files agrees. at.leads files agrees (contents_of command files) (agree-own command files seen) (stopped (replay_status (length events) why))
-          (subst (λ (end : Result Book ReplayStop). EndGives (length events) end (follows (contents_of command files)) (stopped (replay_status (length events) why))) (sym is) refl),
+          (subst (λ (end : Result Book ReplayStop). EndGives (length events) end (follows (contents_of command files))
+          (stopped (replay_status (length events) why))) (sym is) refl),
     )
 
 -- a missing input is missing
@@ -254,7 +282,8 @@ module _ (command : CommandValue) (old mid new : Folder) (seen : List FileKind) 
       (given files (agrees_next files old mid new at.reads.kept loads.kept agrees)))
 
   -- a load of it failed
-  turn-fault : (loads : OnlyLoads name mid new) → Rose (mid.load_faults name) (new.load_faults name) → (IsSome (mid.room name) → ⊥) → FailsToRead command old new kind
+  turn-fault : (loads : OnlyLoads name mid new) → Rose (mid.load_faults name) (new.load_faults name) → (IsSome (mid.room name) → ⊥)
+      → FailsToRead command old new kind
   turn-fault loads rose no_room = record {
     name = name;
     input = next.input;
@@ -267,7 +296,11 @@ module _ (command : CommandValue) (old mid new : Folder) (seen : List FileKind) 
   }
 
   pub works-from : (result : Result Work Stop) → WorksFrom kind name gives mid new result → Works command old new result
-  works-from result works = record { out = by result works.out; reads = reads-on command old mid new name next.within at.reads (at.count ∙ sym next.place) works.loads }
+  works-from result works = record {
+    out = by result works.out;
+    reads = reads-on command old mid new name next.within at.reads
+        (at.count ∙ sym next.place) works.loads;
+  }
     where
       by : (result : Result Work Stop) → GivesFrom kind name gives mid new result → WorksOut command old new result
       by (Ok work) (none, given) = (
@@ -294,24 +327,28 @@ module _ (command : CommandValue) (follows : Contents → Book → Outcome → T
   -- the award was read
   at-award : (mid : Folder) (t : Terms) → AwardIsRead award old mid t → IsAt command old mid (part.Award ∷ []) (Behind t)
   at-award mid t a =
-      reads-next command old old mid [] part.Award AWARD_BYTES AwardAnswers (λ contents t. Behind t contents) award first.input first.within first.place gives a.loads
+      reads-next command old old mid [] part.Award AWARD_BYTES AwardAnswers (λ contents t. Behind t contents) award first.input first.within first.place gives
+      a.loads
       t a.value.bytes a.value.short a.value.says a.value.here
 
   -- the log was read
-  at-log : (new : Folder) (t : Terms) (events : List Event) → LogIsRead award log old new t events → IsAt command old new (part.Log ∷ part.Award ∷ []) (Ends t events)
+  at-log : (new : Folder) (t : Terms) (events : List Event) → LogIsRead award log old new t events → IsAt command old new (part.Log ∷ part.Award ∷ [])
+      (Ends t events)
   at-log new t events l =
       reads-next command old l.mid new (part.Award ∷ []) part.Log LOG_BYTES (LogAnswers t) (λ contents events. Ends t events contents) log
       second.input second.within second.place (at-award l.mid t l.first) l.loads events l.value.bytes l.value.short l.value.says l.value.here
 
   -- they led to a book
-  pub logged-at : (new : Folder) (book : Book) → HasLogged award log old new (Ok book) → IsAt command old new (part.Log ∷ part.Award ∷ []) (λ contents. follows contents book)
+  pub logged-at : (new : Folder) (book : Book) → HasLogged award log old new (Ok book) → IsAt command old new (part.Log ∷ part.Award ∷ [])
+      (λ contents. follows contents book)
   logged-at new book (t, events, read, leads) = book-next command old new (part.Log ∷ part.Award ∷ []) t events follows book (at-log new t events read) leads
 
   -- the award stopped the run
   award-stops : (new : Folder) (stop : Stop) → StopsAtAward award old new stop → Works command old new (Err stop)
   award-stops new stop s =
       subst (λ (x : Stop). Works command old new (Err x)) (sym s.is)
-      (stops-next command old old new [] part.Award AWARD_BYTES AwardAnswers (λ contents t. Behind t contents) award first.input first.within first.place gives s.loads
+      (stops-next command old old new [] part.Award AWARD_BYTES AwardAnswers (λ contents t. Behind t contents) award first.input first.within first.place
+      gives s.loads
       (λ bytes status. AwardAnswers bytes (stops status)) (λ bytes status x. x) (λ files. missing-itself part.Award (contents_of command files))
       (λ files. tt) s.status s.why)
 
@@ -328,7 +365,8 @@ module _ (command : CommandValue) (follows : Contents → Book → Outcome → T
   pub logged-stops : (new : Folder) (stop : Stop) → HasLogged award log old new (Err stop) → Works command old new (Err stop)
   logged-stops new stop (inl s) = award-stops new stop s
   logged-stops new stop (inr (inl s)) = log-stops new stop s
-  logged-stops new stop (inr (inr (t, events, read, has))) = book-stops command old new (part.Log ∷ part.Award ∷ []) t events follows stop (at-log new t events read) has
+  logged-stops new stop (inr (inr (t, events, read, has))) = book-stops command old new (part.Log ∷ part.Award ∷ []) t events follows stop
+      (at-log new t events read) has
 
 -- an award and its log were read, and this is what they lead to
 pub has-logged : (award log : List ℕ) (old new : Folder) (t : Terms) (events : List Event) → LogIsRead award log old new t events

@@ -17,7 +17,8 @@ pub fault-same : (P Q : ℕ → Type 0) (stop r : ℕ) → ((s : ℕ) → P s �
 fault-same P Q stop r to from f = record { within = f.within; before = λ s lt. to s (f.before s lt); fails = λ lt q. f.fails lt (from r q) }
 
 -- the first fault of two tests, the second looked for before the first fault of the first
-pub fault-both : (P Q R : ℕ → Type 0) (stop e r : ℕ) → ((s : ℕ) → P s → Q s → R s) → ((s : ℕ) → R s → P s) → ((s : ℕ) → R s → Q s) → FirstFault P stop e → FirstFault Q e r → FirstFault R stop r
+pub fault-both : (P Q R : ℕ → Type 0) (stop e r : ℕ) → ((s : ℕ) → P s → Q s → R s) → ((s : ℕ) → R s → P s) → ((s : ℕ) → R s → Q s) → FirstFault P stop e
+    → FirstFault Q e r → FirstFault R stop r
 fault-both P Q R stop e r both first second f g = record {
   within = omega (arith, f.within, g.within);
   before = λ s lt. both s (f.before s (omega (arith, lt, g.within))) (g.before s lt);
@@ -39,8 +40,10 @@ width-is (b ∷ supply) some =
 
 module _ (rule : LineRule) (base : ℕ) where
   -- one category: a run
-  pub block-last : (b a : ℕ) (supply : List ℕ) (stop r : ℕ) → FirstFault (CoversRun rule (base + a * states_of supply) (base + states_of (b ∷ supply))) stop r → FirstFault (CoversBlock rule base (b ∷ supply) (a ∷ [])) stop r
-  block-last b a supply stop r f = fault-same (CoversRun rule (base + a * states_of supply) (base + states_of (b ∷ supply))) (CoversBlock rule base (b ∷ supply) (a ∷ [])) stop r
+  pub block-last : (b a : ℕ) (supply : List ℕ) (stop r : ℕ) → FirstFault (CoversRun rule (base + a * states_of supply) (base + states_of (b ∷ supply))) stop r
+      → FirstFault (CoversBlock rule base (b ∷ supply) (a ∷ [])) stop r
+  block-last b a supply stop r f = fault-same (CoversRun rule (base + a * states_of supply) (base + states_of (b ∷ supply)))
+      (CoversBlock rule base (b ∷ supply) (a ∷ [])) stop r
       (λ s run n lt is fits.
       let c : a ≤ n / states_of supply = leb-true a (n / states_of supply) (and_parts (nat_le a (n / states_of supply)) _ fits).0 in
       let up : a * states_of supply ≤ n = (le-div_iff_mul-le (states-positive supply)).0 c in
@@ -48,7 +51,8 @@ module _ (rule : LineRule) (base : ℕ) where
       (λ s block start stop.
       let up : a * states_of supply ≤ s - base = omega (arith, start) in
       block (s - base) (omega (arith, start, stop)) (omega (arith, start))
-      (and_from (nat_le a ((s - base) / states_of supply)) _ (le-leb a ((s - base) / states_of supply) (le-div a (s - base) (states_of supply) (states-positive supply) up)) refl)) f
+      (and_from (nat_le a ((s - base) / states_of supply)) _ (le-leb a ((s - base) / states_of supply)
+      (le-div a (s - base) (states_of supply) (states-positive supply) up)) refl)) f
 
   module _ (b a : ℕ) (supply lots : List ℕ) where
     -- before the package's own count nothing fits
@@ -85,7 +89,8 @@ module _ (rule : LineRule) (base : ℕ) where
                   own (n - d * W) rest (omega (arith, is, here)) (subst (λ (x : ℕ). IsTrue (is_within lots (left_at supply x))) digit p.1))
             ]
 
-        last : (s : ℕ) → CoversSome rule base (b ∷ supply) (a ∷ lots) (suc d * states_of supply) s → CoversBlock rule (base + d * states_of supply) supply lots s
+        last : (s : ℕ) → CoversSome rule base (b ∷ supply) (a ∷ lots) (suc d * states_of supply) s → CoversBlock rule
+            (base + d * states_of supply) supply lots s
         last s all n small is fits =
             let W = states_of supply in
             let quot : (d * W + n) / W ≡ d = div-mul-add d W n small in
@@ -110,17 +115,20 @@ module _ (rule : LineRule) (base : ℕ) where
   more-list supply [] d stop e r some is le f g = absurd (omega arith)
   more-list [] (a ∷ lots) d stop e r some is le f g = absurd (omega (arith, is))
   more-list (b ∷ supply) (a ∷ lots) d stop e r some is le f g =
-      subst (λ (x : ℕ). FirstFault (CoversSome rule base (b ∷ supply) (a ∷ lots) (x * states_of supply)) stop r) (omega arith) (digits-more b a supply lots d stop e r le f g)
+      subst (λ (x : ℕ). FirstFault (CoversSome rule base (b ∷ supply) (a ∷ lots) (x * states_of supply)) stop r) (omega arith)
+      (digits-more b a supply lots d stop e r le f g)
 
   -- all digits of the first category are the whole block
   pub all-list : (supply lots : List ℕ) (d stop r : ℕ) → 0 < length supply → d ≡ get_or supply 0 0 + 1
       → FirstFault (CoversSome rule base supply lots (d * states_of (drop 1 supply))) stop r → FirstFault (CoversBlock rule base supply lots) stop r
   all-list [] lots d stop r some e f = absurd (omega arith)
-  all-list (b ∷ supply) lots d stop r some e f = subst (λ (x : ℕ). FirstFault (CoversSome rule base (b ∷ supply) lots (x * states_of supply)) stop r) (omega (arith, e)) f
+  all-list (b ∷ supply) lots d stop r some e f = subst (λ (x : ℕ). FirstFault (CoversSome rule base (b ∷ supply) lots (x * states_of supply)) stop r)
+      (omega (arith, e)) f
 
   -- a package of one category fits from its own count on
   pub last-list : (supply lots : List ℕ) (stop r : ℕ) → length lots ≡ 1 → length lots ≤ length supply
-      → FirstFault (CoversRun rule (base + get_or lots 0 0 * states_of (drop 1 supply)) (base + states_of supply)) stop r → FirstFault (CoversBlock rule base supply lots) stop r
+      → FirstFault (CoversRun rule (base + get_or lots 0 0 * states_of (drop 1 supply)) (base + states_of supply)) stop r
+      → FirstFault (CoversBlock rule base supply lots) stop r
   last-list supply [] stop r one e f = absurd (omega (arith, one))
   last-list [] (a ∷ lots) stop r one e f = absurd (omega (arith, e))
   last-list (b ∷ supply) (a ∷ []) stop r one e f = block-last b a supply stop r f
@@ -133,7 +141,8 @@ place-none (b ∷ supply) [] none = refl
 place-none (b ∷ supply) (a ∷ lots) none = absurd (omega (arith, none))
 
 -- the place of a package is its first count times the states of the other categories, and the place there
-pub place-split : (supply lots : List ℕ) → 0 < length lots → length lots ≤ length supply → place_of supply lots ≡ get_or lots 0 0 * states_of (drop 1 supply) + place_of (drop 1 supply) (drop 1 lots)
+pub place-split : (supply lots : List ℕ) → 0 < length lots → length lots ≤ length supply → place_of supply lots ≡ get_or lots 0 0 * states_of
+    (drop 1 supply) + place_of (drop 1 supply) (drop 1 lots)
 place-split supply [] some e = absurd (omega arith)
 place-split [] (a ∷ lots) some e = absurd (omega (arith, e))
 place-split (b ∷ supply) (a ∷ lots) some e = refl
@@ -153,11 +162,13 @@ pub tail-length : (xs : List ℕ) → length (take (length xs - 1) (drop 1 xs)) 
 tail-length xs = ap (λ (l : List ℕ). length l) (tail-whole xs) ∙ length-drop 1 xs
 
 -- the block of one digit is within the whole
-pub digit-room : (supply : List ℕ) (d : ℕ) → 0 < length supply → d < get_or supply 0 0 + 1 → d * states_of (drop 1 supply) + states_of (drop 1 supply) ≤ states_of supply
+pub digit-room : (supply : List ℕ) (d : ℕ) → 0 < length supply → d < get_or supply 0 0 + 1 → d * states_of (drop 1 supply) + states_of
+    (drop 1 supply) ≤ states_of supply
 digit-room [] d some lt = absurd (omega arith)
 digit-room (b ∷ supply) d some lt = let le : suc d ≤ suc b = omega (arith, lt) in omega (arith, mul-le-mul_left (states_of supply) le)
 
 -- a shift that is within the package's place stays within it behind a digit that is no smaller than its count
-pub digit-shift : (supply lots : List ℕ) (d base shift : ℕ) → 0 < length lots → length lots ≤ length supply → get_or lots 0 0 ≤ d → shift ≤ base + place_of supply lots
+pub digit-shift : (supply lots : List ℕ) (d base shift : ℕ) → 0 < length lots → length lots ≤ length supply → get_or lots 0 0 ≤ d
+    → shift ≤ base + place_of supply lots
     → shift ≤ base + d * states_of (drop 1 supply) + place_of (drop 1 supply) (drop 1 lots)
 digit-shift supply lots d base shift some e le h = omega (arith, h, place-split supply lots some e, mul-le-mul_left (states_of (drop 1 supply)) le)

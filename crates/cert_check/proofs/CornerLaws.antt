@@ -1,5 +1,6 @@
 -- The rule of a bid in a block, from its parts and from its corners.
-use Rattle.std.specs.Prelude.{◌≡◌, ℕ, suc, ◌+◌, ◌-◌, ◌*◌, ◌/◌, ◌%◌, ◌^◌, ◌≤◌, ◌<◌, nat_le, Bool, IsTrue, List, [], ◌∷◌, length, get_or, take, drop, ℤ, ◌+ℤ◌, ◌≤ℤ◌}
+use Rattle.std.specs.Prelude.{◌≡◌, ℕ, suc, ◌+◌, ◌-◌, ◌*◌, ◌/◌, ◌%◌, ◌^◌, ◌≤◌, ◌<◌, nat_le, Bool, IsTrue, List, [], ◌∷◌, length, get_or, take, drop, ℤ, ◌+ℤ◌}
+use Rattle.std.specs.Prelude.{◌≤ℤ◌}
 use Rattle.std.proofs.Common.{inl, inr, sym, ◌∙◌, ap, subst, arith}
 use Rattle.std.proofs.lemmas.Bool.{and_parts, and_from, leb-true, le-leb, cases_lt}
 use Rattle.std.proofs.lemmas.Int.{ints}
@@ -7,7 +8,8 @@ use Rattle.std.proofs.lemmas.Nat.{div_below, mod_below, div-add-mod', div-mul-ad
 use Rattle.std.proofs.Math.Nat.{le-div_iff_mul-le}
 use Rattle.cert_laws.specs.auction_model.specs.Package.{is_within, less, IsNothingFrom}
 use Rattle.cert_laws.specs.auction_model.specs.Place.{states_of, place_of, left_at}
-use Rattle.cert_laws.specs.auction_model.proofs.PlaceLaws.{states-positive, length-left_at, left_at-within, left_at-whole, left_at-less, place_of-left_at, place-less, place-less_below, place-below}
+use Rattle.cert_laws.specs.auction_model.proofs.PlaceLaws.{states-positive, length-left_at, left_at-within, left_at-whole, left_at-less, place_of-left_at}
+use Rattle.cert_laws.specs.auction_model.proofs.PlaceLaws.{place-less, place-less_below, place-below}
 use Rattle.cert_laws.specs.auction_model.proofs.DominatedLaws.{less-within_self}
 use Rattle.cert_laws.specs.auction_model.proofs.TrimLaws.{trim-place, trim-within}
 use Rattle.cert_laws.specs.auction_model.proofs.PartReads.{read-part}

@@ -10,7 +10,8 @@ use Rattle.cert_laws.specs.Tests.{bidders_of}
 use Rattle.cert_check.specs.Worths.{CanLower, gain_of}
 
 -- a winner gains the denominator times its net amount, less what it pays
-pub gain-won : (book : Book) (den : ℤ) (choice : List ℕ) (pay : List ℤ) (j : ℕ) (net : ℤ) → (number_of choice j ≡ 0 → ⊥) → net ≡ net_of book j (number_of choice j)
+pub gain-won : (book : Book) (den : ℤ) (choice : List ℕ) (pay : List ℤ) (j : ℕ) (net : ℤ) → (number_of choice j ≡ 0 → ⊥)
+    → net ≡ net_of book j (number_of choice j)
     → (den *ℤ net) -ℤ get_or pay (j - 1) (pos 0) ≡ gain_of book den choice pay j
 gain-won book den choice pay j net some e =
     let used : uses choice j ≡ true = ap not (ne_eqb (number_of choice j) 0 some) in
@@ -24,10 +25,12 @@ abs-less : (a b : ℤ) (m n : ℕ) → unsigned_abs a < m → unsigned_abs b < n
 abs-less a b m n h k = omega (arith, ints, h, k)
 
 -- what a bidder gains has at most 121 bits
-pub gain-small : (book : Book) (den : ℤ) (choice : List ℕ) (pay : List ℤ) (j : ℕ) → CanLower book den choice pay → 0 < j → j ≤ bidders_of book → unsigned_abs (gain_of book den choice pay j) < 2 ^ 121
+pub gain-small : (book : Book) (den : ℤ) (choice : List ℕ) (pay : List ℤ) (j : ℕ) → CanLower book den choice pay → 0 < j → j ≤ bidders_of book
+    → unsigned_abs (gain_of book den choice pay j) < 2 ^ 121
 gain-small book den choice pay j can some inside =
     elim (cases_Bool (uses choice j)) [
       | inl wins ↦ rw (cond-true (uses choice j) ((den *ℤ worth_in (market_of book) choice j) -ℤ of_bidder pay j) (pos 0) wins)
-          (abs-less (den *ℤ worth_in (market_of book) choice j) (of_bidder pay j) (2 ^ 120) (2 ^ 120) (can.nets j (number_of choice j) some inside (can.known j some inside)) (can.paid j))
+          (abs-less (den *ℤ worth_in (market_of book) choice j) (of_bidder pay j) (2 ^ 120) (2 ^ 120)
+          (can.nets j (number_of choice j) some inside (can.known j some inside)) (can.paid j))
       | inr loses ↦ rw (cond-false (uses choice j) ((den *ℤ worth_in (market_of book) choice j) -ℤ of_bidder pay j) (pos 0) loses) (omega arith)
     ]

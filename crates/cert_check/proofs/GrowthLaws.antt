@@ -1,5 +1,6 @@
 -- Lines that never fall, from their blocks; and the rules that follow from others on such a line.
-use Rattle.std.specs.Prelude.{◌≡◌, ℕ, zero, suc, ◌+◌, ◌-◌, ◌*◌, ◌/◌, ◌%◌, ◌≤◌, ◌<◌, nat_le, IsTrue, List, [], ◌∷◌, length, get_or, take, drop, ℤ, pos, ◌+ℤ◌, ◌≤ℤ◌, refl}
+use Rattle.std.specs.Prelude.{◌≡◌, ℕ, zero, suc, ◌+◌, ◌-◌, ◌*◌, ◌/◌, ◌%◌, ◌≤◌, ◌<◌, nat_le, IsTrue, List, [], ◌∷◌, length, get_or, take, drop, ℤ, pos, ◌+ℤ◌}
+use Rattle.std.specs.Prelude.{◌≤ℤ◌, refl}
 use Rattle.std.proofs.Common.{inl, inr, sym, ◌∙◌, ap, subst, arith}
 use Rattle.std.proofs.lemmas.Bool.{and_parts, leb-true, cases_lt}
 use Rattle.std.proofs.lemmas.Int.{ints}
@@ -69,9 +70,11 @@ grows-one : (line : List ℤ) → Grows [] line
 grows-one line s t s_low t_low within = let same : s ≡ t = omega (arith, s_low, t_low) in subst (λ (n : ℕ). nth line s ≤ℤ nth line n) same (omega (arith, ints))
 
 -- the same for the lists of the code
-pub grows-last : (supply : List ℕ) (line : List ℤ) (W : ℕ) → length supply ≡ 1 → W ≡ states_of (drop 1 supply) → length line ≡ states_of supply → RisesBy W line → Grows supply line
+pub grows-last : (supply : List ℕ) (line : List ℤ) (W : ℕ) → length supply ≡ 1 → W ≡ states_of (drop 1 supply) → length line ≡ states_of supply
+    → RisesBy W line → Grows supply line
 grows-last [] line W one is places rises = absurd (omega (arith, one))
-grows-last (b ∷ []) line W one is places rises = grows-cons b [] line places (subst (λ (n : ℕ). RisesBy n line) is rises) (λ q low. grows-one (take 1 (drop (q * 1) line)))
+grows-last (b ∷ []) line W one is places rises = grows-cons b [] line places (subst (λ (n : ℕ). RisesBy n line) is rises)
+    (λ q low. grows-one (take 1 (drop (q * 1) line)))
 grows-last (b ∷ c ∷ supply) line W one is places rises = absurd (omega (arith, one))
 
 -- behind the last category there is one place
@@ -81,14 +84,17 @@ last-width (b ∷ []) one = refl
 last-width (b ∷ c ∷ supply) one = absurd (omega (arith, one))
 
 -- a line that rises from block to block, of which each never falls, never falls
-pub grows-list : (supply : List ℕ) (line : List ℤ) (W n : ℕ) → 0 < length supply → W ≡ states_of (drop 1 supply) → length line ≡ states_of supply → get_or supply 0 0 + 1 ≤ n → RisesBy W line
+pub grows-list : (supply : List ℕ) (line : List ℤ) (W n : ℕ) → 0 < length supply → W ≡ states_of (drop 1 supply) → length line ≡ states_of supply
+    → get_or supply 0 0 + 1 ≤ n → RisesBy W line
     → ((q : ℕ) → q < n → Grows (drop 1 supply) (take W (drop (q * W) line))) → Grows supply line
 grows-list [] line W n some is places all rises blocks = absurd (omega (arith, some))
 grows-list (b ∷ supply) line W n some is places all rises blocks =
-    grows-cons b supply line places (subst (λ (m : ℕ). RisesBy m line) is rises) (λ q low. subst (λ (m : ℕ). Grows supply (take m (drop (q * m) line))) is (blocks q (omega (arith, low, all))))
+    grows-cons b supply line places (subst (λ (m : ℕ). RisesBy m line) is rises)
+    (λ q low. subst (λ (m : ℕ). Grows supply (take m (drop (q * m) line))) is (blocks q (omega (arith, low, all))))
 
 -- a bid is needless where an earlier one takes no more and offers as much
-pub needless-better : (o : Offers) (j i h : ℕ) → IsBidBook o.book.now → i ≤ length (bids_of o.book.now j) → 0 < h → pos 0 ≤ℤ o.den → IsBetter o.book.now j i h → IsNeedless o j i
+pub needless-better : (o : Offers) (j i h : ℕ) → IsBidBook o.book.now → i ≤ length (bids_of o.book.now j) → 0 < h → pos 0 ≤ℤ o.den → IsBetter o.book.now j i h
+    → IsNeedless o j i
 needless-better o j i h kept known some den better = record {
   other = h;
   earlier = better.earlier;
@@ -100,7 +106,8 @@ needless-better o j i h kept known some den better = record {
 module _ (o : Offers) (j i : ℕ) (line below : List ℤ) (places : length line ≡ states o.book.now) (grows : Grows o.book.now.supply below) where
   -- what is left after the larger package is no more worth
   rest-grows : (h s : ℕ) → s < states o.book.now → IsTrue (is_within (lots_of o.book.now j h) (lots_of o.book.now j i))
-      → nth below (place_of o.book.now.supply (less (left_at o.book.now.supply s) (lots_of o.book.now j i))) ≤ℤ nth below (place_of o.book.now.supply (less (left_at o.book.now.supply s) (lots_of o.book.now j h)))
+      → nth below (place_of o.book.now.supply (less (left_at o.book.now.supply s) (lots_of o.book.now j i))) ≤ℤ nth below
+      (place_of o.book.now.supply (less (left_at o.book.now.supply s) (lots_of o.book.now j h)))
   rest-grows h s low smaller =
       let supply = o.book.now.supply in
       let left = left_at supply s in
@@ -116,19 +123,23 @@ module _ (o : Offers) (j i : ℕ) (line below : List ℤ) (places : length line 
       rest : ℕ → ℤ
       rest h = nth below (place_of o.book.now.supply (less (left_at o.book.now.supply s) (lots_of o.book.now j h)))
 
-      keep : (h : ℕ) → h < i → IsTrue (is_within (lots_of o.book.now j h) (lots_of o.book.now j i)) → (0 < h → worth_of o j i ≤ℤ worth_of o j h) → (h ≡ 0 → worth_of o j i ≤ℤ pos 0) → (worth_of o j i +ℤ rest i) ≤ℤ nth line s
+      keep : (h : ℕ) → h < i → IsTrue (is_within (lots_of o.book.now j h) (lots_of o.book.now j i)) → (0 < h → worth_of o j i ≤ℤ worth_of o j h)
+          → (h ≡ 0 → worth_of o j i ≤ℤ pos 0) → (worth_of o j i +ℤ rest i) ≤ℤ nth line s
       keep zero lt smaller worth none =
           let grown : rest i ≤ℤ rest 0 = rest-grows 0 s low smaller in
-          let whole : rest 0 ≡ nth below s = ap (nth below) (ap (place_of o.book.now.supply) (less-empty (left_at o.book.now.supply s)) ∙ place_of-left_at o.book.now.supply s low) in
+          let whole : rest 0 ≡ nth below s = ap (nth below) (ap (place_of o.book.now.supply) (less-empty (left_at o.book.now.supply s))
+          ∙ place_of-left_at o.book.now.supply s low) in
           let own = keeps.none (omega (arith, low, places)) in
           omega (arith, ints, grown, whole, own, none refl)
       keep (suc h) lt smaller worth none =
           let grown : rest i ≤ℤ rest (suc h) = rest-grows (suc h) s low smaller in
-          let own = keeps.bid (suc h) (omega arith) (omega (arith, lt, is)) low (within-within (lots_of o.book.now j (suc h)) (lots_of o.book.now j i) (left_at o.book.now.supply s) smaller fits) in
+          let own = keeps.bid (suc h) (omega arith) (omega (arith, lt, is)) low (within-within (lots_of o.book.now j (suc h)) (lots_of o.book.now j i)
+          (left_at o.book.now.supply s) smaller fits) in
           omega (arith, ints, grown, own, worth (omega arith))
 
 -- such a bid needs no test
-pub line-needless : (o : Offers) (j : ℕ) (line below : List ℤ) (k stop e : ℕ) → length line ≡ states o.book.now → Grows o.book.now.supply below → IsNeedless o j (k + 1)
+pub line-needless : (o : Offers) (j : ℕ) (line below : List ℤ) (k stop e : ℕ) → length line ≡ states o.book.now → Grows o.book.now.supply below
+    → IsNeedless o j (k + 1)
     → FirstFault (KeepsSome o j line below k) stop e → FirstFault (KeepsSome o j line below (k + 1)) stop e
 line-needless o j line below k stop e places grows n f =
     fault-same (KeepsSome o j line below k) (KeepsSome o j line below (k + 1)) stop e
@@ -136,7 +147,8 @@ line-needless o j line below k stop e places grows n f =
       none = front.none;
       bid = λ i some few. elim (cases_lt i (k + 1)) [
         | inl earlier ↦ front.bid i some (omega (arith, earlier))
-        | inr here ↦ (let last : k + 1 ≡ i = omega (arith, few, here) in subst (λ (x : ℕ). KeepsBid o j line below x s) last (needless-keeps o j (k + 1) line below places grows n k refl s front))
+        | inr here ↦ (let last : k + 1 ≡ i = omega (arith, few, here) in subst (λ (x : ℕ). KeepsBid o j line below x s) last
+            (needless-keeps o j (k + 1) line below places grows n k refl s front))
       ];
     })
     (λ s all. record { none = all.none; bid = λ i some few. all.bid i some (omega (arith, few)) })

@@ -1,5 +1,6 @@
 -- What the first three tests say of the amounts of a book.
-use Rattle.std.specs.Prelude.{◌≡◌, ℕ, zero, suc, ◌^◌, ◌≤◌, ◌<◌, Bool, true, false, cond, IsTrue, List, length, ℤ, pos, ◌+ℤ◌, ◌-ℤ◌, ◌*ℤ◌, ◌≤ℤ◌, unsigned_abs, refl}
+use Rattle.std.specs.Prelude.{◌≡◌, ℕ, zero, suc, ◌^◌, ◌≤◌, ◌<◌, Bool, true, false, cond, IsTrue, List, length, ℤ, pos, ◌+ℤ◌, ◌-ℤ◌, ◌*ℤ◌, ◌≤ℤ◌, unsigned_abs}
+use Rattle.std.specs.Prelude.{refl}
 use Rattle.std.proofs.Common.{inl, inr, sym, ◌∙◌, ap, subst, arith}
 use Rattle.std.proofs.lemmas.Bool.{cases_lt, cases_Bool, cond-true, cond-false}
 use Rattle.std.proofs.lemmas.Int.{ints}
@@ -43,12 +44,14 @@ head-shown book c kept length_is h = record {
   small = (h.sizes 3).size refl;
   allowed = allowed book c length_is h.choice h.table;
   reached = value_is book c length_is h.choice h.table;
-  most = λ d t. (let high = most book c length_is h.choice h.table d t in let whole = value_is book c length_is h.choice h.table in omega (arith, ints, high, whole));
+  most = λ d t. (let high = most book c length_is h.choice h.table d t in let whole = value_is book c length_is h.choice h.table in
+      omega (arith, ints, high, whole));
   nets = nets-shown book c kept length_is h;
 }
 
 -- the sum over some bidders of numbers that aren't negative is between 0 and that over all
-pub some-sum : (s : ℕ → Bool) (f : ℕ → ℤ) (n : ℕ) → ((j : ℕ) → 0 < j → j ≤ n → pos 0 ≤ℤ f j) → (pos 0 ≤ℤ sum_over s f n) × (sum_over s f n ≤ℤ sum_over everyone f n)
+pub some-sum : (s : ℕ → Bool) (f : ℕ → ℤ) (n : ℕ) → ((j : ℕ) → 0 < j → j ≤ n → pos 0 ≤ℤ f j) → (pos 0 ≤ℤ sum_over s f n)
+    × (sum_over s f n ≤ℤ sum_over everyone f n)
 some-sum s f zero h = (omega (arith, ints), omega (arith, ints))
 some-sum s f (suc n) h =
     let rest = some-sum s f n (λ j some le. h j some (omega arith)) in
@@ -65,8 +68,10 @@ one-most f (suc n) j h some le =
     let own = h (suc n) (omega arith) (omega arith) in
     let below = (some-sum everyone f n (λ i si li. h i si (omega (arith, li)))).0 in
     elim (cases_lt j (suc n)) [
-      | inl earlier ↦ (let rest = one-most f n j (λ i si li. h i si (omega (arith, li))) some (omega (arith, earlier)) in up (f j) (sum_over everyone f n) (f (suc n)) rest own)
-      | inr here ↦ (let same : suc n ≡ j = omega (arith, le, here) in subst (λ (x : ℕ). f x ≤ℤ (sum_over everyone f n +ℤ f (suc n))) same (last (sum_over everyone f n) (f (suc n)) below))
+      | inl earlier ↦ (let rest = one-most f n j (λ i si li. h i si (omega (arith, li))) some (omega (arith, earlier)) in
+          up (f j) (sum_over everyone f n) (f (suc n)) rest own)
+      | inr here ↦ (let same : suc n ≡ j = omega (arith, le, here) in subst (λ (x : ℕ). f x ≤ℤ (sum_over everyone f n +ℤ f (suc n))) same
+          (last (sum_over everyone f n) (f (suc n)) below))
     ]
   where
     up : (x y z : ℤ) → x ≤ℤ y → pos 0 ≤ℤ z → x ≤ℤ (y +ℤ z)
@@ -101,7 +106,8 @@ module _ (a : Claim) (kept : IsBidBook a.book.now) where
 
   -- no winner bids more than the value
   pub won-most : (j : ℕ) → 0 < j → j ≤ bidders_of a.book.now → worth_in (market_of a.book.now) a.choice.now j ≤ℤ a.value
-  won-most j some le = subst (λ (z : ℤ). worth_in (market_of a.book.now) a.choice.now j ≤ℤ z) won-sum (one-most (worth_in (market_of a.book.now) a.choice.now) (bidders_of a.book.now) j won-least some le)
+  won-most j some le = subst (λ (z : ℤ). worth_in (market_of a.book.now) a.choice.now j ≤ℤ z) won-sum
+      (one-most (worth_in (market_of a.book.now) a.choice.now) (bidders_of a.book.now) j won-least some le)
 
   -- the denominator times a winner's net amount is in the range
   pub won-times : (j : ℕ) → 0 < j → j ≤ bidders_of a.book.now → unsigned_abs (a.den *ℤ worth_in (market_of a.book.now) a.choice.now j) < 2 ^ 120
@@ -114,11 +120,13 @@ module _ (a : Claim) (kept : IsBidBook a.book.now) where
   market = let few = kept.bidders in market-of_book a.book.now (omega (arith, few)) kept.not_negative
 
   -- what an allowed choice counts
-  pub allowed-value : (d : List ℕ) → IsTrue ((market_of a.book.now).allowed d) → (pos 0 ≤ℤ value_of (market_of a.book.now) d) × (value_of (market_of a.book.now) d ≤ℤ a.value)
+  pub allowed-value : (d : List ℕ) → IsTrue ((market_of a.book.now).allowed d) → (pos 0 ≤ℤ value_of (market_of a.book.now) d)
+      × (value_of (market_of a.book.now) d ≤ℤ a.value)
   allowed-value d t = (worth-nonneg (market_of a.book.now) market d t, a.shown.most d t)
 
   -- what the bids of some bidders count
-  pub some-won : (s : ℕ → Bool) → (pos 0 ≤ℤ sum_over s (worth_in (market_of a.book.now) a.choice.now) (bidders_of a.book.now)) × (sum_over s (worth_in (market_of a.book.now) a.choice.now) (bidders_of a.book.now) ≤ℤ a.value)
+  pub some-won : (s : ℕ → Bool) → (pos 0 ≤ℤ sum_over s (worth_in (market_of a.book.now) a.choice.now) (bidders_of a.book.now))
+      × (sum_over s (worth_in (market_of a.book.now) a.choice.now) (bidders_of a.book.now) ≤ℤ a.value)
   some-won s =
       let part = some-sum s (worth_in (market_of a.book.now) a.choice.now) (bidders_of a.book.now) won-least in
       (part.0, subst (λ (z : ℤ). sum_over s (worth_in (market_of a.book.now) a.choice.now) (bidders_of a.book.now) ≤ℤ z) won-sum part.1)
@@ -133,13 +141,17 @@ module _ (a : Claim) (kept : IsBidBook a.book.now) where
       between x v w p q r s = omega (arith, ints, p, q, r, s)
 
   -- so is the value of the choice without a bidder, and 0 for a loser
-  pub values-range : (withouts : List WithoutValue) (values : List ℤ) → ((j : ℕ) → 0 < j → j ≤ bidders_of a.book.now → IsTrue (uses a.choice.now j) → IsPart a.book.now j (part_of withouts j))
-      → AreValuesWithout a.book.now a.choice.now withouts values → (j : ℕ) → 0 < j → j ≤ bidders_of a.book.now → (pos 0 ≤ℤ of_bidder values j) × (of_bidder values j ≤ℤ a.value)
+  pub values-range : (withouts : List WithoutValue) (values : List ℤ) → ((j : ℕ) → 0 < j → j ≤ bidders_of a.book.now → IsTrue (uses a.choice.now j)
+      → IsPart a.book.now j (part_of withouts j))
+      → AreValuesWithout a.book.now a.choice.now withouts values → (j : ℕ) → 0 < j → j ≤ bidders_of a.book.now
+      → (pos 0 ≤ℤ of_bidder values j) × (of_bidder values j ≤ℤ a.value)
   values-range withouts values parts are j some inside =
       subst (λ (z : ℤ). (pos 0 ≤ℤ z) × (z ≤ℤ a.value)) (sym (are j some inside))
       (elim (cases_Bool (uses a.choice.now j)) [
-        | inl wins ↦ subst (λ (z : ℤ). (pos 0 ≤ℤ z) × (z ≤ℤ a.value)) (sym (cond-true (uses a.choice.now j) (value_of (market_of a.book.now) (part_of withouts j).choice) (pos 0) wins))
+        | inl wins ↦ subst (λ (z : ℤ). (pos 0 ≤ℤ z) × (z ≤ℤ a.value)) (sym (cond-true (uses a.choice.now j)
+            (value_of (market_of a.book.now) (part_of withouts j).choice) (pos 0) wins))
             (allowed-value (part_of withouts j).choice (parts j some inside wins).allowed)
-        | inr loses ↦ subst (λ (z : ℤ). (pos 0 ≤ℤ z) × (z ≤ℤ a.value)) (sym (cond-false (uses a.choice.now j) (value_of (market_of a.book.now) (part_of withouts j).choice) (pos 0) loses))
+        | inr loses ↦ subst (λ (z : ℤ). (pos 0 ≤ℤ z) × (z ≤ℤ a.value)) (sym (cond-false (uses a.choice.now j)
+            (value_of (market_of a.book.now) (part_of withouts j).choice) (pos 0) loses))
             (omega (arith, ints), a.shown.value_least)
       ])

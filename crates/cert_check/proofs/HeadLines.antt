@@ -32,14 +32,17 @@ module _ (book : Book) (w : ℕ → ℕ) (c : CertValue) (place : ℕ) where
   of-C3 asks = asks.2 refl
 
 -- the offers are all bids at their net amounts
-module _ (o : Offers) (w : ℕ → ℕ) (c : CertValue) (nobody : o.skip ≡ 0) (net : (j i : ℕ) → 0 < j → j ≤ bidders_of o.book.now → worth_of o j i ≡ net_of o.book.now j i) where
-  to-net : (k s : ℕ) → ObeysAt (offered o) (worth_of o) o.book.now.supply c.table k s → ObeysAt (menu_of o.book.now) (net_of o.book.now) o.book.now.supply c.table k s
+module _ (o : Offers) (w : ℕ → ℕ) (c : CertValue) (nobody : o.skip ≡ 0) (net : (j i : ℕ) → 0 < j → j ≤ bidders_of o.book.now
+    → worth_of o j i ≡ net_of o.book.now j i) where
+  to-net : (k s : ℕ) → ObeysAt (offered o) (worth_of o) o.book.now.supply c.table k s → ObeysAt (menu_of o.book.now)
+      (net_of o.book.now) o.book.now.supply c.table k s
   to-net k s obeys =
       obeys-all (menu_of o.book.now) (net_of o.book.now) o.book.now.supply c.table k s
       (obeys-same (without (menu_of o.book.now) 0) (worth_of o) (net_of o.book.now) o.book.now.supply c.table net k s
       (subst (λ (n : ℕ). ObeysAt (without (menu_of o.book.now) n) (worth_of o) o.book.now.supply c.table k s) nobody obeys))
 
-  from-net : (k s : ℕ) → ObeysAt (menu_of o.book.now) (net_of o.book.now) o.book.now.supply c.table k s → ObeysAt (offered o) (worth_of o) o.book.now.supply c.table k s
+  from-net : (k s : ℕ) → ObeysAt (menu_of o.book.now) (net_of o.book.now) o.book.now.supply c.table k s
+      → ObeysAt (offered o) (worth_of o) o.book.now.supply c.table k s
   from-net k s obeys =
       subst (λ (n : ℕ). ObeysAt (without (menu_of o.book.now) n) (worth_of o) o.book.now.supply c.table k s) (sym nobody)
       (obeys-same (without (menu_of o.book.now) 0) (net_of o.book.now) (worth_of o) o.book.now.supply c.table (λ j i some inside. sym (net j i some inside)) k s
@@ -64,12 +67,18 @@ module _ (book : Book) (w : ℕ → ℕ) (c : CertValue) where
   -- found when line 0 has come
   pub top-C3 : (entry_at c.table 0 (full book) ≤ℤ c.value) ↔ Asks book w c 3 ((bidders_of book + 1) * states book + 0)
   top-C3 = (
-    λ low. asks-C3 book w c ((bidders_of book + 1) * states book + 0) (record { rules = λ k s le lt e. absurd (no-rule 0 k s le lt e); top = λ e. low; first = λ k lt e. absurd (omega (arith, e)) }),
+    λ low. asks-C3 book w c ((bidders_of book + 1) * states book + 0) (record {
+      rules = λ k s le lt e. absurd (no-rule 0 k s le lt e);
+      top = λ e. low;
+      first =
+          λ k lt e. absurd (omega (arith, e));
+    }),
     λ asks. (of-C3 book w c ((bidders_of book + 1) * states book + 0) asks).top (omega arith),
   )
 
   -- found when line k + 1 has come
-  pub first-C3 : (k : ℕ) → k < bidders_of book → NoEarlier (menu_of book) (net_of book) book.supply c.table c.choice c.value k ↔ Asks book w c 3 ((bidders_of book + 1) * states book + suc k)
+  pub first-C3 : (k : ℕ) → k < bidders_of book → NoEarlier (menu_of book) (net_of book) book.supply c.table c.choice c.value k ↔ Asks book w c 3
+      ((bidders_of book + 1) * states book + suc k)
   first-C3 k lt = (
     λ none. asks-C3 book w c ((bidders_of book + 1) * states book + suc k) (record {
       rules = λ l s le lt2 e. absurd (no-rule (suc k) l s le lt2 e);

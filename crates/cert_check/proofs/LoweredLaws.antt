@@ -23,12 +23,15 @@ use Rattle.cert_check.proofs.ValueLaws.{obeys-all, obeys-none_less}
 use Rattle.cert_check.proofs.Worths.{lowered-worth, table-same}
 
 -- the test of the table with these gains is that of each certificate of the claim
-pub lowered-answer : (a : Claim) (c : CertValue) (pay gains : List ℤ) (table : List (List ℤ)) (most : ℤ) (r : Option ℕ) → IsOf a c → c.pay ≡ pay → c.lowered ≡ table
+pub lowered-answer : (a : Claim) (c : CertValue) (pay gains : List ℤ) (table : List (List ℤ)) (most : ℤ) (r : Option ℕ) → IsOf a c → c.pay ≡ pay
+    → c.lowered ≡ table
     → ((j : ℕ) → 0 < j → j ≤ bidders_of a.book.now → of_bidder gains j ≡ gain_of a.book.now a.den a.choice.now pay j)
-    → most ≡ sum_over everyone (of_bidder pay) (bidders_of a.book.now) → IsFirstFailing (TableAt (without (menu_of a.book.now) 0) (worth_with a.book.now a.den gains) a.book.now.supply table most) r → IsFirstFailing (C9 a.book.now c) r
+    → most ≡ sum_over everyone (of_bidder pay) (bidders_of a.book.now) → IsFirstFailing
+    (TableAt (without (menu_of a.book.now) 0) (worth_with a.book.now a.den gains) a.book.now.supply table most) r → IsFirstFailing (C9 a.book.now c) r
 lowered-answer a c pay gains table most r is pay_is table_is gains_are most_is f =
     let book = a.book.now in
-    let own : (j : ℕ) → 0 < j → j ≤ bidders_of a.book.now → of_bidder gains j ≡ gain_of a.book.now c.den c.choice c.pay j = rw (is.den_is, is.choice_is, pay_is) gains_are in
+    let own : (j : ℕ) → 0 < j → j ≤ bidders_of a.book.now → of_bidder gains j ≡ gain_of a.book.now c.den c.choice c.pay j =
+    rw (is.den_is, is.choice_is, pay_is) gains_are in
     failing-same (TableAt (without (menu_of book) 0) (lowered_net book c) book.supply c.lowered most) (C9 book c)
     (λ n t. record {
       rules = λ k s le lt e. obeys-all (menu_of book) (lowered_net book c) book.supply c.lowered k s (t.rules k s le lt e);
@@ -43,7 +46,8 @@ lowered-answer a c pay gains table most r is pay_is table_is gains_are most_is f
     (subst (λ (t : List (List ℤ)). IsFirstFailing (TableAt (without (menu_of book) 0) (worth_with book a.den gains) book.supply t most) r) (sym table_is) f)))
 
 -- the product of the denominator and a net amount that isn't above the value
-pub scaled-small : (den net value : ℤ) → pos 1 ≤ℤ den → pos 0 ≤ℤ net → net ≤ℤ value → (den *ℤ (value +ℤ pos 1)) <ℤ pos (2 ^ 120) → unsigned_abs (den *ℤ net) < 2 ^ 120
+pub scaled-small : (den net value : ℤ) → pos 1 ≤ℤ den → pos 0 ≤ℤ net → net ≤ℤ value → (den *ℤ (value +ℤ pos 1)) <ℤ pos (2 ^ 120)
+    → unsigned_abs (den *ℤ net) < 2 ^ 120
 scaled-small den net value some least most size =
     let N = unsigned_abs net in
     let V = unsigned_abs value in
@@ -58,7 +62,8 @@ scaled-small den net value some least most size =
     sized a b m n a_is b_is h = let k = rw (a_is, b_is) at h in omega (arith, ints, k)
 
 -- no product that the lowered worths need is too large
-pub can-lower : (a : Claim) (pay : List ℤ) → IsBidBook a.book.now → length pay ≡ bidders_of a.book.now → AllInRange pay → CanLower a.book.now a.den a.choice.now pay
+pub can-lower : (a : Claim) (pay : List ℤ) → IsBidBook a.book.now → length pay ≡ bidders_of a.book.now → AllInRange pay
+    → CanLower a.book.now a.den a.choice.now pay
 can-lower a pay kept many range = record {
   numbers = a.shown.count;
   payments = many;
@@ -77,7 +82,8 @@ pub record IsPaidTo (payments : List ℤ) (k : ℕ) (sum : ℤ) : Type 0 where
   pub size : unsigned_abs sum ≤ k * 2 ^ 120
 
 -- the payment of one bidder more is added
-pub paid-next : (payments : List ℤ) (k : ℕ) (sum : ℤ) → AllInRange payments → IsPaidTo payments k sum → IsPaidTo payments (k + 1) (sum +ℤ get_or payments k (pos 0))
+pub paid-next : (payments : List ℤ) (k : ℕ) (sum : ℤ) → AllInRange payments → IsPaidTo payments k sum
+    → IsPaidTo payments (k + 1) (sum +ℤ get_or payments k (pos 0))
 paid-next payments k sum all to =
     let up : suc k ≡ k + 1 = omega arith in
     let small = in-range payments all k in
@@ -90,7 +96,8 @@ paid-next payments k sum all to =
     })
 
 -- a sum of few payments with one more fits 128 bits
-pub paid-small : (payments : List ℤ) (k : ℕ) (sum : ℤ) → AllInRange payments → IsPaidTo payments k sum → k < 16 → unsigned_abs (sum +ℤ get_or payments k (pos 0)) < 2 ^ 127
+pub paid-small : (payments : List ℤ) (k : ℕ) (sum : ℤ) → AllInRange payments → IsPaidTo payments k sum → k < 16
+    → unsigned_abs (sum +ℤ get_or payments k (pos 0)) < 2 ^ 127
 paid-small payments k sum all to few =
     let small = in-range payments all k in
     let size = to.size in

@@ -32,17 +32,21 @@ module _ (book : Book) (w : ℕ → ℕ) (c : CertValue) (place : ℕ) where
   of-C9 asks = asks.8 refl
 
 -- the offers are all bids at their lowered worths
-module _ (o : Offers) (w : ℕ → ℕ) (c : CertValue) (nobody : o.skip ≡ 0) (net : (j i : ℕ) → 0 < j → j ≤ bidders_of o.book.now → worth_of o j i ≡ lowered_net o.book.now c j i) where
-  to-net : (k s : ℕ) → ObeysAt (offered o) (worth_of o) o.book.now.supply c.lowered k s → ObeysAt (menu_of o.book.now) (lowered_net o.book.now c) o.book.now.supply c.lowered k s
+module _ (o : Offers) (w : ℕ → ℕ) (c : CertValue) (nobody : o.skip ≡ 0) (net : (j i : ℕ) → 0 < j → j ≤ bidders_of o.book.now
+    → worth_of o j i ≡ lowered_net o.book.now c j i) where
+  to-net : (k s : ℕ) → ObeysAt (offered o) (worth_of o) o.book.now.supply c.lowered k s → ObeysAt (menu_of o.book.now)
+      (lowered_net o.book.now c) o.book.now.supply c.lowered k s
   to-net k s obeys =
       obeys-all (menu_of o.book.now) (lowered_net o.book.now c) o.book.now.supply c.lowered k s
       (obeys-same (without (menu_of o.book.now) 0) (worth_of o) (lowered_net o.book.now c) o.book.now.supply c.lowered net k s
       (subst (λ (n : ℕ). ObeysAt (without (menu_of o.book.now) n) (worth_of o) o.book.now.supply c.lowered k s) nobody obeys))
 
-  from-net : (k s : ℕ) → ObeysAt (menu_of o.book.now) (lowered_net o.book.now c) o.book.now.supply c.lowered k s → ObeysAt (offered o) (worth_of o) o.book.now.supply c.lowered k s
+  from-net : (k s : ℕ) → ObeysAt (menu_of o.book.now) (lowered_net o.book.now c) o.book.now.supply c.lowered k s
+      → ObeysAt (offered o) (worth_of o) o.book.now.supply c.lowered k s
   from-net k s obeys =
       subst (λ (n : ℕ). ObeysAt (without (menu_of o.book.now) n) (worth_of o) o.book.now.supply c.lowered k s) (sym nobody)
-      (obeys-same (without (menu_of o.book.now) 0) (lowered_net o.book.now c) (worth_of o) o.book.now.supply c.lowered (λ j i some inside. sym (net j i some inside)) k s
+      (obeys-same (without (menu_of o.book.now) 0) (lowered_net o.book.now c) (worth_of o) o.book.now.supply c.lowered
+      (λ j i some inside. sym (net j i some inside)) k s
       (obeys-none_less (menu_of o.book.now) (lowered_net o.book.now c) o.book.now.supply c.lowered k s obeys))
 
   -- what the rules ask at a number of a line and a place is what C9 asks there
@@ -58,7 +62,8 @@ module _ (o : Offers) (w : ℕ → ℕ) (c : CertValue) (nobody : o.skip ≡ 0) 
 
 module _ (book : Book) (w : ℕ → ℕ) (c : CertValue) where
   -- found when line 0 has come
-  pub top-C9 : (entry_at c.lowered 0 (full book) ≤ℤ sum_over everyone (of_bidder c.pay) (bidders_of book)) ↔ Asks book w c 9 ((bidders_of book + 1) * states book + 0)
+  pub top-C9 : (entry_at c.lowered 0 (full book) ≤ℤ sum_over everyone (of_bidder c.pay) (bidders_of book)) ↔ Asks book w c 9
+      ((bidders_of book + 1) * states book + 0)
   top-C9 = (
     λ low. asks-C9 book w c ((bidders_of book + 1) * states book + 0) (record {
       rules = λ k s le lt e. absurd (omega (arith, e, number-below (bidders_of book) k s (states book) le lt));

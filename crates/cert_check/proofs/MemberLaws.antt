@@ -17,7 +17,8 @@ known-number m c j t some le =
     subst (λ (x : ℕ). number_of c j ≤ m.bids x) back (known-of m c (j - 1) t (omega (arith, len)))
 
 -- each is the number of a bidder
-pub members-in : (bidders before : ℕ) (members : List ℕ) (k : ℕ) → AreMembers bidders before members → k < length members → (before < get_or members k 0) × (get_or members k 0 ≤ bidders)
+pub members-in : (bidders before : ℕ) (members : List ℕ) (k : ℕ) → AreMembers bidders before members → k < length members
+    → (before < get_or members k 0) × (get_or members k 0 ≤ bidders)
 members-in bidders before [] k h lt = absurd (omega arith)
 members-in bidders before (j ∷ members) zero h lt = (h.0, h.1)
 members-in bidders before (j ∷ members) (suc k) h lt =

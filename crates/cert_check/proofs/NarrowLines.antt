@@ -1,5 +1,6 @@
 -- A loop that copies a line into 64 bits.
-use Rattle.std.proofs.Common.{◌≡◌, ◌≢◌, ◌<◌, ◌≤◌, ◌+◌, ◌^◌, ℕ, arith, get_or, set, length, List, ℤ, pos, unsigned_abs, get_or-set_other, get_or-set_same, below_more, inl, inr}
+use Rattle.std.proofs.Common.{◌≡◌, ◌≢◌, ◌<◌, ◌≤◌, ◌+◌, ◌^◌, ℕ, arith, get_or, set, length, List, ℤ, pos, unsigned_abs, get_or-set_other, get_or-set_same}
+use Rattle.std.proofs.Common.{below_more, inl, inr}
 use Rattle.std.proofs.lemmas.List.{ext_get_or, get_or_past}
 use Rattle.std.proofs.lemmas.Bool.{cases_lt}
 use Rattle.cert_check.specs.Narrow.{IsSmall}
@@ -9,8 +10,10 @@ abbrev pub IsCopied : List ℤ → List ℤ → ℕ → Type 0
 IsCopied xs ys n = (s : ℕ) → s < n → (get_or xs s (pos 0) ≡ get_or ys s (pos 0)) × (unsigned_abs (get_or ys s (pos 0)) ≤ 2 ^ 60)
 
 -- one number more
-pub copied-more : (xs ys : List ℤ) (p : ℕ) (x : ℤ) → p < length xs → IsCopied xs ys p → x ≡ get_or ys p (pos 0) → unsigned_abs (get_or ys p (pos 0)) ≤ 2 ^ 60 → IsCopied (set xs p x) ys (p + 1)
-copied-more xs ys p x inside done is small = below_more (λ s. (get_or (set xs p x) s (pos 0) ≡ get_or ys s (pos 0)) × (unsigned_abs (get_or ys s (pos 0)) ≤ 2 ^ 60)) p
+pub copied-more : (xs ys : List ℤ) (p : ℕ) (x : ℤ) → p < length xs → IsCopied xs ys p → x ≡ get_or ys p (pos 0) → unsigned_abs (get_or ys p (pos 0)) ≤ 2 ^ 60
+    → IsCopied (set xs p x) ys (p + 1)
+copied-more xs ys p x inside done is small = below_more (λ s. (get_or (set xs p x) s (pos 0) ≡ get_or ys s (pos 0))
+    × (unsigned_abs (get_or ys s (pos 0)) ≤ 2 ^ 60)) p
     (λ s h. let other : s ≢ p = omega arith in (rw get_or-set_other ((done s h).0), (done s h).1))
     (rw get_or-set_same is, small)
 

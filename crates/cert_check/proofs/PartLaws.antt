@@ -1,5 +1,6 @@
 -- C4 from the tests of the parts.
-use Rattle.std.specs.Prelude.{◌≡◌, ℕ, zero, suc, ◌+◌, ◌*◌, ◌<◌, ◌≤◌, ◌==◌, ◌↔◌, Bool, not, IsTrue, List, [], ◌∷◌, length, map, drop, get_or, refl, Option, Some, None, is_some, ℤ}
+use Rattle.std.specs.Prelude.{◌≡◌, ℕ, zero, suc, ◌+◌, ◌*◌, ◌<◌, ◌≤◌, ◌==◌, ◌↔◌, Bool, not, IsTrue, List, [], ◌∷◌, length, map, drop, get_or, refl, Option}
+use Rattle.std.specs.Prelude.{Some, None, is_some, ℤ}
 use Rattle.std.proofs.Common.{inl, inr, sym, ◌∙◌, ap, subst, arith, drop-cons}
 use Rattle.std.proofs.lemmas.Bool.{cases_lt, cond-true, cond-false, eq-eqb, ne_eqb, false≢true, not-true, not-false}
 use Rattle.cert_laws.specs.auction_model.specs.Menu.{without}
@@ -22,7 +23,8 @@ pub record HasForm (b s : ℕ) (part : WithoutPart) : Type 0 where
   pub table : IsTable b s part.table
 
 -- each part of a list of parts has the right form
-pub parts-form : (b s j : ℕ) (numbers : List ℕ) (parts : List WithoutPart) → AreWithouts b s j numbers (map without_value parts) → (i : ℕ) (other : WithoutPart) → i < length parts → HasForm b s (get_or parts i other)
+pub parts-form : (b s j : ℕ) (numbers : List ℕ) (parts : List WithoutPart) → AreWithouts b s j numbers (map without_value parts)
+    → (i : ℕ) (other : WithoutPart) → i < length parts → HasForm b s (get_or parts i other)
 parts-form b s j numbers [] are i other lt = absurd (omega arith)
 parts-form b s j [] (w ∷ parts) are i other lt = absurd are
 parts-form b s j (zero ∷ numbers) (w ∷ parts) are i other lt = parts-form b s (suc j) numbers (w ∷ parts) are i other lt
@@ -30,10 +32,12 @@ parts-form b s j (suc n ∷ numbers) (w ∷ parts) are zero other lt = record { 
 parts-form b s j (suc n ∷ numbers) (w ∷ parts) are (suc i) other lt = parts-form b s (suc j) numbers parts are.1 i other (omega arith)
 
 -- so has the part that stands at a place of such a list
-pub part-form : (b s j : ℕ) (numbers : List ℕ) (items withouts : List WithoutPart) (i : ℕ) (part : WithoutPart) → items ≡ withouts → AreWithouts b s j numbers (map without_value withouts)
+pub part-form : (b s j : ℕ) (numbers : List ℕ) (items withouts : List WithoutPart) (i : ℕ) (part : WithoutPart) → items ≡ withouts
+    → AreWithouts b s j numbers (map without_value withouts)
     → i < length items → part ≡ get_or items i part → HasForm b s part
 part-form b s j numbers items withouts i part same are lt is =
-    subst (HasForm b s) (sym is) (parts-form b s j numbers items (subst (λ (ws : List WithoutPart). AreWithouts b s j numbers (map without_value ws)) (sym same) are) i part lt)
+    subst (HasForm b s) (sym is) (parts-form b s j numbers items (subst (λ (ws : List WithoutPart). AreWithouts b s j numbers (map without_value ws))
+    (sym same) are) i part lt)
 
 -- the part of a bidder is that of the parts from i on
 abbrev pub IsFrom : List WithoutPart → ℕ → ℕ → Type 0
@@ -43,13 +47,15 @@ split-at : (parts : List WithoutPart) (i : ℕ) (part : WithoutPart) → i < len
 split-at parts i part lt is = drop-cons parts i part lt ∙ ap (λ (p : WithoutPart). p ∷ drop (suc i) parts) (sym is)
 
 -- where the part at i is of bidder j, it is the part of j
-pub from-found : (parts : List WithoutPart) (i j : ℕ) (part : WithoutPart) → i < length parts → part ≡ get_or parts i part → IsFrom parts i j → part.winner ≡ j → part_of (map without_value parts) j ≡ without_value part
+pub from-found : (parts : List WithoutPart) (i j : ℕ) (part : WithoutPart) → i < length parts → part ≡ get_or parts i part → IsFrom parts i j
+    → part.winner ≡ j → part_of (map without_value parts) j ≡ without_value part
 from-found parts i j part lt is from own =
     from ∙ ap (λ (ps : List WithoutPart). part_of (map without_value ps) j) (split-at parts i part lt is)
     ∙ cond-true (part.winner == j) (without_value part) (part_of (map without_value (drop (suc i) parts)) j) (eq-eqb part.winner j own)
 
 -- where the part at i is of another bidder, the part of j is among those from i + 1 on
-pub from-next : (parts : List WithoutPart) (i j : ℕ) (part : WithoutPart) → i < length parts → part ≡ get_or parts i part → IsFrom parts i j → (part.winner ≡ j → ⊥) → IsFrom parts (i + 1) j
+pub from-next : (parts : List WithoutPart) (i j : ℕ) (part : WithoutPart) → i < length parts → part ≡ get_or parts i part → IsFrom parts i j
+    → (part.winner ≡ j → ⊥) → IsFrom parts (i + 1) j
 from-next parts i j part lt is from other =
     let up : suc i ≡ i + 1 = omega arith in
     from ∙ ap (λ (ps : List WithoutPart). part_of (map without_value ps) j) (split-at parts i part lt is)
@@ -57,7 +63,8 @@ from-next parts i j part lt is from other =
     ∙ ap (λ (n : ℕ). part_of (map without_value (drop n parts)) j) up
 
 -- without a part nothing is shown
-pub no-part : (book : Book) (parts : List WithoutPart) (i j : ℕ) → 0 < j → j ≤ bidders_of book → drop i parts ≡ [] → IsFrom parts i j → IsPart book j (part_of (map without_value parts) j) → ⊥
+pub no-part : (book : Book) (parts : List WithoutPart) (i j : ℕ) → 0 < j → j ≤ bidders_of book → drop i parts ≡ [] → IsFrom parts i j
+    → IsPart book j (part_of (map without_value parts) j) → ⊥
 no-part book parts i j some inside none from is =
     let empty = rw (from, none) at is in
     let count = allowed-length book [] empty.allowed in
@@ -84,7 +91,8 @@ module _ (book : Book) (j : ℕ) (part : WithoutValue) where
   })
 
 -- a part whose choice is allowed and doesn't use j is right exactly where the test of its table passes
-pub part-answer : (book : Book) (j : ℕ) (part : WithoutValue) (most : ℤ) (r : Option ℕ) (b : Bool) → most ≡ value_of (market_of book) part.choice → IsTrue ((market_of book).allowed part.choice) → number_of part.choice j ≡ 0
+pub part-answer : (book : Book) (j : ℕ) (part : WithoutValue) (most : ℤ) (r : Option ℕ) (b : Bool) → most ≡ value_of (market_of book) part.choice
+    → IsTrue ((market_of book).allowed part.choice) → number_of part.choice j ≡ 0
     → is_some r ≡ not b → IsFirstFailing (TableAt (without (menu_of book) j) (net_of book) book.supply part.table most) r → IsTrue b ↔ IsPart book j part
 part-answer book j part most None b most_is allowed unused b_is t =
     (λ _. part-shown book j part allowed unused (rw most_is at t), λ _. not-false b (sym b_is))
@@ -119,7 +127,8 @@ module _ (book : Book) (c : CertValue) where
       ]
 
   -- the first winner whose part isn't right is the first place at which C4 fails
-  pub parts-fail : (k : ℕ) → k < bidders_of book → PartsTo book c k → IsTrue (uses c.choice (k + 1)) → (IsPart book (k + 1) (part_of c.withouts (k + 1)) → ⊥) → IsFirstFailing (C4 book c) (Some (k + 1))
+  pub parts-fail : (k : ℕ) → k < bidders_of book → PartsTo book c k → IsTrue (uses c.choice (k + 1)) → (IsPart book (k + 1) (part_of c.withouts (k + 1)) → ⊥)
+      → IsFirstFailing (C4 book c) (Some (k + 1))
   parts-fail k in_book to wins fails = (
     λ all. fails (all.part (omega arith) (omega (arith, in_book)) wins),
     λ q lt. to q (omega (arith, lt)),

@@ -20,7 +20,8 @@ module _ (book : Book) (w : ℕ → ℕ) (c : CertValue) (test : ℕ) where
       ]
 
   -- the first of them that fails
-  pub fails-further : (base p : ℕ) → HoldsTo book w c test base → ((i : ℕ) → i < p → Asks book w c test (base + i)) → (Asks book w c test (base + p) → ⊥) → FailsFirst book w c test (base + p)
+  pub fails-further : (base p : ℕ) → HoldsTo book w c test base → ((i : ℕ) → i < p → Asks book w c test (base + i)) → (Asks book w c test (base + p) → ⊥)
+      → FailsFirst book w c test (base + p)
   fails-further base p before more fails = record { fails = fails; before = holds-further base p before more }
 
   -- the whole test
@@ -55,7 +56,8 @@ module _ (book : Book) (w : ℕ → ℕ) (c : CertValue) (test : ℕ) where
   table-fails base n p before late = fails-further base p before late.2 late.1
 
   -- places that hold, with nothing that fails behind them, make the whole test hold
-  pub table-holds : (base n : ℕ) → HoldsTo book w c test base → IsLate book w c test base n None → ((q : ℕ) → base + n ≤ q → Asks book w c test q) → HoldsTo book w c (test + 1) 0
+  pub table-holds : (base n : ℕ) → HoldsTo book w c test base → IsLate book w c test base n None → ((q : ℕ) → base + n ≤ q → Asks book w c test q)
+      → HoldsTo book w c (test + 1) 0
   table-holds base n before late rest = holds-whole (base + n) (holds-further base n before late) rest
 
   -- one place more that holds

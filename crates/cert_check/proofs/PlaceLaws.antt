@@ -13,13 +13,16 @@ use Rattle.cert_check.specs.Head.{HoldsBefore}
 
 module _ (book : Book) (c : CertValue) where
   -- where C2 holds at the places of all bidders, the choice is known
-  pub known-before : (place : ℕ) → length c.choice ≡ bidders_of book → bidders_of book < place → HoldsBefore (C2 book c) place → IsTrue (is_known_after (menu_of book) 0 c.choice)
+  pub known-before : (place : ℕ) → length c.choice ≡ bidders_of book → bidders_of book < place → HoldsBefore (C2 book c) place
+      → IsTrue (is_known_after (menu_of book) 0 c.choice)
   known-before place length_is past before =
       known_from (menu_of book) 0 c.choice (omega (arith, length_is))
-      (λ n lt. subst (λ (x : ℕ). slice_index_or c.choice x 0 ≤ length (bids_of book (suc (0 + n)))) (omega arith) ((before (suc (0 + n)) (omega (arith, length_is))).known (omega arith) (omega (arith, length_is))))
+      (λ n lt. subst (λ (x : ℕ). slice_index_or c.choice x 0 ≤ length (bids_of book (suc (0 + n)))) (omega arith)
+      ((before (suc (0 + n)) (omega (arith, length_is))).known (omega arith) (omega (arith, length_is))))
 
   -- at the place behind the bidders C2 asks whether a known choice fits
-  pub fits-C2 : (place : ℕ) (b : Bool) → place ≡ bidders_of book + 1 → IsTrue (is_known_after (menu_of book) 0 c.choice) → b ≡ fits_after (menu_of book) 0 book.supply c.choice → IsTrue b ↔ C2 book c place
+  pub fits-C2 : (place : ℕ) (b : Bool) → place ≡ bidders_of book + 1 → IsTrue (is_known_after (menu_of book) 0 c.choice)
+      → b ≡ fits_after (menu_of book) 0 book.supply c.choice → IsTrue b ↔ C2 book c place
   fits-C2 place b here known is = (
     λ t. record {
       known = λ some le. absurd (omega (arith, here));
@@ -50,25 +53,35 @@ module _ (book : Book) (c : CertValue) where
   past-C8 w place past = record { sign = λ some le. absurd (omega arith); columns = λ j some le e wins. absurd (omega (arith, e)) }
 
   -- of a winner C5 asks that it pays at least 0 and no more than the denominator times its bid
-  pub winner-C5 : (j : ℕ) (paid most : ℤ) (b : Bool) → 0 < j → j ≤ bidders_of book → IsTrue (uses c.choice j) → paid ≡ of_bidder c.pay j → most ≡ c.den *ℤ won book c j
+  pub winner-C5 : (j : ℕ) (paid most : ℤ) (b : Bool) → 0 < j → j ≤ bidders_of book → IsTrue (uses c.choice j) → paid ≡ of_bidder c.pay j
+      → most ≡ c.den *ℤ won book c j
       → (IsTrue b ↔ ((pos 0 ≤ℤ paid) × (paid ≤ℤ most))) → IsTrue b ↔ C5 book c j
   winner-C5 j paid most b some le wins paid_is most_is test = (
     λ t. record {
-      winner = λ s l w. (subst (λ (z : ℤ). pos 0 ≤ℤ z) paid_is (test.0 t).0, subst (λ (z : ℤ). of_bidder c.pay j ≤ℤ z) most_is (subst (λ (z : ℤ). z ≤ℤ most) paid_is (test.0 t).1));
+      winner = λ s l w. (
+        subst (λ (z : ℤ). pos 0 ≤ℤ z) paid_is (test.0 t).0,
+        subst (λ (z : ℤ). of_bidder c.pay j ≤ℤ z) most_is
+            (subst (λ (z : ℤ). z ≤ℤ most) paid_is (test.0 t).1),
+      );
       loser = λ s l loses. absurd (both_ways (uses c.choice j) loses wins);
     },
-    λ h. let two = h.winner some le wins in test.1 (subst (λ (z : ℤ). pos 0 ≤ℤ z) (sym paid_is) two.0, subst (λ (z : ℤ). paid ≤ℤ z) (sym most_is) (subst (λ (z : ℤ). z ≤ℤ (c.den *ℤ won book c j)) (sym paid_is) two.1)),
+    λ h. let two = h.winner some le wins in test.1 (
+      subst (λ (z : ℤ). pos 0 ≤ℤ z) (sym paid_is) two.0,
+      subst (λ (z : ℤ). paid ≤ℤ z) (sym most_is) (subst (λ (z : ℤ). z ≤ℤ (c.den *ℤ won book c j)) (sym paid_is) two.1),
+    ),
   )
 
   -- at the place of a row C6 asks whether it is tight
-  pub row-C6 : (place : ℕ) (row : RowValue) (b : Bool) → 0 < place → place ≤ length c.rows → row_of c.rows place ≡ row → (IsTrue b ↔ IsTightRow book c row) → IsTrue b ↔ C6 book c place
+  pub row-C6 : (place : ℕ) (row : RowValue) (b : Bool) → 0 < place → place ≤ length c.rows → row_of c.rows place ≡ row → (IsTrue b ↔ IsTightRow book c row)
+      → IsTrue b ↔ C6 book c place
   row-C6 place row b some le same test = (
     λ t. record { row = λ s l. subst (IsTightRow book c) (sym same) (test.0 t) },
     λ h. test.1 (subst (IsTightRow book c) same (h.row some le)),
   )
 
   -- at the place of a row C7 asks whether its first multiplier is at least 0
-  pub sign-C7 : (place : ℕ) (row : RowValue) (b : Bool) → 0 < place → place ≤ length c.rows → row_of c.rows place ≡ row → (IsTrue b ↔ (pos 0 ≤ℤ row.first)) → IsTrue b ↔ C7 book c place
+  pub sign-C7 : (place : ℕ) (row : RowValue) (b : Bool) → 0 < place → place ≤ length c.rows → row_of c.rows place ≡ row → (IsTrue b ↔ (pos 0 ≤ℤ row.first))
+      → IsTrue b ↔ C7 book c place
   sign-C7 place row b some le same test = (
     λ t. record {
       sign = λ s l. subst (λ (r : RowValue). pos 0 ≤ℤ r.first) (sym same) (test.0 t);
@@ -91,7 +104,8 @@ module _ (book : Book) (c : CertValue) where
   )
 
   -- at the place of a row C8 asks whether its first multiplier is above 0 or its second at least 0
-  pub sign-C8 : (w : ℕ → ℕ) (place : ℕ) (row : RowValue) (b : Bool) → 0 < place → place ≤ length c.rows → row_of c.rows place ≡ row → (IsTrue b ↔ ((pos 0 <ℤ row.first) ⊎ (pos 0 ≤ℤ row.second))) → IsTrue b ↔ C8 book w c place
+  pub sign-C8 : (w : ℕ → ℕ) (place : ℕ) (row : RowValue) (b : Bool) → 0 < place → place ≤ length c.rows → row_of c.rows place ≡ row
+      → (IsTrue b ↔ ((pos 0 <ℤ row.first) ⊎ (pos 0 ≤ℤ row.second))) → IsTrue b ↔ C8 book w c place
   sign-C8 w place row b some le same test = (
     λ t. record {
       sign = λ s l. subst (λ (r : RowValue). (pos 0 <ℤ r.first) ⊎ (pos 0 ≤ℤ r.second)) (sym same) (test.0 t);
@@ -102,20 +116,24 @@ module _ (book : Book) (c : CertValue) where
 
   -- behind the rows C8 asks whether the weighted sum of second multipliers is the way from the Vickrey price
   pub sum-C8 : (w : ℕ → ℕ) (place j : ℕ) (b : Bool) → place ≡ length c.rows + j → 0 < j → j ≤ bidders_of book
-      → (IsTrue b ↔ (IsTrue (uses c.choice j) → (of_bidder c.pay j -ℤ (c.den *ℤ vickrey_of book c j)) ≡ pos (w j) *ℤ sum_holding c.rows j (λ row. row.second) (length c.rows))) → IsTrue b ↔ C8 book w c place
+      → (IsTrue b ↔ (IsTrue (uses c.choice j) → (of_bidder c.pay j -ℤ (c.den *ℤ vickrey_of book c j)) ≡ pos (w j) *ℤ sum_holding c.rows j (λ row. row.second)
+      (length c.rows))) → IsTrue b ↔ C8 book w c place
   sum-C8 w place j b here some le test = (
     λ t. record {
       sign = λ s l. absurd (omega (arith, here, some));
       columns = λ i si li e.
           let same : j ≡ i = omega (arith, here, e) in
-          subst (λ (n : ℕ). IsTrue (uses c.choice n) → (of_bidder c.pay n -ℤ (c.den *ℤ vickrey_of book c n)) ≡ pos (w n) *ℤ sum_holding c.rows n (λ row. row.second) (length c.rows)) same (test.0 t);
+          subst (λ (n : ℕ). IsTrue (uses c.choice n) → (of_bidder c.pay n -ℤ (c.den *ℤ vickrey_of book c n)) ≡ pos (w n) *ℤ sum_holding c.rows n
+          (λ row. row.second) (length c.rows)) same (test.0 t);
     },
     λ h. test.1 (h.columns j some le here),
   )
 
 -- what is asked of a winner, by equal numbers
-pub nearest-same : (b u : Bool) (den value won k pay other_pay without other sum other_sum : ℤ) → pay ≡ other_pay → (IsTrue u → without ≡ other) → sum ≡ other_sum
-    → IsTrue b ↔ (IsTrue u → pay -ℤ (den *ℤ ((without -ℤ value) +ℤ won)) ≡ k *ℤ sum) → IsTrue b ↔ (IsTrue u → other_pay -ℤ (den *ℤ ((other -ℤ value) +ℤ won)) ≡ k *ℤ other_sum)
+pub nearest-same : (b u : Bool) (den value won k pay other_pay without other sum other_sum : ℤ) → pay ≡ other_pay → (IsTrue u → without ≡ other)
+    → sum ≡ other_sum
+    → IsTrue b ↔ (IsTrue u → pay -ℤ (den *ℤ ((without -ℤ value) +ℤ won)) ≡ k *ℤ sum)
+    → IsTrue b ↔ (IsTrue u → other_pay -ℤ (den *ℤ ((other -ℤ value) +ℤ won)) ≡ k *ℤ other_sum)
 nearest-same b u den value won k pay other_pay without other sum other_sum e f g h = (
   λ t w. one w (h.0 t w),
   λ all. h.1 (λ w. back w (all w)),

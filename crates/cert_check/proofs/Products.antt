@@ -13,7 +13,8 @@ abs-more : (z : ℤ) → pos 0 ≤ℤ z → unsigned_abs (z +ℤ pos 1) ≡ unsi
 abs-more z h = omega (arith, ints)
 
 -- the denominator times a number no larger than the value is in the range
-pub product-small : (den value amount : ℤ) → pos 1 ≤ℤ den → pos 0 ≤ℤ value → (den *ℤ (value +ℤ pos 1)) <ℤ pos (2 ^ 120) → unsigned_abs amount ≤ unsigned_abs value → unsigned_abs (den *ℤ amount) < 2 ^ 120
+pub product-small : (den value amount : ℤ) → pos 1 ≤ℤ den → pos 0 ≤ℤ value → (den *ℤ (value +ℤ pos 1)) <ℤ pos (2 ^ 120)
+    → unsigned_abs amount ≤ unsigned_abs value → unsigned_abs (den *ℤ amount) < 2 ^ 120
 product-small den value amount d v small low =
     let D = unsigned_abs den in
     let V = unsigned_abs value in

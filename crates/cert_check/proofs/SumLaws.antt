@@ -1,5 +1,6 @@
 -- Sums of some bidders and of some rows, step by step.
-use Rattle.std.specs.Prelude.{◌≡◌, ℕ, zero, suc, ◌+◌, ◌-◌, ◌*◌, ◌^◌, ◌≤◌, ◌<◌, ◌↔◌, ◌==◌, IsTrue, Bool, true, false, cond, if◌then◌else◌, List, [], ◌∷◌, length, map, get_or, ℤ, pos, ◌+ℤ◌, ◌-ℤ◌, unsigned_abs, refl}
+use Rattle.std.specs.Prelude.{◌≡◌, ℕ, zero, suc, ◌+◌, ◌-◌, ◌*◌, ◌^◌, ◌≤◌, ◌<◌, ◌↔◌, ◌==◌, IsTrue, Bool, true, false, cond, if◌then◌else◌, List, [], ◌∷◌}
+use Rattle.std.specs.Prelude.{length, map, get_or, ℤ, pos, ◌+ℤ◌, ◌-ℤ◌, unsigned_abs, refl}
 use Rattle.std.proofs.Common.{sym, subst, ◌∙◌, ap, arith, add-one, FitsSigned, to_z, of_z}
 use Rattle.std.specs.Int.{w128}
 use Rattle.std.proofs.lemmas.Bool.{eqb-true, eq-eqb}
@@ -20,7 +21,8 @@ pub over-next : (s : ℕ → Bool) (f : ℕ → ℤ) (n : ℕ) → sum_over s f 
 over-next s f n = rw add-one refl
 
 -- a sum over one row more adds its number where it holds bidder j, else 0
-pub holding-next : (rows : List RowValue) (j : ℕ) (number : RowValue → ℤ) (n : ℕ) → sum_holding rows j number (n + 1) ≡ sum_holding rows j number n +ℤ (if is_member (row_of rows (n + 1)).members j then number (row_of rows (n + 1)) else pos 0)
+pub holding-next : (rows : List RowValue) (j : ℕ) (number : RowValue → ℤ) (n : ℕ) → sum_holding rows j number (n + 1) ≡ sum_holding rows j number n +ℤ
+    (if is_member (row_of rows (n + 1)).members j then number (row_of rows (n + 1)) else pos 0)
 holding-next rows j number n = rw add-one refl
 
 -- each number of a list of numbers in range is in range
@@ -30,7 +32,8 @@ in-range (z ∷ zs) zero h = h.0
 in-range (z ∷ zs) (suc k) h = in-range zs k h.1
 
 -- both multipliers of each row are in the range
-pub rows-range : (bidders : ℕ) (rows : List RowValue) (k : ℕ) (d : RowValue) → AreRows bidders rows → k < length rows → InRange (get_or rows k d).first × InRange (get_or rows k d).second
+pub rows-range : (bidders : ℕ) (rows : List RowValue) (k : ℕ) (d : RowValue) → AreRows bidders rows → k < length rows
+    → InRange (get_or rows k d).first × InRange (get_or rows k d).second
 rows-range bidders [] k d h lt = absurd (omega arith)
 rows-range bidders (r ∷ rows) zero d h lt = h.0.range
 rows-range bidders (r ∷ rows) (suc k) d h lt = rows-range bidders rows k d h.1 (omega arith)
@@ -43,15 +46,18 @@ row-at rows k row lt is =
     ap (λ (n : ℕ). get_or (map row_value rows) n none) back ∙ get_or-map row_value rows k row none lt ∙ ap row_value (sym is)
 
 -- the same for a place counted from 1
-pub row-place : (rows others : List CertRow) (place : ℕ) (row : CertRow) → 0 < place → place ≤ length others → others ≡ rows → row ≡ get_or others (place - 1) row → row_of (map row_value rows) place ≡ row_value row
+pub row-place : (rows others : List CertRow) (place : ℕ) (row : CertRow) → 0 < place → place ≤ length others → others ≡ rows
+    → row ≡ get_or others (place - 1) row → row_of (map row_value rows) place ≡ row_value row
 row-place rows others place row some le same is =
     let back : place - 1 + 1 ≡ place = omega arith in
     let lt : place - 1 < length others = omega arith in
     subst (λ (n : ℕ). row_of (map row_value rows) n ≡ row_value row) back
-    (row-at rows (place - 1) row (subst (λ (l : List CertRow). place - 1 < length l) same lt) (subst (λ (l : List CertRow). row ≡ get_or l (place - 1) row) same is))
+    (row-at rows (place - 1) row (subst (λ (l : List CertRow). place - 1 < length l) same lt)
+    (subst (λ (l : List CertRow). row ≡ get_or l (place - 1) row) same is))
 
 -- no multiplier of a row is larger than the range allows
-pub multiplier-size : (bidders : ℕ) (rows : List CertRow) (k : ℕ) (row : CertRow) (which : Multiplier) → AreRows bidders (map row_value rows) → k < length rows → row ≡ get_or rows k row
+pub multiplier-size : (bidders : ℕ) (rows : List CertRow) (k : ℕ) (row : CertRow) (which : Multiplier) → AreRows bidders (map row_value rows)
+    → k < length rows → row ≡ get_or rows k row
     → unsigned_abs (multiplier_of which (row_value row)) ≤ 2 ^ 120
 multiplier-size bidders rows k row which are lt is =
     let whole : get_or (map row_value rows) k (row_value row) ≡ row_value row = get_or-map row_value rows k row (row_value row) lt ∙ ap row_value (sym is) in
@@ -86,7 +92,8 @@ module _ (sum item : ℤ) (k : ℕ) (few : k < 16) (own : unsigned_abs item ≤ 
   next-size = omega (arith, ints)
 
 -- equal lists of rows have the same sums over the rows that hold a bidder
-pub holding-same : (rows others : List CertRow) (j : ℕ) (number : RowValue → ℤ) → others ≡ rows → sum_holding (map row_value others) j number (length others) ≡ sum_holding (map row_value rows) j number (length (map row_value rows))
+pub holding-same : (rows others : List CertRow) (j : ℕ) (number : RowValue → ℤ) → others ≡ rows → sum_holding (map row_value others) j number
+    (length others) ≡ sum_holding (map row_value rows) j number (length (map row_value rows))
 holding-same rows others j number e =
     ap (λ (l : List CertRow). sum_holding (map row_value l) j number (length l)) e
     ∙ ap (λ (n : ℕ). sum_holding (map row_value rows) j number n) (sym (length-map rows row_value))
@@ -99,7 +106,8 @@ bits-same a b x y f g a_is b_is = (
 )
 
 -- each row of a list of rows is one for these bidders
-pub each-row : (bidders : ℕ) (rows : List CertRow) (k : ℕ) (row : CertRow) → AreRows bidders (map row_value rows) → k < length rows → row ≡ get_or rows k row → IsRow bidders (row_value row)
+pub each-row : (bidders : ℕ) (rows : List CertRow) (k : ℕ) (row : CertRow) → AreRows bidders (map row_value rows) → k < length rows → row ≡ get_or rows k row
+    → IsRow bidders (row_value row)
 each-row bidders rows k row are lt is =
     let whole : get_or (map row_value rows) k (row_value row) ≡ row_value row = get_or-map row_value rows k row (row_value row) lt ∙ ap row_value (sym is) in
     subst (IsRow bidders) whole (at bidders (map row_value rows) k (row_value row) are (omega (arith, lt, length-map rows row_value)))

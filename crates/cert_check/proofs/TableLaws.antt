@@ -1,5 +1,6 @@
 -- The rules of a table, from those of its lines.
-use Rattle.std.specs.Prelude.{◌≡◌, ℕ, zero, suc, ◌+◌, ◌*◌, ◌^◌, ◌<◌, ◌≤◌, List, [], ◌∷◌, length, slice_index_or, ℤ, pos, ◌≤ℤ◌, ◌<ℤ◌, unsigned_abs, refl, Some, None}
+use Rattle.std.specs.Prelude.{◌≡◌, ℕ, zero, suc, ◌+◌, ◌*◌, ◌^◌, ◌<◌, ◌≤◌, List, [], ◌∷◌, length, slice_index_or, ℤ, pos, ◌≤ℤ◌, ◌<ℤ◌, unsigned_abs, refl, Some}
+use Rattle.std.specs.Prelude.{None}
 use Rattle.std.proofs.Common.{inl, inr, sym, ◌∙◌, ap, subst, arith}
 use Rattle.std.proofs.lemmas.Bool.{cases_lt}
 use Rattle.std.proofs.lemmas.Int.{ints}
@@ -41,9 +42,11 @@ table-small b width table is k s = lines-small width table is.1 k s
 
 module _ (o : Offers) (table : List (List ℤ)) (is : IsTable (bidders_of o.book.now) (states o.book.now) table) where
   -- the last line
-  pub last-obeys : (k r : ℕ) (line : List ℤ) → k ≡ bidders_of o.book.now → line ≡ slice_index_or table k [] → FirstFault (KeepsZero line) (length line) r → FirstFault (ObeysIn o table k) (states o.book.now) r
+  pub last-obeys : (k r : ℕ) (line : List ℤ) → k ≡ bidders_of o.book.now → line ≡ slice_index_or table k [] → FirstFault (KeepsZero line) (length line) r
+      → FirstFault (ObeysIn o table k) (states o.book.now) r
   last-obeys k r line last line_is f =
-      let width : length line ≡ states o.book.now = ap (λ (l : List ℤ). length l) line_is ∙ table-width (bidders_of o.book.now) (states o.book.now) table is k (omega (arith, last)) in
+      let width : length line ≡ states o.book.now = ap (λ (l : List ℤ). length l) line_is ∙ table-width (bidders_of o.book.now) (states o.book.now) table is k
+      (omega (arith, last)) in
       subst (λ (n : ℕ). FirstFault (ObeysIn o table k) n r) width
       (fault-same (KeepsZero line) (ObeysIn o table k) (length line) r
       (λ s keeps lt. record {
@@ -57,7 +60,8 @@ module _ (o : Offers) (table : List (List ℤ)) (is : IsTable (bidders_of o.book
   pub line-obeys : (k r : ℕ) (line below : List ℤ) → k < bidders_of o.book.now → line ≡ slice_index_or table k [] → below ≡ slice_index_or table (suc k) []
       → FirstFault (KeepsSome o (suc k) line below ((offered o).bids (suc k))) (length line) r → FirstFault (ObeysIn o table k) (states o.book.now) r
   line-obeys k r line below inside line_is below_is f =
-      let width : length (slice_index_or table k []) ≡ states o.book.now = table-width (bidders_of o.book.now) (states o.book.now) table is k (omega (arith, inside)) in
+      let width : length (slice_index_or table k []) ≡ states o.book.now = table-width (bidders_of o.book.now) (states o.book.now) table is k
+      (omega (arith, inside)) in
       subst (λ (n : ℕ). FirstFault (ObeysIn o table k) n r) (ap (λ (l : List ℤ). length l) line_is ∙ width)
       (fault-same (KeepsSome o (suc k) line below ((offered o).bids (suc k))) (ObeysIn o table k) (length line) r
       (λ s keeps lt.
@@ -73,10 +77,12 @@ module _ (o : Offers) (table : List (List ℤ)) (is : IsTable (bidders_of o.book
       })) f)
 
   -- the lines before keep the rules, and this one does below r
-  pub table-fails : (k r : ℕ) → k ≤ bidders_of o.book.now → r < states o.book.now → ((l s : ℕ) → l < k → ObeysIn o table l s) → FirstFault (ObeysIn o table k) (states o.book.now) r
+  pub table-fails : (k r : ℕ) → k ≤ bidders_of o.book.now → r < states o.book.now → ((l s : ℕ) → l < k → ObeysIn o table l s)
+      → FirstFault (ObeysIn o table k) (states o.book.now) r
       → IsFirstFailing (RulesAt o table) (Some (k * states o.book.now + r))
   table-fails k r le lt lines f =
-      let p = first_rule (offered o) (worth_of o) o.book.now.supply table k r le lt (λ l t less in_line. lines l t less in_line) (λ t less. f.before t less (omega (arith, less, lt))) (λ obeys. f.fails lt (λ inside. obeys)) in
+      let p = first_rule (offered o) (worth_of o) o.book.now.supply table k r le lt (λ l t less in_line. lines l t less in_line)
+      (λ t less. f.before t less (omega (arith, less, lt))) (λ obeys. f.fails lt (λ inside. obeys)) in
       (p.1, p.0)
 
   -- a line whose first fault is behind its places keeps its rules everywhere
@@ -105,12 +111,14 @@ module _ (o : Offers) (table : List (List ℤ)) where
       )
 
   -- no rule is broken
-  pub test-most : (most : ℤ) → IsFirstFailing (RulesAt o table) None → most <ℤ entry_at table 0 (full o.book.now) → IsFirstFailing (TestsTable o table most) (Some ((bidders_of o.book.now + 1) * states o.book.now))
+  pub test-most : (most : ℤ) → IsFirstFailing (RulesAt o table) None → most <ℤ entry_at table 0 (full o.book.now)
+      → IsFirstFailing (TestsTable o table most) (Some ((bidders_of o.book.now + 1) * states o.book.now))
   test-most most f more = (
     λ t. (let top = t.top refl in absurd (omega (arith, ints, top, more))),
     λ q lt. record { rules = f q; top = λ e. absurd (omega (arith, lt, e)) },
   )
 
   -- no rule is broken, and line 0 has no more than it may: the test holds everywhere
-  pub test-holds : (most : ℤ) → IsFirstFailing (RulesAt o table) None → entry_at table 0 (full o.book.now) ≤ℤ most → IsFirstFailing (TestsTable o table most) None
+  pub test-holds : (most : ℤ) → IsFirstFailing (RulesAt o table) None → entry_at table 0 (full o.book.now) ≤ℤ most
+      → IsFirstFailing (TestsTable o table most) None
   test-holds most f le place = record { rules = f place; top = λ e. le }

@@ -14,14 +14,16 @@ use Rattle.cert_check.specs.LineTests.{worth_of, ObeysIn}
 use Rattle.cert_check.specs.declared.tables.offers.Offers.{Offers}
 
 -- a line that, with the one below it, is that of a table with the rules keeps them here
-pub tested-obeys : (o : Offers) (whole table : List (List ℤ)) (k : ℕ) → Obeys (menu_of o.book.now) (worth_of o) o.book.now.supply whole → o.skip ≤ k → k ≤ bidders_of o.book.now
+pub tested-obeys : (o : Offers) (whole table : List (List ℤ)) (k : ℕ) → Obeys (menu_of o.book.now) (worth_of o) o.book.now.supply whole → o.skip ≤ k
+    → k ≤ bidders_of o.book.now
     → slice_index_or table k [] ≡ slice_index_or whole k [] → (k < bidders_of o.book.now → slice_index_or table (k + 1) [] ≡ slice_index_or whole (k + 1) [])
     → (s : ℕ) → ObeysIn o table k s
 tested-obeys o whole table k tested past inside here next s low = record {
   last = λ e. let own = was.last e in omega (arith, ints, own, here_at s);
   none = λ lt. let own = was.none lt in omega (arith, ints, own, here_at s, next_at lt s);
   bid = λ lt i some most fits.
-      let known : i ≤ (menu_of o.book.now).bids (suc k) = subst (λ (n : ℕ). i ≤ n) (cond-false (suc k == o.skip) 0 ((menu_of o.book.now).bids (suc k)) (ne_eqb (suc k) o.skip (λ e. omega (arith, past, e)))) most in
+      let known : i ≤ (menu_of o.book.now).bids (suc k) = subst (λ (n : ℕ). i ≤ n)
+      (cond-false (suc k == o.skip) 0 ((menu_of o.book.now).bids (suc k)) (ne_eqb (suc k) o.skip (λ e. omega (arith, past, e)))) most in
       let own = was.bid lt i some known fits in
       let rest = next_at lt (place_of o.book.now.supply (less (left_at o.book.now.supply s) (lots_of o.book.now (suc k) i))) in
       let high = here_at s in

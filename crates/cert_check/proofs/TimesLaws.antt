@@ -24,7 +24,8 @@ module _ (number sum : ℤ) (w : ℕ) (some : 1 ≤ w) where
       none x r n h e = omega (arith, ints, h, e)
 
   whole : int_rem number (pos w) ≡ pos 0 → int_div number (pos w) ≡ sum → number ≡ pos w *ℤ sum
-  whole r q = up (int_div number (pos w) *ℤ pos w) (int_rem number (pos w)) number (quot-rem number (pos w)) r ∙ ap (λ (x : ℤ). x *ℤ pos w) q ∙ *ℤ_comm sum (pos w)
+  whole r q = up (int_div number (pos w) *ℤ pos w) (int_rem number (pos w)) number (quot-rem number (pos w)) r ∙ ap (λ (x : ℤ). x *ℤ pos w) q
+      ∙ *ℤ_comm sum (pos w)
     where
       up : (x r n : ℤ) → x +ℤ r ≡ n → r ≡ pos 0 → n ≡ x
       up x r n h e = omega (arith, ints, h, e)
@@ -55,7 +56,8 @@ module _ (number sum : ℤ) (w : ℕ) (some : 1 ≤ w) where
         (λ t. whole r (same.0 t), λ e. same.1 (quotient e))
       where
         rem-bits : to_z w128 (of_z w128 (int_rem (to_z w128 (of_z w128 number)) (to_z w128 w))) ≡ int_rem number (pos w)
-        rem-bits = ap (λ (x : ℤ). to_z w128 (of_z w128 (int_rem (to_z w128 (of_z w128 number)) x))) weight-more ∙ rem_is w128 number (pos w) number_fits weight-fits
+        rem-bits = ap (λ (x : ℤ). to_z w128 (of_z w128 (int_rem (to_z w128 (of_z w128 number)) x))) weight-more
+            ∙ rem_is w128 number (pos w) number_fits weight-fits
           where
             weight-more : to_z w128 w ≡ to_z w128 (of_z w128 (pos w))
             weight-more = weight-back ∙ sym (to_z-of_z w128 (pos w) weight-fits)

@@ -1,5 +1,6 @@
 -- C3 from the tests of the table and of the earlier bids.
-use Rattle.std.specs.Prelude.{◌≡◌, ℕ, suc, ◌+◌, ◌*◌, ◌<◌, ◌≤◌, Bool, IsTrue, List, length, slice_index_or, replicate, ℤ, pos, refl, Option, Some, None, if◌then◌else◌}
+use Rattle.std.specs.Prelude.{◌≡◌, ℕ, suc, ◌+◌, ◌*◌, ◌<◌, ◌≤◌, Bool, IsTrue, List, length, slice_index_or, replicate, ℤ, pos, refl, Option, Some, None}
+use Rattle.std.specs.Prelude.{if◌then◌else◌}
 use Rattle.std.proofs.Common.{inl, inr, sym, ap, subst, arith}
 use Rattle.std.proofs.lemmas.Bool.{cases_lt, and_from, ne_eqb}
 use Rattle.cert_laws.specs.auction_model.specs.Package.{is_within}
@@ -25,11 +26,13 @@ cert-kept b s c is =
     (subst (λ (n : ℕ). IsCertificate (length c.choice) n (cert_value c)) is.states_are c.rules)
 
 -- a choice of which C2 holds is allowed
-pub allowed-by : (book : Book) (c : CertValue) → length c.choice ≡ bidders_of book → ((place : ℕ) → C2 book c place) → IsTrue ((market_of book).allowed c.choice)
+pub allowed-by : (book : Book) (c : CertValue) → length c.choice ≡ bidders_of book → ((place : ℕ) → C2 book c place)
+    → IsTrue ((market_of book).allowed c.choice)
 allowed-by book c length_is h2 =
     and_from (is_known_after (menu_of book) 0 c.choice) (is_within (packages_after (menu_of book) 0 c.choice) book.supply)
     (known_from (menu_of book) 0 c.choice (omega (arith, length_is))
-    (λ n lt. subst (λ (x : ℕ). slice_index_or c.choice x 0 ≤ length (bids_of book (suc (0 + n)))) (omega arith) ((h2 (suc (0 + n))).known (omega arith) (omega (arith, length_is)))))
+    (λ n lt. subst (λ (x : ℕ). slice_index_or c.choice x 0 ≤ length (bids_of book (suc (0 + n)))) (omega arith)
+    ((h2 (suc (0 + n))).known (omega arith) (omega (arith, length_is)))))
     ((h2 (bidders_of book + 1)).fits refl)
 
 -- where bidder 0, which isn't there, has no bids
@@ -39,11 +42,21 @@ module _ (m : Menu) (worth : ℕ → ℕ → ℤ) (supply : List ℕ) (table : L
 
   -- what the rules ask with bidder 0 left out they ask of all bids
   pub obeys-all : (k s : ℕ) → ObeysAt (without m 0) worth supply table k s → ObeysAt m worth supply table k s
-  obeys-all k s obeys = record { last = obeys.last; none = obeys.none; bid = λ lt i some few. obeys.bid lt i some (subst (λ (n : ℕ). i ≤ n) (sym (bids-all k)) few) }
+  obeys-all k s obeys = record {
+    last = obeys.last;
+    none = obeys.none;
+    bid = λ lt i some few. obeys.bid lt i some
+        (subst (λ (n : ℕ). i ≤ n) (sym (bids-all k)) few);
+  }
 
   -- and the other way round
   pub obeys-none_less : (k s : ℕ) → ObeysAt m worth supply table k s → ObeysAt (without m 0) worth supply table k s
-  obeys-none_less k s obeys = record { last = obeys.last; none = obeys.none; bid = λ lt i some few. obeys.bid lt i some (subst (λ (n : ℕ). i ≤ n) (bids-all k) few) }
+  obeys-none_less k s obeys = record {
+    last = obeys.last;
+    none = obeys.none;
+    bid = λ lt i some few. obeys.bid lt i some
+        (subst (λ (n : ℕ). i ≤ n) (bids-all k) few);
+  }
 
 module _ (book : Book) (c : CertValue) where
   abbrev pub ShowsValue : ℕ → Type 0
@@ -80,7 +93,8 @@ module _ (book : Book) (c : CertValue) where
       ]
 
   -- the table holds
-  whole : (place : ℕ) → IsFirstFailing ShowsValue None → ((k : ℕ) → k < bidders_of book → place ≡ (bidders_of book + 1) * states book + suc k → NoneEarlier book c (suc k)) → C3 book c place
+  whole : (place : ℕ) → IsFirstFailing ShowsValue None → ((k : ℕ) → k < bidders_of book → place ≡ (bidders_of book + 1) * states book + suc k
+      → NoneEarlier book c (suc k)) → C3 book c place
   whole place t own = record {
     rules = λ k s le lt e. obeys-all (menu_of book) (net_of book) book.supply c.table k s ((t place).rules k s le lt e);
     top = (t place).top;
@@ -88,7 +102,8 @@ module _ (book : Book) (c : CertValue) where
   }
 
   -- the table holds: the first bidder with an earlier bid that reaches the value is where C3 fails
-  pub value-bidder : (j : ℕ) → IsFirstFailing ShowsValue None → IsFirstFailing (NoneEarlier book c) (Some j) → IsFirstFailing (C3 book c) (Some ((bidders_of book + 1) * states book + j))
+  pub value-bidder : (j : ℕ) → IsFirstFailing ShowsValue None → IsFirstFailing (NoneEarlier book c) (Some j)
+      → IsFirstFailing (C3 book c) (Some ((bidders_of book + 1) * states book + j))
   value-bidder j t f = (
     λ all. f.0 (λ k lt e. all.first k lt (omega (arith, e))),
     λ q low. whole q t (λ k lt e. f.1 (suc k) (omega (arith, low, e))),
@@ -102,4 +117,5 @@ module _ (book : Book) (c : CertValue) where
 pub value-plain : (book : Book) (c : CertValue) (gains : List ℤ) (n : ℕ) (r : Option ℕ) → gains ≡ replicate n (pos 0)
     → IsFirstFailing (TableAt (without (menu_of book) 0) (worth_with book (pos 1) gains) book.supply c.table c.value) r → IsFirstFailing (ShowsValue book c) r
 value-plain book c gains n r none t =
-    table-same (without (menu_of book) 0) (worth_with book (pos 1) gains) (net_of book) book.supply c.table c.value r (λ j i some inside. plain-worth book gains n none j i) t
+    table-same (without (menu_of book) 0) (worth_with book (pos 1) gains) (net_of book) book.supply c.table c.value r
+    (λ j i some inside. plain-worth book gains n none j i) t

@@ -66,36 +66,126 @@ module _ (book : Book) (w : ℕ → ℕ) (c : CertValue) (t : ℕ) (before : Hol
 module _ (book : Book) (w : ℕ → ℕ) (c : CertValue) (t : ℕ) (r : Option ℕ) where
   -- test 1 fails first where C1 does
   pub asks-C1 : t ≡ 1 → IsFirstFailing (C1 c) r → IsFirstFailing (Asks book w c t) r
-  asks-C1 is f = failing-same (C1 c) (Asks book w c t) (λ p q. (λ _. q, λ e. absurd (omega (arith, is, e)), λ e. absurd (omega (arith, is, e)), λ e. absurd (omega (arith, is, e)), λ e. absurd (omega (arith, is, e)), λ e. absurd (omega (arith, is, e)), λ e. absurd (omega (arith, is, e)), λ e. absurd (omega (arith, is, e)), λ e. absurd (omega (arith, is, e)))) (λ p q. q.0 is) r f
+  asks-C1 is f = failing-same (C1 c) (Asks book w c t) (λ p q. (
+    λ _. q,
+    λ e. absurd (omega (arith, is, e)),
+    λ e. absurd (omega (arith, is, e)),
+    λ e. absurd (omega (arith, is, e)),
+    λ e. absurd (omega (arith, is, e)),
+    λ e. absurd (omega (arith, is, e)),
+    λ e. absurd (omega (arith, is, e)),
+    λ e. absurd (omega (arith, is, e)),
+    λ e. absurd (omega (arith, is, e)),
+  )) (λ p q. q.0 is) r f
 
   -- test 2 fails first where C2 does
   pub asks-C2 : t ≡ 2 → IsFirstFailing (C2 book c) r → IsFirstFailing (Asks book w c t) r
-  asks-C2 is f = failing-same (C2 book c) (Asks book w c t) (λ p q. (λ e. absurd (omega (arith, is, e)), λ _. q, λ e. absurd (omega (arith, is, e)), λ e. absurd (omega (arith, is, e)), λ e. absurd (omega (arith, is, e)), λ e. absurd (omega (arith, is, e)), λ e. absurd (omega (arith, is, e)), λ e. absurd (omega (arith, is, e)), λ e. absurd (omega (arith, is, e)))) (λ p q. q.1 is) r f
+  asks-C2 is f = failing-same (C2 book c) (Asks book w c t) (λ p q. (
+    λ e. absurd (omega (arith, is, e)),
+    λ _. q,
+    λ e. absurd (omega (arith, is, e)),
+    λ e. absurd (omega (arith, is, e)),
+    λ e. absurd (omega (arith, is, e)),
+    λ e. absurd (omega (arith, is, e)),
+    λ e. absurd (omega (arith, is, e)),
+    λ e. absurd (omega (arith, is, e)),
+    λ e. absurd (omega (arith, is, e)),
+  )) (λ p q. q.1 is) r f
 
   -- test 3 fails first where C3 does
   pub asks-C3 : t ≡ 3 → IsFirstFailing (C3 book c) r → IsFirstFailing (Asks book w c t) r
-  asks-C3 is f = failing-same (C3 book c) (Asks book w c t) (λ p q. (λ e. absurd (omega (arith, is, e)), λ e. absurd (omega (arith, is, e)), λ _. q, λ e. absurd (omega (arith, is, e)), λ e. absurd (omega (arith, is, e)), λ e. absurd (omega (arith, is, e)), λ e. absurd (omega (arith, is, e)), λ e. absurd (omega (arith, is, e)), λ e. absurd (omega (arith, is, e)))) (λ p q. q.2 is) r f
+  asks-C3 is f = failing-same (C3 book c) (Asks book w c t) (λ p q. (
+    λ e. absurd (omega (arith, is, e)),
+    λ e. absurd (omega (arith, is, e)),
+    λ _. q,
+    λ e. absurd (omega (arith, is, e)),
+    λ e. absurd (omega (arith, is, e)),
+    λ e. absurd (omega (arith, is, e)),
+    λ e. absurd (omega (arith, is, e)),
+    λ e. absurd (omega (arith, is, e)),
+    λ e. absurd (omega (arith, is, e)),
+  )) (λ p q. q.2 is) r f
 
   -- test 4 fails first where C4 does
   pub asks-C4 : t ≡ 4 → IsFirstFailing (C4 book c) r → IsFirstFailing (Asks book w c t) r
-  asks-C4 is f = failing-same (C4 book c) (Asks book w c t) (λ p q. (λ e. absurd (omega (arith, is, e)), λ e. absurd (omega (arith, is, e)), λ e. absurd (omega (arith, is, e)), λ _. q, λ e. absurd (omega (arith, is, e)), λ e. absurd (omega (arith, is, e)), λ e. absurd (omega (arith, is, e)), λ e. absurd (omega (arith, is, e)), λ e. absurd (omega (arith, is, e)))) (λ p q. q.3 is) r f
+  asks-C4 is f = failing-same (C4 book c) (Asks book w c t) (λ p q. (
+    λ e. absurd (omega (arith, is, e)),
+    λ e. absurd (omega (arith, is, e)),
+    λ e. absurd (omega (arith, is, e)),
+    λ _. q,
+    λ e. absurd (omega (arith, is, e)),
+    λ e. absurd (omega (arith, is, e)),
+    λ e. absurd (omega (arith, is, e)),
+    λ e. absurd (omega (arith, is, e)),
+    λ e. absurd (omega (arith, is, e)),
+  )) (λ p q. q.3 is) r f
 
   -- test 5 fails first where C5 does
   pub asks-C5 : t ≡ 5 → IsFirstFailing (C5 book c) r → IsFirstFailing (Asks book w c t) r
-  asks-C5 is f = failing-same (C5 book c) (Asks book w c t) (λ p q. (λ e. absurd (omega (arith, is, e)), λ e. absurd (omega (arith, is, e)), λ e. absurd (omega (arith, is, e)), λ e. absurd (omega (arith, is, e)), λ _. q, λ e. absurd (omega (arith, is, e)), λ e. absurd (omega (arith, is, e)), λ e. absurd (omega (arith, is, e)), λ e. absurd (omega (arith, is, e)))) (λ p q. q.4 is) r f
+  asks-C5 is f = failing-same (C5 book c) (Asks book w c t) (λ p q. (
+    λ e. absurd (omega (arith, is, e)),
+    λ e. absurd (omega (arith, is, e)),
+    λ e. absurd (omega (arith, is, e)),
+    λ e. absurd (omega (arith, is, e)),
+    λ _. q,
+    λ e. absurd (omega (arith, is, e)),
+    λ e. absurd (omega (arith, is, e)),
+    λ e. absurd (omega (arith, is, e)),
+    λ e. absurd (omega (arith, is, e)),
+  )) (λ p q. q.4 is) r f
 
   -- test 6 fails first where C6 does
   pub asks-C6 : t ≡ 6 → IsFirstFailing (C6 book c) r → IsFirstFailing (Asks book w c t) r
-  asks-C6 is f = failing-same (C6 book c) (Asks book w c t) (λ p q. (λ e. absurd (omega (arith, is, e)), λ e. absurd (omega (arith, is, e)), λ e. absurd (omega (arith, is, e)), λ e. absurd (omega (arith, is, e)), λ e. absurd (omega (arith, is, e)), λ _. q, λ e. absurd (omega (arith, is, e)), λ e. absurd (omega (arith, is, e)), λ e. absurd (omega (arith, is, e)))) (λ p q. q.5 is) r f
+  asks-C6 is f = failing-same (C6 book c) (Asks book w c t) (λ p q. (
+    λ e. absurd (omega (arith, is, e)),
+    λ e. absurd (omega (arith, is, e)),
+    λ e. absurd (omega (arith, is, e)),
+    λ e. absurd (omega (arith, is, e)),
+    λ e. absurd (omega (arith, is, e)),
+    λ _. q,
+    λ e. absurd (omega (arith, is, e)),
+    λ e. absurd (omega (arith, is, e)),
+    λ e. absurd (omega (arith, is, e)),
+  )) (λ p q. q.5 is) r f
 
   -- test 7 fails first where C7 does
   pub asks-C7 : t ≡ 7 → IsFirstFailing (C7 book c) r → IsFirstFailing (Asks book w c t) r
-  asks-C7 is f = failing-same (C7 book c) (Asks book w c t) (λ p q. (λ e. absurd (omega (arith, is, e)), λ e. absurd (omega (arith, is, e)), λ e. absurd (omega (arith, is, e)), λ e. absurd (omega (arith, is, e)), λ e. absurd (omega (arith, is, e)), λ e. absurd (omega (arith, is, e)), λ _. q, λ e. absurd (omega (arith, is, e)), λ e. absurd (omega (arith, is, e)))) (λ p q. q.6 is) r f
+  asks-C7 is f = failing-same (C7 book c) (Asks book w c t) (λ p q. (
+    λ e. absurd (omega (arith, is, e)),
+    λ e. absurd (omega (arith, is, e)),
+    λ e. absurd (omega (arith, is, e)),
+    λ e. absurd (omega (arith, is, e)),
+    λ e. absurd (omega (arith, is, e)),
+    λ e. absurd (omega (arith, is, e)),
+    λ _. q,
+    λ e. absurd (omega (arith, is, e)),
+    λ e. absurd (omega (arith, is, e)),
+  )) (λ p q. q.6 is) r f
 
   -- test 8 fails first where C8 does
   pub asks-C8 : t ≡ 8 → IsFirstFailing (C8 book w c) r → IsFirstFailing (Asks book w c t) r
-  asks-C8 is f = failing-same (C8 book w c) (Asks book w c t) (λ p q. (λ e. absurd (omega (arith, is, e)), λ e. absurd (omega (arith, is, e)), λ e. absurd (omega (arith, is, e)), λ e. absurd (omega (arith, is, e)), λ e. absurd (omega (arith, is, e)), λ e. absurd (omega (arith, is, e)), λ e. absurd (omega (arith, is, e)), λ _. q, λ e. absurd (omega (arith, is, e)))) (λ p q. q.7 is) r f
+  asks-C8 is f = failing-same (C8 book w c) (Asks book w c t) (λ p q. (
+    λ e. absurd (omega (arith, is, e)),
+    λ e. absurd (omega (arith, is, e)),
+    λ e. absurd (omega (arith, is, e)),
+    λ e. absurd (omega (arith, is, e)),
+    λ e. absurd (omega (arith, is, e)),
+    λ e. absurd (omega (arith, is, e)),
+    λ e. absurd (omega (arith, is, e)),
+    λ _. q,
+    λ e. absurd (omega (arith, is, e)),
+  )) (λ p q. q.7 is) r f
 
   -- test 9 fails first where C9 does
   pub asks-C9 : t ≡ 9 → IsFirstFailing (C9 book c) r → IsFirstFailing (Asks book w c t) r
-  asks-C9 is f = failing-same (C9 book c) (Asks book w c t) (λ p q. (λ e. absurd (omega (arith, is, e)), λ e. absurd (omega (arith, is, e)), λ e. absurd (omega (arith, is, e)), λ e. absurd (omega (arith, is, e)), λ e. absurd (omega (arith, is, e)), λ e. absurd (omega (arith, is, e)), λ e. absurd (omega (arith, is, e)), λ e. absurd (omega (arith, is, e)), λ _. q)) (λ p q. q.8 is) r f
+  asks-C9 is f = failing-same (C9 book c) (Asks book w c t) (λ p q. (
+    λ e. absurd (omega (arith, is, e)),
+    λ e. absurd (omega (arith, is, e)),
+    λ e. absurd (omega (arith, is, e)),
+    λ e. absurd (omega (arith, is, e)),
+    λ e. absurd (omega (arith, is, e)),
+    λ e. absurd (omega (arith, is, e)),
+    λ e. absurd (omega (arith, is, e)),
+    λ e. absurd (omega (arith, is, e)),
+    λ _. q,
+  )) (λ p q. q.8 is) r f

@@ -31,7 +31,8 @@ pub plain-worth : (book : Book) (gains : List ℤ) (n : ℕ) → gains ≡ repli
 plain-worth book gains n is j i = once (net_of book j i) (of_bidder gains j) (no-gain gains n j is)
 
 -- and no net amount of a bid book is too large
-pub plain-small : (book : Book) (gains : List ℤ) (n : ℕ) → IsBidBook book → gains ≡ replicate n (pos 0) → bidders_of book ≤ n → HasSmallWorths book (pos 1) gains
+pub plain-small : (book : Book) (gains : List ℤ) (n : ℕ) → IsBidBook book → gains ≡ replicate n (pos 0) → bidders_of book ≤ n
+    → HasSmallWorths book (pos 1) gains
 plain-small book gains n kept is many = record {
   count = rw (is, length-replicate n (pos 0)) many;
   nets = λ j i some inside known. once-small (net_of book j i) (kept.not_negative j i known) (kept.most j i known);
@@ -39,7 +40,8 @@ plain-small book gains n kept is many = record {
 }
 
 -- with what the bidders gain at the payments, they are worth the lowered amounts
-pub lowered-worth : (book : Book) (c : CertValue) (gains : List ℤ) → ((j : ℕ) → 0 < j → j ≤ bidders_of book → of_bidder gains j ≡ gain_of book c.den c.choice c.pay j)
+pub lowered-worth : (book : Book) (c : CertValue) (gains : List ℤ) → ((j : ℕ) → 0 < j → j ≤ bidders_of book
+    → of_bidder gains j ≡ gain_of book c.den c.choice c.pay j)
     → (j i : ℕ) → 0 < j → j ≤ bidders_of book → worth_with book c.den gains j i ≡ lowered_net book c j i
 lowered-worth book c gains same j i some inside = ap (λ (z : ℤ). (c.den *ℤ net_of book j i) -ℤ z) (same j some inside)
 
@@ -70,7 +72,8 @@ module _ (m : Menu) (f g : ℕ → ℕ → ℤ) (supply : List ℕ) (table : Lis
   at-same most place t = record { rules = λ k s le lt e. obeys-same k s (t.rules k s le lt e); top = t.top }
 
 -- the test of a whole table fails first at the same place for equal worths
-pub table-same : (m : Menu) (f g : ℕ → ℕ → ℤ) (supply : List ℕ) (table : List (List ℤ)) (most : ℤ) (r : Option ℕ) → ((j i : ℕ) → 0 < j → j ≤ m.bidders → f j i ≡ g j i)
+pub table-same : (m : Menu) (f g : ℕ → ℕ → ℤ) (supply : List ℕ) (table : List (List ℤ)) (most : ℤ) (r : Option ℕ)
+    → ((j i : ℕ) → 0 < j → j ≤ m.bidders → f j i ≡ g j i)
     → IsFirstFailing (TableAt m f supply table most) r → IsFirstFailing (TableAt m g supply table most) r
 table-same m f g supply table most r same t =
     failing-same (TableAt m f supply table most) (TableAt m g supply table most) (at-same m f g supply table same most)

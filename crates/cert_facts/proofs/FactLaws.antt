@@ -19,7 +19,8 @@ same-winners book c [] = refl
 same-winners book c (w ∷ ws) = ap (λ (l : List ℕ). w.winner ∷ l) (same-winners book c ws)
 
 -- what holds of the single of each part whose winner the choice uses
-each-single : (T : Single → Type 0) (book : Book) (c : CertValue) (ws : List WithoutValue) → AllByRecursion (λ w. Wins c.choice w.winner) ws → ((w : WithoutValue) → Wins c.choice w.winner → T (single_of book c w)) → AllByRecursion T (map (single_of book c) ws)
+each-single : (T : Single → Type 0) (book : Book) (c : CertValue) (ws : List WithoutValue) → AllByRecursion (λ w. Wins c.choice w.winner) ws
+    → ((w : WithoutValue) → Wins c.choice w.winner → T (single_of book c w)) → AllByRecursion T (map (single_of book c) ws)
 each-single T book c [] win h = tt
 each-single T book c (w ∷ ws) win h = (h w win.0, each-single T book c ws win.1 h)
 
@@ -27,7 +28,8 @@ module _ (book : Book) (c : CertValue) (facts : CertFacts) (are : AreFacts book 
   -- the winners of the singles are those of the choice, in order
   pub winners-are : map (λ (s : Single). s.winner) facts.singles ≡ winners_after 0 facts.choice
   winners-are =
-      ap (map (λ (s : Single). s.winner)) are.singles ∙ same-winners book c c.withouts ∙ parts-are _ _ 0 c.choice c.withouts are.of.certificate.withouts ∙ ap (winners_after 0) (sym are.choice)
+      ap (map (λ (s : Single). s.winner)) are.singles ∙ same-winners book c c.withouts ∙ parts-are _ _ 0 c.choice c.withouts are.of.certificate.withouts
+      ∙ ap (winners_after 0) (sym are.choice)
 
   each : (T : Single → Type 0) → ((w : WithoutValue) → Wins c.choice w.winner → T (single_of book c w)) → AllByRecursion T facts.singles
   each T h = subst (AllByRecursion T) (sym are.singles) (each-single T book c c.withouts (parts-win _ _ c.choice c.withouts are.of.certificate.withouts) h)

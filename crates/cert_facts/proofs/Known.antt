@@ -1,5 +1,6 @@
 -- A certificate of which its facts can be told: its choice and its parts are known, and their numbers are small.
-use Rattle.std.proofs.Common.{◌≡◌, ℕ, suc, ◌+◌, ◌-◌, ◌*◌, ◌≤◌, ◌<◌, ◌^◌, nat_le, IsTrue, List, [], ◌∷◌, length, get_or, ℤ, pos, ◌-ℤ◌, ◌+ℤ◌, ◌≤ℤ◌, unsigned_abs, FitsSigned, to_z, of_z, refl, ap, subst, ◌∙◌, arith, eq-eqb}
+use Rattle.std.proofs.Common.{◌≡◌, ℕ, suc, ◌+◌, ◌-◌, ◌*◌, ◌≤◌, ◌<◌, ◌^◌, nat_le, IsTrue, List, [], ◌∷◌, length, get_or, ℤ, pos, ◌-ℤ◌, ◌+ℤ◌, ◌≤ℤ◌}
+use Rattle.std.proofs.Common.{unsigned_abs, FitsSigned, to_z, of_z, refl, ap, subst, ◌∙◌, arith, eq-eqb}
 use Rattle.std.specs.Int.{w128}
 use Rattle.std.proofs.lemmas.Int.{ints}
 use Rattle.std.proofs.lemmas.Bool.{and_from, and_parts, le-leb}
@@ -12,7 +13,8 @@ use Rattle.cert_laws.specs.Tests.{bidders_of, won, vickrey_of}
 use Rattle.cert_facts.specs.Facts.{HasFacts}
 use Rattle.cert_facts.proofs.Ranges.{value-between}
 
-known-from : (m : Menu) (k : ℕ) (z : List ℕ) → k + length z ≡ m.bidders → ((i : ℕ) → i < length z → get_or z i 0 ≤ m.bids (suc k + i)) → IsTrue (is_known_after m k z)
+known-from : (m : Menu) (k : ℕ) (z : List ℕ) → k + length z ≡ m.bidders → ((i : ℕ) → i < length z → get_or z i 0 ≤ m.bids (suc k + i))
+    → IsTrue (is_known_after m k z)
 known-from m k [] e h = eq-eqb k m.bidders (omega (arith, e))
 known-from m k (x ∷ z) e h =
     let here : suc k + 0 ≡ suc k = omega arith in
@@ -79,8 +81,10 @@ module _ (book : Book) (c : CertValue) (has : HasFacts book c) where
         price-fits = omega (arith, ints, other.0, other.1, value-small.0, value-small.1, own.0, own.1)
 
         -- and what is put together is the Vickrey price
-        pub price-is : to_z w128 (of_z w128 (to_z w128 (of_z w128 (to_z w128 (of_z w128 x) -ℤ to_z w128 (of_z w128 c.value))) +ℤ to_z w128 (of_z w128 n))) ≡ vickrey_of book c j
+        pub price-is : to_z w128 (of_z w128 (to_z w128 (of_z w128 (to_z w128 (of_z w128 x) -ℤ to_z w128 (of_z w128 c.value))) +ℤ to_z w128 (of_z w128 n))) ≡
+            vickrey_of book c j
         price-is =
-            let sum : to_z w128 (of_z w128 (to_z w128 (of_z w128 (to_z w128 (of_z w128 x) -ℤ to_z w128 (of_z w128 c.value))) +ℤ to_z w128 (of_z w128 n))) ≡ (x -ℤ c.value) +ℤ n =
+            let sum : to_z w128 (of_z w128 (to_z w128 (of_z w128 (to_z w128 (of_z w128 x) -ℤ to_z w128 (of_z w128 c.value))) +ℤ to_z w128 (of_z w128 n))) ≡
+            (x -ℤ c.value) +ℤ n =
             omega (arith, ints, other.0, other.1, value-small.0, value-small.1, own.0, own.1) in
             sum ∙ ap (λ (y : ℤ). (y -ℤ c.value) +ℤ n) value ∙ ap (λ (y : ℤ). (value_of (market_of book) (part_of c.withouts j).choice -ℤ c.value) +ℤ y) net

@@ -23,10 +23,12 @@ parts-are b s k [] [] are = refl
 parts-are b s k [] (w ∷ ws) are = absurd are
 parts-are b s k (zero ∷ z) ws are = parts-are b s (suc k) z ws are
 parts-are b s k (suc n ∷ z) [] are = absurd are
-parts-are b s k (suc n ∷ z) (w ∷ ws) are = ap (λ (j : ℕ). j ∷ map (λ w. w.winner) ws) are.0.winner ∙ ap (λ (l : List ℕ). suc k ∷ l) (parts-are b s (suc k) z ws are.1)
+parts-are b s k (suc n ∷ z) (w ∷ ws) are = ap (λ (j : ℕ). j ∷ map (λ w. w.winner) ws) are.0.winner ∙ ap (λ (l : List ℕ). suc k ∷ l)
+    (parts-are b s (suc k) z ws are.1)
 
 -- so what holds of each winner holds of the winner of each part
-each-part : (T : ℕ → Type 0) (b s k : ℕ) (z : List ℕ) (ws : List WithoutValue) → AreWithouts b s (suc k) z ws → AllByRecursion T (winners_after k z) → AllByRecursion (λ w. T w.winner) ws
+each-part : (T : ℕ → Type 0) (b s k : ℕ) (z : List ℕ) (ws : List WithoutValue) → AreWithouts b s (suc k) z ws → AllByRecursion T (winners_after k z)
+    → AllByRecursion (λ w. T w.winner) ws
 each-part T b s k z ws are all = each-of_map T (λ (w : WithoutValue). w.winner) ws (subst (AllByRecursion T) (sym (parts-are b s k z ws are)) all)
 
 -- the choice uses the winner of each part
@@ -34,11 +36,14 @@ pub parts-win : (b s : ℕ) (z : List ℕ) (ws : List WithoutValue) → AreWitho
 parts-win b s z ws are = each-part (Wins z) b s 0 z ws are (all-win z)
 
 -- no part is of an earlier bidder
-no_earlier : (b s k : ℕ) (z : List ℕ) (ws : List WithoutValue) (i : ℕ) (d : WithoutValue) → AreWithouts b s (suc k) z ws → i < length ws → suc k ≤ (get_or ws i d).winner
-no_earlier b s k z ws i d are lt = each_at (λ w. suc k ≤ w.winner) ws i d (each-part (λ j. suc k ≤ j) b s k z ws are (each-after (λ j. suc k ≤ j) k z (λ n inside some. omega arith))) lt
+no_earlier : (b s k : ℕ) (z : List ℕ) (ws : List WithoutValue) (i : ℕ) (d : WithoutValue) → AreWithouts b s (suc k) z ws → i < length ws
+    → suc k ≤ (get_or ws i d).winner
+no_earlier b s k z ws i d are lt = each_at (λ w. suc k ≤ w.winner) ws i d (each-part (λ j. suc k ≤ j) b s k z ws are
+    (each-after (λ j. suc k ≤ j) k z (λ n inside some. omega arith))) lt
 
 -- so each is found
-found : (b s k : ℕ) (z : List ℕ) (ws : List WithoutValue) (i : ℕ) (d : WithoutValue) → AreWithouts b s (suc k) z ws → i < length ws → part_of ws (get_or ws i d).winner ≡ get_or ws i d
+found : (b s k : ℕ) (z : List ℕ) (ws : List WithoutValue) (i : ℕ) (d : WithoutValue) → AreWithouts b s (suc k) z ws → i < length ws
+    → part_of ws (get_or ws i d).winner ≡ get_or ws i d
 found b s k [] [] i d are lt = absurd (omega arith)
 found b s k [] (w ∷ ws) i d are lt = absurd are
 found b s k (zero ∷ z) ws i d are lt = found b s (suc k) z ws i d are lt
@@ -58,8 +63,10 @@ module _ (book : Book) (c : Certificate) (items : List WithoutPart) (same : item
       let are = has.certificate.withouts in
       let long : i < length ws = omega (arith, inside, ap (λ (l : List WithoutPart). length l) same, length-map c.withouts without_value) in
       let at : get_or ws i (without_value w) ≡ without_value w =
-      get_or-map without_value c.withouts i w (without_value w) (omega (arith, long, length-map c.withouts without_value)) ∙ ap (λ (l : List WithoutPart). without_value (get_or l i w)) (sym same) ∙ ap without_value (sym item) in
-      let wins : Wins c.choice w.winner = subst (λ (x : WithoutValue). Wins c.choice x.winner) at (each_at (λ x. Wins c.choice x.winner) ws i (without_value w) (parts-win _ _ c.choice ws are) long) in
+      get_or-map without_value c.withouts i w (without_value w) (omega (arith, long, length-map c.withouts without_value))
+      ∙ ap (λ (l : List WithoutPart). without_value (get_or l i w)) (sym same) ∙ ap without_value (sym item) in
+      let wins : Wins c.choice w.winner = subst (λ (x : WithoutValue). Wins c.choice x.winner)
+      at (each_at (λ x. Wins c.choice x.winner) ws i (without_value w) (parts-win _ _ c.choice ws are) long) in
       record {
         bidder = (wins.0, wins.1);
         wins = wins.2;
@@ -67,5 +74,6 @@ module _ (book : Book) (c : Certificate) (items : List WithoutPart) (same : item
       }
 
   -- behind the last item they are the singles of all parts
-  pub all-singles : (i : ℕ) (list : List Single) → length items ≤ i → list ≡ map (single_of book (cert_value c)) (map without_value (take i items)) → list ≡ map (single_of book (cert_value c)) (cert_value c).withouts
+  pub all-singles : (i : ℕ) (list : List Single) → length items ≤ i → list ≡ map (single_of book (cert_value c)) (map without_value (take i items))
+      → list ≡ map (single_of book (cert_value c)) (cert_value c).withouts
   all-singles i list past are = are ∙ ap (λ (l : List WithoutPart). map (single_of book (cert_value c)) (map without_value l)) (take_all i items past ∙ same)

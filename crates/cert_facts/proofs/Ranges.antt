@@ -9,7 +9,8 @@ use Rattle.cert_laws.specs.auction_model.proofs.ChoiceLaws.{known-length}
 use Rattle.cert_text.specs.choices.specs.bid_book.specs.Kept.{IsBidBook}
 
 module _ (book : Book) (kept : IsBidBook book) where
-  sum-between : (k : ℕ) (c : List ℕ) → IsTrue (is_known_after (menu_of book) k c) → (pos 0 ≤ℤ sum_after (net_of book) k c) × (sum_after (net_of book) k c ≤ℤ pos (length c * 2 ^ 42))
+  sum-between : (k : ℕ) (c : List ℕ) → IsTrue (is_known_after (menu_of book) k c) → (pos 0 ≤ℤ sum_after (net_of book) k c)
+      × (sum_after (net_of book) k c ≤ℤ pos (length c * 2 ^ 42))
   sum-between k [] known = (omega (arith, ints), omega (arith, ints))
   sum-between k (i ∷ c) known =
       let parts = and_parts (nat_le i (length (bids_of book (suc k)))) (is_known_after (menu_of book) (suc k) c) known in
@@ -20,7 +21,8 @@ module _ (book : Book) (kept : IsBidBook book) where
       (omega (arith, ints, low, rest.0), omega (arith, ints, high, rest.1))
 
   -- the value of a known choice is from 0 to 16 times 2 ^ 42
-  pub value-between : (c : List ℕ) → IsTrue (is_known_after (menu_of book) 0 c) → (pos 0 ≤ℤ value_of (market_of book) c) × (value_of (market_of book) c ≤ℤ pos (16 * 2 ^ 42))
+  pub value-between : (c : List ℕ) → IsTrue (is_known_after (menu_of book) 0 c) → (pos 0 ≤ℤ value_of (market_of book) c)
+      × (value_of (market_of book) c ≤ℤ pos (16 * 2 ^ 42))
   value-between c known =
       let long = known-length (menu_of book) 0 c known in
       let between = sum-between 0 c known in

@@ -10,7 +10,10 @@ use Rattle.line_text.proofs.Runs.{Reads}
 use Rattle.line_text.proofs.OneAnswer.{one_answer}
 use Rattle.line_text.specs.Numeral.{numeral, signed_numeral, numbers_text}
 use Rattle.cert_form.specs.Plan.{Follows, Stage, StepTo, excess, begin, finish}
-use Rattle.cert_form.specs.Lines.{Line, Kind, kind, Numbers, these, signed, chosen, headed, counted, members, ordered_head, ordered_count, FitNumbers, Fits, AreNumbers, spell, over, after, after_numbers, table_plan, set_table_plan, part_plan, ordered_part_plan, unless_zero, parts_plan, ordered_parts_plan, rows_plan, ordered_rows_plan, first_size, just_line, is_first_version, version_of, version_plan, body_plan, cert_plan, places_plan, IsCertText, IsPlacesText, lines}
+use Rattle.cert_form.specs.Lines.{Line, Kind, kind, Numbers, these, signed, chosen, headed, counted, members, ordered_head, ordered_count, FitNumbers, Fits}
+use Rattle.cert_form.specs.Lines.{AreNumbers, spell, over, after, after_numbers, table_plan, set_table_plan, part_plan, ordered_part_plan, unless_zero}
+use Rattle.cert_form.specs.Lines.{parts_plan, ordered_parts_plan, rows_plan, ordered_rows_plan, first_size, just_line, is_first_version, version_of}
+use Rattle.cert_form.specs.Lines.{version_plan, body_plan, cert_plan, places_plan, IsCertText, IsPlacesText, lines}
 use Rattle.cert_form.specs.Reading.{AreFineNumbers, Fine}
 use Rattle.cert_form.proofs.PlanReads.{follows_both, reads}
 use Rattle.line_text.specs.wide_num.proofs.Decimal.{AreDigits}
@@ -91,25 +94,43 @@ plain_named n s = (no_feeds (codes "table") refl, tt, plain_table n s)
 
 plain_parts : (b s j : ℕ) (ns : List ℤ) → Plain (parts_plan b s j ns)
 plain_parts b s j [] = tt
-plain_parts b s j (n ∷ ns) = plain_append (unless_zero n (part_plan b s j)) (parts_plan b s (suc j) ns) (plain_unless n (part_plan b s j) own) (plain_parts b s (suc j) ns)
+plain_parts b s j (n ∷ ns) = plain_append (unless_zero n (part_plan b s j)) (parts_plan b s (suc j) ns) (plain_unless n (part_plan b s j) own)
+    (plain_parts b s (suc j) ns)
   where
     own : Plain (part_plan b s j)
     own = (no_feeds (codes "without") refl, tt, (no_feeds (codes "choice") refl, tt, plain_named (suc b) s))
 
 plain_ordered_parts : (b j : ℕ) (ns : List ℤ) → Plain (ordered_parts_plan b j ns)
 plain_ordered_parts b j [] = tt
-plain_ordered_parts b j (n ∷ ns) = plain_append (unless_zero n (ordered_part_plan b j)) (ordered_parts_plan b (suc j) ns) (plain_unless n (ordered_part_plan b j) own) (plain_ordered_parts b (suc j) ns)
+plain_ordered_parts b j (n ∷ ns) = plain_append (unless_zero n (ordered_part_plan b j)) (ordered_parts_plan b (suc j) ns)
+    (plain_unless n (ordered_part_plan b j) own) (plain_ordered_parts b (suc j) ns)
   where
     own : Plain (ordered_part_plan b j)
     own = (no_feeds (codes "without") refl, tt, (no_feeds (codes "order") refl, tt, (no_feeds (codes "choice") refl, tt, plain_named 1 (2 ^ b))))
 
 plain_rows : (b r : ℕ) → (0 < r → 0 < b) → Plain (rows_plan b r)
 plain_rows b zero h = tt
-plain_rows b (suc r) h = (no_feeds (codes "row") refl, h (omega arith), (no_feeds (codes "mult") refl, tt, (no_feeds (codes "choice") refl, tt, plain_rows b r (λ some. h (omega arith)))))
+plain_rows b (suc r) h = (
+  no_feeds (codes "row") refl,
+  h (omega arith),
+  (
+    no_feeds (codes "mult") refl,
+    tt,
+    (no_feeds (codes "choice") refl, tt, plain_rows b r (λ some. h (omega arith))),
+  ),
+)
 
 plain_ordered_rows : (b r : ℕ) → (0 < r → 0 < b) → Plain (ordered_rows_plan b r)
 plain_ordered_rows b zero h = tt
-plain_ordered_rows b (suc r) h = (no_feeds (codes "row") refl, h (omega arith), (no_feeds (codes "mult") refl, tt, (no_feeds (codes "order") refl, tt, (no_feeds (codes "choice") refl, tt, plain_ordered_rows b r (λ some. h (omega arith))))))
+plain_ordered_rows b (suc r) h = (
+  no_feeds (codes "row") refl,
+  h (omega arith),
+  (
+    no_feeds (codes "mult") refl,
+    tt,
+    (no_feeds (codes "order") refl, tt, (no_feeds (codes "choice") refl, tt, plain_ordered_rows b r (λ some. h (omega arith)))),
+  ),
+)
 
 -- the count of rows that is read
 some_row : (b : ℕ) (ns : List ℤ) → FitNumbers (counted b) ns → 0 < first_size ns → 0 < b
@@ -119,10 +140,12 @@ plain_after : (n : Numbers) (ns : List ℤ) → FitNumbers n ns → Plain (after
 plain_after (these ms) ns f = tt
 plain_after (signed n) ns f = tt
 plain_after (chosen n) ns f = tt
-plain_after (headed b s) ns f = plain_append (kind (codes "table") (these []) ∷ table_plan b s) (parts_plan b s 1 ns) (plain_named (suc b) s) (plain_parts b s 1 ns)
+plain_after (headed b s) ns f = plain_append (kind (codes "table") (these []) ∷ table_plan b s) (parts_plan b s 1 ns) (plain_named (suc b) s)
+    (plain_parts b s 1 ns)
 plain_after (counted b) ns f = plain_rows b (first_size ns) (some_row b ns f)
 plain_after (members b) ns f = tt
-plain_after (ordered_head b) ns f = plain_append (kind (codes "table") (these []) ∷ set_table_plan b) (ordered_parts_plan b 1 ns) (plain_named 1 (2 ^ b)) (plain_ordered_parts b 1 ns)
+plain_after (ordered_head b) ns f = plain_append (kind (codes "table") (these []) ∷ set_table_plan b) (ordered_parts_plan b 1 ns) (plain_named 1 (2 ^ b))
+    (plain_ordered_parts b 1 ns)
 plain_after (ordered_count b) ns f = plain_ordered_rows b (first_size ns) (some_row b ns f)
 
 fine_after : (k : Kind) (ks : List Kind) (l : Line) → Fine (k ∷ ks) → Fits k l → Fine (after k l ++ ks)
@@ -145,10 +168,27 @@ one_of k plain = own k.word k.numbers plain
     own w (signed n) p = (record { word = w; numbers = replicate n (pos 0) } ∷ [], (record { word = refl; numbers = zeros_length n }, tt))
     own w (chosen n) p = (record { word = w; numbers = replicate n (pos 0) } ∷ [], (record { word = refl; numbers = (zeros_length n, zeros_numbers n) }, tt))
     own w (headed n s) p = absurd p
-    own w (counted n) p = (record { word = w; numbers = pos 0 ∷ [] } ∷ [], (record { word = refl; numbers = (0, refl, omega arith, λ some. absurd (omega (arith, some))) }, tt))
-    own w (members n) p = (record { word = w; numbers = pos 1 ∷ [] } ∷ [], (record { word = refl; numbers = (omega arith, (omega (arith, ints), omega (arith, ints, p), tt)) }, tt))
+    own w (counted n) p = (
+      record { word = w; numbers = pos 0 ∷ [] } ∷ [],
+      (
+        record
+            { word = refl; numbers = (0, refl, omega arith, λ some. absurd (omega (arith, some))) },
+        tt,
+      ),
+    )
+    own w (members n) p = (
+      record { word = w; numbers = pos 1 ∷ [] } ∷ [],
+      (
+        record
+            { word = refl; numbers = (omega arith, (omega (arith, ints), omega (arith, ints, p), tt)) },
+        tt,
+      ),
+    )
     own w (ordered_head n) p = absurd p
-    own w (ordered_count n) p = (record { word = w; numbers = pos 0 ∷ [] } ∷ [], (record { word = refl; numbers = (0, refl, omega arith, λ some. absurd (omega (arith, some))) }, tt))
+    own w (ordered_count n) p = (
+      record { word = w; numbers = pos 0 ∷ [] } ∷ [],
+      (record { word = refl; numbers = (0, refl, omega arith, λ some. absurd (omega (arith, some))) }, tt),
+    )
 
 completes_plain : (ks : List Kind) → Plain ks → (is : List Line) × Follows Fits after ks is
 completes_plain [] p = ([], tt)
@@ -196,7 +236,19 @@ fine_body b s =
       (
         no_feeds (codes "value") refl,
         tt,
-        (no_feeds (codes "choice") refl, tt, (no_feeds (codes "pay") refl, tt, (no_feeds (codes "rows") refl, tt, (no_feeds (codes "lowered") refl, tt, last)))),
+        (
+          no_feeds (codes "choice") refl,
+          tt,
+          (
+            no_feeds (codes "pay") refl,
+            tt,
+            (
+              no_feeds (codes "rows") refl,
+              tt,
+              (no_feeds (codes "lowered") refl, tt, last),
+            ),
+          ),
+        ),
       ),
     )
 
@@ -219,7 +271,15 @@ fine_places b =
           (
             no_feeds (codes "order") refl,
             tt,
-            (no_feeds (codes "choice") refl, tt, (no_feeds (codes "pay") refl, tt, (no_feeds (codes "rows") refl, tt, (no_feeds (codes "lowered") refl, tt, last)))),
+            (
+              no_feeds (codes "choice") refl,
+              tt,
+              (
+                no_feeds (codes "pay") refl,
+                tt,
+                (no_feeds (codes "rows") refl, tt, (no_feeds (codes "lowered") refl, tt, last)),
+              ),
+            ),
           ),
         ),
       ),
@@ -227,12 +287,16 @@ fine_places b =
 
 module _ (whole : List Kind) (fine : Fine whole) where
   -- a reader of the lines of such a plan reads just its texts
-  pub plan_reads : Reads (λ (t : Stage Kind Line). Fine t.plan) (StepTo Fits after spell over) excess (begin whole) (finish spell over) (Follows Fits after whole) lines
-  plan_reads = reads Fits after spell over one_line Fine (λ k ks l ok fits. subst (λ (w : List ℕ). IsLine (w ++ numbers_text l.numbers)) (sym fits.word) (line_append k.word (numbers_text l.numbers) ok.0 (numbers_line l.numbers))) fine_after completes whole fine
+  pub plan_reads : Reads (λ (t : Stage Kind Line). Fine t.plan) (StepTo Fits after spell over) excess (begin whole) (finish spell over)
+      (Follows Fits after whole) lines
+  plan_reads = reads Fits after spell over one_line Fine (λ k ks l ok fits. subst (λ (w : List ℕ). IsLine (w ++ numbers_text l.numbers)) (sym fits.word)
+      (line_append k.word (numbers_text l.numbers) ok.0 (numbers_line l.numbers))) fine_after completes whole fine
 
   -- bytes say one thing: lines of the plan, the place of the first faulty line, or that of the first line that is out of range
-  pub one_text : (bytes : List ℕ) (x y : Said (List Line) ℕ) → Says (Follows Fits after whole) lines bytes x → Says (Follows Fits after whole) lines bytes y → x ≡ y
-  one_text = one_answer (λ (t : Stage Kind Line). Fine t.plan) (StepTo Fits after spell over) excess (begin whole) (finish spell over) (Follows Fits after whole) lines plan_reads
+  pub one_text : (bytes : List ℕ) (x y : Said (List Line) ℕ) → Says (Follows Fits after whole) lines bytes x → Says (Follows Fits after whole) lines bytes y
+      → x ≡ y
+  one_text = one_answer (λ (t : Stage Kind Line). Fine t.plan) (StepTo Fits after spell over) excess (begin whole) (finish spell over)
+      (Follows Fits after whole) lines plan_reads
 
 -- bytes say one thing of a certificate
 pub one_cert : (b s : ℕ) (bytes : List ℕ) (x y : Said (List Line) ℕ) → Says (IsCertText b s) lines bytes x → Says (IsCertText b s) lines bytes y → x ≡ y

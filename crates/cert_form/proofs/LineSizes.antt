@@ -25,7 +25,11 @@ size-append (x ∷ xs) ys = omega (arith, size-append xs ys)
 -- they are those of the text, wherever the lines begin
 pub text-size : (p : ℕ) (ls : List Line) → length (text_of (placed spell over p ls)) ≡ size ls
 text-size p [] = refl
-text-size p (l ∷ ls) = omega (arith, length-append (spell l) (10 ∷ text_of (placed spell over (next_place spell over p l) ls)), text-size (next_place spell over p l) ls)
+text-size p (l ∷ ls) = omega (
+  arith,
+  length-append (spell l) (10 ∷ text_of (placed spell over (next_place spell over p l) ls)),
+  text-size (next_place spell over p l) ls,
+)
 
 -- fewer times a number is no more
 pub times-le : (n m k : ℕ) → n ≤ m → times n k ≤ times m k

@@ -62,19 +62,101 @@ same_row x y members first second choice =
     ∙ ap (λ (m : List ℕ). record { members = y.members; first = y.first; second = y.second; choice = m }) choice
 
 -- and certificates
-pub same_cert : (c d : CertValue) → c.den ≡ d.den → c.value ≡ d.value → c.choice ≡ d.choice → c.table ≡ d.table → c.withouts ≡ d.withouts → c.pay ≡ d.pay → c.rows ≡ d.rows → c.lowered ≡ d.lowered → c ≡ d
+pub same_cert : (c d : CertValue) → c.den ≡ d.den → c.value ≡ d.value → c.choice ≡ d.choice → c.table ≡ d.table → c.withouts ≡ d.withouts → c.pay ≡ d.pay
+    → c.rows ≡ d.rows → c.lowered ≡ d.lowered → c ≡ d
 same_cert c d den value choice table withouts pay rows lowered =
-    ap (λ (x : ℤ). record { den = x; value = c.value; choice = c.choice; table = c.table; withouts = c.withouts; pay = c.pay; rows = c.rows; lowered = c.lowered }) den
-    ∙ ap (λ (x : ℤ). record { den = d.den; value = x; choice = c.choice; table = c.table; withouts = c.withouts; pay = c.pay; rows = c.rows; lowered = c.lowered }) value
-    ∙ ap (λ (x : List ℕ). record { den = d.den; value = d.value; choice = x; table = c.table; withouts = c.withouts; pay = c.pay; rows = c.rows; lowered = c.lowered }) choice
-    ∙ ap (λ (x : List (List ℤ)). record { den = d.den; value = d.value; choice = d.choice; table = x; withouts = c.withouts; pay = c.pay; rows = c.rows; lowered = c.lowered }) table
-    ∙ ap (λ (x : List WithoutValue). record { den = d.den; value = d.value; choice = d.choice; table = d.table; withouts = x; pay = c.pay; rows = c.rows; lowered = c.lowered }) withouts
-    ∙ ap (λ (x : List ℤ). record { den = d.den; value = d.value; choice = d.choice; table = d.table; withouts = d.withouts; pay = x; rows = c.rows; lowered = c.lowered }) pay
-    ∙ ap (λ (x : List RowValue). record { den = d.den; value = d.value; choice = d.choice; table = d.table; withouts = d.withouts; pay = d.pay; rows = x; lowered = c.lowered }) rows
-    ∙ ap (λ (x : List (List ℤ)). record { den = d.den; value = d.value; choice = d.choice; table = d.table; withouts = d.withouts; pay = d.pay; rows = d.rows; lowered = x }) lowered
+    ap (λ (x : ℤ). record {
+      den = x;
+      value = c.value;
+      choice = c.choice;
+      table = c.table;
+      withouts = c.withouts;
+      pay = c.pay;
+      rows = c.rows;
+      lowered =
+          c.lowered;
+    }) den
+    ∙ ap (λ (x : ℤ). record {
+      den = d.den;
+      value = x;
+      choice = c.choice;
+      table = c.table;
+      withouts = c.withouts;
+      pay = c.pay;
+      rows = c.rows;
+      lowered =
+          c.lowered;
+    }) value
+    ∙ ap (λ (x : List ℕ). record {
+      den = d.den;
+      value = d.value;
+      choice = x;
+      table = c.table;
+      withouts = c.withouts;
+      pay = c.pay;
+      rows = c.rows;
+      lowered =
+          c.lowered;
+    }) choice
+    ∙ ap (λ (x : List (List ℤ)). record {
+      den = d.den;
+      value = d.value;
+      choice = d.choice;
+      table = x;
+      withouts = c.withouts;
+      pay = c.pay;
+      rows =
+          c.rows;
+      lowered = c.lowered;
+    }) table
+    ∙ ap (λ (x : List WithoutValue). record {
+      den = d.den;
+      value = d.value;
+      choice = d.choice;
+      table = d.table;
+      withouts = x;
+      pay = c.pay;
+      rows =
+          c.rows;
+      lowered = c.lowered;
+    }) withouts
+    ∙ ap (λ (x : List ℤ). record {
+      den = d.den;
+      value = d.value;
+      choice = d.choice;
+      table = d.table;
+      withouts = d.withouts;
+      pay = x;
+      rows = c.rows;
+      lowered =
+          c.lowered;
+    }) pay
+    ∙ ap (λ (x : List RowValue). record {
+      den = d.den;
+      value = d.value;
+      choice = d.choice;
+      table = d.table;
+      withouts = d.withouts;
+      pay = d.pay;
+      rows =
+          x;
+      lowered = c.lowered;
+    }) rows
+    ∙ ap (λ (x : List (List ℤ)). record {
+      den = d.den;
+      value = d.value;
+      choice = d.choice;
+      table = d.table;
+      withouts = d.withouts;
+      pay = d.pay;
+      rows =
+          d.rows;
+      lowered = x;
+    }) lowered
 
 module _ (b s : ℕ) where
-  parts_same : (j : ℕ) (choice : List ℕ) (ws us : List WithoutValue) → AreWithouts b s j choice ws → AreWithouts b s j choice us → part_lines ws ≡ part_lines us → ws ≡ us
+  parts_same : (j : ℕ) (choice : List ℕ) (ws us : List WithoutValue) → AreWithouts b s j choice ws → AreWithouts b s j choice us
+      → part_lines ws ≡ part_lines us → ws ≡ us
   parts_same j [] [] [] g h e = refl
   parts_same j [] [] (u ∷ us) g h e = absurd h
   parts_same j [] (w ∷ ws) us g h e = absurd g
@@ -93,7 +175,8 @@ module _ (b s : ℕ) where
       let own : w ≡ u = same_without w u winner choice table in
       ap (λ (x : WithoutValue). x ∷ ws) own ∙ ap (λ (l : List WithoutValue). u ∷ l) rest
 
-  parts_long : (j : ℕ) (choice : List ℕ) (ws us : List WithoutValue) → AreWithouts b s j choice ws → AreWithouts b s j choice us → length (part_lines ws) ≡ length (part_lines us)
+  parts_long : (j : ℕ) (choice : List ℕ) (ws us : List WithoutValue) → AreWithouts b s j choice ws → AreWithouts b s j choice us
+      → length (part_lines ws) ≡ length (part_lines us)
   parts_long j [] [] [] g h = refl
   parts_long j [] [] (u ∷ us) g h = absurd h
   parts_long j [] (w ∷ ws) us g h = absurd g
@@ -129,7 +212,8 @@ rows_long (x ∷ a) = omega (arith, rows_long a)
 
 -- the lines behind the parts
 abbrev last : CertValue → List Line
-last c = line (codes "pay") c.pay ∷ line (codes "rows") (pos (length c.rows) ∷ []) ∷ (row_lines c.rows ++ line (codes "lowered") [] ∷ (table_lines c.lowered ++ line (codes "end") [] ∷ []))
+last c = line (codes "pay") c.pay ∷ line (codes "rows") (pos (length c.rows) ∷ []) ∷
+    (row_lines c.rows ++ line (codes "lowered") [] ∷ (table_lines c.lowered ++ line (codes "end") [] ∷ []))
 
 -- what stands behind the version says it all
 one_body : (b s : ℕ) (c d : CertValue) → IsCertificate b s c → IsCertificate b s d → body_lines c ≡ body_lines d → c ≡ d
@@ -137,19 +221,24 @@ one_body b s c d g h e =
     let dens : line (codes "den") (c.den ∷ []) ≡ line (codes "den") (d.den ∷ []) = cc in
     let values : line (codes "value") (c.value ∷ []) ≡ line (codes "value") (d.value ∷ []) = cc in
     let choices : choice_line c.choice ≡ choice_line d.choice = cc in
-    let behind : ((line (codes "table") [] ∷ table_lines c.table) ++ part_lines c.withouts) ++ last c ≡ ((line (codes "table") [] ∷ table_lines d.table) ++ part_lines d.withouts) ++ last d = cc in
+    let behind : ((line (codes "table") [] ∷ table_lines c.table) ++ part_lines c.withouts) ++ last c ≡
+    ((line (codes "table") [] ∷ table_lines d.table) ++ part_lines d.withouts) ++ last d = cc in
     let den_list : c.den ∷ [] ≡ d.den ∷ [] = numbers_of _ _ dens in
     let value_list : c.value ∷ [] ≡ d.value ∷ [] = numbers_of _ _ values in
     let den : c.den ≡ d.den = cc in
     let value : c.value ≡ d.value = cc in
     let choice : c.choice ≡ d.choice = numbers_same c.choice d.choice (numbers_of _ _ choices) in
     let others : AreWithouts b s 1 c.choice d.withouts = subst (λ (x : List ℕ). AreWithouts b s 1 x d.withouts) (sym choice) h.withouts in
-    let tables_long : length (line (codes "table") [] ∷ table_lines c.table) ≡ length (line (codes "table") [] ∷ table_lines d.table) = omega (arith, table_long c.table, table_long d.table, g.table.0, h.table.0) in
+    let tables_long : length (line (codes "table") [] ∷ table_lines c.table) ≡ length (line (codes "table") [] ∷ table_lines d.table) =
+    omega (arith, table_long c.table, table_long d.table, g.table.0, h.table.0) in
     let parts = parts_long b s 1 c.choice c.withouts d.withouts g.withouts others in
-    let long : length ((line (codes "table") [] ∷ table_lines c.table) ++ part_lines c.withouts) ≡ length ((line (codes "table") [] ∷ table_lines d.table) ++ part_lines d.withouts) =
-    length-append (line (codes "table") [] ∷ table_lines c.table) (part_lines c.withouts) ∙ omega (arith, tables_long, parts) ∙ sym (length-append (line (codes "table") [] ∷ table_lines d.table) (part_lines d.withouts)) in
+    let long : length ((line (codes "table") [] ∷ table_lines c.table) ++ part_lines c.withouts) ≡ length
+    ((line (codes "table") [] ∷ table_lines d.table) ++ part_lines d.withouts) =
+    length-append (line (codes "table") [] ∷ table_lines c.table) (part_lines c.withouts) ∙ omega (arith, tables_long, parts)
+    ∙ sym (length-append (line (codes "table") [] ∷ table_lines d.table) (part_lines d.withouts)) in
     let head = cut _ _ (last c) (last d) long behind in
-    let front = cut (line (codes "table") [] ∷ table_lines c.table) (line (codes "table") [] ∷ table_lines d.table) (part_lines c.withouts) (part_lines d.withouts) tables_long head.0 in
+    let front = cut (line (codes "table") [] ∷ table_lines c.table) (line (codes "table") [] ∷ table_lines d.table) (part_lines c.withouts)
+    (part_lines d.withouts) tables_long head.0 in
     let table_rest : table_lines c.table ≡ table_lines d.table = cc (front.0) in
     let table : c.table ≡ d.table = table_same c.table d.table table_rest in
     let withouts : c.withouts ≡ d.withouts = parts_same b s 1 c.choice c.withouts d.withouts g.withouts others front.1 in
@@ -160,12 +249,14 @@ one_body b s c d g h e =
     last_same c d g h e =
         let pays : line (codes "pay") c.pay ≡ line (codes "pay") d.pay = cc in
         let counts : line (codes "rows") (pos (length c.rows) ∷ []) ≡ line (codes "rows") (pos (length d.rows) ∷ []) = cc in
-        let behind : row_lines c.rows ++ line (codes "lowered") [] ∷ (table_lines c.lowered ++ line (codes "end") [] ∷ []) ≡ row_lines d.rows ++ line (codes "lowered") [] ∷ (table_lines d.lowered ++ line (codes "end") [] ∷ []) = cc in
+        let behind : row_lines c.rows ++ line (codes "lowered") [] ∷ (table_lines c.lowered ++ line (codes "end") [] ∷ []) ≡ row_lines d.rows
+        ++ line (codes "lowered") [] ∷ (table_lines d.lowered ++ line (codes "end") [] ∷ []) = cc in
         let count_list : pos (length c.rows) ∷ [] ≡ pos (length d.rows) ∷ [] = numbers_of _ _ counts in
         let count : length c.rows ≡ length d.rows = cc in
         let rows = cut (row_lines c.rows) (row_lines d.rows) _ _ (omega (arith, rows_long c.rows, rows_long d.rows, count)) behind in
         let tables : table_lines c.lowered ++ line (codes "end") [] ∷ [] ≡ table_lines d.lowered ++ line (codes "end") [] ∷ [] = cc (rows.1) in
-        let lowered = cut (table_lines c.lowered) (table_lines d.lowered) _ _ (omega (arith, table_long c.lowered, table_long d.lowered, g.lowered.0, h.lowered.0)) tables in
+        let lowered = cut (table_lines c.lowered) (table_lines d.lowered) _ _ (omega
+        (arith, table_long c.lowered, table_long d.lowered, g.lowered.0, h.lowered.0)) tables in
         (numbers_of _ _ pays, rows_same c.rows d.rows rows.0, table_same c.lowered d.lowered lowered.0)
 
 -- for the same bidders and states, certificates with equal lines are equal

@@ -14,7 +14,8 @@ module _ {K I : Type 0} (Fits : K → I → Type 0) (after : K → I → List K)
   Leaves (k ∷ ks) (i ∷ is) rest = Fits k i × Leaves (after k i ++ ks) is rest
 
   -- lines that leave a rest of a plan, and then lines of that rest, are together those of the plan
-  pub leaves_follows : (ks : List K) (is : List I) (rest : List K) (js : List I) → Leaves ks is rest → Follows Fits after rest js → Follows Fits after ks (is ++ js)
+  pub leaves_follows : (ks : List K) (is : List I) (rest : List K) (js : List I) → Leaves ks is rest → Follows Fits after rest js
+      → Follows Fits after ks (is ++ js)
   leaves_follows ks [] rest js l f = subst (λ (p : List K). Follows Fits after p js) (sym l) f
   leaves_follows [] (i ∷ is) rest js l f = absurd l
   leaves_follows (k ∷ ks) (i ∷ is) rest js l f = (l.0, leaves_follows (after k i ++ ks) is rest js l.1 f)
@@ -49,7 +50,14 @@ module _ {K I : Type 0} (Fits : K → I → Type 0) (after : K → I → List K)
         is_line k ks i ok f.0,
         record { kind = k; rest = ks; item = i; first = refl; fits = f.0; spelled = refl; next = refl },
         refl,
-        subst (λ (l : List I). Runs Steps excess u (placed spell over (next_place spell over place i) is) (record { plan = []; items = l; place = end_place spell over (next_place spell over place i) is; over = last_mark spell over (next_place spell over place i) (mark spell over place i) is }))
+        subst (λ (l : List I). Runs Steps excess u (placed spell over (next_place spell over place i) is)
+            (record {
+              plan = [];
+              items = l;
+              place = end_place spell over (next_place spell over place i) is;
+              over =
+                  last_mark spell over (next_place spell over place i) (mark spell over place i) is;
+            }))
             (append_assoc items (i ∷ []) is) rest,
       )
 
@@ -61,7 +69,13 @@ module _ {K I : Type 0} (Fits : K → I → Type 0) (after : K → I → List K)
     fine : Fine t.plan
 
   taken : (s t : Stage K I) (ms : List (List ℕ × Option ℕ)) → Fine s.plan → Runs Steps excess s ms t → Taken s ms t
-  taken s t [] ok run = record { items = []; lines_are = refl; leaves = ap (λ (r : Stage K I). r.plan) run; fine = subst (λ (r : Stage K I). Fine r.plan) run ok }
+  taken s t [] ok run = record {
+    items = [];
+    lines_are = refl;
+    leaves = ap (λ (r : Stage K I). r.plan) run;
+    fine =
+        subst (λ (r : Stage K I). Fine r.plan) run ok;
+  }
   taken s t (m ∷ ms) ok run =
       let step : Steps s m.0 run.0 = run.2 in
       let u = run.0 in
@@ -73,7 +87,8 @@ module _ {K I : Type 0} (Fits : K → I → Type 0) (after : K → I → List K)
       record {
         items = step.item ∷ rest.items;
         lines_are =
-            ap (λ (r : List (List ℕ × Option ℕ)). (spell step.item, mark spell over s.place step.item) ∷ r) (ap (λ (p : ℕ). placed spell over p rest.items) (sym place_is) ∙ rest.lines_are)
+            ap (λ (r : List (List ℕ × Option ℕ)). (spell step.item, mark spell over s.place step.item) ∷ r)
+            (ap (λ (p : ℕ). placed spell over p rest.items) (sym place_is) ∙ rest.lines_are)
             ∙ ap (λ (x : List ℕ). (x, mark spell over s.place step.item) ∷ ms) (sym step.spelled)
             ∙ ap (λ (o : Option ℕ). (m.0, o) ∷ ms) (sym mark_is);
         leaves = subst (λ (p : List K). Leaves Fits after p (step.item ∷ rest.items) t.plan) (sym step.first)
@@ -83,10 +98,12 @@ module _ {K I : Type 0} (Fits : K → I → Type 0) (after : K → I → List K)
 
   take_placed : (place : ℕ) (is js : List I) → take (length is) (placed spell over place (is ++ js)) ≡ placed spell over place is
   take_placed place [] js = refl
-  take_placed place (i ∷ is) js = ap (λ (r : List (List ℕ × Option ℕ)). (spell i, mark spell over place i) ∷ r) (take_placed (next_place spell over place i) is js)
+  take_placed place (i ∷ is) js = ap (λ (r : List (List ℕ × Option ℕ)). (spell i, mark spell over place i) ∷ r)
+      (take_placed (next_place spell over place i) is js)
 
   -- by a plan that can be followed, the reader reads just the texts whose lines are those of the plan
-  pub reads : (plan : List K) → Fine plan → Reads (λ (s : Stage K I). Fine s.plan) Steps excess (begin plan) (finish spell over) (Follows Fits after plan) (placed spell over 0)
+  pub reads : (plan : List K) → Fine plan → Reads (λ (s : Stage K I). Fine s.plan) Steps excess (begin plan) (finish spell over) (Follows Fits after plan)
+      (placed spell over 0)
   reads plan ok = record {
     complete = λ v f. goes plan [] 0 None v ok f;
     sound = λ ms s run.
@@ -94,7 +111,8 @@ module _ {K I : Type 0} (Fits : K → I → Type 0) (after : K → I → List K)
         let more = completes s.plan t.fine in
         (t.items ++ more.0, length t.items, leaves_follows Fits after plan t.items s.plan more.0 t.leaves more.1, take_placed 0 t.items more.0 ∙ t.lines_are);
     begins = ok;
-    keeps = λ s t l fine step. subst Fine (sym (ap (λ (r : Stage K I). r.plan) step.next)) (fine_after step.kind step.rest step.item (subst Fine step.first fine) step.fits);
+    keeps = λ s t l fine step. subst Fine (sym (ap (λ (r : Stage K I). r.plan) step.next))
+        (fine_after step.kind step.rest step.item (subst Fine step.first fine) step.fits);
     one_step = λ s t u l fine a b. one s t u l a b;
     closed = λ v l t step. nothing_left step.kind step.rest step.first;
     one_value = λ v w e. ap (λ (r : Stage K I). r.items) e;
@@ -111,7 +129,25 @@ module _ {K I : Type 0} (Fits : K → I → Type 0) (after : K → I → List K)
           let fits : Fits a.kind b.item = subst (λ (k : K). Fits k b.item) (sym kinds) b.fits in
           let items : a.item ≡ b.item = one_item a.kind a.item b.item a.fits fits (sym a.spelled ∙ b.spelled) in
           a.next
-          ∙ ap (λ (k : K). record { plan = after k a.item ++ a.rest; items = s.items ++ a.item ∷ []; place = next_place spell over s.place a.item; over = mark spell over s.place a.item }) kinds
-          ∙ ap (λ (r : List K). record { plan = after b.kind a.item ++ r; items = s.items ++ a.item ∷ []; place = next_place spell over s.place a.item; over = mark spell over s.place a.item }) rests
-          ∙ ap (λ (i : I). record { plan = after b.kind i ++ b.rest; items = s.items ++ i ∷ []; place = next_place spell over s.place i; over = mark spell over s.place i }) items
+          ∙ ap (λ (k : K). record {
+            plan = after k a.item ++ a.rest;
+            items = s.items ++ a.item ∷ [];
+            place = next_place spell over s.place a.item;
+            over =
+                mark spell over s.place a.item;
+          }) kinds
+          ∙ ap (λ (r : List K). record {
+            plan = after b.kind a.item ++ r;
+            items = s.items ++ a.item ∷ [];
+            place = next_place spell over s.place a.item;
+            over =
+                mark spell over s.place a.item;
+          }) rests
+          ∙ ap (λ (i : I). record {
+            plan = after b.kind i ++ b.rest;
+            items = s.items ++ i ∷ [];
+            place = next_place spell over s.place i;
+            over =
+                mark spell over s.place i;
+          }) items
           ∙ sym b.next

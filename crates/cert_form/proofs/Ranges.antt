@@ -8,7 +8,8 @@ use Rattle.cert_form.specs.Certificate.{CertValue, WithoutValue, RowValue}
 use Rattle.cert_form.specs.Plan.{placed, next_place}
 use Rattle.cert_form.specs.Lines.{Line, spell, over, is_first_version, version_of, version_lines, IsCertText, lines}
 use Rattle.line_text.specs.Range.{any_out, is_out}
-use Rattle.cert_form.specs.CertText.{line, as_numbers, choice_line, table_lines, part_lines, row_lines, body_lines, cert_lines, AtMost, IsChoice, AreTableLines, AreWithouts, AreMembers, AreRows, IsCertificate}
+use Rattle.cert_form.specs.CertText.{line, as_numbers, choice_line, table_lines, part_lines, row_lines, body_lines, cert_lines, AtMost, IsChoice}
+use Rattle.cert_form.specs.CertText.{AreTableLines, AreWithouts, AreMembers, AreRows, IsCertificate}
 use Rattle.line_text.specs.wide_num.specs.Range.{InRange}
 use Rattle.line_text.specs.Range.{AllInRange}
 use Rattle.cert_form.proofs.Written.{written}
@@ -30,7 +31,8 @@ within_append (x ∷ xs) ys a b = (a.0, within_append xs ys a.1 b)
 -- lines in range exceed nothing, from whatever place they stand
 pub no_excess : (p : ℕ) (ls : List Line) → Within ls → first_excess (placed spell over p ls) ≡ None
 no_excess p [] w = refl
-no_excess p (l ∷ ls) w = ap (λ (b : Bool). option_or (cond b (Some p) None) (first_excess (placed spell over (next_place spell over p l) ls))) w.0 ∙ no_excess (next_place spell over p l) ls w.1
+no_excess p (l ∷ ls) w = ap (λ (b : Bool). option_or (cond b (Some p) None) (first_excess (placed spell over (next_place spell over p l) ls))) w.0
+    ∙ no_excess (next_place spell over p l) ls w.1
 
 in_range : (z : ℤ) → InRange z → is_out z ≡ false
 in_range z h = lt-leb (2 ^ 120) (unsigned_abs z) h
@@ -88,7 +90,8 @@ module _ (b s : ℕ) (small : b < 2 ^ 100) where
       (
         choice_within c.choice h.choice,
         within_append ((line (codes "table") [] ∷ table_lines c.table) ++ part_lines c.withouts) _
-            (within_append (line (codes "table") [] ∷ table_lines c.table) (part_lines c.withouts) (refl, table_within c.table h.table.1) (parts_within 1 c.choice c.withouts (omega (arith, h.choice.0)) h.withouts)) (
+            (within_append (line (codes "table") [] ∷ table_lines c.table) (part_lines c.withouts) (refl, table_within c.table h.table.1)
+            (parts_within 1 c.choice c.withouts (omega (arith, h.choice.0)) h.withouts)) (
               all_in_range c.pay h.pay.1,
               (
                 one_in_range (pos (length c.rows)) (omega (arith, h.few)),

@@ -9,7 +9,17 @@ use Rattle.cert_form.specs.Says.{cert_text}
 
 -- no bidder, and one lot
 abbrev nobody : CertValue
-nobody = record { den = pos 1; value = pos 0; choice = []; table = (pos 0 ∷ pos 0 ∷ []) ∷ []; withouts = []; pay = []; rows = []; lowered = (pos 0 ∷ pos 0 ∷ []) ∷ [] }
+nobody = record {
+  den = pos 1;
+  value = pos 0;
+  choice = [];
+  table = (pos 0 ∷ pos 0 ∷ []) ∷ [];
+  withouts = [];
+  pay = [];
+  rows = [];
+  lowered =
+      (pos 0 ∷ pos 0 ∷ []) ∷ [];
+}
 
 nobody_text : cert_text nobody ≡ codes "cert 1\nden 1\nvalue 0\nchoice\ntable\nt 0 0\npay\nrows 0\nlowered\nt 0 0\nend\n"
 unfolding numeral digits_of
@@ -28,7 +38,8 @@ second_wins = record {
   lowered = (pos 0 ∷ pos 14 ∷ []) ∷ (pos 0 ∷ pos 14 ∷ []) ∷ (pos 0 ∷ pos 0 ∷ []) ∷ [];
 }
 
-second_text : cert_text second_wins ≡ codes "cert 1\nden 2\nvalue 10\nchoice 0 12\ntable\nt 0 10\nt 0 10\nt 0 0\n" ++ codes "without 2\nchoice 1 0\ntable\nt 0 7\nt 0 0\nt 0 0\n"
+second_text : cert_text second_wins ≡ codes "cert 1\nden 2\nvalue 10\nchoice 0 12\ntable\nt 0 10\nt 0 10\nt 0 0\n"
+    ++ codes "without 2\nchoice 1 0\ntable\nt 0 7\nt 0 0\nt 0 0\n"
     ++ codes "pay 0 14\nrows 1\nrow 2\nmult 2 -105\nchoice 1 0\nlowered\nt 0 14\nt 0 14\nt 0 0\nend\n"
 unfolding numeral digits_of
 second_text = refl
@@ -46,7 +57,8 @@ thirteen = record {
   lowered = replicate 14 (pos 0 ∷ []);
 }
 
-thirteen_text : cert_text thirteen ≡ codes "cert 2\nlimits 16 16384\nden 1\nvalue 0\nchoice 0 0 0 0 0 0 0 0 0 0 0 0 0\ntable\n" ++ codes "t 0\nt 0\nt 0\nt 0\nt 0\nt 0\nt 0\nt 0\nt 0\nt 0\nt 0\nt 0\nt 0\nt 0\n"
+thirteen_text : cert_text thirteen ≡ codes "cert 2\nlimits 16 16384\nden 1\nvalue 0\nchoice 0 0 0 0 0 0 0 0 0 0 0 0 0\ntable\n"
+    ++ codes "t 0\nt 0\nt 0\nt 0\nt 0\nt 0\nt 0\nt 0\nt 0\nt 0\nt 0\nt 0\nt 0\nt 0\n"
     ++ codes "pay 0 0 0 0 0 0 0 0 0 0 0 0 0\nrows 0\nlowered\n" ++ codes "t 0\nt 0\nt 0\nt 0\nt 0\nt 0\nt 0\nt 0\nt 0\nt 0\nt 0\nt 0\nt 0\nt 0\nend\n"
 unfolding numeral digits_of
 thirteen_text = refl

@@ -4,8 +4,10 @@ use Rattle.std.specs.Prelude.{ℤ, pos, replicate, codes}
 use Rattle.std.proofs.lemmas.Int.{ints}
 use Rattle.cert_form.specs.Certificate.{CertValue, WithoutValue, RowValue}
 use Rattle.cert_form.specs.Plan.{Follows}
-use Rattle.cert_form.specs.Lines.{Line, kind, these, signed, counted, Fits, AreNumbers, Rise, after, table_plan, part_plan, parts_plan, rows_plan, version_lines, version_plan, body_plan, IsCertText}
-use Rattle.cert_form.specs.CertText.{line, as_numbers, choice_line, table_lines, part_lines, row_lines, body_lines, cert_lines, AtMost, IsChoice, AreTableLines, AreWithouts, AreMembers, AreRows, IsCertificate}
+use Rattle.cert_form.specs.Lines.{Line, kind, these, signed, counted, Fits, AreNumbers, Rise, after, table_plan, part_plan, parts_plan, rows_plan}
+use Rattle.cert_form.specs.Lines.{version_lines, version_plan, body_plan, IsCertText}
+use Rattle.cert_form.specs.CertText.{line, as_numbers, choice_line, table_lines, part_lines, row_lines, body_lines, cert_lines, AtMost, IsChoice}
+use Rattle.cert_form.specs.CertText.{AreTableLines, AreWithouts, AreMembers, AreRows, IsCertificate}
 use Rattle.cert_form.proofs.PlanReads.{follows_both}
 use Rattle.cert_form.proofs.Version.{just_these, version_is}
 
@@ -23,13 +25,15 @@ pub choice_fits : (b : ℕ) (choice : List ℕ) → IsChoice b choice → (lengt
 choice_fits b choice h = (long_numbers choice ∙ h.0, low_numbers 65535 choice h.1)
 
 -- the lines of a table of n are those of a plan of n such lines
-pub table_follows : (n s : ℕ) (table : List (List ℤ)) → length table ≡ n → AreTableLines s table → Follows Fits after (replicate n (kind (codes "t") (signed s))) (table_lines table)
+pub table_follows : (n s : ℕ) (table : List (List ℤ)) → length table ≡ n → AreTableLines s table → Follows Fits after
+    (replicate n (kind (codes "t") (signed s))) (table_lines table)
 table_follows zero s [] e h = tt
 table_follows zero s (t ∷ table) e h = absurd (omega (arith, e))
 table_follows (suc n) s [] e h = absurd (omega (arith, e))
 table_follows (suc n) s (t ∷ table) e h = (record { word = refl; numbers = h.0 }, table_follows n s table (omega (arith, e)) h.2)
 
-parts_follow : (b s j : ℕ) (choice : List ℕ) (ws : List WithoutValue) → AreWithouts b s j choice ws → Follows Fits after (parts_plan b s j (as_numbers choice)) (part_lines ws)
+parts_follow : (b s j : ℕ) (choice : List ℕ) (ws : List WithoutValue) → AreWithouts b s j choice ws → Follows Fits after
+    (parts_plan b s j (as_numbers choice)) (part_lines ws)
 parts_follow b s j [] [] h = tt
 parts_follow b s j [] (w ∷ ws) h = absurd h
 parts_follow b s j (zero ∷ ns) ws h = parts_follow b s (suc j) ns ws h
@@ -69,15 +73,18 @@ some_bidder b (r ∷ rows) h some = some_member b r.members h.0.some h.0.members
 -- the lines behind the version are those of their plan
 body_follows : (b s : ℕ) (c : CertValue) → IsCertificate b s c → Follows Fits after (body_plan b s) (body_lines c)
 body_follows b s c h =
-    let rest : Follows Fits after (kind (codes "pay") (signed b) ∷ kind (codes "rows") (counted b) ∷ kind (codes "lowered") (these []) ∷ (table_plan b s ++ kind (codes "end") (these []) ∷ []))
-    (line (codes "pay") c.pay ∷ line (codes "rows") (pos (length c.rows) ∷ []) ∷ (row_lines c.rows ++ line (codes "lowered") [] ∷ (table_lines c.lowered ++ line (codes "end") [] ∷ []))) = (
+    let rest : Follows Fits after (kind (codes "pay") (signed b) ∷ kind (codes "rows") (counted b) ∷ kind (codes "lowered") (these []) ∷
+    (table_plan b s ++ kind (codes "end") (these []) ∷ []))
+    (line (codes "pay") c.pay ∷ line (codes "rows") (pos (length c.rows) ∷ []) ∷
+    (row_lines c.rows ++ line (codes "lowered") [] ∷ (table_lines c.lowered ++ line (codes "end") [] ∷ []))) = (
       record { word = refl; numbers = h.pay.0 },
       (
         record { word = refl; numbers = (length c.rows, refl, h.few, some_bidder b c.rows h.rows) },
         follows_both Fits after (rows_plan b (length c.rows)) (kind (codes "lowered") (these []) ∷ (table_plan b s ++ kind (codes "end") (these []) ∷ []))
             (row_lines c.rows) (line (codes "lowered") [] ∷ (table_lines c.lowered ++ line (codes "end") [] ∷ [])) (rows_follow b c.rows h.rows) (
               record { word = refl; numbers = refl },
-              follows_both Fits after (table_plan b s) (kind (codes "end") (these []) ∷ []) (table_lines c.lowered) (line (codes "end") [] ∷ []) (table_follows (suc b) s c.lowered h.lowered.0 h.lowered.1)
+              follows_both Fits after (table_plan b s) (kind (codes "end") (these []) ∷ []) (table_lines c.lowered) (line (codes "end") [] ∷ [])
+                  (table_follows (suc b) s c.lowered h.lowered.0 h.lowered.1)
                   (record { word = refl; numbers = refl }, tt),
             ),
       ),
@@ -87,9 +94,14 @@ body_follows b s c h =
         record { word = refl; numbers = refl },
         (
           record { word = refl; numbers = choice_fits b c.choice h.choice },
-          follows_both Fits after ((kind (codes "table") (these []) ∷ table_plan b s) ++ parts_plan b s 1 (as_numbers c.choice)) (kind (codes "pay") (signed b) ∷ kind (codes "rows") (counted b) ∷ kind (codes "lowered") (these []) ∷ (table_plan b s ++ kind (codes "end") (these []) ∷ []))
-              ((line (codes "table") [] ∷ table_lines c.table) ++ part_lines c.withouts) (line (codes "pay") c.pay ∷ line (codes "rows") (pos (length c.rows) ∷ []) ∷ (row_lines c.rows ++ line (codes "lowered") [] ∷ (table_lines c.lowered ++ line (codes "end") [] ∷ [])))
-              (follows_both Fits after (kind (codes "table") (these []) ∷ table_plan b s) (parts_plan b s 1 (as_numbers c.choice)) (line (codes "table") [] ∷ table_lines c.table) (part_lines c.withouts)
+          follows_both Fits after ((kind (codes "table") (these []) ∷ table_plan b s) ++ parts_plan b s 1 (as_numbers c.choice))
+              (kind (codes "pay") (signed b) ∷ kind (codes "rows") (counted b) ∷ kind (codes "lowered") (these []) ∷
+              (table_plan b s ++ kind (codes "end") (these []) ∷ []))
+              ((line (codes "table") [] ∷ table_lines c.table) ++ part_lines c.withouts)
+              (line (codes "pay") c.pay ∷ line (codes "rows") (pos (length c.rows) ∷ []) ∷
+              (row_lines c.rows ++ line (codes "lowered") [] ∷ (table_lines c.lowered ++ line (codes "end") [] ∷ [])))
+              (follows_both Fits after (kind (codes "table") (these []) ∷ table_plan b s) (parts_plan b s 1 (as_numbers c.choice))
+              (line (codes "table") [] ∷ table_lines c.table) (part_lines c.withouts)
               (record { word = refl; numbers = refl }, table_follows (suc b) s c.table h.table.0 h.table.1) (parts_follow b s 1 c.choice c.withouts h.withouts))
               rest,
         ),

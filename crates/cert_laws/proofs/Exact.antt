@@ -18,15 +18,18 @@ use Rattle.cert_laws.proofs.Sizes.{exact_obeys}
 use Rattle.cert_laws.proofs.Core.{kept, kept-least, kept-loser}
 
 -- the exact table of the net amounts obeys the rules
-pub plain-obeys : (book : Book) (table : List (List ℤ)) → IsExactTable (menu_of book) (net_of book) book.supply table → Obeys (menu_of book) (net_of book) book.supply table
+pub plain-obeys : (book : Book) (table : List (List ℤ)) → IsExactTable (menu_of book) (net_of book) book.supply table
+    → Obeys (menu_of book) (net_of book) book.supply table
 plain-obeys book table exact = exact_obeys (menu_of book) (net_of book) book.supply table (λ j. refl) (λ j. refl) exact
 
 -- and so does that without the bids of bidder j
-pub without-obeys : (book : Book) (j : ℕ) (table : List (List ℤ)) → IsExactTable (without (menu_of book) j) (net_of book) book.supply table → Obeys (without (menu_of book) j) (net_of book) book.supply table
+pub without-obeys : (book : Book) (j : ℕ) (table : List (List ℤ)) → IsExactTable (without (menu_of book) j) (net_of book) book.supply table
+    → Obeys (without (menu_of book) j) (net_of book) book.supply table
 without-obeys book j table exact = exact_obeys (without (menu_of book) j) (net_of book) book.supply table (λ i. refl) (λ i. refl) exact
 
 -- rules for other worths that are the same at each bid
-pub obeys-same : (m : Menu) (v w : ℕ → ℕ → ℤ) (supply : List ℕ) (table : List (List ℤ)) → ((k i : ℕ) → k < m.bidders → 0 < i → v (suc k) i ≡ w (suc k) i) → Obeys m v supply table → Obeys m w supply table
+pub obeys-same : (m : Menu) (v w : ℕ → ℕ → ℤ) (supply : List ℕ) (table : List (List ℤ)) → ((k i : ℕ) → k < m.bidders → 0 < i → v (suc k) i ≡ w (suc k) i)
+    → Obeys m v supply table → Obeys m w supply table
 obeys-same m v w supply table same obeys k s le lt = record {
   last = (obeys k s le lt).last;
   none = (obeys k s le lt).none;
@@ -55,7 +58,8 @@ module _ (book : Book) (c : CertValue) (pay_is : length c.pay ≡ bidders_of boo
         let h = kept-least book c h5 (suc n) (omega arith) (omega (arith, inside)) in
         omega (arith, ints, e, h))
     | inr past ↦ (
-        let e : slice_index_or gains n (pos 0) ≡ pos 0 = get_or_past gains n (pos 0) (omega (arith, past, pay_is, surpluses-length (market_of book) c.choice c.den 0 c.pay)) in
+        let e : slice_index_or gains n (pos 0) ≡ pos 0 = get_or_past gains n (pos 0)
+        (omega (arith, past, pay_is, surpluses-length (market_of book) c.choice c.den 0 c.pay)) in
         omega (arith, ints, e))
   ]
 
@@ -70,11 +74,14 @@ module _ (book : Book) (c : CertValue) (pay_is : length c.pay ≡ bidders_of boo
       kept-is : (k : ℕ) → k < bidders_of book → (if uses c.choice (suc k) then kept book c (suc k) else pos 0) ≡ kept book c (suc k)
       kept-is k lt = elim (cases_Bool (uses c.choice (suc k))) [
         | inl wins ↦ ap (λ (b : Bool). if b then kept book c (suc k) else pos 0) wins
-        | inr loses ↦ ap (λ (b : Bool). if b then kept book c (suc k) else pos 0) loses ∙ sym (kept-loser book c h5 (suc k) (omega arith) (omega (arith, lt)) loses)
+        | inr loses ↦ ap (λ (b : Bool). if b then kept book c (suc k) else pos 0) loses
+            ∙ sym (kept-loser book c h5 (suc k) (omega arith) (omega (arith, lt)) loses)
       ]
 
   -- the exact table of the worths lowered by the gains obeys the rules for the lowered amounts of the tests
-  pub lowered-obeys : (table : List (List ℤ)) → IsExactTable (menu_of book) (lowered c.den (net_of book) gains) book.supply table → Obeys (menu_of book) (lowered_net book c) book.supply table
+  pub lowered-obeys : (table : List (List ℤ)) → IsExactTable (menu_of book) (lowered c.den (net_of book) gains) book.supply table
+      → Obeys (menu_of book) (lowered_net book c) book.supply table
   lowered-obeys table exact =
       obeys-same (menu_of book) (lowered c.den (net_of book) gains) (lowered_net book c) book.supply table bid-is
-      (exact_obeys (menu_of book) (lowered c.den (net_of book) gains) book.supply table (λ j. idle-none gains j c.den (net_of book) (gain-least (j - 1))) (λ j. refl) exact)
+      (exact_obeys (menu_of book) (lowered c.den (net_of book) gains) book.supply table (λ j. idle-none gains j c.den (net_of book) (gain-least (j - 1)))
+      (λ j. refl) exact)

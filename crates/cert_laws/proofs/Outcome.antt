@@ -10,7 +10,8 @@ use Rattle.cert_laws.proofs.Core.{core}
 use Rattle.cert_laws.proofs.Aims.{least_sum, nearest_point, shares}
 
 -- a certificate for which all tests hold is sound
-pub sound : (book : Book) (weights : List ℕ) (c : CertValue) → AreWeights (bidders_of book) weights → length c.choice ≡ bidders_of book → length c.pay ≡ bidders_of book
+pub sound : (book : Book) (weights : List ℕ) (c : CertValue) → AreWeights (bidders_of book) weights → length c.choice ≡ bidders_of book
+    → length c.pay ≡ bidders_of book
     → Holds book (weight_of weights) c → IsSound book (weight_of weights) c
 sound book weights c are length_is pay_is h =
     let w = weight_of weights in

@@ -35,7 +35,8 @@ RulesAt m worth supply table place = (k s : ℕ) → k ≤ m.bidders → s < sta
 
 -- the lines before this one keep the rules, and this one at the places before s, but not at s: so that is the first number
 pub first_rule : (m : Menu) (worth : ℕ → ℕ → ℤ) (supply : List ℕ) (table : List (List ℤ)) (k s : ℕ) → k ≤ m.bidders → s < states_of supply
-    → ((l t : ℕ) → l < k → t < states_of supply → ObeysAt m worth supply table l t) → ((t : ℕ) → t < s → ObeysAt m worth supply table k t) → (ObeysAt m worth supply table k s → ⊥)
+    → ((l t : ℕ) → l < k → t < states_of supply → ObeysAt m worth supply table l t) → ((t : ℕ) → t < s → ObeysAt m worth supply table k t)
+    → (ObeysAt m worth supply table k s → ⊥)
     → ((q : ℕ) → q < k * states_of supply + s → RulesAt m worth supply table q) × (RulesAt m worth supply table (k * states_of supply + s) → ⊥)
 first_rule m worth supply table k s le lt lines here fails = (
   λ q below l t ll lt' e. elim (place_before (states_of supply) l t k s lt' lt (omega (arith, below, e))) [

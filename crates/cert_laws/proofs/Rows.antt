@@ -30,14 +30,17 @@ times_one true x = omega (arith, ints)
 times_one false x = omega (arith, ints)
 
 -- what the members of row i + 1 pay
-pub members-pay : (rows : List RowValue) (i n : ℕ) (at : List ℤ) → dot n (coefficient rows i) (λ j. of_bidder at (suc j)) ≡ sum_over (is_member (row_of rows (suc i)).members) (of_bidder at) n
+pub members-pay : (rows : List RowValue) (i n : ℕ) (at : List ℤ) → dot n (coefficient rows i) (λ j. of_bidder at (suc j)) ≡ sum_over
+    (is_member (row_of rows (suc i)).members) (of_bidder at) n
 members-pay rows i n at =
     let holds = is_member (row_of rows (suc i)).members in
-    total-same n (λ j. coefficient rows i j *ℤ of_bidder at (suc j)) (λ j. cond (holds (suc j)) (of_bidder at (suc j)) (pos 0)) (λ j lt. one_times (holds (suc j)) (of_bidder at (suc j)))
+    total-same n (λ j. coefficient rows i j *ℤ of_bidder at (suc j)) (λ j. cond (holds (suc j)) (of_bidder at (suc j)) (pos 0))
+    (λ j lt. one_times (holds (suc j)) (of_bidder at (suc j)))
     ∙ sym (over-is holds (of_bidder at) n)
 
 -- the numbers of the rows that hold bidder j + 1
-pub holding-is : (rows : List RowValue) (j : ℕ) (number : RowValue → ℤ) (n : ℕ) → sum_holding rows (suc j) number n ≡ dot n (λ i. number (row_of rows (suc i))) (λ i. coefficient rows i j)
+pub holding-is : (rows : List RowValue) (j : ℕ) (number : RowValue → ℤ) (n : ℕ) → sum_holding rows (suc j) number n ≡ dot n
+    (λ i. number (row_of rows (suc i))) (λ i. coefficient rows i j)
 holding-is rows j number zero = refl
 holding-is rows j number (suc n) =
     let a = holding-is rows j number n in
@@ -48,7 +51,8 @@ split_one : (b : Bool) (x y : ℤ) → cond (not b) (x -ℤ y) (pos 0) +ℤ y �
 split_one true x y = omega (arith, ints)
 split_one false x y = omega (arith, ints)
 
-split : (s : ℕ → Bool) (f g : ℕ → ℤ) (n : ℕ) → sum_over (λ j. not (s j)) (λ j. f j -ℤ g j) n +ℤ sum_over everyone g n ≡ sum_over (λ j. not (s j)) f n +ℤ sum_over s g n
+split : (s : ℕ → Bool) (f g : ℕ → ℤ) (n : ℕ) → sum_over (λ j. not (s j)) (λ j. f j -ℤ g j) n +ℤ sum_over everyone g n ≡ sum_over
+    (λ j. not (s j)) f n +ℤ sum_over s g n
 split s f g zero = refl
 split s f g (suc n) =
     let a = split s f g n in
@@ -77,7 +81,8 @@ module _ (book : Book) (c : CertValue) (h6 : (place : ℕ) → C6 book c place) 
   tight i lt = members-pay c.rows i (bidders_of book) c.pay ∙ (row-at i lt).tight
 
   -- each core point meets all rows
-  pub meets : (q : Point) → IsCorePoint (market_of book) c.choice q → MeetsRows (bidders_of book) (length c.rows) (coefficient c.rows) (bound book c) q.den (λ j. of_bidder q.at (suc j))
+  pub meets : (q : Point) → IsCorePoint (market_of book) c.choice q → MeetsRows (bidders_of book) (length c.rows) (coefficient c.rows) (bound book c) q.den
+      (λ j. of_bidder q.at (suc j))
   meets q point = record {
     positive = (let p = point.den_positive in omega (arith, ints, p));
     above = λ i lt.

@@ -1,5 +1,6 @@
 -- What the tests that hold say of the size of numbers, for the tests behind them; and exact tables obey the rules.
-use Rattle.std.specs.Prelude.{◌≡◌, ℕ, zero, suc, ◌+◌, ◌-◌, ◌*◌, ◌≤◌, ◌<◌, not, nat_le, IsTrue, List, [], ◌∷◌, length, slice_index_or, ℤ, pos, ◌+ℤ◌, ◌*ℤ◌, ◌≤ℤ◌, refl}
+use Rattle.std.specs.Prelude.{◌≡◌, ℕ, zero, suc, ◌+◌, ◌-◌, ◌*◌, ◌≤◌, ◌<◌, not, nat_le, IsTrue, List, [], ◌∷◌, length, slice_index_or, ℤ, pos, ◌+ℤ◌, ◌*ℤ◌}
+use Rattle.std.specs.Prelude.{◌≤ℤ◌, refl}
 use Rattle.std.proofs.Common.{inl, inr, sym, ◌∙◌, ap, subst, arith, set}
 use Rattle.std.proofs.lemmas.Bool.{and_parts, and_from, le-leb, cases_Bool}
 use Rattle.std.proofs.lemmas.Int.{ints}
@@ -41,24 +42,28 @@ module _ (m : Menu) (worth : ℕ → ℕ → ℤ) (supply : List ℕ) (table : L
       omega (arith, ints, rest, step)
 
   -- no bid that fits the supply is worth more than line 0 has for it
-  pub worth-most : (k i : ℕ) → k < m.bidders → 0 < i → i ≤ m.bids (suc k) → IsTrue (is_within (m.lots (suc k) i) supply) → worth (suc k) i ≤ℤ entry_at table 0 (states_of supply - 1)
+  pub worth-most : (k i : ℕ) → k < m.bidders → 0 < i → i ≤ m.bids (suc k) → IsTrue (is_within (m.lots (suc k) i) supply)
+      → worth (suc k) i ≤ℤ entry_at table 0 (states_of supply - 1)
   worth-most k i lt some known fits =
       let s = states_of supply - 1 in
       let below = full-below supply in
       let q = place_of supply (less (left_at supply s) (m.lots (suc k) i)) in
       let in_place = place-less_below supply (m.lots (suc k) i) s below in
-      let step = (rules k s (omega (arith, lt)) below).bid lt i some known (subst (λ (l : List ℕ). IsTrue (is_within (m.lots (suc k) i) l)) (sym (left_at-whole supply)) fits) in
+      let step = (rules k s (omega (arith, lt)) below).bid lt i some known (subst (λ (l : List ℕ). IsTrue (is_within (m.lots (suc k) i) l))
+      (sym (left_at-whole supply)) fits) in
       let rest = entry-least (m.bidders - suc k) (suc k) q (omega (arith, lt)) in_place in
       let top = entry-most k s (omega (arith, lt)) below in
       omega (arith, ints, step, rest, top)
 
 -- an exact table obeys the rules
-module _ (m : Menu) (counts : ℕ → ℕ → ℤ) (supply : List ℕ) (table : List (List ℤ)) (none_counts : (j : ℕ) → counts j 0 ≡ pos 0) (empty : (j : ℕ) → m.lots j 0 ≡ []) (exact : IsExactTable m counts supply table) where
+module _ (m : Menu) (counts : ℕ → ℕ → ℤ) (supply : List ℕ) (table : List (List ℤ)) (none_counts : (j : ℕ) → counts j 0 ≡ pos 0)
+    (empty : (j : ℕ) → m.lots j 0 ≡ []) (exact : IsExactTable m counts supply table) where
   entry : (k s : ℕ) → k ≤ m.bidders → s < states_of supply → IsEntry m counts k (left_at supply s) (entry_at table k s)
   entry k s le lt = (exact.exact k le).exact s lt
 
   -- a bid, or none, with the best choice of the bidders behind
-  with_bid : (k s q i : ℕ) → k < m.bidders → s < states_of supply → q < states_of supply → i ≤ m.bids (suc k) → IsTrue (is_within (m.lots (suc k) i) (left_at supply s)) → left_at supply q ≡ less (left_at supply s) (m.lots (suc k) i)
+  with_bid : (k s q i : ℕ) → k < m.bidders → s < states_of supply → q < states_of supply → i ≤ m.bids (suc k)
+      → IsTrue (is_within (m.lots (suc k) i) (left_at supply s)) → left_at supply q ≡ less (left_at supply s) (m.lots (suc k) i)
       → (counts (suc k) i +ℤ entry_at table (suc k) q) ≤ℤ entry_at table k s
   with_bid k s q i k_in lt lt_q known own there =
       let rest = (entry (suc k) q (omega (arith, k_in)) lt_q).reached in
@@ -74,11 +79,13 @@ module _ (m : Menu) (counts : ℕ → ℕ → ℤ) (supply : List ℕ) (table : 
   exact_obeys k s le lt = record {
     last = λ e. last k e (entry k s le lt);
     none = λ k_in.
-        let whole : left_at supply s ≡ less (left_at supply s) (m.lots (suc k) 0) = sym (ap (less (left_at supply s)) (empty (suc k)) ∙ less-empty (left_at supply s)) in
+        let whole : left_at supply s ≡ less (left_at supply s) (m.lots (suc k) 0) =
+        sym (ap (less (left_at supply s)) (empty (suc k)) ∙ less-empty (left_at supply s)) in
         let b = with_bid k s s 0 k_in lt lt (omega arith) (subst (λ (l : List ℕ). IsTrue (is_within l (left_at supply s))) (sym (empty (suc k))) refl) whole in
         let z = none_counts (suc k) in
         omega (arith, ints, b, z);
-    bid = λ k_in i some known fits. with_bid k s (place_of supply (less (left_at supply s) (m.lots (suc k) i))) i k_in lt (place-less_below supply (m.lots (suc k) i) s lt) known fits (left_at-less supply (m.lots (suc k) i) s lt);
+    bid = λ k_in i some known fits. with_bid k s (place_of supply (less (left_at supply s) (m.lots (suc k) i))) i k_in lt
+        (place-less_below supply (m.lots (suc k) i) s lt) known fits (left_at-less supply (m.lots (suc k) i) s lt);
   }
     where
       last : (k : ℕ) → k ≡ m.bidders → IsEntry m counts k (left_at supply s) (entry_at table k s) → pos 0 ≤ℤ entry_at table k s
@@ -89,7 +96,8 @@ set_same [] i lt = absurd (omega arith)
 set_same (x ∷ c) zero lt = refl
 set_same (x ∷ c) (suc i) lt = set_same c i (omega arith)
 
-fewer-sum : (worth : ℕ → ℕ → ℤ) (k : ℕ) (c : List ℕ) (i : ℕ) → i < length c → ((j : ℕ) → worth j 0 ≡ pos 0) → sum_after worth k (set c i 0) +ℤ worth (suc (k + i)) (slice_index_or c i 0) ≡ sum_after worth k c
+fewer-sum : (worth : ℕ → ℕ → ℤ) (k : ℕ) (c : List ℕ) (i : ℕ) → i < length c → ((j : ℕ) → worth j 0 ≡ pos 0)
+    → sum_after worth k (set c i 0) +ℤ worth (suc (k + i)) (slice_index_or c i 0) ≡ sum_after worth k c
 fewer-sum worth k [] i lt none = absurd (omega arith)
 fewer-sum worth k (x ∷ c) zero lt none =
     let z = none (suc k) in
@@ -97,12 +105,15 @@ fewer-sum worth k (x ∷ c) zero lt none =
     omega (arith, ints, z, e)
 fewer-sum worth k (x ∷ c) (suc i) lt none =
     let r = fewer-sum worth (suc k) c i (omega arith) none in
-    let e : worth (suc (k + suc i)) (slice_index_or c i 0) ≡ worth (suc (suc k + i)) (slice_index_or c i 0) = ap (λ (y : ℕ). worth (suc y) (slice_index_or c i 0)) (omega arith) in
+    let e : worth (suc (k + suc i)) (slice_index_or c i 0) ≡ worth (suc (suc k + i)) (slice_index_or c i 0) =
+    ap (λ (y : ℕ). worth (suc y) (slice_index_or c i 0)) (omega arith) in
     omega (arith, ints, r, e)
 
-module _ (book : Book) (c : CertValue) (length_is : length c.choice ≡ bidders_of book) (h2 : (place : ℕ) → C2 book c place) (h3 : (place : ℕ) → C3 book c place) where
+module _ (book : Book) (c : CertValue) (length_is : length c.choice ≡ bidders_of book) (h2 : (place : ℕ) → C2 book c place)
+    (h3 : (place : ℕ) → C3 book c place) where
   -- after C3 no net amount of a bid is above the value
-  pub net-most : (k i : ℕ) → k < bidders_of book → 0 < i → i ≤ length (bids_of book (suc k)) → IsTrue (is_within (lots_of book (suc k) i) book.supply) → net_of book (suc k) i ≤ℤ c.value
+  pub net-most : (k i : ℕ) → k < bidders_of book → 0 < i → i ≤ length (bids_of book (suc k)) → IsTrue (is_within (lots_of book (suc k) i) book.supply)
+      → net_of book (suc k) i ≤ℤ c.value
   net-most k i lt some known fits =
       let w = worth-most (menu_of book) (net_of book) book.supply c.table (obeys book c length_is h2 h3) k i lt some known fits in
       let top = (h3 ((bidders_of book + 1) * states book)).top refl in
@@ -152,12 +163,16 @@ module _ (book : Book) (c : CertValue) (length_is : length c.choice ≡ bidders_
       let other = set c.choice (j - 1) 0 in
       let inside : j - 1 < length c.choice = omega (arith, some, le, length_is) in
       let back : suc (j - 1) ≡ j = omega (arith, some) in
-      let p = and_parts (is_known_after (menu_of book) 0 c.choice) (is_within (packages_after (menu_of book) 0 c.choice) book.supply) (allowed book c length_is h2 h3) in
+      let p = and_parts (is_known_after (menu_of book) 0 c.choice) (is_within (packages_after (menu_of book) 0 c.choice) book.supply)
+      (allowed book c length_is h2 h3) in
       let fits : IsTrue ((market_of book).allowed other) =
-      and_from (is_known_after (menu_of book) 0 other) (is_within (packages_after (menu_of book) 0 other) book.supply) (fewer-known (menu_of book) 0 c.choice (j - 1) p.0) (fewer-taken (menu_of book) 0 c.choice (j - 1) book.supply (λ i. refl) p.1) in
+      and_from (is_known_after (menu_of book) 0 other) (is_within (packages_after (menu_of book) 0 other) book.supply)
+      (fewer-known (menu_of book) 0 c.choice (j - 1) p.0) (fewer-taken (menu_of book) 0 c.choice (j - 1) book.supply (λ i. refl) p.1) in
       let gone : number_of other j ≡ 0 = set_same c.choice (j - 1) inside in
-      let m = part_most book c length_is h2 h3 j some part other (and_from ((market_of book).allowed other) (not (uses other j)) fits (unused_to other j gone)) in
+      let m = part_most book c length_is h2 h3 j some part other (and_from ((market_of book).allowed other) (not (uses other j)) fits
+      (unused_to other j gone)) in
       let s = fewer-sum (net_of book) 0 c.choice (j - 1) inside (λ i. refl) in
-      let w : net_of book (suc (0 + (j - 1))) (slice_index_or c.choice (j - 1) 0) ≡ won book c j = ap (λ (x : ℕ). net_of book x (slice_index_or c.choice (j - 1) 0)) (omega (arith, some)) in
+      let w : net_of book (suc (0 + (j - 1))) (slice_index_or c.choice (j - 1) 0) ≡ won book c j = ap
+      (λ (x : ℕ). net_of book x (slice_index_or c.choice (j - 1) 0)) (omega (arith, some)) in
       let v = value_is book c length_is h2 h3 in
       omega (arith, ints, m, s, w, v)

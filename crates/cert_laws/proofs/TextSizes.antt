@@ -41,7 +41,8 @@ pub part-later : (w : WithoutValue) (ws : List WithoutValue) (j : ℕ) → w.win
 part-later w ws j other = ap (λ b. cond b w (part_of ws j)) (ne_eqb w.winner j other)
 
 -- what passes for the part of each winner passes for each part
-pub parts-all : (T : WithoutValue → Type 0) (b s j : ℕ) (ns : List ℕ) (ws : List WithoutValue) → AreWithouts b s j ns ws → ((i : ℕ) → i < length ns → 0 < get_or ns i 0 → T (part_of ws (j + i))) → AllParts T ws
+pub parts-all : (T : WithoutValue → Type 0) (b s j : ℕ) (ns : List ℕ) (ws : List WithoutValue) → AreWithouts b s j ns ws
+    → ((i : ℕ) → i < length ns → 0 < get_or ns i 0 → T (part_of ws (j + i))) → AllParts T ws
 parts-all T b s j [] [] is f = tt
 parts-all T b s j [] (w ∷ ws) is f = absurd is
 parts-all T b s j (zero ∷ ns) ws is f =
@@ -50,14 +51,16 @@ parts-all T b s j (suc n ∷ ns) [] is f = absurd is
 parts-all T b s j (suc n ∷ ns) (w ∷ ws) is f = (
   subst T (part-here w ws (j + 0) (is.0.winner ∙ omega arith)) (f 0 (omega arith) (omega arith)),
   parts-all T b s (suc j) ns ws is.1
-      (λ i lt some. subst (λ (x : ℕ). T (part_of ws x)) (omega arith) (subst T (part-later w ws (j + suc i) (λ e. omega (arith, e, is.0.winner))) (f (suc i) (omega (arith, lt)) some))),
+      (λ i lt some. subst (λ (x : ℕ). T (part_of ws x)) (omega arith) (subst T (part-later w ws (j + suc i) (λ e. omega (arith, e, is.0.winner)))
+      (f (suc i) (omega (arith, lt)) some))),
 )
 
 -- its table has at most so many bytes
 abbrev pub HasShortTable : WithoutValue → Type 0
 HasShortTable w = size (table_lines w.table) ≤ 4456482
 
-own-size : (b s j : ℕ) (w : WithoutValue) → b ≤ 16 → j ≤ 16 → IsWithout b s j w → HasShortTable w → size (line (codes "without") (pos w.winner ∷ []) ∷ choice_line w.choice ∷ line (codes "table") [] ∷ table_lines w.table) ≤ 4457200
+own-size : (b s j : ℕ) (w : WithoutValue) → b ≤ 16 → j ≤ 16 → IsWithout b s j w → HasShortTable w → size
+    (line (codes "without") (pos w.winner ∷ []) ∷ choice_line w.choice ∷ line (codes "table") [] ∷ table_lines w.table) ≤ 4457200
 own-size b s j w few low is short =
     let first = line-size (codes "without") (pos w.winner ∷ []) 1 (omega (arith, is.winner, low), tt) (omega arith) in
     let second = choice-size b w.choice few is.choice in
@@ -65,7 +68,8 @@ own-size b s j w few low is short =
     omega (arith, first, second, third, short)
 
 -- parts with short tables have at most 4,457,200 bytes for each winner
-pub parts-size : (b s j : ℕ) (ns : List ℕ) (ws : List WithoutValue) → b ≤ 16 → j + length ns ≤ 17 → AreWithouts b s j ns ws → AllParts HasShortTable ws → size (part_lines ws) ≤ times (winners_in ns) 4457200
+pub parts-size : (b s j : ℕ) (ns : List ℕ) (ws : List WithoutValue) → b ≤ 16 → j + length ns ≤ 17 → AreWithouts b s j ns ws → AllParts HasShortTable ws
+    → size (part_lines ws) ≤ times (winners_in ns) 4457200
 parts-size b s j [] [] few le is short = omega arith
 parts-size b s j [] (w ∷ ws) few le is short = absurd is
 parts-size b s j (zero ∷ ns) ws few le is short = parts-size b s (suc j) ns ws few (omega (arith, le)) is short
@@ -73,7 +77,13 @@ parts-size b s j (suc n ∷ ns) [] few le is short = absurd is
 parts-size b s j (suc n ∷ ns) (w ∷ ws) few le is short =
     let own = own-size b s j w few (omega (arith, le)) is.0 short.0 in
     let rest = parts-size b s (suc j) ns ws few (omega (arith, le)) is.1 short.1 in
-    omega (arith, own, rest, size-append (line (codes "without") (pos w.winner ∷ []) ∷ choice_line w.choice ∷ line (codes "table") [] ∷ table_lines w.table) (part_lines ws))
+    omega (
+      arith,
+      own,
+      rest,
+      size-append (line (codes "without") (pos w.winner ∷ []) ∷ choice_line w.choice ∷ line (codes "table") [] ∷ table_lines w.table)
+          (part_lines ws),
+    )
 
 -- rows have at most 1,350 bytes each
 pub rows-size : (b : ℕ) (rows : List RowValue) → b ≤ 16 → AreRows b rows → size (row_lines rows) ≤ times (length rows) 1350

@@ -8,7 +8,17 @@ use Rattle.cert_laws.specs.Tests.{Asks, Holds, FailsFirst}
 
 -- where all tests hold, so does what each asks at each place
 pub all_asked : (book : Book) (w : ℕ → ℕ) (c : CertValue) → Holds book w c → (t place : ℕ) → Asks book w c t place
-all_asked book w c h t place = (λ e. h.c1 place, λ e. h.c2 place, λ e. h.c3 place, λ e. h.c4 place, λ e. h.c5 place, λ e. h.c6 place, λ e. h.c7 place, λ e. h.c8 place, λ e. h.c9 place)
+all_asked book w c h t place = (
+  λ e. h.c1 place,
+  λ e. h.c2 place,
+  λ e. h.c3 place,
+  λ e. h.c4 place,
+  λ e. h.c5 place,
+  λ e. h.c6 place,
+  λ e. h.c7 place,
+  λ e. h.c8 place,
+  λ e. h.c9 place,
+)
 
 -- where what each test asks holds at each place, all tests hold
 pub holds_all : (book : Book) (w : ℕ → ℕ) (c : CertValue) → ((t place : ℕ) → Asks book w c t place) → Holds book w c

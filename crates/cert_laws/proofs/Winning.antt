@@ -1,5 +1,6 @@
 -- C2 and C3 show that the choice is the first of the greatest, and C4 shows the Vickrey prices.
-use Rattle.std.specs.Prelude.{◌≡◌, ℕ, zero, suc, ◌+◌, ◌-◌, ◌*◌, ◌≤◌, ◌<◌, Bool, not, nat_le, ◌==◌, IsTrue, IsFalse, List, [], ◌∷◌, length, slice_index_or, ℤ, pos, ◌+ℤ◌, ◌-ℤ◌, ◌≤ℤ◌, ◌<ℤ◌, refl, if◌then◌else◌}
+use Rattle.std.specs.Prelude.{◌≡◌, ℕ, zero, suc, ◌+◌, ◌-◌, ◌*◌, ◌≤◌, ◌<◌, Bool, not, nat_le, ◌==◌, IsTrue, IsFalse, List, [], ◌∷◌, length, slice_index_or, ℤ}
+use Rattle.std.specs.Prelude.{pos, ◌+ℤ◌, ◌-ℤ◌, ◌≤ℤ◌, ◌<ℤ◌, refl, if◌then◌else◌}
 use Rattle.std.proofs.Common.{sym, ◌∙◌, ap, subst, arith}
 use Rattle.std.proofs.lemmas.Bool.{false≢true, and_from, le-leb, eqb-true, eq-eqb, not-true, not-false}
 use Rattle.std.proofs.lemmas.Int.{ints}
@@ -27,7 +28,8 @@ sum-counted worth none k (zero ∷ c) = let a = sum-counted worth none (suc k) c
 sum-counted worth none k (suc i ∷ c) = let a = sum-counted worth none (suc k) c in omega (arith, ints, a)
 
 -- a choice with a number of a bid, or 0, for each bidder is known
-pub known_from : (m : Menu) (k : ℕ) (c : List ℕ) → k + length c ≡ m.bidders → ((n : ℕ) → n < length c → slice_index_or c n 0 ≤ m.bids (suc (k + n))) → IsTrue (is_known_after m k c)
+pub known_from : (m : Menu) (k : ℕ) (c : List ℕ) → k + length c ≡ m.bidders → ((n : ℕ) → n < length c → slice_index_or c n 0 ≤ m.bids (suc (k + n)))
+    → IsTrue (is_known_after m k c)
 known_from m k [] e h = eq-eqb k m.bidders (omega arith)
 known_from m k (i ∷ c) e h =
     and_from (nat_le i (m.bids (suc k))) (is_known_after m (suc k) c)
@@ -54,15 +56,18 @@ allowed-length book f t = let e = known-length (menu_of book) 0 f (fits-known (m
 pub lost-nothing : (book : Book) (c : CertValue) (j : ℕ) → IsFalse (uses c.choice j) → won book c j ≡ pos 0
 lost-nothing book c j t = ap (net_of book j) (eqb-true (number_of c.choice j) 0 (not-false (number_of c.choice j == 0) t))
 
-module _ (book : Book) (c : CertValue) (length_is : length c.choice ≡ bidders_of book) (h2 : (place : ℕ) → C2 book c place) (h3 : (place : ℕ) → C3 book c place) where
+module _ (book : Book) (c : CertValue) (length_is : length c.choice ≡ bidders_of book) (h2 : (place : ℕ) → C2 book c place)
+    (h3 : (place : ℕ) → C3 book c place) where
   -- the choice is known
   pub known : IsTrue (is_known_after (menu_of book) 0 c.choice)
   known = known_from (menu_of book) 0 c.choice (omega (arith, length_is))
-      (λ n lt. subst (λ (x : ℕ). slice_index_or c.choice x 0 ≤ length (bids_of book (suc (0 + n)))) (omega arith) ((h2 (suc (0 + n))).known (omega arith) (omega (arith, length_is))))
+      (λ n lt. subst (λ (x : ℕ). slice_index_or c.choice x 0 ≤ length (bids_of book (suc (0 + n)))) (omega arith)
+      ((h2 (suc (0 + n))).known (omega arith) (omega (arith, length_is))))
 
   -- the choice is allowed
   pub allowed : IsTrue ((market_of book).allowed c.choice)
-  allowed = and_from (is_known_after (menu_of book) 0 c.choice) (is_within (packages_after (menu_of book) 0 c.choice) book.supply) known ((h2 (bidders_of book + 1)).fits refl)
+  allowed = and_from (is_known_after (menu_of book) 0 c.choice) (is_within (packages_after (menu_of book) 0 c.choice) book.supply) known
+      ((h2 (bidders_of book + 1)).fits refl)
 
   -- the value of the certificate is that of its choice
   pub value_is : value_of (market_of book) c.choice ≡ c.value
@@ -81,7 +86,8 @@ module _ (book : Book) (c : CertValue) (length_is : length c.choice ≡ bidders_
   -- no allowed choice is worth more than that of the certificate
   pub most : (d : List ℕ) → IsTrue ((market_of book).allowed d) → value_of (market_of book) d ≤ℤ value_of (market_of book) c.choice
   most d t =
-      let b : sum_after (counted (net_of book)) 0 d ≤ℤ entry_at c.table 0 (full book) = bounded (menu_of book) (net_of book) book.supply c.table (λ j. refl) obeys d 0 (full book) (omega arith) (full-below book.supply) (whole d t) in
+      let b : sum_after (counted (net_of book)) 0 d ≤ℤ entry_at c.table 0 (full book) = bounded (menu_of book) (net_of book) book.supply c.table
+      (λ j. refl) obeys d 0 (full book) (omega arith) (full-below book.supply) (whole d t) in
       let e = sum-counted (net_of book) (λ j. refl) 0 d in
       omega (arith, ints, b, e, top, value_is)
 
@@ -94,27 +100,32 @@ module _ (book : Book) (c : CertValue) (length_is : length c.choice ≡ bidders_
         let b : sum_after (counted (net_of book)) 0 d <ℤ (c.value -ℤ pos 0) =
         earlier_is_less (menu_of book) (net_of book) book.supply c.table (λ j. refl) obeys c.choice c.value (λ j. refl)
         (λ k lt. (h3 ((bidders_of book + 1) * states book + suc k)).first k lt refl)
-        d c.choice 0 (full book) (record { same = λ n. ap (λ (x : ℕ). slice_index_or c.choice x 0) (omega arith) }) (omega arith) (full-below book.supply) (left_at-whole book.supply) (whole d t) before in
+        d c.choice 0 (full book) (record { same = λ n. ap (λ (x : ℕ). slice_index_or c.choice x 0) (omega arith) }) (omega arith) (full-below book.supply)
+        (left_at-whole book.supply) (whole d t) before in
         let e = sum-counted (net_of book) (λ j. refl) 0 d in
         omega (arith, ints, b, e, value_is);
   }
 
   -- no choice that does not use winner j is worth more than the choice of its part
-  pub part_most : (j : ℕ) → 0 < j → IsPart book j (part_of c.withouts j) → (d : List ℕ) → IsTrue (allowed_without (market_of book) j d) → value_of (market_of book) d ≤ℤ value_of (market_of book) (part_of c.withouts j).choice
+  pub part_most : (j : ℕ) → 0 < j → IsPart book j (part_of c.withouts j) → (d : List ℕ) → IsTrue (allowed_without (market_of book) j d)
+      → value_of (market_of book) d ≤ℤ value_of (market_of book) (part_of c.withouts j).choice
   part_most j some part d t =
       let f : IsTrue (fits_after (without (menu_of book) j) 0 book.supply d) = fits-skip (menu_of book) j book.supply d some ∙ t in
       let b : sum_after (counted (net_of book)) 0 d ≤ℤ entry_at (part_of c.withouts j).table 0 (full book) =
-      bounded (without (menu_of book) j) (net_of book) book.supply (part_of c.withouts j).table (λ i. refl) part.rules d 0 (full book) (omega arith) (full-below book.supply)
+      bounded (without (menu_of book) j) (net_of book) book.supply (part_of c.withouts j).table (λ i. refl) part.rules d 0 (full book) (omega arith)
+      (full-below book.supply)
       (subst (λ (l : List ℕ). IsTrue (fits_after (without (menu_of book) j) 0 l d)) (sym (left_at-whole book.supply)) f) in
       let e = sum-counted (net_of book) (λ i. refl) 0 d in
       omega (arith, ints, b, e, part.top)
 
   -- where C4 holds, the part of a winner gives its Vickrey price
-  pub vickrey : ((place : ℕ) → C4 book c place) → (j : ℕ) → 0 < j → j ≤ bidders_of book → IsTrue (uses c.choice j) → IsVickreyPrice (market_of book) c.choice j (vickrey_of book c j)
+  pub vickrey : ((place : ℕ) → C4 book c place) → (j : ℕ) → 0 < j → j ≤ bidders_of book → IsTrue (uses c.choice j)
+      → IsVickreyPrice (market_of book) c.choice j (vickrey_of book c j)
   vickrey h4 j some le used =
       let part = (h4 j).part some le used in
       let chosen = (part_of c.withouts j).choice in
-      let is : value_of (market_of book) chosen ≡ (vickrey_of book c j +ℤ value_of (market_of book) c.choice) -ℤ worth_in (market_of book) c.choice j = omega (arith, ints, value_is) in (
+      let is : value_of (market_of book) chosen ≡ (vickrey_of book c j +ℤ value_of (market_of book) c.choice) -ℤ worth_in (market_of book) c.choice j =
+      omega (arith, ints, value_is) in (
         λ yes. record {
           reached = (chosen, and_from ((market_of book).allowed chosen) (not (uses chosen j)) part.allowed (unused_to chosen j part.unused), is);
           bound = λ d t. subst (λ (x : ℤ). value_of (market_of book) d ≤ℤ x) is (part_most j some part d t);
@@ -125,7 +136,8 @@ module _ (book : Book) (c : CertValue) (length_is : length c.choice ≡ bidders_
   -- with 0 for losers these are the prices of all bidders
   pub prices : ((place : ℕ) → C4 book c place) → AreVickreyPrices (market_of book) c.choice (cert_prices book c)
   prices h4 j some le = (
-    λ wins. subst (λ (x : ℤ). IsGreatestValue (allowed_without (market_of book) j) (value_of (market_of book)) ((x +ℤ value_of (market_of book) c.choice) -ℤ worth_in (market_of book) c.choice j))
+    λ wins. subst (λ (x : ℤ). IsGreatestValue (allowed_without (market_of book) j) (value_of (market_of book))
+        ((x +ℤ value_of (market_of book) c.choice) -ℤ worth_in (market_of book) c.choice j))
         (sym (ap (λ (b : Bool). if b then vickrey_of book c j else pos 0) wins)) ((vickrey h4 j some le wins).0 wins),
     λ loses. ap (λ (b : Bool). if b then vickrey_of book c j else pos 0) loses,
   )

@@ -5,11 +5,14 @@ use Rattle.std.specs.Prelude.{ℤ, pos, negsuc, codes, map}
 use Rattle.cert_pieces.specs.Standing.{AllIn}
 use Rattle.cert_text.specs.cert_form.specs.Certificate.{CertValue, WithoutValue, RowValue}
 use Rattle.cert_text.specs.cert_form.specs.Plan.{Follows}
-use Rattle.cert_text.specs.cert_form.specs.Lines.{Line, Kind, Numbers, kind, these, signed, chosen, headed, counted, members, Fits, FitNumbers, AreNumbers, Rise, after, after_numbers, just_line, table_plan, parts_plan, rows_plan, version_lines, version_plan, body_plan, IsCertText}
+use Rattle.cert_text.specs.cert_form.specs.Lines.{Line, Kind, Numbers, kind, these, signed, chosen, headed, counted, members, Fits, FitNumbers, AreNumbers}
+use Rattle.cert_text.specs.cert_form.specs.Lines.{Rise, after, after_numbers, just_line, table_plan, parts_plan, rows_plan, version_lines, version_plan}
+use Rattle.cert_text.specs.cert_form.specs.Lines.{body_plan, IsCertText}
 use Rattle.cert_text.specs.line_text.specs.Range.{AllInRange}
 use Rattle.cert_text.proofs.PlanSteps.{all_in}
 use Rattle.cert_text.specs.cert_form.proofs.Version.{version_is}
-use Rattle.cert_text.specs.cert_form.specs.CertText.{line, as_numbers, choice_line, table_lines, part_lines, row_lines, body_lines, cert_lines, AtMost, AreTableLines, AreWithouts, AreMembers, AreRows, IsCertificate}
+use Rattle.cert_text.specs.cert_form.specs.CertText.{line, as_numbers, choice_line, table_lines, part_lines, row_lines, body_lines, cert_lines, AtMost}
+use Rattle.cert_text.specs.cert_form.specs.CertText.{AreTableLines, AreWithouts, AreMembers, AreRows, IsCertificate}
 
 -- of lines in range, the first ones are
 in_left : (xs ys : List Line) → AllIn (xs ++ ys) → AllIn xs
@@ -53,7 +56,14 @@ record Next (word : List ℕ) (n : Numbers) (ks : List Kind) (is : List Line) : 
 -- lines of a plan begin with one of its first kind
 next : (word : List ℕ) (n : Numbers) (ks : List Kind) (is : List Line) → Follows Fits after (kind word n ∷ ks) is → Next word n ks is
 next word n ks [] f = absurd f
-next word n ks (i ∷ is) f = record { numbers = i.numbers; rest = is; whole = ap (λ (w : List ℕ). line w i.numbers ∷ is) f.0.word; fit = f.0.numbers; last = f.1 }
+next word n ks (i ∷ is) f = record {
+  numbers = i.numbers;
+  rest = is;
+  whole = ap (λ (w : List ℕ). line w i.numbers ∷ is) f.0.word;
+  fit = f.0.numbers;
+  last =
+      f.1;
+}
 
 -- a line of a table
 abbrev tkind : ℕ → Kind
@@ -89,7 +99,13 @@ record Small (ns : List ℤ) : Type 0 where
 -- numbers of a choice
 small : (ns : List ℤ) → AreNumbers 65535 ns → Small ns
 small [] all = record { numbers = []; same = refl; long = refl; most = tt }
-small (pos n ∷ ns) all = let s = small ns all.2 in record { numbers = n ∷ s.numbers; same = ap (λ (l : List ℤ). pos n ∷ l) s.same; long = ap suc s.long; most = (omega (arith, ints, all.1), s.most) }
+small (pos n ∷ ns) all = let s = small ns all.2 in record {
+  numbers = n ∷ s.numbers;
+  same = ap (λ (l : List ℤ). pos n ∷ l) s.same;
+  long =
+      ap suc s.long;
+  most = (omega (arith, ints, all.1), s.most);
+}
 small (negsuc n ∷ ns) all = absurd (omega (arith, ints, all.0))
 
 -- rising numbers as natural ones
@@ -102,7 +118,13 @@ record Rising (b before : ℕ) (ns : List ℤ) : Type 0 where
 -- members of a row
 rising : (b before : ℕ) (ns : List ℤ) → Rise b (pos before) ns → Rising b before ns
 rising b before [] rise = record { numbers = []; same = refl; long = refl; members = tt }
-rising b before (pos n ∷ ns) rise = let r = rising b n ns rise.2 in record { numbers = n ∷ r.numbers; same = ap (λ (l : List ℤ). pos n ∷ l) r.same; long = ap suc r.long; members = (omega (arith, ints, rise.0), omega (arith, ints, rise.1), r.members) }
+rising b before (pos n ∷ ns) rise = let r = rising b n ns rise.2 in record {
+  numbers = n ∷ r.numbers;
+  same = ap (λ (l : List ℤ). pos n ∷ l) r.same;
+  long =
+      ap suc r.long;
+  members = (omega (arith, ints, rise.0), omega (arith, ints, rise.1), r.members);
+}
 rising b before (negsuc n ∷ ns) rise = absurd (omega (arith, ints, rise.0))
 
 record PartsOf (b s j : ℕ) (choice : List ℕ) (is : List Line) : Type 0 where
@@ -135,7 +157,8 @@ parts_of b s j (suc n ∷ choice) is f all =
           (two.whole ∙ ap (λ (ns : List ℤ). line (codes "choice") ns ∷ two.rest) own.same
           ∙ ap (λ (l : List Line). choice_line own.numbers ∷ l)
           (three.whole ∙ ap (λ (ns : List ℤ). line (codes "table") ns ∷ three.rest) three.fit
-          ∙ ap (λ (l : List Line). line (codes "table") [] ∷ l) (c.whole ∙ ap (λ (l : List Line). l ++ c.rest) table.whole ∙ ap (λ (l : List Line). table_lines table.table ++ l) more.whole)));
+          ∙ ap (λ (l : List Line). line (codes "table") [] ∷ l) (c.whole ∙ ap (λ (l : List Line). l ++ c.rest) table.whole
+          ∙ ap (λ (l : List Line). table_lines table.table ++ l) more.whole)));
       are = (record { winner = refl; choice = (own.long ∙ two.fit.0, own.most); table = (table.long, table.lines) }, more.are);
     }
 
@@ -181,9 +204,19 @@ rows_of b (suc r) is f all =
           ∙ ap (λ (l : List Line). line (codes "row") (as_numbers rise.numbers) ∷ l)
           (two.whole ∙ ap (λ (ns : List ℤ). line (codes "mult") ns ∷ two.rest) pair.2
           ∙ ap (λ (l : List Line). line (codes "mult") (pair.0 ∷ pair.1 ∷ []) ∷ l)
-          (three.whole ∙ ap (λ (ns : List ℤ). line (codes "choice") ns ∷ three.rest) own.same ∙ ap (λ (l : List Line). choice_line own.numbers ∷ l) more.whole));
+          (three.whole ∙ ap (λ (ns : List ℤ). line (codes "choice") ns ∷ three.rest) own.same ∙ ap (λ (l : List Line). choice_line own.numbers ∷ l)
+          more.whole));
       long = ap suc more.long;
-      are = (record { some = omega (arith, rise.long, one.fit.0); members = rise.members; choice = (own.long ∙ three.fit.0, own.most); range = (range.0, range.1.0) }, more.are);
+      are = (
+        record {
+          some = omega (arith, rise.long, one.fit.0);
+          members = rise.members;
+          choice = (own.long ∙ three.fit.0, own.most);
+          range =
+              (range.0, range.1.0);
+        },
+        more.are,
+      );
     }
 
 -- a plan of just these lines has no other text
@@ -192,7 +225,8 @@ just_those [] [] f = refl
 just_those [] (i ∷ is) f = absurd f
 just_those (l ∷ ls) [] f = absurd f
 just_those (l ∷ ls) (i ∷ is) f =
-    ap (λ (w : List ℕ). line w i.numbers ∷ is) f.0.word ∙ ap (λ (ns : List ℤ). line l.word ns ∷ is) f.0.numbers ∙ ap (λ (rest : List Line). l ∷ rest) (just_those ls is f.1)
+    ap (λ (w : List ℕ). line w i.numbers ∷ is) f.0.word ∙ ap (λ (ns : List ℤ). line l.word ns ∷ is) f.0.numbers
+    ∙ ap (λ (rest : List Line). l ∷ rest) (just_those ls is f.1)
 
 -- what stands behind the version
 record BodyOf (b s : ℕ) (is : List Line) : Type 0 where
@@ -219,13 +253,16 @@ body_of b s is f all =
     let title = next (codes "table") (these []) (table_plan b s) c2.front c2.first in
     let in7 = subst AllIn title.whole (in_left c2.front c2.rest in6) in
     let table = table_of s (suc b) title.rest title.last in7.1 in
-    let parts = parts_of b s 1 choice.numbers c2.rest (subst (λ (ns : List ℤ). Follows Fits after (parts_plan b s 1 ns) c2.rest) choice.same c2.last) (in_right c2.front c2.rest in6) in
+    let parts = parts_of b s 1 choice.numbers c2.rest (subst (λ (ns : List ℤ). Follows Fits after (parts_plan b s 1 ns) c2.rest) choice.same c2.last)
+    (in_right c2.front c2.rest in6) in
     let pays = next (codes "pay") (signed b) _ c1.rest c1.last in
     let in8 = subst AllIn pays.whole (in_right c1.front c1.rest in5) in
     let counts = next (codes "rows") (counted b) _ pays.rest pays.last in
     let in9 = subst AllIn counts.whole in8.1 in
     let r = counts.fit.0 in
-    let c3 = cut (rows_plan b r) (kind (codes "lowered") (these []) ∷ (table_plan b s ++ kind (codes "end") (these []) ∷ [])) counts.rest (subst (λ (ns : List ℤ). Follows Fits after (after_numbers (counted b) ns ++ kind (codes "lowered") (these []) ∷ (table_plan b s ++ kind (codes "end") (these []) ∷ [])) counts.rest) counts.fit.1 counts.last) in
+    let c3 = cut (rows_plan b r) (kind (codes "lowered") (these []) ∷ (table_plan b s ++ kind (codes "end") (these []) ∷ [])) counts.rest
+    (subst (λ (ns : List ℤ). Follows Fits after (after_numbers (counted b) ns ++ kind (codes "lowered") (these []) ∷
+    (table_plan b s ++ kind (codes "end") (these []) ∷ [])) counts.rest) counts.fit.1 counts.last) in
     let in10 = subst AllIn c3.whole in9.1 in
     let rows = rows_of b r c3.front c3.first (in_left c3.front c3.rest in10) in
     let low = next (codes "lowered") (these []) _ c3.rest c3.last in
@@ -236,17 +273,37 @@ body_of b s is f all =
     let end = next (codes "end") (these []) [] c4.rest c4.last in
     let tail : end.numbers ≡ [] = end.fit in
     let stop : end.rest ≡ [] = none_left end.rest end.last in
-    let cert : CertValue = record { den = den.0; value = value.0; choice = choice.numbers; table = table.table; withouts = parts.parts; pay = pays.numbers; rows = rows.rows; lowered = lowered.table } in
-    let w_end : c4.rest ≡ line (codes "end") [] ∷ [] = end.whole ∙ ap (λ (ns : List ℤ). line (codes "end") ns ∷ end.rest) tail ∙ ap (λ (l : List Line). line (codes "end") [] ∷ l) stop in
-    let w_low : low.rest ≡ table_lines lowered.table ++ line (codes "end") [] ∷ [] = c4.whole ∙ ap (λ (l : List Line). l ++ c4.rest) lowered.whole ∙ ap (λ (l : List Line). table_lines lowered.table ++ l) w_end in
-    let w_rest : c3.rest ≡ line (codes "lowered") [] ∷ (table_lines lowered.table ++ line (codes "end") [] ∷ []) = low.whole ∙ ap (λ (ns : List ℤ). line (codes "lowered") ns ∷ low.rest) low.fit ∙ ap (λ (l : List Line). line (codes "lowered") [] ∷ l) w_low in
-    let w_rows : counts.rest ≡ row_lines rows.rows ++ line (codes "lowered") [] ∷ (table_lines lowered.table ++ line (codes "end") [] ∷ []) = c3.whole ∙ ap (λ (l : List Line). l ++ c3.rest) rows.whole ∙ ap (λ (l : List Line). row_lines rows.rows ++ l) w_rest in
-    let w_count : pays.rest ≡ line (codes "rows") (pos (length rows.rows) ∷ []) ∷ (row_lines rows.rows ++ line (codes "lowered") [] ∷ (table_lines lowered.table ++ line (codes "end") [] ∷ [])) =
-    counts.whole ∙ ap (λ (ns : List ℤ). line (codes "rows") ns ∷ counts.rest) (counts.fit.1 ∙ ap (λ (n : ℕ). pos n ∷ []) (sym rows.long)) ∙ ap (λ (l : List Line). line (codes "rows") (pos (length rows.rows) ∷ []) ∷ l) w_rows in
-    let w_pay : c1.rest ≡ line (codes "pay") pays.numbers ∷ line (codes "rows") (pos (length rows.rows) ∷ []) ∷ (row_lines rows.rows ++ line (codes "lowered") [] ∷ (table_lines lowered.table ++ line (codes "end") [] ∷ [])) =
+    let cert : CertValue = record {
+      den = den.0;
+      value = value.0;
+      choice = choice.numbers;
+      table = table.table;
+      withouts = parts.parts;
+      pay =
+          pays.numbers;
+      rows = rows.rows;
+      lowered = lowered.table;
+    } in
+    let w_end : c4.rest ≡ line (codes "end") [] ∷ [] = end.whole ∙ ap (λ (ns : List ℤ). line (codes "end") ns ∷ end.rest) tail
+    ∙ ap (λ (l : List Line). line (codes "end") [] ∷ l) stop in
+    let w_low : low.rest ≡ table_lines lowered.table ++ line (codes "end") [] ∷ [] = c4.whole ∙ ap (λ (l : List Line). l ++ c4.rest) lowered.whole
+    ∙ ap (λ (l : List Line). table_lines lowered.table ++ l) w_end in
+    let w_rest : c3.rest ≡ line (codes "lowered") [] ∷ (table_lines lowered.table ++ line (codes "end") [] ∷ []) =
+    low.whole ∙ ap (λ (ns : List ℤ). line (codes "lowered") ns ∷ low.rest) low.fit ∙ ap (λ (l : List Line). line (codes "lowered") [] ∷ l) w_low in
+    let w_rows : counts.rest ≡ row_lines rows.rows ++ line (codes "lowered") [] ∷ (table_lines lowered.table ++ line (codes "end") [] ∷ []) =
+    c3.whole ∙ ap (λ (l : List Line). l ++ c3.rest) rows.whole ∙ ap (λ (l : List Line). row_lines rows.rows ++ l) w_rest in
+    let w_count : pays.rest ≡ line (codes "rows") (pos (length rows.rows) ∷ []) ∷
+    (row_lines rows.rows ++ line (codes "lowered") [] ∷ (table_lines lowered.table ++ line (codes "end") [] ∷ [])) =
+    counts.whole ∙ ap (λ (ns : List ℤ). line (codes "rows") ns ∷ counts.rest) (counts.fit.1 ∙ ap (λ (n : ℕ). pos n ∷ []) (sym rows.long))
+    ∙ ap (λ (l : List Line). line (codes "rows") (pos (length rows.rows) ∷ []) ∷ l) w_rows in
+    let w_pay : c1.rest ≡ line (codes "pay") pays.numbers ∷ line (codes "rows") (pos (length rows.rows) ∷ []) ∷
+    (row_lines rows.rows ++ line (codes "lowered") [] ∷ (table_lines lowered.table ++ line (codes "end") [] ∷ [])) =
     pays.whole ∙ ap (λ (l : List Line). line (codes "pay") pays.numbers ∷ l) w_count in
-    let w_table : c2.front ≡ line (codes "table") [] ∷ table_lines table.table = title.whole ∙ ap (λ (ns : List ℤ). line (codes "table") ns ∷ title.rest) title.fit ∙ ap (λ (l : List Line). line (codes "table") [] ∷ l) table.whole in
-    let w_front : c1.front ≡ (line (codes "table") [] ∷ table_lines table.table) ++ part_lines parts.parts = c2.whole ∙ ap (λ (l : List Line). l ++ c2.rest) w_table ∙ ap (λ (l : List Line). (line (codes "table") [] ∷ table_lines table.table) ++ l) parts.whole in
+    let w_table : c2.front ≡ line (codes "table") [] ∷ table_lines table.table = title.whole ∙ ap (λ (ns : List ℤ). line (codes "table") ns ∷ title.rest)
+    title.fit ∙ ap (λ (l : List Line). line (codes "table") [] ∷ l) table.whole in
+    let w_front : c1.front ≡ (line (codes "table") [] ∷ table_lines table.table) ++ part_lines parts.parts =
+    c2.whole ∙ ap (λ (l : List Line). l ++ c2.rest) w_table ∙ ap (λ (l : List Line). (line (codes "table") [] ∷ table_lines table.table) ++ l)
+    parts.whole in
     record {
       cert = cert;
       kept = record {
@@ -265,7 +322,8 @@ body_of b s is f all =
           (values.whole ∙ ap (λ (ns : List ℤ). line (codes "value") ns ∷ values.rest) value.1
           ∙ ap (λ (l : List Line). line (codes "value") (value.0 ∷ []) ∷ l)
           (heads.whole ∙ ap (λ (ns : List ℤ). line (codes "choice") ns ∷ heads.rest) choice.same
-          ∙ ap (λ (l : List Line). choice_line choice.numbers ∷ l) (c1.whole ∙ ap (λ (l : List Line). l ++ c1.rest) w_front ∙ ap (λ (l : List Line). ((line (codes "table") [] ∷ table_lines table.table) ++ part_lines parts.parts) ++ l) w_pay))));
+          ∙ ap (λ (l : List Line). choice_line choice.numbers ∷ l) (c1.whole ∙ ap (λ (l : List Line). l ++ c1.rest) w_front
+          ∙ ap (λ (l : List Line). ((line (codes "table") [] ∷ table_lines table.table) ++ part_lines parts.parts) ++ l) w_pay))));
     }
 
 -- the certificate whose lines these are

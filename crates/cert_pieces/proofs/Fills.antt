@@ -1,5 +1,6 @@
 -- Lines that go on to the end of a plan, in range: so each front of a certificate is the front of one.
-use Rattle.std.proofs.Common.{◌≡◌, ℕ, suc, zero, ◌+◌, ◌-◌, ◌≤◌, ◌<◌, Bool, true, false, List, [], ◌∷◌, ◌++◌, length, take, drop, replicate, refl, sym, ap, subst, ◌∙◌, arith, length-drop, length-take}
+use Rattle.std.proofs.Common.{◌≡◌, ℕ, suc, zero, ◌+◌, ◌-◌, ◌≤◌, ◌<◌, Bool, true, false, List, [], ◌∷◌, ◌++◌, length, take, drop, replicate, refl, sym, ap}
+use Rattle.std.proofs.Common.{subst, ◌∙◌, arith, length-drop, length-take}
 use Rattle.std.proofs.lemmas.Bool.Decides.{nat_tests}
 use Rattle.std.proofs.lemmas.Int.{ints}
 use Rattle.std.proofs.lemmas.List.{append-nil}
@@ -7,10 +8,13 @@ use Rattle.std.specs.Prelude.{ℤ, pos, negsuc, codes}
 use Rattle.cert_text.specs.cert_form.specs.Certificate.{CertValue}
 use Rattle.cert_text.specs.cert_form.specs.CertText.{line, cert_lines, IsCertificate}
 use Rattle.cert_text.specs.cert_form.specs.Plan.{Follows}
-use Rattle.cert_text.specs.cert_form.specs.Lines.{AreNumbers, FitNumbers, Fits, IsCertText, Kind, Line, Numbers, after, after_numbers, chosen, counted, headed, is_first_version, kind, members, part_plan, parts_plan, rows_plan, signed, table_plan, these, unless_zero, ordered_head, ordered_count}
+use Rattle.cert_text.specs.cert_form.specs.Lines.{AreNumbers, FitNumbers, Fits, IsCertText, Kind, Line, Numbers, after, after_numbers, chosen, counted}
+use Rattle.cert_text.specs.cert_form.specs.Lines.{headed, is_first_version, kind, members, part_plan, parts_plan, rows_plan, signed, table_plan, these}
+use Rattle.cert_text.specs.cert_form.specs.Lines.{unless_zero, ordered_head, ordered_count}
 use Rattle.cert_text.specs.line_text.specs.Range.{any_out}
 use Rattle.cert_pieces.specs.declared.due.Due.{Due}
-use Rattle.cert_pieces.specs.declared.due.Due.TheVariants.{Version, Limits, Den, Value, Choice, Title, Entries, Without, PartChoice, Payments, Rows, Members, Multipliers, RowChoice, End, Nothing}
+use Rattle.cert_pieces.specs.declared.due.Due.TheVariants.{Version, Limits, Den, Value, Choice, Title, Entries, Without, PartChoice, Payments, Rows, Members}
+use Rattle.cert_pieces.specs.declared.due.Due.TheVariants.{Multipliers, RowChoice, End, Nothing}
 use Rattle.cert_pieces.specs.declared.due.Table.{Table}
 use Rattle.cert_pieces.specs.declared.due.Table.TheVariants.{Head, Part, Lowered}
 use Rattle.cert_text.specs.StagePlans.{closing_plan}
@@ -76,7 +80,12 @@ filled_lines : (s n : ℕ) → Filled (replicate n (kind (codes "t") (signed s))
 filled_lines s zero = record { lines = []; follows = tt; inside = tt }
 filled_lines s (suc n) =
     let rest = filled_lines s n in
-    record { lines = line (codes "t") (zeros s) ∷ rest.lines; follows = (record { word = refl; numbers = zeros_long s }, rest.follows); inside = (zeros_in s, rest.inside) }
+    record {
+      lines = line (codes "t") (zeros s) ∷ rest.lines;
+      follows = (record { word = refl; numbers = zeros_long s }, rest.follows);
+      inside =
+          (zeros_in s, rest.inside);
+    }
 
 -- a choice of nobody has no part
 no_parts : (b s j n : ℕ) → parts_plan b s j (zeros n) ≡ []
@@ -96,8 +105,14 @@ own (headed b s) can = record {
   numbers = zeros b;
   fit = (zeros_long b, zeros_small b);
   inside = zeros_in b;
-  next = subst Filled (sym (ap (λ (l : List Kind). (kind (codes "table") (these []) ∷ table_plan b s) ++ l) (no_parts b s 1 b) ∙ append-nil (kind (codes "table") (these []) ∷ table_plan b s)))
-      (let table = filled_lines s (suc b) in record { lines = line (codes "table") [] ∷ table.lines; follows = (record { word = refl; numbers = refl }, table.follows); inside = (refl, table.inside) });
+  next = subst Filled (sym (ap (λ (l : List Kind). (kind (codes "table") (these []) ∷ table_plan b s) ++ l) (no_parts b s 1 b)
+      ∙ append-nil (kind (codes "table") (these []) ∷ table_plan b s)))
+      (let table = filled_lines s (suc b) in record {
+        lines = line (codes "table") [] ∷ table.lines;
+        follows =
+            (record { word = refl; numbers = refl }, table.follows);
+        inside = (refl, table.inside);
+      });
 }
 own (counted b) can = record { numbers = pos 0 ∷ []; fit = (0, refl, omega arith, λ some. absurd (omega (arith, some))); inside = refl; next = nothing }
 own (members b) can = record { numbers = pos 1 ∷ []; fit = (omega arith, (omega (arith, ints), omega (arith, ints, can), tt)); inside = refl; next = nothing }
@@ -112,12 +127,17 @@ fill (k ∷ ks) can =
     let rest = fill ks can.1 in
     record {
       lines = line k.word mine.numbers ∷ (mine.next.lines ++ rest.lines);
-      follows = (record { word = refl; numbers = mine.fit }, follows_both Fits after (after_numbers k.numbers mine.numbers) ks mine.next.lines rest.lines mine.next.follows rest.follows);
+      follows = (
+        record { word = refl; numbers = mine.fit },
+        follows_both Fits after (after_numbers k.numbers mine.numbers) ks mine.next.lines rest.lines
+            mine.next.follows rest.follows,
+      );
       inside = (mine.inside, both_in mine.next.lines rest.lines mine.next.inside rest.inside);
     }
 
 -- Lines that lead to a plan, in range, are the first lines of a certificate.
-pub front_of_cert : (b s : ℕ) (items : List Line) (plan : List Kind) → ((more : List Line) → Follows Fits after plan more → IsCertText b s (items ++ more)) → AllIn items → CanFillAll plan
+pub front_of_cert : (b s : ℕ) (items : List Line) (plan : List Kind) → ((more : List Line) → Follows Fits after plan more → IsCertText b s (items ++ more))
+    → AllIn items → CanFillAll plan
     → (c : CertValue) × (rest : List Line) × IsCertificate b s c × (cert_lines c ≡ items ++ rest)
 front_of_cert b s items plan leads inside can =
     let rest = fill plan can in
@@ -162,7 +182,8 @@ module _ (b s : ℕ) where
   -- the parts
   can_parts : (j : ℕ) (ns : List ℤ) → j + length ns ≤ 65536 → CanFillAll (parts_plan b s j ns)
   can_parts j [] le = tt
-  can_parts j (n ∷ ns) le = can_append (unless_zero n (part_plan b s j)) (parts_plan b s (suc j) ns) (can_unless n (part_plan b s j) (can_part j (omega (arith, le)))) (can_parts (suc j) ns (omega (arith, le)))
+  can_parts j (n ∷ ns) le = can_append (unless_zero n (part_plan b s j)) (parts_plan b s (suc j) ns)
+      (can_unless n (part_plan b s j) (can_part j (omega (arith, le)))) (can_parts (suc j) ns (omega (arith, le)))
 
   -- the rows
   can_rows : (r : ℕ) → (0 < r → 0 < b) → CanFillAll (rows_plan b r)
@@ -184,7 +205,8 @@ module _ (b s : ℕ) where
   module _ (choice : List ℤ) (few : b ≤ 65535) (many : length choice ≤ b) where
     -- the parts behind a bidder, and what stands behind them
     can_from : (j : ℕ) → j ≤ b → CanFillAll (from_part b s choice j)
-    can_from j le = can_append (parts_plan b s (suc j) (drop j choice)) (ending b s) (can_parts (suc j) (drop j choice) (omega (arith, few, many, le, length-drop j choice))) can_ending
+    can_from j le = can_append (parts_plan b s (suc j) (drop j choice)) (ending b s)
+        (can_parts (suc j) (drop j choice) (omega (arith, few, many, le, length-drop j choice))) can_ending
 
     -- what stands behind a table
     can_behind : (table : Table) → IsTableOf b table → CanFillAll (behind_table b s choice table)
@@ -202,14 +224,32 @@ module _ (b s : ℕ) where
 
     -- for each line that is due, all that is to come can be found
     pub can_due : (due : Due) → IsDue b due → CanFillAll (plan_due b s choice due)
-    can_due Version is = (version_in (is_first_version b s), can_append (limits_plan (is_first_version b s)) (opening b s) (can_limits (is_first_version b s)) can_opening)
+    can_due Version is = (
+      version_in (is_first_version b s),
+      can_append (limits_plan (is_first_version b s)) (opening b s)
+          (can_limits (is_first_version b s)) can_opening,
+    )
     can_due Limits is = (refl, can_opening)
     can_due Den is = can_opening
     can_due Value is = (tt, (tt, can_ending))
     can_due Choice is = (tt, can_ending)
     can_due (Title table) is = (refl, can_title table is)
-    can_due (Entries table k) is = (tt, can_append (replicate (b - k) (kind (codes "t") (signed s))) (behind_table b s choice table) (can_lines s (b - k)) (can_behind table is.0))
-    can_due (Without j) is = (one_in j (omega (arith, is.1, few)), (tt, (refl, can_append (table_plan b s) (from_part b s choice j) (can_lines s (suc b)) (can_from j is.1))))
+    can_due (Entries table k) is = (
+      tt,
+      can_append (replicate (b - k) (kind (codes "t") (signed s))) (behind_table b s choice table) (can_lines s (b - k))
+          (can_behind table is.0),
+    )
+    can_due (Without j) is = (
+      one_in j (omega (arith, is.1, few)),
+      (
+        tt,
+        (
+          refl,
+          can_append (table_plan b s) (from_part b s choice j) (can_lines s (suc b))
+              (can_from j is.1),
+        ),
+      ),
+    )
     can_due (PartChoice j) is = (tt, (refl, can_append (table_plan b s) (from_part b s choice j) (can_lines s (suc b)) (can_from j is.1)))
     can_due Payments is = can_ending
     can_due Rows is = (tt, can_closing)
@@ -220,7 +260,8 @@ module _ (b s : ℕ) where
     can_due Nothing is = tt
 
 -- a reader that reads on stands for the front of a certificate
-pub reading_cert : (b s : ℕ) (due : Due) (part : LinePart) (place read : ℕ) (room : List ℤ) (text : List ℕ) (items : List Line) → b ≤ 65535 → IsReading b s due part place read room text items
+pub reading_cert : (b s : ℕ) (due : Due) (part : LinePart) (place read : ℕ) (room : List ℤ) (text : List ℕ) (items : List Line) → b ≤ 65535
+    → IsReading b s due part place read room text items
     → (c : CertValue) × (rest : List Line) × IsCertificate b s c × (cert_lines c ≡ items ++ rest)
 reading_cert b s due part place read room text items few is =
     front_of_cert b s items (plan_due b s (take b room) due) is.leads is.inside (can_due b s (take b room) few (omega (arith, length-take b room)) due is.named)

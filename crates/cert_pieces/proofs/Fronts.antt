@@ -6,7 +6,8 @@ use Rattle.cert_text.specs.cert_form.specs.wide_num.proofs.Decimal.{AreDigits, I
 use Rattle.cert_text.specs.line_text.proofs.Numerals.{Ends, numeral_is, numeral-more, one_signed}
 
 -- behind whole numbers and a space stands one number more
-pub next_number : (ns ms : List ℤ) (r : List ℕ) → numbers_text ns ++ 32 ∷ r ≡ numbers_text ms → (m : ℤ) × (rest : List ℤ) × (r ≡ signed_numeral m ++ numbers_text rest) × (ms ≡ ns ++ m ∷ rest)
+pub next_number : (ns ms : List ℤ) (r : List ℕ) → numbers_text ns ++ 32 ∷ r ≡ numbers_text ms → (m : ℤ) × (rest : List ℤ)
+    × (r ≡ signed_numeral m ++ numbers_text rest) × (ms ≡ ns ++ m ∷ rest)
 next_number [] [] r e = absurd (no_more e)
   where
     no_more : 32 ∷ r ≡ [] → ⊥
@@ -18,7 +19,8 @@ next_number (n ∷ ns) [] r e = absurd (no_more e)
     no_more e = cc
 next_number (n ∷ ns) (m ∷ ms) r e =
     let tails : (signed_numeral n ++ numbers_text ns) ++ 32 ∷ r ≡ signed_numeral m ++ numbers_text ms = cc in
-    let one = one_signed n m (numbers_text ns ++ 32 ∷ r) (numbers_text ms) (first ns) (last ms) (sym (append_assoc (signed_numeral n) (numbers_text ns) (32 ∷ r)) ∙ tails) in
+    let one = one_signed n m (numbers_text ns ++ 32 ∷ r) (numbers_text ms) (first ns) (last ms)
+    (sym (append_assoc (signed_numeral n) (numbers_text ns) (32 ∷ r)) ∙ tails) in
     let rest = next_number ns ms r one.1 in
     let heads : m ∷ ms ≡ n ∷ (ns ++ rest.0 ∷ rest.1) = cc (one.0, rest.3) in
     (rest.0, rest.1, rest.2, heads)
@@ -66,7 +68,8 @@ no_stop (n ∷ rest) c r (x ∷ xs) [] space digit dx dy e = let same : x ≡ 32
 no_stop rest c r (x ∷ xs) (y ∷ ys) space digit dx dy e = no_stop rest c r xs ys space digit dx.1 dy.1 cc
 
 -- digits behind which stands neither a digit nor a space are no numbers
-pub other_byte : (z m : ℤ) (c : ℕ) (r : List ℕ) (rest : List ℤ) → c ≢ 32 → (IsDigit c → ⊥) → signed_numeral z ++ c ∷ r ≡ signed_numeral m ++ numbers_text rest → ⊥
+pub other_byte : (z m : ℤ) (c : ℕ) (r : List ℕ) (rest : List ℤ) → c ≢ 32 → (IsDigit c → ⊥) → signed_numeral z ++ c ∷ r ≡ signed_numeral m ++ numbers_text rest
+    → ⊥
 other_byte (pos n) (pos m) c r rest space digit e = stuck (numeral n) (numeral m) (numeral_is n).digits (numeral_is m).digits e
   where
     stuck : (xs ys : List ℕ) → AreDigits xs → AreDigits ys → xs ++ c ∷ r ≡ ys ++ numbers_text rest → ⊥
@@ -111,4 +114,5 @@ some_byte (negsuc n) s e = cc
 -- one digit more
 pub numeral_push : (v d : ℕ) → 0 < v → d < 10 → numeral (10 * v + d) ≡ numeral v ++ (48 + d) ∷ []
 numeral_push v d some low =
-    numeral-more (10 * v + d) (omega (arith, some)) ∙ ap (λ (k : ℕ). numeral k ++ (48 + (10 * v + d) % 10) ∷ []) (omega (arith, low)) ∙ ap (λ (k : ℕ). numeral v ++ k ∷ []) (omega (arith, low))
+    numeral-more (10 * v + d) (omega (arith, some)) ∙ ap (λ (k : ℕ). numeral k ++ (48 + (10 * v + d) % 10) ∷ []) (omega (arith, low))
+    ∙ ap (λ (k : ℕ). numeral v ++ k ∷ []) (omega (arith, low))

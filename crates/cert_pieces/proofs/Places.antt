@@ -1,5 +1,6 @@
 -- A certificate's text that grows: what one more byte makes of the lines before it.
-use Rattle.std.proofs.Common.{◌≡◌, ◌≢◌, ℕ, suc, zero, ◌+◌, ◌≤◌, ◌<◌, true, false, List, [], ◌∷◌, ◌++◌, length, take, drop, refl, sym, ap, subst, ◌∙◌, arith, append_assoc, length-append, length-drop, ◌⊎◌, inl, inr, ⊎_elim}
+use Rattle.std.proofs.Common.{◌≡◌, ◌≢◌, ℕ, suc, zero, ◌+◌, ◌≤◌, ◌<◌, true, false, List, [], ◌∷◌, ◌++◌, length, take, drop, refl, sym, ap, subst, ◌∙◌, arith}
+use Rattle.std.proofs.Common.{append_assoc, length-append, length-drop, ◌⊎◌, inl, inr, ⊎_elim}
 use Rattle.std.proofs.lemmas.Bool.{cases_eq}
 use Rattle.std.proofs.lemmas.List.{append-nil}
 use Rattle.cert_text.specs.line_text.specs.LineText.{IsLine, text_of, IsTextOf, FaultAt}
@@ -76,7 +77,8 @@ module _ (b s : ℕ) (text : List ℕ) (place : ℕ) where
           behind = so_far.behind;
           run = so_far.run;
           within = so_far.within;
-          split = ap (λ (l : List ℕ). l ++ more) so_far.split ∙ append_assoc (text_of so_far.behind) (drop place text) more ∙ ap (λ (l : List ℕ). text_of so_far.behind ++ l) (sym (drop_more place text more le));
+          split = ap (λ (l : List ℕ). l ++ more) so_far.split ∙ append_assoc (text_of so_far.behind) (drop place text) more
+              ∙ ap (λ (l : List ℕ). text_of so_far.behind ++ l) (sym (drop_more place text more le));
           here = so_far.here;
         };
         place_is = here.place_is;
@@ -84,17 +86,21 @@ module _ (b s : ℕ) (text : List ℕ) (place : ℕ) where
       }
 
   -- what stands behind the place, with one more byte
-  behind : (plan : List Kind) (items : List Line) → Reached b s text place plan items → (c : ℕ) (more : List ℕ) → drop place ((text ++ c ∷ []) ++ more) ≡ drop place text ++ c ∷ more
-  behind plan items here c more = ap (λ (l : List ℕ). drop place l) (append_assoc text (c ∷ []) more) ∙ drop_more place text (c ∷ more) (reached_within plan items here)
+  behind : (plan : List Kind) (items : List Line) → Reached b s text place plan items → (c : ℕ) (more : List ℕ)
+      → drop place ((text ++ c ∷ []) ++ more) ≡ drop place text ++ c ∷ more
+  behind plan items here c more = ap (λ (l : List ℕ). drop place l) (append_assoc text (c ∷ []) more)
+      ∙ drop_more place text (c ∷ more) (reached_within plan items here)
 
-  module _ (word : List ℕ) (n : Numbers) (plan : List Kind) (items : List Line) (here : Reached b s text place (kind word n ∷ plan) items) (is_line : IsLine (drop place text)) where
+  module _ (word : List ℕ) (n : Numbers) (plan : List Kind) (items : List Line) (here : Reached b s text place (kind word n ∷ plan) items)
+      (is_line : IsLine (drop place text)) where
     -- the line so far
     abbrev this : List ℕ
     this = drop place text
 
     -- the place is still reached
     grown : (more : List ℕ) → Reached b s ((text ++ 10 ∷ []) ++ more) place (kind word n ∷ plan) items
-    grown more = subst (λ (l : List ℕ). Reached b s l place (kind word n ∷ plan) items) (sym (append_assoc text (10 ∷ []) more)) (reached_more (kind word n ∷ plan) items (10 ∷ more) here)
+    grown more = subst (λ (l : List ℕ). Reached b s l place (kind word n ∷ plan) items) (sym (append_assoc text (10 ∷ []) more))
+        (reached_more (kind word n ∷ plan) items (10 ∷ more) here)
 
     -- what stands behind it
     tail_is : (more : List ℕ) → drop place ((text ++ 10 ∷ []) ++ more) ≡ this ++ 10 ∷ more
@@ -105,7 +111,8 @@ module _ (b s : ℕ) (text : List ℕ) (place : ℕ) where
     line_is more = ap (λ (l : List ℕ). take (length this) l) (tail_is more) ∙ word_front this (10 ∷ more)
 
     -- and the line feed follows it
-    ends_line : (more : List ℕ) → drop (length this) (drop place ((text ++ 10 ∷ []) ++ more)) ≡ 10 ∷ drop (length this + 1) (drop place ((text ++ 10 ∷ []) ++ more))
+    ends_line : (more : List ℕ) → drop (length this) (drop place ((text ++ 10 ∷ []) ++ more)) ≡ 10 ∷ drop (length this + 1)
+        (drop place ((text ++ 10 ∷ []) ++ more))
     ends_line more =
         ap (λ (l : List ℕ). drop (length this) l) (tail_is more) ∙ word_rest this (10 ∷ more)
         ∙ ap (λ (l : List ℕ). 10 ∷ l) (sym (ap (λ (l : List ℕ). drop (length this + 1) l) (tail_is more) ∙ drop_next this more 10))
@@ -115,19 +122,22 @@ module _ (b s : ℕ) (text : List ℕ) (place : ℕ) where
     fine_line more = subst IsLine (sym (line_is more)) is_line
 
     -- the line feed makes the line whole
-    pub line_done : (l : Line) → Fits (kind word n) l → this ≡ spell l → over l ≡ false → Reached b s (text ++ 10 ∷ []) (length text + 1) (after (kind word n) l ++ plan) (items ++ l ∷ [])
+    pub line_done : (l : Line) → Fits (kind word n) l → this ≡ spell l → over l ≡ false → Reached b s (text ++ 10 ∷ []) (length text + 1)
+        (after (kind word n) l ++ plan) (items ++ l ∷ [])
     line_done l fits spelled within =
         let whole : (text ++ 10 ∷ []) ++ [] ≡ text ++ 10 ∷ [] = append-nil (text ++ 10 ∷ []) in
         let long : length this < length (drop place ((text ++ 10 ∷ []) ++ [])) = omega (arith, ap length (tail_is []), length-append this (10 ∷ [])) in
         let next : place + (length this + 1) ≡ length text + 1 = omega (arith, length-drop place text, reached_within (kind word n ∷ plan) items here) in
         subst (λ (t : List ℕ). Reached b s t (length text + 1) (after (kind word n) l ++ plan) (items ++ l ∷ [])) whole
         (subst (λ (p : ℕ). Reached b s ((text ++ 10 ∷ []) ++ []) p (after (kind word n) l ++ plan) (items ++ l ∷ [])) next
-        (reached-next ((text ++ 10 ∷ []) ++ []) place (kind word n) plan items (grown []) (length this) (fine_line []) (ends_line []) l fits (line_is [] ∙ spelled) within long))
+        (reached-next ((text ++ 10 ∷ []) ++ []) place (kind word n) plan items (grown []) (length this) (fine_line []) (ends_line []) l fits
+        (line_is [] ∙ spelled) within long))
 
     -- the whole line has a number out of range
     pub line_out : (l : Line) → Fits (kind word n) l → this ≡ spell l → over l ≡ true → StopsFor b s (text ++ 10 ∷ []) (Range place)
     line_out l fits spelled out more =
-        reached-beyond ((text ++ 10 ∷ []) ++ more) place (kind word n) plan items (grown more) (length this) (fine_line more) (ends_line more) l fits (line_is more ∙ spelled) out
+        reached-beyond ((text ++ 10 ∷ []) ++ more) place (kind word n) plan items (grown more) (length this) (fine_line more) (ends_line more) l fits
+        (line_is more ∙ spelled) out
 
     -- no line of the kind has this byte there
     pub line_unfit : (c : ℕ) → IsUnfit word n this c → StopsFor b s (text ++ c ∷ []) (Form place)
@@ -143,15 +153,18 @@ module _ (b s : ℕ) (text : List ℕ) (place : ℕ) where
         ]
       where
         at : (c : ℕ) → Reached b s ((text ++ c ∷ []) ++ more) place (kind word n ∷ plan) items
-        at c = subst (λ (l : List ℕ). Reached b s l place (kind word n ∷ plan) items) (sym (append_assoc text (c ∷ []) more)) (reached_more (kind word n ∷ plan) items (c ∷ more) here)
+        at c = subst (λ (l : List ℕ). Reached b s l place (kind word n ∷ plan) items) (sym (append_assoc text (c ∷ []) more))
+            (reached_more (kind word n ∷ plan) items (c ∷ more) here)
 
         refused : c ≢ 10 → HasLine (drop place ((text ++ c ∷ []) ++ more)) → FaultAt (IsCertText b s) lines ((text ++ c ∷ []) ++ more) place
         refused other h =
-            let split : drop place ((text ++ c ∷ []) ++ more) ≡ (this ++ c ∷ []) ++ more = behind (kind word n ∷ plan) items here c more ∙ sym (append_assoc this (c ∷ []) more) in
+            let split : drop place ((text ++ c ∷ []) ++ more) ≡ (this ++ c ∷ []) ++ more = behind (kind word n ∷ plan) items here c more
+            ∙ sym (append_assoc this (c ∷ []) more) in
             let on = longer_line (this ++ c ∷ []) more _ h.size (line_push this c is_line other) (ap (λ (l : List ℕ). drop h.size l) (sym split) ∙ h.feed) in
             reached-refused ((text ++ c ∷ []) ++ more) place (kind word n) plan items (at c) h.size h.is_line h.feed
             (λ l fits e. unfit.inside other l.numbers on.0 fits.numbers
-            (sym (append_assoc this (c ∷ []) on.0) ∙ sym on.1 ∙ ap (λ (l : List ℕ). take h.size l) (sym split) ∙ e ∙ ap (λ (w : List ℕ). w ++ numbers_text l.numbers) fits.word))
+            (sym (append_assoc this (c ∷ []) on.0) ∙ sym on.1 ∙ ap (λ (l : List ℕ). take h.size l) (sym split) ∙ e
+            ∙ ap (λ (w : List ℕ). w ++ numbers_text l.numbers) fits.word))
 
     -- the text ends within a line
     pub line_unfinished : FaultAt (IsCertText b s) lines text place
@@ -162,7 +175,8 @@ module _ (b s : ℕ) (text : List ℕ) (place : ℕ) where
     pub behind_last : (c : ℕ) → StopsFor b s (text ++ c ∷ []) (Form place)
     behind_last c more =
         ⊎_elim
-        (λ (tail : IsLine (drop place ((text ++ c ∷ []) ++ more))). reached-tail ((text ++ c ∷ []) ++ more) place items at tail (omega (arith, ap length split)))
+        (λ (tail : IsLine (drop place ((text ++ c ∷ []) ++ more))). reached-tail ((text ++ c ∷ []) ++ more) place items at tail
+        (omega (arith, ap length split)))
         (λ (h : HasLine (drop place ((text ++ c ∷ []) ++ more))). reached-more ((text ++ c ∷ []) ++ more) place items at h.size h.is_line h.feed)
         (first_line (drop place ((text ++ c ∷ []) ++ more)))
       where

@@ -1,5 +1,6 @@
 -- Which lines are to come behind a line.
-use Rattle.std.proofs.Common.{◌≡◌, ◌≢◌, ℕ, suc, zero, ◌+◌, ◌≤◌, ◌<◌, List, [], ◌∷◌, ◌++◌, length, drop, get_or, refl, sym, ap, ◌∙◌, arith, append_assoc, drop-cons}
+use Rattle.std.proofs.Common.{◌≡◌, ◌≢◌, ℕ, suc, zero, ◌+◌, ◌≤◌, ◌<◌, List, [], ◌∷◌, ◌++◌, length, drop, get_or, refl, sym, ap, ◌∙◌, arith, append_assoc}
+use Rattle.std.proofs.Common.{drop-cons}
 use Rattle.std.proofs.lemmas.List.{drop_all}
 use Rattle.std.specs.Prelude.{ℤ, pos, negsuc}
 use Rattle.cert_text.specs.cert_form.specs.Lines.{FitNumbers, Kind, part_plan, parts_plan, unless_zero}
@@ -42,7 +43,8 @@ module _ (b s : ℕ) (choice : List ℤ) where
   last_part k le = ap (λ (l : List ℤ). parts_plan b s (suc k) l ++ ending b s) (drop_all k choice le)
 
 -- a count of rows above 0 has a bidder
-pub rows_bidder : (b s : ℕ) (ns choice : List ℤ) (first : ℤ) (count : ℕ) → FitNumbers (numbers_due b s Rows) ns → IsKnown Rows ns choice first → ((r : ℕ) → first ≡ pos r → r ≤ 10 → count ≡ r) → 0 < count → 0 < b
+pub rows_bidder : (b s : ℕ) (ns choice : List ℤ) (first : ℤ) (count : ℕ) → FitNumbers (numbers_due b s Rows) ns → IsKnown Rows ns choice first
+    → ((r : ℕ) → first ≡ pos r → r ≤ 10 → count ≡ r) → 0 < count → 0 < b
 rows_bidder b s ns choice first count (r, e, few, has) known counted some =
     let same : first ∷ [] ≡ pos r ∷ [] = sym known ∙ e in
     let is : first ≡ pos r = cc in

@@ -1,10 +1,12 @@
 -- The parts of the room, in order, and what a line leaves alone: all parts but its own.
-use Rattle.std.proofs.Common.{◌≡◌, ◌≢◌, ℕ, suc, zero, ◌+◌, ◌-◌, ◌*◌, ◌%◌, ◌≤◌, ◌<◌, List, [], ◌∷◌, length, get_or, take, drop, refl, sym, ap, ◌∙◌, arith, drop-drop, inl, inr}
+use Rattle.std.proofs.Common.{◌≡◌, ◌≢◌, ℕ, suc, zero, ◌+◌, ◌-◌, ◌*◌, ◌%◌, ◌≤◌, ◌<◌, List, [], ◌∷◌, length, get_or, take, drop, refl, sym, ap, ◌∙◌, arith}
+use Rattle.std.proofs.Common.{drop-drop, inl, inr}
 use Rattle.std.proofs.Math.Nat.{mul-le-mul}
 use Rattle.std.proofs.lemmas.Bool.{cases_lt}
 use Rattle.std.specs.Prelude.{ℤ, false}
 use Rattle.cert_pieces.specs.declared.due.Due.{Due}
-use Rattle.cert_pieces.specs.declared.due.Due.TheVariants.{Version, Limits, Den, Value, Choice, Title, Entries, Without, PartChoice, Payments, Rows, Members, Multipliers, RowChoice, End, Nothing}
+use Rattle.cert_pieces.specs.declared.due.Due.TheVariants.{Version, Limits, Den, Value, Choice, Title, Entries, Without, PartChoice, Payments, Rows, Members}
+use Rattle.cert_pieces.specs.declared.due.Due.TheVariants.{Multipliers, RowChoice, End, Nothing}
 use Rattle.cert_text.specs.cert_form.specs.Lines.{FitNumbers}
 use Rattle.cert_pieces.specs.declared.line.form.Form.{Form}
 use Rattle.cert_pieces.specs.declared.line.form.Form.TheVariants as form
@@ -13,7 +15,8 @@ use Rattle.cert_pieces.specs.declared.line.LinePart.{LinePart}
 use Rattle.cert_pieces.specs.LineParts.{IsWholeLine}
 use Rattle.cert_pieces.specs.Dues.{IsDue}
 use Rattle.cert_pieces.specs.Forms.{numbers_of, room_for}
-use Rattle.cert_pieces.specs.Rooms.{den_start, value_start, payments_start, part_start, members_start, row_choice_start, rows_start, entries_start, form_due, start_due, segment, KeepsOthers}
+use Rattle.cert_pieces.specs.Rooms.{den_start, value_start, payments_start, part_start, members_start, row_choice_start, rows_start, entries_start, form_due}
+use Rattle.cert_pieces.specs.Rooms.{start_due, segment, KeepsOthers}
 use Rattle.cert_pieces.proofs.Segments.{part_fits, line_of}
 
 -- fewer of the first numbers
@@ -36,7 +39,8 @@ within_back from end xs le = sym (drop-drop (from - end) end xs ∙ ap (λ (n : 
 
 -- where the parts of the room begin, and the end of the last one
 abbrev bounds : ℕ → ℕ → List ℕ
-bounds b s = 0 ∷ b ∷ den_start b ∷ value_start b ∷ payments_start b ∷ (2 * b + 4) ∷ members_start b ∷ row_choice_start b ∷ rows_start b ∷ entries_start b s 0 ∷ (entries_start b s 0 + 2 * s) ∷ []
+bounds b s = 0 ∷ b ∷ den_start b ∷ value_start b ∷ payments_start b ∷ (2 * b + 4) ∷ members_start b ∷ row_choice_start b ∷ rows_start b ∷ entries_start b s 0
+    ∷ (entries_start b s 0 + 2 * s) ∷ []
 
 -- each number is at least the one before it
 abbrev Ascends : ℕ → List ℕ → Type 0
@@ -59,7 +63,22 @@ ascending m (x ∷ xs) (suc i) (suc j) up le lt = ascending x xs i j up.1 (omega
 
 -- the parts of the room stand in order
 bounds_ascend : (b s : ℕ) → Ascends 0 (bounds b s)
-bounds_ascend b s = (omega arith, (omega arith, (omega arith, (omega arith, (omega arith, (omega arith, (omega arith, (omega arith, (omega arith, (omega arith, (omega arith, tt)))))))))))
+bounds_ascend b s = (
+  omega arith,
+  (
+    omega arith,
+    (
+      omega arith,
+      (
+        omega arith,
+        (
+          omega arith,
+          (omega arith, (omega arith, (omega arith, (omega arith, (omega arith, (omega arith, tt)))))),
+        ),
+      ),
+    ),
+  ),
+)
 
 -- the part of the room in which the line's numbers stand, counted from 0
 abbrev pub part_due : Due → ℕ
@@ -136,28 +155,44 @@ module _ (b s : ℕ) where
     -- numbers before the segment
     before_line : (from size : ℕ) → from + size ≤ start_due b s due → take size (drop from new) ≡ take size (drop from old)
     before_line from size le =
-        within_front from size (start_due b s due) new le ∙ ap (λ (l : List ℤ). take size (drop from l)) others.front ∙ sym (within_front from size (start_due b s due) old le)
+        within_front from size (start_due b s due) new le ∙ ap (λ (l : List ℤ). take size (drop from l)) others.front
+        ∙ sym (within_front from size (start_due b s due) old le)
 
     -- numbers behind it
     behind_line : (from size : ℕ) → start_due b s due + room_for (form_due b s due) ≤ from → take size (drop from new) ≡ take size (drop from old)
     behind_line from size le =
         let end = start_due b s due + room_for (form_due b s due) in
-        ap (λ (l : List ℤ). take size l) (within_back from end new le ∙ ap (λ (l : List ℤ). drop (from - end) l) others.back ∙ sym (within_back from end old le))
+        ap (λ (l : List ℤ). take size l) (within_back from end new le ∙ ap (λ (l : List ℤ). drop (from - end) l) others.back
+        ∙ sym (within_back from end old le))
 
     -- numbers of another part stay
-    pub others_kept : (part from size : ℕ) → part ≤ 9 → (part ≡ part_due due → ⊥) → get_or (bounds b s) part 0 ≤ from → from + size ≤ get_or (bounds b s) (suc part) 0 → take size (drop from new) ≡ take size (drop from old)
+    pub others_kept : (part from size : ℕ) → part ≤ 9 → (part ≡ part_due due → ⊥) → get_or (bounds b s) part 0 ≤ from
+        → from + size ≤ get_or (bounds b s) (suc part) 0 → take size (drop from new) ≡ take size (drop from old)
     others_kept part from size few other low high =
         elim (cases_lt part (part_due due)) [
-          | inl lt ↦ before_line from size (omega (arith, high, ascending 0 (bounds b s) (suc part) (part_due due) (bounds_ascend b s) (omega (arith, lt)) (omega (arith, few_parts due)), from_bound due))
+          | inl lt ↦ before_line from size (omega (
+            arith,
+            high,
+            ascending 0 (bounds b s) (suc part) (part_due due) (bounds_ascend b s) (omega (arith, lt))
+                (omega (arith, few_parts due)),
+            from_bound due,
+          ))
           | inr ge ↦ elim (cases_lt (part_due due) part) [
-            | inl lt ↦ behind_line from size (omega (arith, low, ascending 0 (bounds b s) (suc (part_due due)) part (bounds_ascend b s) (omega (arith, lt)) (omega (arith, few)), to_bound due is))
+            | inl lt ↦ behind_line from size (omega (
+              arith,
+              low,
+              ascending 0 (bounds b s) (suc (part_due due)) part (bounds_ascend b s) (omega (arith, lt))
+                  (omega (arith, few)),
+              to_bound due is,
+            ))
             | inr le ↦ absurd (other (omega (arith, ge, le)))
           ]
         ]
 
     -- a line whose numbers stand in another part keeps its numbers
     pub other_line_kept : (other : Due) → IsDue b other → (part_due other ≡ part_due due → ⊥) → segment b s other new ≡ segment b s other old
-    other_line_kept other named apart = others_kept (part_due other) (start_due b s other) (room_for (form_due b s other)) (few_parts other) apart (from_bound other) (to_bound other named)
+    other_line_kept other named apart = others_kept (part_due other) (start_due b s other) (room_for (form_due b s other)) (few_parts other) apart
+        (from_bound other) (to_bound other named)
 
   -- the choice of a part leaves those of other parts alone
   pub part_kept : (i j : ℕ) (old new : List ℤ) → 0 < i → 0 < j → (i ≡ j → ⊥)
@@ -166,9 +201,12 @@ module _ (b s : ℕ) where
   part_kept i j old new some_i some_j other front back =
       elim (cases_lt i j) [
         | inl lt ↦ let apart = part_apart i j some_i lt in
-            within_front (part_start b i) b (part_start b j) new (omega (arith, apart)) ∙ ap (λ (l : List ℤ). take b (drop (part_start b i) l)) front ∙ sym (within_front (part_start b i) b (part_start b j) old (omega (arith, apart)))
+            within_front (part_start b i) b (part_start b j) new (omega (arith, apart)) ∙ ap (λ (l : List ℤ). take b (drop (part_start b i) l)) front
+            ∙ sym (within_front (part_start b i) b (part_start b j) old (omega (arith, apart)))
         | inr ge ↦ let apart = part_apart j i some_j (after i j ge other) in
-            ap (λ (l : List ℤ). take b l) (within_back (part_start b i) (part_start b j + b) new (omega (arith, apart)) ∙ ap (λ (l : List ℤ). drop (part_start b i - (part_start b j + b)) l) back ∙ sym (within_back (part_start b i) (part_start b j + b) old (omega (arith, apart))))
+            ap (λ (l : List ℤ). take b l) (within_back (part_start b i) (part_start b j + b) new (omega (arith, apart))
+            ∙ ap (λ (l : List ℤ). drop (part_start b i - (part_start b j + b)) l) back
+            ∙ sym (within_back (part_start b i) (part_start b j + b) old (omega (arith, apart))))
       ]
     where
       after : (i j : ℕ) → j ≤ i → (i ≡ j → ⊥) → j < i
@@ -186,9 +224,13 @@ module _ (b s : ℕ) where
   line_kept i k old new other front back =
       elim (cases_lt (i % 2) (k % 2)) [
         | inl lt ↦ let apart : (i % 2) * s + s ≤ (k % 2) * s = line_apart (i % 2) (k % 2) lt in
-            within_front (entries_start b s i) s (entries_start b s k) new (omega (arith, apart)) ∙ ap (λ (l : List ℤ). take s (drop (entries_start b s i) l)) front ∙ sym (within_front (entries_start b s i) s (entries_start b s k) old (omega (arith, apart)))
+            within_front (entries_start b s i) s (entries_start b s k) new (omega (arith, apart)) ∙ ap
+            (λ (l : List ℤ). take s (drop (entries_start b s i) l)) front ∙ sym
+            (within_front (entries_start b s i) s (entries_start b s k) old (omega (arith, apart)))
         | inr ge ↦ let apart : (k % 2) * s + s ≤ (i % 2) * s = line_apart (k % 2) (i % 2) (after (i % 2) (k % 2) ge other) in
-            ap (λ (l : List ℤ). take s l) (within_back (entries_start b s i) (entries_start b s k + s) new (omega (arith, apart)) ∙ ap (λ (l : List ℤ). drop (entries_start b s i - (entries_start b s k + s)) l) back ∙ sym (within_back (entries_start b s i) (entries_start b s k + s) old (omega (arith, apart))))
+            ap (λ (l : List ℤ). take s l) (within_back (entries_start b s i) (entries_start b s k + s) new (omega (arith, apart))
+            ∙ ap (λ (l : List ℤ). drop (entries_start b s i - (entries_start b s k + s)) l) back
+            ∙ sym (within_back (entries_start b s i) (entries_start b s k + s) old (omega (arith, apart))))
       ]
     where
       after : (i j : ℕ) → j ≤ i → (i ≡ j → ⊥) → j < i
@@ -226,7 +268,8 @@ take_twice (suc n) [] = refl
 take_twice (suc n) (x ∷ xs) = ap (λ (l : List ℤ). x ∷ l) (take_twice n xs)
 
 -- the numbers of a line that came whole, in range, stand in its segment
-pub came_whole : (b s : ℕ) (due : Due) (word bytes : List ℕ) (part : LinePart) (room : List ℤ) (is : IsWholeLine word (form_due b s due) part (segment b s due room) bytes)
+pub came_whole : (b s : ℕ) (due : Due) (word bytes : List ℕ) (part : LinePart) (room : List ℤ)
+    (is : IsWholeLine word (form_due b s due) part (segment b s due room) bytes)
     → IsFixed (form_due b s due) → part.beyond ≡ false → segment b s due room ≡ is.numbers
 came_whole b s due word bytes part room is fixed within =
     let many : room_for (form_due b s due) ≡ part.count = sym (fixed_long (form_due b s due) is.numbers fixed is.fit) ∙ is.keeps.many in

@@ -1,10 +1,12 @@
 -- Numbers of a line in the room.
-use Rattle.std.proofs.Common.{◌≡◌, ℕ, suc, zero, ◌+◌, ◌-◌, ◌*◌, ◌%◌, ◌≤◌, ◌<◌, List, [], ◌∷◌, ◌++◌, length, take, drop, refl, sym, ap, subst, ◌∙◌, arith, length-take, length-drop, drop-drop, inl, inr}
+use Rattle.std.proofs.Common.{◌≡◌, ℕ, suc, zero, ◌+◌, ◌-◌, ◌*◌, ◌%◌, ◌≤◌, ◌<◌, List, [], ◌∷◌, ◌++◌, length, take, drop, refl, sym, ap, subst, ◌∙◌, arith}
+use Rattle.std.proofs.Common.{length-take, length-drop, drop-drop, inl, inr}
 use Rattle.std.proofs.Math.Nat.{mul-le-mul}
 use Rattle.std.proofs.lemmas.Bool.{cases_lt}
 use Rattle.std.specs.Prelude.{ℤ}
 use Rattle.cert_pieces.specs.declared.due.Due.{Due}
-use Rattle.cert_pieces.specs.declared.due.Due.TheVariants.{Version, Limits, Den, Value, Choice, Title, Entries, Without, PartChoice, Payments, Rows, Members, Multipliers, RowChoice, End, Nothing}
+use Rattle.cert_pieces.specs.declared.due.Due.TheVariants.{Version, Limits, Den, Value, Choice, Title, Entries, Without, PartChoice, Payments, Rows, Members}
+use Rattle.cert_pieces.specs.declared.due.Due.TheVariants.{Multipliers, RowChoice, End, Nothing}
 use Rattle.cert_pieces.specs.declared.line.form.Form.{Form}
 use Rattle.cert_pieces.specs.declared.line.LinePart.{LinePart}
 use Rattle.cert_pieces.specs.Dues.{word_of, IsDue}
@@ -63,8 +65,10 @@ drop_front (suc n) [] ys le = absurd (omega (arith, le))
 drop_front (suc n) (x ∷ xs) ys le = drop_front n xs ys (omega (arith, le))
 
 -- what was written into a segment
-pub written : (start size : ℕ) (room out post : List ℤ) → start ≤ length room → length out ≡ size → take size (drop start (take start room ++ (out ++ post))) ≡ out
-written start size room out post le is = ap (λ (l : List ℤ). take size l) (drop_front start room (out ++ post) le) ∙ ap (λ (n : ℕ). take n (out ++ post)) (sym is) ∙ take_front out post
+pub written : (start size : ℕ) (room out post : List ℤ) → start ≤ length room → length out ≡ size → take size
+    (drop start (take start room ++ (out ++ post))) ≡ out
+written start size room out post le is = ap (λ (l : List ℤ). take size l) (drop_front start room (out ++ post) le)
+    ∙ ap (λ (n : ℕ). take n (out ++ post)) (sym is) ∙ take_front out post
 
 -- what stands before it
 pub before : (n start : ℕ) (room rest : List ℤ) → n ≤ start → start ≤ length room → take n (take start room ++ rest) ≡ take n room
@@ -74,25 +78,41 @@ before (suc n) (suc start) [] rest le inside = absurd (omega (arith, inside))
 before (suc n) (suc start) (x ∷ room) rest le inside = ap (λ (l : List ℤ). x ∷ l) (before n start room rest (omega (arith, le)) (omega (arith, inside)))
 
 -- what is said of the line that is due, and of what was written into its part of the room
-pub in_segment : (P : List ℕ → Form → List ℤ → Type 0) (b s : ℕ) (due : Due) (part : LinePart) (room out post : List ℤ) (bytes word : List ℕ) (form : Form) (start end : ℕ)
-    → IsDue b due → word ≡ word_of due → form ≡ form_due b s due → start ≡ start_due b s due → end ≡ start_due b s due + room_for (form_due b s due) → length room ≡ room_size b s
+pub in_segment : (P : List ℕ → Form → List ℤ → Type 0) (b s : ℕ) (due : Due) (part : LinePart) (room out post : List ℤ) (bytes word : List ℕ) (form : Form)
+    (start end : ℕ)
+    → IsDue b due → word ≡ word_of due → form ≡ form_due b s due → start ≡ start_due b s due → end ≡ start_due b s due + room_for (form_due b s due)
+    → length room ≡ room_size b s
     → length out ≡ length (take (end - start) (drop start room))
     → (IsPart word form part (take (end - start) (drop start room)) bytes → P word form out)
-    → IsPart (word_of due) (form_due b s due) part (segment b s due room) bytes → P (word_of due) (form_due b s due) (segment b s due (take start room ++ (out ++ post)))
+    → IsPart (word_of due) (form_due b s due) part (segment b s due room) bytes → P (word_of due) (form_due b s due)
+    (segment b s due (take start room ++ (out ++ post)))
 in_segment P b s due part room out post bytes word form start end named words forms starts ends rooms longs goes is =
     let size : end - start ≡ room_for (form_due b s due) = omega (arith, starts, ends) in
-    let same : segment b s due room ≡ take (end - start) (drop start room) = ap (λ (n : ℕ). take n (drop (start_due b s due) room)) (sym size) ∙ ap (λ (n : ℕ). take (end - start) (drop n room)) (sym starts) in
+    let same : segment b s due room ≡ take (end - start) (drop start room) = ap (λ (n : ℕ). take n (drop (start_due b s due) room)) (sym size)
+    ∙ ap (λ (n : ℕ). take (end - start) (drop n room)) (sym starts) in
     let le : start ≤ length room = omega (arith, starts, rooms, in_room b s due named) in
-    let long : length out ≡ room_for (form_due b s due) = omega (arith, longs, length-take (end - start) (drop start room), length-drop start room, size, starts, rooms, in_room b s due named) in
-    let here : segment b s due (take start room ++ (out ++ post)) ≡ out = ap (λ (n : ℕ). take (room_for (form_due b s due)) (drop n (take start room ++ (out ++ post)))) (sym starts) ∙ written start (room_for (form_due b s due)) room out post le long in
+    let long : length out ≡ room_for (form_due b s due) = omega (
+      arith,
+      longs,
+      length-take (end - start) (drop start room),
+      length-drop start room,
+      size,
+      starts,
+      rooms,
+      in_room b s due named,
+    ) in
+    let here : segment b s due (take start room ++ (out ++ post)) ≡ out = ap (λ (n : ℕ). take (room_for (form_due b s due))
+    (drop n (take start room ++ (out ++ post)))) (sym starts) ∙ written start (room_for (form_due b s due)) room out post le long in
     let old : IsPart word form part (take (end - start) (drop start room)) bytes =
     subst (λ (w : List ℕ). IsPart w form part (take (end - start) (drop start room)) bytes) (sym words)
     (subst (λ (f : Form). IsPart (word_of due) f part (take (end - start) (drop start room)) bytes) (sym forms)
     (subst (λ (l : List ℤ). IsPart (word_of due) (form_due b s due) part l bytes) same is)) in
-    subst (P (word_of due) (form_due b s due)) (sym here) (subst (λ (f : Form). P (word_of due) f out) forms (subst (λ (w : List ℕ). P w form out) words (goes old)))
+    subst (P (word_of due) (form_due b s due)) (sym here) (subst (λ (f : Form). P (word_of due) f out) forms
+    (subst (λ (w : List ℕ). P w form out) words (goes old)))
 
 -- what stands behind it
-pub behind : (start size : ℕ) (room out post : List ℤ) → start ≤ length room → length out ≡ size → post ≡ drop size (drop start room) → drop (start + size) (take start room ++ (out ++ post)) ≡ drop (start + size) room
+pub behind : (start size : ℕ) (room out post : List ℤ) → start ≤ length room → length out ≡ size → post ≡ drop size (drop start room)
+    → drop (start + size) (take start room ++ (out ++ post)) ≡ drop (start + size) room
 behind start size room out post le is same =
     sym (drop-drop size start (take start room ++ (out ++ post)) ∙ ap (λ (n : ℕ). drop n (take start room ++ (out ++ post))) {y = start + size} (omega arith))
     ∙ ap (λ (l : List ℤ). drop size l) (drop_front start room (out ++ post) le)

@@ -1,15 +1,18 @@
 -- A reader that stands for a text, and one more byte.
-use Rattle.std.proofs.Common.{◌≡◌, ◌≢◌, ℕ, suc, zero, ◌+◌, Bool, true, false, List, [], ◌∷◌, ◌++◌, length, take, drop, get_or, refl, sym, ap, subst, ◌∙◌, arith, append_assoc, length-append, take-append-drop}
+use Rattle.std.proofs.Common.{◌≡◌, ◌≢◌, ℕ, suc, zero, ◌+◌, Bool, true, false, List, [], ◌∷◌, ◌++◌, length, take, drop, get_or, refl, sym, ap, subst, ◌∙◌}
+use Rattle.std.proofs.Common.{arith, append_assoc, length-append, take-append-drop}
 use Rattle.std.proofs.lemmas.List.{drop_all, append-nil}
 use Rattle.std.specs.Prelude.{ℤ, pos, Option, Some, None, codes, map}
 use Rattle.cert_text.specs.line_text.specs.LineText.{IsLine, IsTextOf}
 use Rattle.cert_text.specs.cert_form.specs.Plan.{Follows as ToEnd}
-use Rattle.cert_text.specs.cert_form.specs.Lines.{FitNumbers, Fits, IsCertText, Kind, Line, after, body_plan, cert_plan, is_first_version, just_line, kind, lines, over, these, version_of}
+use Rattle.cert_text.specs.cert_form.specs.Lines.{FitNumbers, Fits, IsCertText, Kind, Line, after, body_plan, cert_plan, is_first_version, just_line, kind}
+use Rattle.cert_text.specs.cert_form.specs.Lines.{lines, over, these, version_of}
 use Rattle.cert_text.specs.cert_form.specs.CertText.{line}
 use Rattle.cert_text.specs.cert_form.specs.Reading.{Reached}
 use Rattle.cert_text.specs.cert_form.proofs.Reading.{reached-start}
 use Rattle.cert_pieces.specs.declared.due.Due.{Due}
-use Rattle.cert_pieces.specs.declared.due.Due.TheVariants.{Version, Limits, Den, Value, Choice, Title, Entries, Without, PartChoice, Payments, Rows, Members, Multipliers, RowChoice, End, Nothing}
+use Rattle.cert_pieces.specs.declared.due.Due.TheVariants.{Version, Limits, Den, Value, Choice, Title, Entries, Without, PartChoice, Payments, Rows, Members}
+use Rattle.cert_pieces.specs.declared.due.Due.TheVariants.{Multipliers, RowChoice, End, Nothing}
 use Rattle.cert_pieces.specs.declared.line.LinePart.{LinePart}
 use Rattle.cert_pieces.specs.declared.reader.Reader.{Reader}
 use Rattle.cert_pieces.specs.declared.stop.TextStop.{TextStop}
@@ -48,7 +51,8 @@ same_plan b s x y End same = ap (λ (l : List ℤ). plan_due b s l End) (same (�
 same_plan b s x y Nothing same = ap (λ (l : List ℤ). plan_due b s l Nothing) (same (λ e. cc e))
 
 -- the plan begins with the line that is due, and what stands behind that line follows
-pub plan_is : (b s : ℕ) (choice : List ℤ) (due : Due) → (due ≡ Nothing → ⊥) → plan_due b s choice due ≡ kind (word_of due) (numbers_due b s due) ∷ behind b s choice due
+pub plan_is : (b s : ℕ) (choice : List ℤ) (due : Due) → (due ≡ Nothing → ⊥) → plan_due b s choice due ≡ kind (word_of due)
+    (numbers_due b s due) ∷ behind b s choice due
 plan_is b s choice Version some = refl
 plan_is b s choice Limits some = refl
 plan_is b s choice Den some = refl
@@ -104,12 +108,15 @@ from_due b s (RowChoice r) ns fit = fit
 from_due b s End ns fit = fit
 from_due b s Nothing ns fit = fit
 
-module _ (b s : ℕ) (due : Due) (part : LinePart) (place read : ℕ) (room : List ℤ) (text : List ℕ) (items : List Line) (is : IsReading b s due part place read room text items) where
+module _ (b s : ℕ) (due : Due) (part : LinePart) (place read : ℕ) (room : List ℤ) (text : List ℕ) (items : List Line)
+    (is : IsReading b s due part place read room text items) where
   -- nothing is due, and more bytes come
   pub more_behind : due ≡ Nothing → (c : ℕ) → StopsFor b s (text ++ c ∷ []) (Form place)
-  more_behind none c = behind_last b s text place items (subst (λ (d : Due). Reached b s text place (plan_due b s (take b room) d) items) none is.reached) (is.done none) c
+  more_behind none c = behind_last b s text place items (subst (λ (d : Due). Reached b s text place (plan_due b s (take b room) d) items) none is.reached)
+      (is.done none) c
 
-  module _ (some : due ≡ Nothing → ⊥) (more : List ℕ) (line : IsLine more) (now : LinePart) (grown : List ℤ) (same : due ≢ Choice → take b grown ≡ take b room) where
+  module _ (some : due ≡ Nothing → ⊥) (more : List ℕ) (line : IsLine more) (now : LinePart) (grown : List ℤ)
+      (same : due ≢ Choice → take b grown ≡ take b room) where
     -- what stands behind the place, with more bytes
     there : drop place (text ++ more) ≡ drop place text ++ more
     there = drop_more place text more (reached_within b s text place (plan_due b s (take b room) due) items is.reached)
@@ -128,14 +135,16 @@ module _ (b s : ℕ) (due : Due) (part : LinePart) (place read : ℕ) (room : Li
 
     -- the plan is the same in the room as it is now
     renewed : Reached b s (text ++ more) place (plan_due b s (take b grown) due) items
-    renewed = subst (λ (p : List Kind). Reached b s (text ++ more) place p items) (same_plan b s (take b room) (take b grown) due (λ other. sym (same other))) further
+    renewed = subst (λ (p : List Kind). Reached b s (text ++ more) place p items) (same_plan b s (take b room) (take b grown) due (λ other. sym (same other)))
+        further
 
     -- and lines of it still go on to the end
     leading : Lead b s (plan_due b s (take b grown) due) items
     leading rest f = is.leads rest (subst (λ (p : List Kind). ToEnd Fits after p rest) (same_plan b s (take b grown) (take b room) due same) f)
 
     -- the line goes on
-    pub goes_on : (next : ℕ) → next ≡ read + length more → IsPart (word_of due) (form_due b s due) now (segment b s due grown) (drop place text ++ more) → IsReading b s due now place next grown (text ++ more) items
+    pub goes_on : (next : ℕ) → next ≡ read + length more → IsPart (word_of due) (form_due b s due) now (segment b s due grown) (drop place text ++ more)
+        → IsReading b s due now place next grown (text ++ more) items
     goes_on next long front = record {
       reached = renewed;
       leads = leading;
@@ -148,14 +157,16 @@ module _ (b s : ℕ) (due : Due) (part : LinePart) (place read : ℕ) (room : Li
     }
 
     -- it is none of its kind
-    pub goes_wrong : (c : ℕ) → IsUnfit (word_of due) (numbers_of (form_due b s due)) (drop place text ++ more) c → StopsFor b s ((text ++ more) ++ c ∷ []) (Form place)
+    pub goes_wrong : (c : ℕ) → IsUnfit (word_of due) (numbers_of (form_due b s due)) (drop place text ++ more) c
+        → StopsFor b s ((text ++ more) ++ c ∷ []) (Form place)
     goes_wrong c unfit =
         line_unfit b s (text ++ more) place (word_of due) (numbers_due b s due) (behind b s (take b room) due) items planned longer c
         (subst (λ (l : List ℕ). IsUnfit (word_of due) (numbers_due b s due) l c) (sym there)
         (record { ended = λ e ns fit. unfit.ended e ns (from_due b s due ns fit); inside = λ e ns rest fit. unfit.inside e ns rest (from_due b s due ns fit) }))
 
     -- it is whole
-    pub goes_whole : (next : ℕ) → next ≡ read + (length more + 1) → IsWholeLine (word_of due) (form_due b s due) now (segment b s due grown) (drop place text ++ more) → IsEnding b s due now place next grown (text ++ more) items
+    pub goes_whole : (next : ℕ) → next ≡ read + (length more + 1) → IsWholeLine (word_of due) (form_due b s due) now (segment b s due grown)
+        (drop place text ++ more) → IsEnding b s due now place next grown (text ++ more) items
     goes_whole next long whole = record {
       reached = renewed;
       leads = leading;
@@ -167,7 +178,8 @@ module _ (b s : ℕ) (due : Due) (part : LinePart) (place read : ℕ) (room : Li
       long = omega (arith, length-append text more, is.long, long);
     }
 
-module _ (b s : ℕ) (due : Due) (part : LinePart) (place read : ℕ) (room : List ℤ) (text : List ℕ) (items : List Line) (is : IsEnding b s due part place read room text items) where
+module _ (b s : ℕ) (due : Due) (part : LinePart) (place read : ℕ) (room : List ℤ) (text : List ℕ) (items : List Line)
+    (is : IsEnding b s due part place read room text items) where
   -- the line that is due is the next of the plan
   set_out : Reached b s text place (kind (word_of due) (numbers_due b s due) ∷ behind b s (take b room) due) items
   set_out = subst (λ (p : List Kind). Reached b s text place p items) (plan_is b s (take b room) due is.some) is.reached
@@ -183,7 +195,8 @@ module _ (b s : ℕ) (due : Due) (part : LinePart) (place read : ℕ) (room : Li
       (record { word = refl; numbers = to_due b s due is.whole.numbers is.whole.fit }) is.whole.spelled (is.whole.keeps.range ∙ out)
 
   -- the next line is due
-  pub ends_in : (next : Due) (now : LinePart) → part.beyond ≡ false → Follows b s (take b room) due is.whole.numbers next → IsDue b next → ((out : List ℤ) → IsPart (word_of next) (form_due b s next) now out []) → IsReading b s next now read read room (text ++ 10 ∷ []) (items ++ own ∷ [])
+  pub ends_in : (next : Due) (now : LinePart) → part.beyond ≡ false → Follows b s (take b room) due is.whole.numbers next → IsDue b next
+      → ((out : List ℤ) → IsPart (word_of next) (form_due b s next) now out []) → IsReading b s next now read read room (text ++ 10 ∷ []) (items ++ own ∷ [])
   ends_in next now within follows named fresh =
       let long : length (text ++ 10 ∷ []) ≡ read = omega (arith, length-append text (10 ∷ []), is.long) in
       let none : drop read (text ++ 10 ∷ []) ≡ [] = drop_all read (text ++ 10 ∷ []) (omega (arith, long)) in
@@ -193,8 +206,11 @@ module _ (b s : ℕ) (due : Due) (part : LinePart) (place read : ℕ) (room : Li
         reached = subst (λ (p : ℕ). Reached b s (text ++ 10 ∷ []) p (plan_due b s (take b room) next) (items ++ own ∷ [])) (omega (arith, is.long))
             (subst (λ (p : List Kind). Reached b s (text ++ 10 ∷ []) (length text + 1) p (items ++ own ∷ [])) follows done);
         leads = λ rest f. subst (IsCertText b s) (sym (append_assoc items (own ∷ []) rest))
-            (is.leads (own ∷ rest) (subst (λ (p : List Kind). ToEnd Fits after p (own ∷ rest)) (sym (plan_is b s (take b room) due is.some))
-            (record { word = refl; numbers = to_due b s due is.whole.numbers is.whole.fit }, subst (λ (p : List Kind). ToEnd Fits after p rest) (sym follows) f)));
+            (is.leads (own ∷ rest) (subst (λ (p : List Kind). ToEnd Fits after p (own ∷ rest)) (sym (plan_is b s (take b room) due is.some)) (
+              record { word = refl; numbers = to_due b s due is.whole.numbers is.whole.fit },
+              subst (λ (p : List Kind). ToEnd Fits after p rest)
+                  (sym follows) f,
+            )));
         inside = all_push items own is.inside (is.whole.keeps.range ∙ within);
         named = named;
         line = subst IsLine (sym none) tt;
@@ -221,7 +237,8 @@ module _ (b s : ℕ) (due : Due) (part : LinePart) (place read : ℕ) (room : Li
       at_drop (suc n) [] = refl
       at_drop (suc n) (x ∷ xs) = at_drop n xs
 
-      known : (due : Due) (ns : List ℤ) → FitNumbers (numbers_of (form_due b s due)) ns → Keeps ns (segment b s due room) part.count part.beyond → get_or room (start_due b s due) (pos 0) ≡ first → IsKnown due ns (take b room) first
+      known : (due : Due) (ns : List ℤ) → FitNumbers (numbers_of (form_due b s due)) ns → Keeps ns (segment b s due room) part.count part.beyond
+          → get_or room (start_due b s due) (pos 0) ≡ first → IsKnown due ns (take b room) first
       known Version ns fit keeps at = tt
       known Limits ns fit keeps at = tt
       known Den ns fit keeps at = tt
@@ -245,11 +262,13 @@ module _ (b s : ℕ) (due : Due) (part : LinePart) (place read : ℕ) (room : Li
       known Nothing ns fit keeps at = tt
 
 -- a reader that has not stopped reads on
-pub still_reading : (b s : ℕ) (due : Due) (part : LinePart) (place read : ℕ) (room : List ℤ) (text : List ℕ) (items : List Line) (stop : Option TextStop) → stop ≡ None → ReadsBehind b s due part place read room text items stop → IsReading b s due part place read room text items
+pub still_reading : (b s : ℕ) (due : Due) (part : LinePart) (place read : ℕ) (room : List ℤ) (text : List ℕ) (items : List Line) (stop : Option TextStop)
+    → stop ≡ None → ReadsBehind b s due part place read room text items stop → IsReading b s due part place read room text items
 still_reading b s due part place read room text items stop none is = subst (ReadsBehind b s due part place read room text items) none is
 
 -- and the other way
-pub reads_on : (b s : ℕ) (due : Due) (part : LinePart) (place read : ℕ) (room : List ℤ) (text : List ℕ) (items : List Line) (stop : Option TextStop) → stop ≡ None → IsReading b s due part place read room text items → ReadsBehind b s due part place read room text items stop
+pub reads_on : (b s : ℕ) (due : Due) (part : LinePart) (place read : ℕ) (room : List ℤ) (text : List ℕ) (items : List Line) (stop : Option TextStop)
+    → stop ≡ None → IsReading b s due part place read room text items → ReadsBehind b s due part place read room text items stop
 reads_on b s due part place read room text items stop none is = subst (ReadsBehind b s due part place read room text items) (sym none) is
 
 -- the lines of the version, by their plan
@@ -262,7 +281,8 @@ pub first_plan : (b s : ℕ) (choice : List ℤ) → plan_due b s choice Version
 first_plan b s choice = sym (ap (λ (l : List Kind). l ++ body_plan b s) (version_due (is_first_version b s)))
 
 -- a reader to which nothing was fed
-pub at_first : (b s : ℕ) (part : LinePart) (room : List ℤ) → ((out : List ℤ) → IsPart (word_of Version) (form_due b s Version) part out []) → IsReading b s Version part 0 0 room [] []
+pub at_first : (b s : ℕ) (part : LinePart) (room : List ℤ) → ((out : List ℤ) → IsPart (word_of Version) (form_due b s Version) part out [])
+    → IsReading b s Version part 0 0 room [] []
 at_first b s part room fresh = record {
   reached = subst (λ (p : List Kind). Reached b s [] 0 p []) (sym (first_plan b s (take b room))) (reached-start b s []);
   leads = λ rest f. subst (λ (p : List Kind). ToEnd Fits after p rest) (first_plan b s (take b room)) f;
@@ -283,25 +303,33 @@ pub says : (b s : ℕ) (text : List ℕ) (stop : TextStop) → StopsFor b s text
 says b s text stop is = subst (λ (l : List ℕ). SaysStop b s l stop) (append-nil text) (is [])
 
 -- what a reader that has stopped says
-pub stopped : (b s : ℕ) (due : Due) (part : LinePart) (place read : ℕ) (room : List ℤ) (text : List ℕ) (items : List Line) (o : Option TextStop) (stop : TextStop) → o ≡ Some stop → ReadsBehind b s due part place read room text items o → SaysStop b s text stop
+pub stopped : (b s : ℕ) (due : Due) (part : LinePart) (place read : ℕ) (room : List ℤ) (text : List ℕ) (items : List Line) (o : Option TextStop)
+    (stop : TextStop) → o ≡ Some stop → ReadsBehind b s due part place read room text items o → SaysStop b s text stop
 stopped b s due part place read room text items o stop some is = says b s text stop (subst (ReadsBehind b s due part place read room text items) some is)
 
 -- a line is due still
-pub not_yet : (b s : ℕ) (due : Due) (part : LinePart) (place read : ℕ) (room : List ℤ) (text : List ℕ) (items : List Line) → IsReading b s due part place read room text items → (due ≡ Nothing → ⊥) → SaysStop b s text (Form place)
+pub not_yet : (b s : ℕ) (due : Due) (part : LinePart) (place read : ℕ) (room : List ℤ) (text : List ℕ) (items : List Line)
+    → IsReading b s due part place read room text items → (due ≡ Nothing → ⊥) → SaysStop b s text (Form place)
 not_yet b s due part place read room text items is some =
-    line_unfinished b s text place (word_of due) (numbers_due b s due) (behind b s (take b room) due) items (subst (λ (p : List Kind). Reached b s text place p items) (plan_is b s (take b room) due some) is.reached) is.line
+    line_unfinished b s text place (word_of due) (numbers_due b s due) (behind b s (take b room) due) items
+    (subst (λ (p : List Kind). Reached b s text place p items) (plan_is b s (take b room) due some) is.reached) is.line
 
 -- no line is due: the text is whole
-pub whole_text : (b s : ℕ) (due : Due) (part : LinePart) (place read : ℕ) (room : List ℤ) (text : List ℕ) (items : List Line) → IsReading b s due part place read room text items → due ≡ Nothing → IsTextOf (IsCertText b s) lines text items
-whole_text b s due part place read room text items is none = all_there b s text place items (subst (λ (d : Due). Reached b s text place (plan_due b s (take b room) d) items) none is.reached) (is.done none)
+pub whole_text : (b s : ℕ) (due : Due) (part : LinePart) (place read : ℕ) (room : List ℤ) (text : List ℕ) (items : List Line)
+    → IsReading b s due part place read room text items → due ≡ Nothing → IsTextOf (IsCertText b s) lines text items
+whole_text b s due part place read room text items is none = all_there b s text place items
+    (subst (λ (d : Due). Reached b s text place (plan_due b s (take b room) d) items) none is.reached) (is.done none)
 
 -- a reader that has stopped stands for each longer text
-pub rest_on : (r : Reader) (room : List ℤ) (text piece : List ℕ) (items : List Line) (at : ℕ) → (r.stop ≡ None → ⊥) → StandsBehind r room (text ++ take at piece) items → StandsBehind r room (text ++ piece) items
+pub rest_on : (r : Reader) (room : List ℤ) (text piece : List ℕ) (items : List Line) (at : ℕ) → (r.stop ≡ None → ⊥)
+    → StandsBehind r room (text ++ take at piece) items → StandsBehind r room (text ++ piece) items
 rest_on r room text piece items at some is = whole r.stop some is
   where
     joined : (text ++ take at piece) ++ drop at piece ≡ text ++ piece
     joined = append_assoc text (take at piece) (drop at piece) ∙ ap (λ (l : List ℕ). text ++ l) (take-append-drop at piece)
 
-    whole : (o : Option TextStop) → (o ≡ None → ⊥) → ReadsBehind r.shape.bidders r.shape.states r.due r.part r.place r.read room (text ++ take at piece) items o → ReadsBehind r.shape.bidders r.shape.states r.due r.part r.place r.read room (text ++ piece) items o
+    whole : (o : Option TextStop) → (o ≡ None → ⊥) → ReadsBehind r.shape.bidders r.shape.states r.due r.part r.place r.read room
+        (text ++ take at piece) items o → ReadsBehind r.shape.bidders r.shape.states r.due r.part r.place r.read room (text ++ piece) items o
     whole None some is = absurd (some refl)
-    whole (Some stop) some is = subst (λ (l : List ℕ). StopsFor r.shape.bidders r.shape.states l stop) joined (stands_more r.shape.bidders r.shape.states (text ++ take at piece) (drop at piece) stop is)
+    whole (Some stop) some is = subst (λ (l : List ℕ). StopsFor r.shape.bidders r.shape.states l stop) joined
+        (stands_more r.shape.bidders r.shape.states (text ++ take at piece) (drop at piece) stop is)

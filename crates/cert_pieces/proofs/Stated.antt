@@ -18,9 +18,15 @@ none_out place (i ∷ items) none = first (over i) refl none (λ rest. none_out 
     not_none : (p : ℕ) → Some p ≡ None → ⊥
     not_none p e = cc
 
-    first : (b : Bool) → over i ≡ b → first_excess (placed spell over place (i ∷ items)) ≡ None → (first_excess (placed spell over (next_place spell over place i) items) ≡ None → AllIn items) → AllIn (i ∷ items)
-    first true is none more = absurd (not_none place (subst (λ (x : Bool). option_or (if x then Some place else None) (first_excess (placed spell over (next_place spell over place i) items)) ≡ None) is none))
-    first false is none more = (is, more (subst (λ (x : Bool). option_or (if x then Some place else None) (first_excess (placed spell over (next_place spell over place i) items)) ≡ None) is none))
+    first : (b : Bool) → over i ≡ b → first_excess (placed spell over place (i ∷ items)) ≡ None
+        → (first_excess (placed spell over (next_place spell over place i) items) ≡ None → AllIn items) → AllIn (i ∷ items)
+    first true is none more = absurd (not_none place (subst (λ (x : Bool). option_or (if x then Some place else None)
+        (first_excess (placed spell over (next_place spell over place i) items)) ≡ None) is none))
+    first false is none more = (
+      is,
+      more (subst (λ (x : Bool). option_or (if x then Some place else None)
+          (first_excess (placed spell over (next_place spell over place i) items)) ≡ None) is none),
+    )
 
 -- a text of lines in range states a certificate
 pub states_one : (b s : ℕ) (text : List ℕ) (items : List Line) → IsTextOf (IsCertText b s) lines text items → (c : CertValue) × CertSays b s text (stated c)

@@ -10,12 +10,15 @@ use Rattle.cert_pieces.proofs.Fronts.{next_number}
 
 module _ (word : List ℕ) (n : Numbers) (ns : List ℤ) (bytes : List ℕ) (byte : ℕ) where
   -- the last number can't stand there, whatever follows
-  pub unfit_number : (z : ℤ) → byte ≡ 32 → bytes ≡ word ++ numbers_text (ns ++ z ∷ []) → ((more : List ℤ) → FitNumbers n (ns ++ z ∷ more) → ⊥) → IsUnfit word n bytes byte
+  pub unfit_number : (z : ℤ) → byte ≡ 32 → bytes ≡ word ++ numbers_text (ns ++ z ∷ []) → ((more : List ℤ) → FitNumbers n (ns ++ z ∷ more) → ⊥)
+      → IsUnfit word n bytes byte
   unfit_number z space is none = record {
     ended = λ e. absurd (omega (arith, e, space));
     inside = λ e ms rest fit text.
-        let e2 : numbers_text (ns ++ z ∷ []) ++ 32 ∷ rest ≡ numbers_text ms = append_cancel_left word (numbers_text (ns ++ z ∷ []) ++ 32 ∷ rest) (numbers_text ms)
-        (sym (append_assoc word (numbers_text (ns ++ z ∷ [])) (32 ∷ rest)) ∙ ap (λ (l : List ℕ). l ++ 32 ∷ rest) (sym is) ∙ ap (λ (b : ℕ). bytes ++ b ∷ rest) (sym space) ∙ text) in
+        let e2 : numbers_text (ns ++ z ∷ []) ++ 32 ∷ rest ≡ numbers_text ms = append_cancel_left word (numbers_text (ns ++ z ∷ []) ++ 32 ∷ rest)
+        (numbers_text ms)
+        (sym (append_assoc word (numbers_text (ns ++ z ∷ [])) (32 ∷ rest)) ∙ ap (λ (l : List ℕ). l ++ 32 ∷ rest) (sym is)
+        ∙ ap (λ (b : ℕ). bytes ++ b ∷ rest) (sym space) ∙ text) in
         let m = next_number (ns ++ z ∷ []) ms rest e2 in
         none (m.0 ∷ m.1) (subst (FitNumbers n) (m.3 ∙ append_assoc ns (z ∷ []) (m.0 ∷ m.1)) fit);
   }
@@ -23,6 +26,7 @@ module _ (word : List ℕ) (n : Numbers) (ns : List ℤ) (bytes : List ℕ) (byt
   -- the whole line has other numbers
   pub unfit_whole : byte ≡ 10 → bytes ≡ word ++ numbers_text ns → (FitNumbers n ns → ⊥) → IsUnfit word n bytes byte
   unfit_whole feed is none = record {
-    ended = λ e ms fit text. none (subst (FitNumbers n) (sym (one_numbers ns ms (append_cancel_left word (numbers_text ns) (numbers_text ms) (sym is ∙ text)))) fit);
+    ended = λ e ms fit text. none (subst (FitNumbers n) (sym (one_numbers ns ms (append_cancel_left word (numbers_text ns) (numbers_text ms)
+        (sym is ∙ text)))) fit);
     inside = λ e. absurd (e feed);
   }

@@ -1,5 +1,6 @@
 -- Whole numbers of a piece, one behind the other.
-use Rattle.std.proofs.Common.{◌≡◌, ℕ, ◌+◌, ◌-◌, ◌*◌, ◌≤◌, ◌<◌, ◌^◌, Bool, true, false, List, [], ◌∷◌, ◌++◌, length, set, get_or, take, drop, refl, sym, ap, subst, ◌∙◌, arith, append_assoc}
+use Rattle.std.proofs.Common.{◌≡◌, ℕ, ◌+◌, ◌-◌, ◌*◌, ◌≤◌, ◌<◌, ◌^◌, Bool, true, false, List, [], ◌∷◌, ◌++◌, length, set, get_or, take, drop, refl, sym, ap}
+use Rattle.std.proofs.Common.{subst, ◌∙◌, arith, append_assoc}
 use Rattle.std.proofs.lemmas.Bool.Decides.{nat_tests}
 use Rattle.std.specs.Prelude.{ℤ, pos, ◌||◌}
 use Rattle.cert_text.specs.line_text.specs.LineText.{IsLine}
@@ -32,7 +33,8 @@ field_first piece at lt digit =
     nothing at piece = ap (λ (n : ℕ). take n (drop at piece)) {y = 0} (omega arith)
 
 -- one digit more, behind a number above 0
-pub field_more : (piece : List ℕ) (at i size : ℕ) → at ≤ i → i < length piece → IsDigit (get_or piece i 0) → 0 < size → between at i piece ≡ numeral size → between at (i + 1) piece ≡ numeral (10 * size + (get_or piece i 0 - 48))
+pub field_more : (piece : List ℕ) (at i size : ℕ) → at ≤ i → i < length piece → IsDigit (get_or piece i 0) → 0 < size → between at i piece ≡ numeral size
+    → between at (i + 1) piece ≡ numeral (10 * size + (get_or piece i 0 - 48))
 field_more piece at i size le lt digit some is =
     between_more at i piece le lt
     ∙ ap (λ (l : List ℕ). l ++ get_or piece i 0 ∷ []) is
@@ -59,7 +61,8 @@ field_fours piece at i size four le room fours some is =
     let one = field_more piece at i size le (omega (arith, room)) first some is in
     let more = field_more piece at (i + 1) (10 * size + a) (omega (arith, le)) (omega (arith, room)) second (omega (arith, some)) one in
     let much = field_more piece at (i + 1 + 1) (10 * (10 * size + a) + b) (omega (arith, le)) (omega (arith, room)) third (omega (arith, some)) more in
-    let all = field_more piece at (i + 1 + 1 + 1) (10 * (10 * (10 * size + a) + b) + c) (omega (arith, le)) (omega (arith, room)) last (omega (arith, some)) much in
+    let all = field_more piece at (i + 1 + 1 + 1) (10 * (10 * (10 * size + a) + b) + c) (omega (arith, le)) (omega (arith, room)) last
+    (omega (arith, some)) much in
     let c_is : c ≡ byte (i + 2) - 48 = ap (λ (n : ℕ). byte n - 48) two in
     let d_is : d ≡ byte (i + 3) - 48 = ap (λ (n : ℕ). byte n - 48) three in
     let sum : 10 * (10 * (10 * (10 * size + a) + b) + c) + d ≡ 10000 * size + four = omega (arith, fours.value, c_is, d_is) in
@@ -76,26 +79,33 @@ fours-small piece i four fours =
 
 -- a number and its space
 with_space : (piece : List ℕ) (at : ℕ) (f : Field) → IsField piece at f → between at (f.end + 1) piece ≡ numeral f.size ++ 32 ∷ []
-with_space piece at f is = between_more at f.end piece is.from is.within ∙ ap (λ (l : List ℕ). l ++ get_or piece f.end 0 ∷ []) is.spelled ∙ ap (λ (c : ℕ). numeral f.size ++ c ∷ []) is.space
+with_space piece at f is = between_more at f.end piece is.from is.within ∙ ap (λ (l : List ℕ). l ++ get_or piece f.end 0 ∷ []) is.spelled
+    ∙ ap (λ (c : ℕ). numeral f.size ++ c ∷ []) is.space
 
 -- a number with its space has no line feed
-pub field_line : (piece : List ℕ) (from at : ℕ) (f : Field) → IsField piece at f → from ≤ at → IsLine (between from at piece) → IsLine (between from (f.end + 1) piece)
+pub field_line : (piece : List ℕ) (from at : ℕ) (f : Field) → IsField piece at f → from ≤ at → IsLine (between from at piece)
+    → IsLine (between from (f.end + 1) piece)
 field_line piece from at f is le line =
     subst IsLine (between_join from at (f.end + 1) piece le (omega (arith, is.from)))
     (line_append (between from at piece) (between at (f.end + 1) piece) line
-    (subst IsLine (sym (with_space piece at f is)) (line_append (numeral f.size) (32 ∷ []) (digits_line (numeral f.size) (numeral_is f.size).digits) (λ e. omega (arith, e), tt))))
+    (subst IsLine (sym (with_space piece at f is)) (line_append (numeral f.size) (32 ∷ []) (digits_line (numeral f.size) (numeral_is f.size).digits)
+    (λ e. omega (arith, e), tt))))
 
 module _ (word : List ℕ) (most : ℕ) (beyond : Bool) where
   -- one whole number more is kept
-  pub field_kept : (count : ℕ) (out now : List ℤ) (bytes piece : List ℕ) (at : ℕ) (f : Field) → IsField piece at f → f.size < 2 ^ 64 → count < most → most ≤ length out → now ≡ set out count (pos f.size)
-      → IsPart word (Signed most) (behind_space count beyond) out bytes → IsPart word (Signed most) (behind_space (count + 1) beyond) now (bytes ++ between at (f.end + 1) piece)
+  pub field_kept : (count : ℕ) (out now : List ℤ) (bytes piece : List ℕ) (at : ℕ) (f : Field) → IsField piece at f → f.size < 2 ^ 64 → count < most
+      → most ≤ length out → now ≡ set out count (pos f.size)
+      → IsPart word (Signed most) (behind_space count beyond) out bytes → IsPart word (Signed most) (behind_space (count + 1) beyond) now
+      (bytes ++ between at (f.end + 1) piece)
   field_kept count out now bytes piece at f is small few room stored part = record {
     numbers = part.numbers ++ pos f.size ∷ [];
     partway = ap (λ (l : List ℕ). bytes ++ l) (with_space piece at f is)
         ∙ longer word part.numbers (32 ∷ []) bytes part.partway (numeral f.size ++ 32 ∷ [])
-        ∙ ap (λ (l : List ℕ). word ++ l) (sym (append_assoc (numbers_text part.numbers) (32 ∷ numeral f.size) (32 ∷ [])) ∙ ap (λ (l : List ℕ). l ++ 32 ∷ []) (sym (numbers-push part.numbers (pos f.size))));
+        ∙ ap (λ (l : List ℕ). word ++ l) (sym (append_assoc (numbers_text part.numbers) (32 ∷ numeral f.size) (32 ∷ []))
+        ∙ ap (λ (l : List ℕ). l ++ 32 ∷ []) (sym (numbers-push part.numbers (pos f.size))));
     keeps = kept_now (part.numbers ++ pos f.size ∷ []) (set out count (pos f.size)) now (count + 1) (count + 1) (beyond || false) beyond
-        (keeps_more part.numbers out count beyond (record { number = pos f.size; beyond = false }) (pos f.size) part.keeps (record { beyond = inside f.size small; same = λ e. refl }) (omega (arith, few, room)))
+        (keeps_more part.numbers out count beyond (record { number = pos f.size; beyond = false }) (pos f.size) part.keeps
+        (record { beyond = inside f.size small; same = λ e. refl }) (omega (arith, few, room)))
         (sym stored)
         refl
         (plain beyond);
@@ -110,8 +120,10 @@ module _ (word : List ℕ) (most : ℕ) (beyond : Bool) where
       inside n lt = grind (arith, nat_tests, lt)
 
   -- the same behind others
-  pub field_join : (count : ℕ) (out now : List ℤ) (bytes piece : List ℕ) (from at : ℕ) (f : Field) → IsField piece at f → f.size < 2 ^ 64 → count < most → most ≤ length out → now ≡ set out count (pos f.size) → from ≤ at
-      → IsPart word (Signed most) (behind_space count beyond) out (bytes ++ between from at piece) → IsPart word (Signed most) (behind_space (count + 1) beyond) now (bytes ++ between from (f.end + 1) piece)
+  pub field_join : (count : ℕ) (out now : List ℤ) (bytes piece : List ℕ) (from at : ℕ) (f : Field) → IsField piece at f → f.size < 2 ^ 64 → count < most
+      → most ≤ length out → now ≡ set out count (pos f.size) → from ≤ at
+      → IsPart word (Signed most) (behind_space count beyond) out (bytes ++ between from at piece) → IsPart word (Signed most)
+      (behind_space (count + 1) beyond) now (bytes ++ between from (f.end + 1) piece)
   field_join count out now bytes piece from at f is small few room stored le part =
       part_join word (Signed most) (behind_space (count + 1) beyond) now bytes piece from at (f.end + 1) le (omega (arith, is.from))
       (field_kept count out now (bytes ++ between from at piece) piece at f is small few room stored part)

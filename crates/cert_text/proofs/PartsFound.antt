@@ -16,7 +16,8 @@ abbrev part_in : ℕ → List WithoutPart → WithoutValue
 part_in j parts = part_of (map without_value parts) j
 
 -- behind parts of others, a part without bidder j is the one that is looked for
-pub part_found : (parts : List WithoutPart) (i j : ℕ) (part : WithoutPart) → i < length parts → part ≡ get_or parts i part → IsPast parts i j → part.winner ≡ j → without_value part ≡ part_of (map without_value parts) j
+pub part_found : (parts : List WithoutPart) (i j : ℕ) (part : WithoutPart) → i < length parts → part ≡ get_or parts i part → IsPast parts i j
+    → part.winner ≡ j → without_value part ≡ part_of (map without_value parts) j
 part_found parts i j part lt is past own = sym (
     past.from
     ∙ at_drop_more (part_in j) parts i part lt

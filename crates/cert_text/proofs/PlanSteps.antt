@@ -36,34 +36,48 @@ same_kind n = record { to = λ ns f. f; from = λ ns f. f }
 module _ (bytes : List ℕ) (place : ℕ) where
   -- nothing is read yet
   pub leads_none : (kinds : List Kind) → Leads bytes place kinds place kinds []
-  leads_none kinds = record { leads = λ whole plan items here. subst (λ (l : List Line). ReachedBy whole bytes place (kinds ++ plan) l) (sym (append-nil items)) here }
+  leads_none kinds = record {
+    leads = λ whole plan items here. subst (λ (l : List Line). ReachedBy whole bytes place (kinds ++ plan) l)
+        (sym (append-nil items)) here;
+  }
 
   -- one after the other
-  pub leads_on : (kinds : List Kind) (next : ℕ) (left : List Kind) (read : List Line) (last : ℕ) (end : List Kind) (more : List Line) → Leads bytes place kinds next left read → Leads bytes next left last end more → Leads bytes place kinds last end (read ++ more)
+  pub leads_on : (kinds : List Kind) (next : ℕ) (left : List Kind) (read : List Line) (last : ℕ) (end : List Kind) (more : List Line)
+      → Leads bytes place kinds next left read → Leads bytes next left last end more → Leads bytes place kinds last end (read ++ more)
   leads_on kinds next left read last end more first second = record {
-    leads = λ whole plan items here. subst (λ (l : List Line). ReachedBy whole bytes last (end ++ plan) l) (append_assoc items read more) (second.leads whole plan (items ++ read) (first.leads whole plan items here));
+    leads = λ whole plan items here. subst (λ (l : List Line). ReachedBy whole bytes last (end ++ plan) l) (append_assoc items read more)
+        (second.leads whole plan (items ++ read) (first.leads whole plan items here));
   }
 
   -- with more to come behind
-  pub leads_before : (kinds : List Kind) (next : ℕ) (left : List Kind) (read : List Line) (behind : List Kind) → Leads bytes place kinds next left read → Leads bytes place (kinds ++ behind) next (left ++ behind) read
+  pub leads_before : (kinds : List Kind) (next : ℕ) (left : List Kind) (read : List Line) (behind : List Kind) → Leads bytes place kinds next left read
+      → Leads bytes place (kinds ++ behind) next (left ++ behind) read
   leads_before kinds next left read behind l = record {
-    leads = λ whole plan items here. subst (λ (p : List Kind). ReachedBy whole bytes next p (items ++ read)) (sym (append_assoc left behind plan)) (l.leads whole (behind ++ plan) items (subst (λ (p : List Kind). ReachedBy whole bytes place p items) (append_assoc kinds behind plan) here));
+    leads = λ whole plan items here. subst (λ (p : List Kind). ReachedBy whole bytes next p (items ++ read)) (sym (append_assoc left behind plan))
+        (l.leads whole (behind ++ plan) items (subst (λ (p : List Kind). ReachedBy whole bytes place p items) (append_assoc kinds behind plan) here));
   }
 
   -- what halts at the first kinds halts with more to come behind
   pub halts_before : (kinds : List Kind) (stop : CertStop) (behind : List Kind) → Halts bytes place kinds stop → Halts bytes place (kinds ++ behind) stop
-  halts_before kinds stop behind h = record { halts = λ whole plan items here. h.halts whole (behind ++ plan) items (subst (λ (p : List Kind). ReachedBy whole bytes place p items) (append_assoc kinds behind plan) here) }
+  halts_before kinds stop behind h = record {
+    halts = λ whole plan items here. h.halts whole (behind ++ plan) items
+        (subst (λ (p : List Kind). ReachedBy whole bytes place p items) (append_assoc kinds behind plan) here);
+  }
 
   -- halts behind lines that were read
-  pub halts_later : (kinds : List Kind) (next : ℕ) (left : List Kind) (read : List Line) (stop : CertStop) → Leads bytes place kinds next left read → Halts bytes next left stop → Halts bytes place kinds stop
+  pub halts_later : (kinds : List Kind) (next : ℕ) (left : List Kind) (read : List Line) (stop : CertStop) → Leads bytes place kinds next left read
+      → Halts bytes next left stop → Halts bytes place kinds stop
   halts_later kinds next left read stop l h = record { halts = λ whole plan items here. h.halts whole plan (items ++ read) (l.leads whole plan items here) }
 
   -- kinds of lines, and behind them others
-  pub leads_then : (kinds : List Kind) (next : ℕ) (read : List Line) (others : List Kind) (last : ℕ) (more : List Line) → Leads bytes place kinds next [] read → Leads bytes next others last [] more → Leads bytes place (kinds ++ others) last [] (read ++ more)
-  leads_then kinds next read others last more first second = leads_on (kinds ++ others) next others read last [] more (leads_before kinds next [] read others first) second
+  pub leads_then : (kinds : List Kind) (next : ℕ) (read : List Line) (others : List Kind) (last : ℕ) (more : List Line) → Leads bytes place kinds next [] read
+      → Leads bytes next others last [] more → Leads bytes place (kinds ++ others) last [] (read ++ more)
+  leads_then kinds next read others last more first second = leads_on (kinds ++ others) next others read last [] more
+      (leads_before kinds next [] read others first) second
 
   -- halts at the kinds behind those that were read
-  pub halts_then : (kinds : List Kind) (next : ℕ) (read : List Line) (others : List Kind) (stop : CertStop) → Leads bytes place kinds next [] read → Halts bytes next others stop → Halts bytes place (kinds ++ others) stop
+  pub halts_then : (kinds : List Kind) (next : ℕ) (read : List Line) (others : List Kind) (stop : CertStop) → Leads bytes place kinds next [] read
+      → Halts bytes next others stop → Halts bytes place (kinds ++ others) stop
   halts_then kinds next read others stop first halt = halts_later (kinds ++ others) next others read stop (leads_before kinds next [] read others first) halt
 
   module _ (word : List ℕ) (n : Numbers) where
@@ -72,7 +86,8 @@ module _ (bytes : List ℕ) (place : ℕ) where
     line_missing none = record { halts = λ whole plan items here. reached-missing bytes place (kind word n) plan items here none }
 
     -- a line that isn't the word with numbers is of wrong form
-    pub line_none : (size : ℕ) → IsLine (take size (drop place bytes)) → drop size (drop place bytes) ≡ 10 ∷ drop (size + 1) (drop place bytes) → ((ns : List ℤ) → take size (drop place bytes) ≡ word ++ numbers_text ns → ⊥) → Halts bytes place (kind word n ∷ []) (Form place)
+    pub line_none : (size : ℕ) → IsLine (take size (drop place bytes)) → drop size (drop place bytes) ≡ 10 ∷ drop (size + 1) (drop place bytes)
+        → ((ns : List ℤ) → take size (drop place bytes) ≡ word ++ numbers_text ns → ⊥) → Halts bytes place (kind word n ∷ []) (Form place)
     line_none size is_line feed none = record {
       halts = λ whole plan items here. reached-refused bytes place (kind word n) plan items here size is_line feed
           (λ l fits e. none l.numbers (e ∙ ap (λ (w : List ℕ). w ++ numbers_text l.numbers) fits.word));
@@ -84,16 +99,20 @@ module _ (bytes : List ℕ) (place : ℕ) where
       line_next inside fit =
           let same : kept ≡ at.numbers = at.same inside in
           record {
-            leads = λ whole plan items here. subst (λ (p : ℕ). ReachedBy whole bytes p (after_numbers n kept ++ plan) (items ++ line word kept ∷ [])) (sym at.next_is)
+            leads = λ whole plan items here. subst (λ (p : ℕ). ReachedBy whole bytes p (after_numbers n kept ++ plan) (items ++ line word kept ∷ []))
+                (sym at.next_is)
                 (reached-next bytes place (kind word n) plan items here at.size at.is_line at.feed (line word kept)
-                (record { word = refl; numbers = fit }) (at.spelled ∙ ap (λ (ns : List ℤ). word ++ numbers_text ns) (sym same)) (ap any_out same ∙ at.out ∙ inside) at.inside);
+                (record { word = refl; numbers = fit }) (at.spelled ∙ ap (λ (ns : List ℤ). word ++ numbers_text ns) (sym same))
+                (ap any_out same ∙ at.out ∙ inside) at.inside);
           }
 
       -- a line whose numbers don't fit is of wrong form
-      pub line_unfit : ((ns : List ℤ) → length kept ≡ length ns → (beyond ≡ false → kept ≡ ns) → any_out ns ≡ beyond → FitNumbers n ns → ⊥) → Halts bytes place (kind word n ∷ []) (Form place)
+      pub line_unfit : ((ns : List ℤ) → length kept ≡ length ns → (beyond ≡ false → kept ≡ ns) → any_out ns ≡ beyond → FitNumbers n ns → ⊥)
+          → Halts bytes place (kind word n ∷ []) (Form place)
       line_unfit other = record {
         halts = λ whole plan items here. reached-refused bytes place (kind word n) plan items here at.size at.is_line at.feed
-            (λ l fits e. let same : at.numbers ≡ l.numbers = one at.numbers l.numbers (sym at.spelled ∙ e ∙ ap (λ (w : List ℕ). w ++ numbers_text l.numbers) fits.word) in
+            (λ l fits e. let same : at.numbers ≡ l.numbers = one at.numbers l.numbers
+            (sym at.spelled ∙ e ∙ ap (λ (w : List ℕ). w ++ numbers_text l.numbers) fits.word) in
             other at.numbers at.count at.same at.out (subst (FitNumbers n) (sym same) fits.numbers));
       }
         where

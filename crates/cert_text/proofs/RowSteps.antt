@@ -42,24 +42,31 @@ pair_line first second = line (codes "mult") (first ∷ second ∷ [])
 
 module _ (bytes : List ℕ) (place bidders : ℕ) where
   -- a line of members, one of two multipliers and a choice are a row
-  pub row_done : (ms : List ℕ) (n1 : ℕ) (first second : ℤ) (n2 : ℕ) (choice : List ℕ) (n3 : ℕ) → Leads bytes place (members_kind bidders ∷ []) n1 [] (members_line ms ∷ []) → Leads bytes n1 (pair_kind ∷ []) n2 [] (pair_line first second ∷ []) → LeadsChosen bytes n2 bidders n3 choice
+  pub row_done : (ms : List ℕ) (n1 : ℕ) (first second : ℤ) (n2 : ℕ) (choice : List ℕ) (n3 : ℕ) → Leads bytes place (members_kind bidders ∷ []) n1 []
+      (members_line ms ∷ []) → Leads bytes n1 (pair_kind ∷ []) n2 [] (pair_line first second ∷ []) → LeadsChosen bytes n2 bidders n3 choice
       → Leads bytes place (row_plan bidders) n3 [] (own_row (record { members = ms; first = first; second = second; choice = choice }))
   row_done ms n1 first second n2 choice n3 a b c =
-      leads_then bytes place (members_kind bidders ∷ []) n1 (members_line ms ∷ []) (pair_kind ∷ choice_kind bidders ∷ []) n3 (pair_line first second ∷ choice_line choice ∷ []) a
-      (leads_then bytes n1 (pair_kind ∷ []) n2 (pair_line first second ∷ []) (choice_kind bidders ∷ []) n3 (choice_line choice ∷ []) b (c (chosen bidders) (plain_choice bidders)))
+      leads_then bytes place (members_kind bidders ∷ []) n1 (members_line ms ∷ []) (pair_kind ∷ choice_kind bidders ∷ []) n3
+      (pair_line first second ∷ choice_line choice ∷ []) a
+      (leads_then bytes n1 (pair_kind ∷ []) n2 (pair_line first second ∷ []) (choice_kind bidders ∷ []) n3 (choice_line choice ∷ []) b
+      (c (chosen bidders) (plain_choice bidders)))
 
   -- halts at the members
   pub row_first : (stop : CertStop) → Halts bytes place (members_kind bidders ∷ []) stop → Halts bytes place (row_plan bidders) stop
   row_first stop h = halts_before bytes place (members_kind bidders ∷ []) stop (pair_kind ∷ choice_kind bidders ∷ []) h
 
   -- halts at the multipliers, behind the members
-  pub row_second : (ms : List ℕ) (n1 : ℕ) (stop : CertStop) → Leads bytes place (members_kind bidders ∷ []) n1 [] (members_line ms ∷ []) → Halts bytes n1 (pair_kind ∷ []) stop → Halts bytes place (row_plan bidders) stop
-  row_second ms n1 stop a h = halts_then bytes place (members_kind bidders ∷ []) n1 (members_line ms ∷ []) (pair_kind ∷ choice_kind bidders ∷ []) stop a (halts_before bytes n1 (pair_kind ∷ []) stop (choice_kind bidders ∷ []) h)
+  pub row_second : (ms : List ℕ) (n1 : ℕ) (stop : CertStop) → Leads bytes place (members_kind bidders ∷ []) n1 [] (members_line ms ∷ [])
+      → Halts bytes n1 (pair_kind ∷ []) stop → Halts bytes place (row_plan bidders) stop
+  row_second ms n1 stop a h = halts_then bytes place (members_kind bidders ∷ []) n1 (members_line ms ∷ []) (pair_kind ∷ choice_kind bidders ∷ []) stop a
+      (halts_before bytes n1 (pair_kind ∷ []) stop (choice_kind bidders ∷ []) h)
 
   -- halts at the choice, behind the multipliers
-  pub row_third : (ms : List ℕ) (n1 : ℕ) (first second : ℤ) (n2 : ℕ) (stop : CertStop) → Leads bytes place (members_kind bidders ∷ []) n1 [] (members_line ms ∷ []) → Leads bytes n1 (pair_kind ∷ []) n2 [] (pair_line first second ∷ []) → HaltsChosen bytes n2 bidders stop
+  pub row_third : (ms : List ℕ) (n1 : ℕ) (first second : ℤ) (n2 : ℕ) (stop : CertStop) → Leads bytes place (members_kind bidders ∷ []) n1 []
+      (members_line ms ∷ []) → Leads bytes n1 (pair_kind ∷ []) n2 [] (pair_line first second ∷ []) → HaltsChosen bytes n2 bidders stop
       → Halts bytes place (row_plan bidders) stop
-  row_third ms n1 first second n2 stop a b h = halts_then bytes place (members_kind bidders ∷ []) n1 (members_line ms ∷ []) (pair_kind ∷ choice_kind bidders ∷ []) stop a
+  row_third ms n1 first second n2 stop a b h = halts_then bytes place (members_kind bidders ∷ []) n1 (members_line ms ∷ [])
+      (pair_kind ∷ choice_kind bidders ∷ []) stop a
       (halts_then bytes n1 (pair_kind ∷ []) n2 (pair_line first second ∷ []) (choice_kind bidders ∷ []) stop b (h (chosen bidders) (plain_choice bidders)))
 
 -- so many rows are read
@@ -86,35 +93,45 @@ module _ (bytes : List ℕ) (place bidders count : ℕ) where
   pub rows_start : place ≤ length bytes → RowsSoFar bytes place bidders count 0 place []
   rows_start within = record {
     many = refl;
-    leads = subst (λ (n : ℕ). Leads bytes place (rows_plan bidders count) place (rows_plan bidders n) []) {x = count} {y = count - 0} (omega arith) (leads_none bytes place (rows_plan bidders count));
+    leads = subst (λ (n : ℕ). Leads bytes place (rows_plan bidders count) place (rows_plan bidders n) []) {x = count} {y = count - 0} (omega arith)
+        (leads_none bytes place (rows_plan bidders count));
     are = tt;
     within = within;
   }
 
-  here : (done next : ℕ) (rows : List CertRow) → done < count → RowsSoFar bytes place bidders count done next rows → Leads bytes place (rows_plan bidders count) next (row_plan bidders ++ rows_plan bidders (count - (done + 1))) (row_lines (map row_value rows))
-  here done next rows lt h = subst (λ (n : ℕ). Leads bytes place (rows_plan bidders count) next (rows_plan bidders n) (row_lines (map row_value rows))) {x = count - done} {y = suc (count - (done + 1))} (omega (arith, lt)) h.leads
+  here : (done next : ℕ) (rows : List CertRow) → done < count → RowsSoFar bytes place bidders count done next rows
+      → Leads bytes place (rows_plan bidders count) next (row_plan bidders ++ rows_plan bidders (count - (done + 1))) (row_lines (map row_value rows))
+  here done next rows lt h = subst (λ (n : ℕ). Leads bytes place (rows_plan bidders count) next (rows_plan bidders n) (row_lines (map row_value rows)))
+      {x = count - done} {y = suc (count - (done + 1))} (omega (arith, lt)) h.leads
 
   -- one row more
-  pub rows_more : (done next : ℕ) (rows : List CertRow) (r : CertRow) (last : ℕ) → done < count → RowsSoFar bytes place bidders count done next rows → Leads bytes next (row_plan bidders) last [] (own_row (row_value r)) → IsRow bidders (row_value r) → last ≤ length bytes
+  pub rows_more : (done next : ℕ) (rows : List CertRow) (r : CertRow) (last : ℕ) → done < count → RowsSoFar bytes place bidders count done next rows
+      → Leads bytes next (row_plan bidders) last [] (own_row (row_value r)) → IsRow bidders (row_value r) → last ≤ length bytes
       → RowsSoFar bytes place bidders count (done + 1) last (rows ++ r ∷ [])
   rows_more done next rows r last lt h read is within = record {
     many = ap (λ (l : List RowValue). length l) (map_more rows r) ∙ length-append (map row_value rows) (row_value r ∷ []) ∙ ap (λ (n : ℕ). n + 1) h.many;
-    leads = subst (λ (l : List Line). Leads bytes place (rows_plan bidders count) last (rows_plan bidders (count - (done + 1))) l) (sym (ap row_lines (map_more rows r) ∙ lines_more (map row_value rows) (row_value r)))
-        (leads_on bytes place (rows_plan bidders count) next (row_plan bidders ++ rows_plan bidders (count - (done + 1))) (row_lines (map row_value rows)) last (rows_plan bidders (count - (done + 1))) (own_row (row_value r)) (here done next rows lt h)
+    leads = subst (λ (l : List Line). Leads bytes place (rows_plan bidders count) last (rows_plan bidders (count - (done + 1))) l)
+        (sym (ap row_lines (map_more rows r) ∙ lines_more (map row_value rows) (row_value r)))
+        (leads_on bytes place (rows_plan bidders count) next (row_plan bidders ++ rows_plan bidders (count - (done + 1)))
+        (row_lines (map row_value rows)) last (rows_plan bidders (count - (done + 1))) (own_row (row_value r)) (here done next rows lt h)
         (leads_before bytes next (row_plan bidders) last [] (own_row (row_value r)) (rows_plan bidders (count - (done + 1))) read));
     are = subst (AreRows bidders) (sym (map_more rows r)) (are_more bidders (map row_value rows) (row_value r) h.are is);
     within = within;
   }
 
   -- halts in the next row
-  pub rows_halts : (done next : ℕ) (rows : List CertRow) (stop : CertStop) → done < count → RowsSoFar bytes place bidders count done next rows → Halts bytes next (row_plan bidders) stop → Halts bytes place (rows_plan bidders count) stop
+  pub rows_halts : (done next : ℕ) (rows : List CertRow) (stop : CertStop) → done < count → RowsSoFar bytes place bidders count done next rows
+      → Halts bytes next (row_plan bidders) stop → Halts bytes place (rows_plan bidders count) stop
   rows_halts done next rows stop lt h halt =
-      halts_later bytes place (rows_plan bidders count) next (row_plan bidders ++ rows_plan bidders (count - (done + 1))) (row_lines (map row_value rows)) stop (here done next rows lt h)
+      halts_later bytes place (rows_plan bidders count) next (row_plan bidders ++ rows_plan bidders (count - (done + 1)))
+      (row_lines (map row_value rows)) stop (here done next rows lt h)
       (halts_before bytes next (row_plan bidders) stop (rows_plan bidders (count - (done + 1))) halt)
 
   -- behind the last row all are read, and they are as many as were counted
-  pub rows_done : (done next : ℕ) (rows : List CertRow) → done ≡ count → RowsSoFar bytes place bidders count done next rows → Leads bytes place (rows_plan bidders count) next [] (row_lines (map row_value rows)) × (length (map row_value rows) ≡ count)
+  pub rows_done : (done next : ℕ) (rows : List CertRow) → done ≡ count → RowsSoFar bytes place bidders count done next rows
+      → Leads bytes place (rows_plan bidders count) next [] (row_lines (map row_value rows)) × (length (map row_value rows) ≡ count)
   rows_done done next rows e h = (
-    subst (λ (n : ℕ). Leads bytes place (rows_plan bidders count) next (rows_plan bidders n) (row_lines (map row_value rows))) {x = count - done} {y = 0} (omega (arith, e)) h.leads,
+    subst (λ (n : ℕ). Leads bytes place (rows_plan bidders count) next (rows_plan bidders n) (row_lines (map row_value rows))) {x = count - done} {y = 0}
+        (omega (arith, e)) h.leads,
     h.many ∙ e,
   )

@@ -1,5 +1,6 @@
 -- Lines of numbers of 0 to 65,535: choices, members and the count of rows.
-use Rattle.std.proofs.Common.{◌≡◌, ℕ, suc, zero, ◌+◌, ◌≤◌, ◌<◌, Bool, true, false, List, [], ◌∷◌, ◌++◌, length, get_or, take, refl, sym, ap, subst, ◌∙◌, arith, ◌⊎◌, inl, inr}
+use Rattle.std.proofs.Common.{◌≡◌, ℕ, suc, zero, ◌+◌, ◌≤◌, ◌<◌, Bool, true, false, List, [], ◌∷◌, ◌++◌, length, get_or, take, refl, sym, ap, subst, ◌∙◌}
+use Rattle.std.proofs.Common.{arith, ◌⊎◌, inl, inr}
 use Rattle.std.proofs.lemmas.Bool.Decides.{nat_tests}
 use Rattle.std.specs.Int.Signed.{lt_z, lt_z_yes, lt_z_no}
 use Rattle.std.proofs.Math.Dec.{T}
@@ -57,23 +58,29 @@ is_choice bidders ns all many = (many, at_most ns all)
 
 module _ (bytes : List ℕ) (place bidders : ℕ) (ns : List ℕ) (next : ℕ) where
   -- a line with such a number for each bidder is read as a choice
-  pub each_next : (word : List ℕ) → IsLineAt bytes place word (as_numbers ns) false next → AreNumbers 65535 (as_numbers ns) → length ns ≡ bidders → LeadsLike bytes place word (chosen bidders) next (as_numbers ns)
+  pub each_next : (word : List ℕ) → IsLineAt bytes place word (as_numbers ns) false next → AreNumbers 65535 (as_numbers ns) → length ns ≡ bidders
+      → LeadsLike bytes place word (chosen bidders) next (as_numbers ns)
   each_next word at all many = λ n is. line_next bytes place word n (as_numbers ns) false next at refl (is.from (as_numbers ns) (long_numbers ns ∙ many, all))
 
   -- a line with more or fewer numbers than bidders is of wrong form
-  pub each_other : (word : List ℕ) → IsLineAt bytes place word (as_numbers ns) false next → (length ns ≡ bidders → ⊥) → HaltsLike bytes place word (chosen bidders) (Form place)
-  each_other word at other = λ n is. line_unfit bytes place word n (as_numbers ns) false next at (λ ms many same out fit. other (sym (long_numbers ns) ∙ many ∙ (is.to ms fit).0))
+  pub each_other : (word : List ℕ) → IsLineAt bytes place word (as_numbers ns) false next → (length ns ≡ bidders → ⊥)
+      → HaltsLike bytes place word (chosen bidders) (Form place)
+  each_other word at other = λ n is. line_unfit bytes place word n (as_numbers ns) false next
+      at (λ ms many same out fit. other (sym (long_numbers ns) ∙ many ∙ (is.to ms fit).0))
 
   -- a line of rising bidders, at least one, is read as the members of a row
-  pub members_next : IsLineAt bytes place (codes "row") (as_numbers ns) false next → 0 < length ns → AreMembers bidders 0 ns → Leads bytes place (kind (codes "row") (members bidders) ∷ []) next [] (line (codes "row") (as_numbers ns) ∷ [])
-  members_next at some are = line_next bytes place (codes "row") (members bidders) (as_numbers ns) false next at refl (omega (arith, some, long_numbers ns), rises 0 ns are)
+  pub members_next : IsLineAt bytes place (codes "row") (as_numbers ns) false next → 0 < length ns → AreMembers bidders 0 ns
+      → Leads bytes place (kind (codes "row") (members bidders) ∷ []) next [] (line (codes "row") (as_numbers ns) ∷ [])
+  members_next at some are = line_next bytes place (codes "row") (members bidders) (as_numbers ns) false next at refl
+      (omega (arith, some, long_numbers ns), rises 0 ns are)
     where
       rises : (before : ℕ) (ns : List ℕ) → AreMembers bidders before ns → Rise bidders (pos before) (as_numbers ns)
       rises before [] are = tt
       rises before (n ∷ ns) are = (omega (arith, ints, are.0), omega (arith, ints, are.1), rises n ns are.2)
 
   -- a line of other numbers is of wrong form where members are to come
-  pub members_other : IsLineAt bytes place (codes "row") (as_numbers ns) false next → ((0 < length ns) × AreMembers bidders 0 ns → ⊥) → Halts bytes place (kind (codes "row") (members bidders) ∷ []) (Form place)
+  pub members_other : IsLineAt bytes place (codes "row") (as_numbers ns) false next → ((0 < length ns) × AreMembers bidders 0 ns → ⊥)
+      → Halts bytes place (kind (codes "row") (members bidders) ∷ []) (Form place)
   members_other at other = line_unfit bytes place (codes "row") (members bidders) (as_numbers ns) false next at
       (λ ms many same out fit. let back : FitNumbers (members bidders) (as_numbers ns) = subst (FitNumbers (members bidders)) (sym (same refl)) fit in
       other (omega (arith, back.0, long_numbers ns), are 0 ns back.1))
@@ -83,14 +90,18 @@ module _ (bytes : List ℕ) (place bidders : ℕ) (ns : List ℕ) (next : ℕ) w
       are before (n ∷ ns) rise = (omega (arith, ints, rise.0), omega (arith, ints, rise.1), are n ns rise.2)
 
   -- a line of one number of at most 10, which is 0 without bidders, is read as the count of rows
-  pub count_next : IsLineAt bytes place (codes "rows") (as_numbers ns) false next → (count : ℕ) → IsCount bidders ns count → LeadsCounted bytes place bidders next count
+  pub count_next : IsLineAt bytes place (codes "rows") (as_numbers ns) false next → (count : ℕ) → IsCount bidders ns count
+      → LeadsCounted bytes place bidders next count
   count_next at count is = λ n like.
       let one : as_numbers ns ≡ pos count ∷ [] = ap as_numbers is.0 in
-      line_next bytes place (codes "rows") n (pos count ∷ []) false next (subst (λ (l : List ℤ). IsLineAt bytes place (codes "rows") l false next) one at) refl (like.from (pos count ∷ []) (count, refl, is.1, is.2))
+      line_next bytes place (codes "rows") n (pos count ∷ []) false next (subst (λ (l : List ℤ). IsLineAt bytes place (codes "rows") l false next) one at)
+      refl (like.from (pos count ∷ []) (count, refl, is.1, is.2))
 
   -- a line of what is no count of rows is of wrong form where one is to come
-  pub count_other : IsLineAt bytes place (codes "rows") (as_numbers ns) false next → (FitNumbers (counted bidders) (as_numbers ns) → ⊥) → HaltsCounted bytes place bidders (Form place)
-  count_other at other = λ n like. line_unfit bytes place (codes "rows") n (as_numbers ns) false next at (λ ms many same out fit. other (subst (FitNumbers (counted bidders)) (sym (same refl)) (like.to ms fit)))
+  pub count_other : IsLineAt bytes place (codes "rows") (as_numbers ns) false next → (FitNumbers (counted bidders) (as_numbers ns) → ⊥)
+      → HaltsCounted bytes place bidders (Form place)
+  count_other at other = λ n like. line_unfit bytes place (codes "rows") n (as_numbers ns) false next
+      at (λ ms many same out fit. other (subst (FitNumbers (counted bidders)) (sym (same refl)) (like.to ms fit)))
 
   -- numbers that fit these kinds are small
   pub members_small : bidders ≤ 65535 → (ms : List ℤ) → FitNumbers (members bidders) ms → AreNumbers 65535 ms
@@ -98,16 +109,22 @@ module _ (bytes : List ℕ) (place bidders : ℕ) (ns : List ℕ) (next : ℕ) w
     where
       small : (before : ℤ) (ms : List ℤ) → pos 0 ≤ℤ before → Rise bidders before ms → AreNumbers 65535 ms
       small before [] low rise = tt
-      small before (m ∷ ms) low rise = (omega (arith, ints, low, rise.0), omega (arith, ints, rise.1, few), small m ms (omega (arith, ints, low, rise.0)) rise.2)
+      small before (m ∷ ms) low rise = (
+        omega (arith, ints, low, rise.0),
+        omega (arith, ints, rise.1, few),
+        small m ms (omega (arith, ints, low, rise.0)) rise.2,
+      )
 
   -- a count of rows is from 0 to 65,535
   pub count_small : (ms : List ℤ) → FitNumbers (counted bidders) ms → AreNumbers 65535 ms
   count_small ms fit = subst (AreNumbers 65535) (sym fit.1) (omega (arith, ints), omega (arith, ints, fit.2), tt)
 
 -- a line with a number that isn't small
-pub not_small : (bytes : List ℕ) (place : ℕ) (word : List ℕ) (kept : List ℤ) (beyond : Bool) (next : ℕ) → IsLineAt bytes place word kept beyond next → (beyond ≡ true) ⊎ (AreNumbers 65535 kept → ⊥)
+pub not_small : (bytes : List ℕ) (place : ℕ) (word : List ℕ) (kept : List ℤ) (beyond : Bool) (next : ℕ) → IsLineAt bytes place word kept beyond next
+    → (beyond ≡ true) ⊎ (AreNumbers 65535 kept → ⊥)
     → (n : Numbers) → ((ns : List ℤ) → FitNumbers n ns → AreNumbers 65535 ns) → Halts bytes place (kind word n ∷ []) (Form place)
-not_small bytes place word kept beyond next at why n small = line_unfit bytes place word n kept beyond next at (λ ms many same out fit. cases ms beyond why same out (small ms fit))
+not_small bytes place word kept beyond next at why n small = line_unfit bytes place word n kept beyond next
+    at (λ ms many same out fit. cases ms beyond why same out (small ms fit))
   where
     cases : (ms : List ℤ) (b : Bool) → (b ≡ true) ⊎ (AreNumbers 65535 kept → ⊥) → (b ≡ false → kept ≡ ms) → any_out ms ≡ b → AreNumbers 65535 ms → ⊥
     cases ms true why same out all = small_in ms all out
@@ -129,12 +146,14 @@ pub high_other : (items : List ℤ) (i : ℕ) → i < length items → lt_z (pos
 high_other items i lt e all = let z = numbers_at items i lt all in omega (arith, ints, z.1, below_z (pos 65535) (get_or items i (pos 0)) e)
 
 -- one more number that is small
-pub small_more : (items : List ℤ) (i : ℕ) (ns : List ℕ) → i < length items → AreSmall (take i items) ns → lt_z (get_or items i (pos 0)) (pos 0) ≡ false → lt_z (pos 65535) (get_or items i (pos 0)) ≡ false
+pub small_more : (items : List ℤ) (i : ℕ) (ns : List ℕ) → i < length items → AreSmall (take i items) ns → lt_z (get_or items i (pos 0)) (pos 0) ≡ false
+    → lt_z (pos 65535) (get_or items i (pos 0)) ≡ false
     → AreSmall (take (i + 1) items) (ns ++ nat_abs (get_or items i (pos 0)) ∷ [])
 small_more items i ns lt small low high =
     let least : pos 0 ≤ℤ get_or items i (pos 0) = least_z (get_or items i (pos 0)) (pos 0) low in
     let one : take i items ++ get_or items i (pos 0) ∷ [] ≡ take (i + 1) items = sym (take_more items i (pos 0) lt) in (
-      as_more ns (nat_abs (get_or items i (pos 0))) ∙ ap (λ (l : List ℤ). l ++ pos (nat_abs (get_or items i (pos 0))) ∷ []) small.0 ∙ ap (λ (z : ℤ). take i items ++ z ∷ []) (abs (get_or items i (pos 0)) least) ∙ one,
+      as_more ns (nat_abs (get_or items i (pos 0))) ∙ ap (λ (l : List ℤ). l ++ pos (nat_abs (get_or items i (pos 0))) ∷ []) small.0
+          ∙ ap (λ (z : ℤ). take i items ++ z ∷ []) (abs (get_or items i (pos 0)) least) ∙ one,
       subst (AreNumbers 65535) one (numbers_push (take i items) (get_or items i (pos 0)) small.1 least (least_z (pos 65535) (get_or items i (pos 0)) high)),
     )
   where

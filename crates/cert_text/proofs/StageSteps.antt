@@ -33,7 +33,8 @@ module _ (bytes : List ℕ) where
     second_second stop h = halts_then bytes 0 (second_kind ∷ []) n1 (second_line ∷ []) (limits_kind ∷ []) stop a h
 
     -- the first line and the limits are the lines of the second version
-    pub second_done : (n2 : ℕ) → Leads bytes n1 (limits_kind ∷ []) n2 [] (limits_line ∷ []) → Leads bytes 0 (map just_line (version_of false)) n2 [] (version_of false)
+    pub second_done : (n2 : ℕ) → Leads bytes n1 (limits_kind ∷ []) n2 [] (limits_line ∷ []) → Leads bytes 0 (map just_line (version_of false)) n2 []
+        (version_of false)
     second_done n2 b = leads_then bytes 0 (second_kind ∷ []) n1 (second_line ∷ []) (limits_kind ∷ []) n2 (limits_line ∷ []) a b
 
 abbrev den_kind : Kind
@@ -59,7 +60,8 @@ module _ (bytes : List ℕ) (place : ℕ) where
     opening_second stop h = halts_then bytes place (den_kind ∷ []) n1 (den_line den ∷ []) (value_kind ∷ []) stop a h
 
     -- the denominator and the value are the opening
-    pub opening_done : (value : ℤ) (n2 : ℕ) → Leads bytes n1 (value_kind ∷ []) n2 [] (value_line value ∷ []) → Leads bytes place opening_plan n2 [] (opening_lines den value)
+    pub opening_done : (value : ℤ) (n2 : ℕ) → Leads bytes n1 (value_kind ∷ []) n2 [] (value_line value ∷ [])
+        → Leads bytes place opening_plan n2 [] (opening_lines den value)
     opening_done value n2 b = leads_then bytes place (den_kind ∷ []) n1 (den_line den ∷ []) (value_kind ∷ []) n2 (value_line value ∷ []) a b
 
 abbrev named_plan : List ℕ → ℕ → ℕ → List Kind
@@ -85,20 +87,26 @@ module _ (bytes : List ℕ) (place bidders states : ℕ) where
     head = a (headed bidders states) (head_choice bidders states)
 
     -- halts in the table, behind the choice
-    pub winning_second : (stop : CertStop) → Halts bytes n1 (named_plan (codes "table") bidders states) stop → Halts bytes place (winning_kind bidders states ∷ []) stop
+    pub winning_second : (stop : CertStop) → Halts bytes n1 (named_plan (codes "table") bidders states) stop
+        → Halts bytes place (winning_kind bidders states ∷ []) stop
     winning_second stop h = halts_later bytes place (winning_kind bidders states ∷ []) n1 left (choice_line choice ∷ []) stop head
         (halts_before bytes n1 (named_plan (codes "table") bidders states) stop (parts_plan bidders states 1 (as_numbers choice)) h)
 
     module _ (table : List (List ℤ)) (n2 : ℕ) (b : Leads bytes n1 (named_plan (codes "table") bidders states) n2 [] (named_lines (codes "table") table)) where
       -- halts in the parts, behind the table
-      pub winning_third : (stop : CertStop) → Halts bytes n2 (parts_plan bidders states 1 (as_numbers choice)) stop → Halts bytes place (winning_kind bidders states ∷ []) stop
+      pub winning_third : (stop : CertStop) → Halts bytes n2 (parts_plan bidders states 1 (as_numbers choice)) stop
+          → Halts bytes place (winning_kind bidders states ∷ []) stop
       winning_third stop h = halts_later bytes place (winning_kind bidders states ∷ []) n1 left (choice_line choice ∷ []) stop head
-          (halts_then bytes n1 (named_plan (codes "table") bidders states) n2 (named_lines (codes "table") table) (parts_plan bidders states 1 (as_numbers choice)) stop b h)
+          (halts_then bytes n1 (named_plan (codes "table") bidders states) n2 (named_lines (codes "table") table)
+          (parts_plan bidders states 1 (as_numbers choice)) stop b h)
 
       -- the choice, its table and the parts are read
-      pub winning_done : (withouts : List WithoutValue) (n3 : ℕ) → Leads bytes n2 (parts_plan bidders states 1 (as_numbers choice)) n3 [] (part_lines withouts) → Leads bytes place (winning_kind bidders states ∷ []) n3 [] (winning_lines choice table withouts)
-      winning_done withouts n3 c = leads_on bytes place (winning_kind bidders states ∷ []) n1 left (choice_line choice ∷ []) n3 [] (named_lines (codes "table") table ++ part_lines withouts) head
-          (leads_then bytes n1 (named_plan (codes "table") bidders states) n2 (named_lines (codes "table") table) (parts_plan bidders states 1 (as_numbers choice)) n3 (part_lines withouts) b c)
+      pub winning_done : (withouts : List WithoutValue) (n3 : ℕ) → Leads bytes n2 (parts_plan bidders states 1 (as_numbers choice)) n3 []
+          (part_lines withouts) → Leads bytes place (winning_kind bidders states ∷ []) n3 [] (winning_lines choice table withouts)
+      winning_done withouts n3 c = leads_on bytes place (winning_kind bidders states ∷ []) n1 left (choice_line choice ∷ []) n3 []
+          (named_lines (codes "table") table ++ part_lines withouts) head
+          (leads_then bytes n1 (named_plan (codes "table") bidders states) n2 (named_lines (codes "table") table)
+          (parts_plan bidders states 1 (as_numbers choice)) n3 (part_lines withouts) b c)
 
   abbrev pay_kind : Kind
   pay_kind = kind (codes "pay") (signed bidders)
@@ -124,8 +132,10 @@ module _ (bytes : List ℕ) (place bidders states : ℕ) where
       payment_third stop h = payment_second stop (halts_later bytes n1 (count_kind ∷ []) n2 (rows_plan bidders count) (count_line count ∷ []) stop b h)
 
       -- the payments and as many rows as were counted are read
-      pub payment_done : (rows : List RowValue) (n3 : ℕ) → length rows ≡ count → Leads bytes n2 (rows_plan bidders count) n3 [] (row_lines rows) → Leads bytes place (payment_plan bidders) n3 [] (payment_lines pay rows)
-      payment_done rows n3 many c = subst (λ (n : ℕ). Leads bytes place (payment_plan bidders) n3 [] (line (codes "pay") pay ∷ count_line n ∷ row_lines rows)) (sym many)
+      pub payment_done : (rows : List RowValue) (n3 : ℕ) → length rows ≡ count → Leads bytes n2 (rows_plan bidders count) n3 [] (row_lines rows)
+          → Leads bytes place (payment_plan bidders) n3 [] (payment_lines pay rows)
+      payment_done rows n3 many c = subst (λ (n : ℕ). Leads bytes place (payment_plan bidders) n3 [] (line (codes "pay") pay ∷ count_line n ∷ row_lines rows))
+          (sym many)
           (leads_then bytes place (pay_kind ∷ []) n1 (line (codes "pay") pay ∷ []) (count_kind ∷ []) n3 (count_line count ∷ row_lines rows) a
           (leads_on bytes n1 (count_kind ∷ []) n2 (rows_plan bidders count) (count_line count ∷ []) n3 [] (row_lines rows) b c))
 
@@ -133,14 +143,19 @@ module _ (bytes : List ℕ) (place bidders states : ℕ) where
   end_kind = kind (codes "end") (these [])
 
   -- halts in the lowered table
-  pub closing_first : (stop : CertStop) → Halts bytes place (named_plan (codes "lowered") bidders states) stop → Halts bytes place (closing_plan bidders states) stop
+  pub closing_first : (stop : CertStop) → Halts bytes place (named_plan (codes "lowered") bidders states) stop
+      → Halts bytes place (closing_plan bidders states) stop
   closing_first stop h = halts_before bytes place (named_plan (codes "lowered") bidders states) stop (end_kind ∷ []) h
 
-  module _ (table : List (List ℤ)) (n1 : ℕ) (a : Leads bytes place (named_plan (codes "lowered") bidders states) n1 [] (named_lines (codes "lowered") table)) where
-    -- halts at the last line, behind the lowered table
-    pub closing_second : (stop : CertStop) → Halts bytes n1 (end_kind ∷ []) stop → Halts bytes place (closing_plan bidders states) stop
-    closing_second stop h = halts_then bytes place (named_plan (codes "lowered") bidders states) n1 (named_lines (codes "lowered") table) (end_kind ∷ []) stop a h
+  module _ (table : List (List ℤ)) (n1 : ℕ) (a : Leads bytes place (named_plan (codes "lowered") bidders states) n1 [] (named_lines (codes "lowered") table))
+    where
+      -- halts at the last line, behind the lowered table
+      pub closing_second : (stop : CertStop) → Halts bytes n1 (end_kind ∷ []) stop → Halts bytes place (closing_plan bidders states) stop
+      closing_second stop h = halts_then bytes place (named_plan (codes "lowered") bidders states) n1 (named_lines (codes "lowered") table)
+          (end_kind ∷ []) stop a h
 
-    -- the lowered table and the last line are the closing
-    pub closing_done : (n2 : ℕ) → Leads bytes n1 (end_kind ∷ []) n2 [] (line (codes "end") [] ∷ []) → Leads bytes place (closing_plan bidders states) n2 [] (closing_lines table)
-    closing_done n2 b = leads_then bytes place (named_plan (codes "lowered") bidders states) n1 (named_lines (codes "lowered") table) (end_kind ∷ []) n2 (line (codes "end") [] ∷ []) a b
+      -- the lowered table and the last line are the closing
+      pub closing_done : (n2 : ℕ) → Leads bytes n1 (end_kind ∷ []) n2 [] (line (codes "end") [] ∷ []) → Leads bytes place (closing_plan bidders states) n2 []
+          (closing_lines table)
+      closing_done n2 b = leads_then bytes place (named_plan (codes "lowered") bidders states) n1 (named_lines (codes "lowered") table) (end_kind ∷ []) n2
+          (line (codes "end") [] ∷ []) a b

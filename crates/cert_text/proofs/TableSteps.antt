@@ -29,7 +29,8 @@ lines_more : (table : List (List ℤ)) (ns : List ℤ) → table_lines (table ++
 lines_more [] ns = refl
 lines_more (t ∷ table) ns = ap (λ (l : List Line). line (codes "t") t ∷ l) (lines_more table ns)
 
-are_more : (states : ℕ) (table : List (List ℤ)) (ns : List ℤ) → AreTableLines states table → length ns ≡ states → AllInRange ns → AreTableLines states (table ++ ns ∷ [])
+are_more : (states : ℕ) (table : List (List ℤ)) (ns : List ℤ) → AreTableLines states table → length ns ≡ states → AllInRange ns
+    → AreTableLines states (table ++ ns ∷ [])
 are_more states [] ns are long inside = (long, inside, tt)
 are_more states (t ∷ table) ns are long inside = (are.0, are.1, are_more states table ns are.2 long inside)
 
@@ -41,16 +42,25 @@ lines_width states (t ∷ table) are some = are.0
 module _ (bytes : List ℕ) (place bidders states : ℕ) where
   -- no line is read yet
   pub table_start : place ≤ length bytes → TableSoFar bytes place bidders states 0 place []
-  table_start within = record { count = refl; leads = subst (λ (n : ℕ). Leads bytes place (table_plan bidders states) place (replicate n (t_kind states)) []) {x = suc bidders} {y = suc bidders - 0} (omega arith) (leads_none bytes place (table_plan bidders states)); lines = tt; within = within }
+  table_start within = record {
+    count = refl;
+    leads = subst (λ (n : ℕ). Leads bytes place (table_plan bidders states) place (replicate n (t_kind states)) [])
+        {x = suc bidders} {y = suc bidders - 0} (omega arith) (leads_none bytes place (table_plan bidders states));
+    lines = tt;
+    within = within;
+  }
 
   -- one line more, with a number in range for each state
-  pub table_more : (count next : ℕ) (table : List (List ℤ)) (last : ℕ) (ns : List ℤ) → count < bidders + 1 → TableSoFar bytes place bidders states count next table → Leads bytes next (t_kind states ∷ []) last [] (line (codes "t") ns ∷ []) → length ns ≡ states → AllInRange ns → last ≤ length bytes
+  pub table_more : (count next : ℕ) (table : List (List ℤ)) (last : ℕ) (ns : List ℤ) → count < bidders + 1
+      → TableSoFar bytes place bidders states count next table → Leads bytes next (t_kind states ∷ []) last [] (line (codes "t") ns ∷ []) → length ns ≡ states
+      → AllInRange ns → last ≤ length bytes
       → TableSoFar bytes place bidders states (count + 1) last (table ++ ns ∷ [])
   table_more count next table last ns lt h read long inside within = record {
     count = length-append table (ns ∷ []) ∙ ap (λ (n : ℕ). n + 1) h.count;
     leads =
         let rest : List Kind = replicate (suc bidders - (count + 1)) (t_kind states) in
-        let here = subst (λ (ks : List Kind). Leads bytes place (table_plan bidders states) next ks (table_lines table)) (replicate_less (suc bidders) count (t_kind states) (omega (arith, lt))) h.leads in
+        let here = subst (λ (ks : List Kind). Leads bytes place (table_plan bidders states) next ks (table_lines table))
+        (replicate_less (suc bidders) count (t_kind states) (omega (arith, lt))) h.leads in
         subst (λ (l : List Line). Leads bytes place (table_plan bidders states) last rest l) (sym (lines_more table ns))
         (leads_on bytes place (table_plan bidders states) next (t_kind states ∷ rest) (table_lines table) last rest (line (codes "t") ns ∷ []) here
         (leads_before bytes next (t_kind states ∷ []) last [] (line (codes "t") ns ∷ []) rest read));
@@ -59,15 +69,20 @@ module _ (bytes : List ℕ) (place bidders states : ℕ) where
   }
 
   -- halts at the next line
-  pub table_halts : (count next : ℕ) (table : List (List ℤ)) (stop : CertStop) → count < bidders + 1 → TableSoFar bytes place bidders states count next table → Halts bytes next (t_kind states ∷ []) stop → Halts bytes place (table_plan bidders states) stop
+  pub table_halts : (count next : ℕ) (table : List (List ℤ)) (stop : CertStop) → count < bidders + 1 → TableSoFar bytes place bidders states count next table
+      → Halts bytes next (t_kind states ∷ []) stop → Halts bytes place (table_plan bidders states) stop
   table_halts count next table stop lt h halt =
       let rest : List Kind = replicate (suc bidders - (count + 1)) (t_kind states) in
-      let here = subst (λ (ks : List Kind). Leads bytes place (table_plan bidders states) next ks (table_lines table)) (replicate_less (suc bidders) count (t_kind states) (omega (arith, lt))) h.leads in
-      halts_later bytes place (table_plan bidders states) next (t_kind states ∷ rest) (table_lines table) stop here (halts_before bytes next (t_kind states ∷ []) stop rest halt)
+      let here = subst (λ (ks : List Kind). Leads bytes place (table_plan bidders states) next ks (table_lines table))
+      (replicate_less (suc bidders) count (t_kind states) (omega (arith, lt))) h.leads in
+      halts_later bytes place (table_plan bidders states) next (t_kind states ∷ rest) (table_lines table) stop here
+      (halts_before bytes next (t_kind states ∷ []) stop rest halt)
 
   -- with a line for each bidder and one more, the table is read
-  pub table_done : (count next : ℕ) (table : List (List ℤ)) → count ≡ bidders + 1 → TableSoFar bytes place bidders states count next table → Leads bytes place (table_plan bidders states) next [] (table_lines table) × IsTable bidders states table
+  pub table_done : (count next : ℕ) (table : List (List ℤ)) → count ≡ bidders + 1 → TableSoFar bytes place bidders states count next table
+      → Leads bytes place (table_plan bidders states) next [] (table_lines table) × IsTable bidders states table
   table_done count next table e h = (
-    subst (λ (n : ℕ). Leads bytes place (table_plan bidders states) next (replicate n (t_kind states)) (table_lines table)) {x = suc bidders - count} {y = 0} (omega (arith, e)) h.leads,
+    subst (λ (n : ℕ). Leads bytes place (table_plan bidders states) next (replicate n (t_kind states)) (table_lines table)) {x = suc bidders - count} {y = 0}
+        (omega (arith, e)) h.leads,
     (h.count ∙ omega (arith, e), h.lines),
   )

@@ -1,5 +1,6 @@
 -- A certificate, from the stages of its text.
-use Rattle.std.proofs.Common.{◌≡◌, ℕ, suc, ◌+◌, ◌≤◌, ◌<◌, Bool, true, false, List, [], ◌∷◌, ◌++◌, length, take, drop, refl, sym, ap, subst, ◌∙◌, arith, length-drop, ◌⊎◌, inl, inr}
+use Rattle.std.proofs.Common.{◌≡◌, ℕ, suc, ◌+◌, ◌≤◌, ◌<◌, Bool, true, false, List, [], ◌∷◌, ◌++◌, length, take, drop, refl, sym, ap, subst, ◌∙◌, arith}
+use Rattle.std.proofs.Common.{length-drop, ◌⊎◌, inl, inr}
 use Rattle.std.specs.Prelude.{ℤ, map, ◌==◌}
 use Rattle.std.proofs.lemmas.Bool.{eqb-false}
 use Rattle.std.proofs.lemmas.List.{append-nil}
@@ -34,7 +35,12 @@ first_feed (c ∷ bytes) = first (c == 10) refl (first_feed bytes)
         feed : (c : ℕ) → (c == 10) ≡ true → c ≡ 10
         feed c is = grind (arith, is)
     first false is (inl none) = inl (eqb-false c 10 is, none)
-    first false is (inr found) = inr (suc found.0, (eqb-false c 10 is, found.1), found.2 ∙ ap (λ (l : List ℕ). 10 ∷ l) (ap (λ (n : ℕ). drop n (c ∷ bytes)) more))
+    first false is (inr found) = inr (
+      suc found.0,
+      (eqb-false c 10 is, found.1),
+      found.2 ∙ ap (λ (l : List ℕ). 10 ∷ l)
+          (ap (λ (n : ℕ). drop n (c ∷ bytes)) more),
+    )
       where
         more : suc (found.0 + 1) ≡ suc found.0 + 1
         more = omega arith
@@ -73,15 +79,18 @@ module _ (b s : ℕ) (bytes : List ℕ) where
 
     module _ (den value : ℤ) (n1 : ℕ) (one : Leads bytes n0 opening_plan n1 [] (opening_lines den value)) where
       from_winning : (stop : CertStop) → Halts bytes n1 (winning_kind b s ∷ (payment_plan b ++ closing_plan b s)) stop → StopsAt b s bytes stop
-      from_winning stop h = from_opening stop (halts_then bytes n0 opening_plan n1 (opening_lines den value) (winning_kind b s ∷ (payment_plan b ++ closing_plan b s)) stop one h)
+      from_winning stop h = from_opening stop (halts_then bytes n0 opening_plan n1 (opening_lines den value)
+          (winning_kind b s ∷ (payment_plan b ++ closing_plan b s)) stop one h)
 
       -- one at the winning choice, its table and its parts, behind the opening
       pub winning_stops : (stop : CertStop) → Halts bytes n1 (winning_kind b s ∷ []) stop → StopsAt b s bytes stop
       winning_stops stop h = from_winning stop (halts_before bytes n1 (winning_kind b s ∷ []) stop (payment_plan b ++ closing_plan b s) h)
 
-      module _ (choice : List ℕ) (table : List (List ℤ)) (withouts : List WithoutPart) (n2 : ℕ) (two : Leads bytes n1 (winning_kind b s ∷ []) n2 [] (winning_lines choice table (map without_value withouts))) where
+      module _ (choice : List ℕ) (table : List (List ℤ)) (withouts : List WithoutPart) (n2 : ℕ)
+          (two : Leads bytes n1 (winning_kind b s ∷ []) n2 [] (winning_lines choice table (map without_value withouts))) where
         from_payments : (stop : CertStop) → Halts bytes n2 (payment_plan b ++ closing_plan b s) stop → StopsAt b s bytes stop
-        from_payments stop h = from_winning stop (halts_then bytes n1 (winning_kind b s ∷ []) n2 (winning_lines choice table (map without_value withouts)) (payment_plan b ++ closing_plan b s) stop two h)
+        from_payments stop h = from_winning stop (halts_then bytes n1 (winning_kind b s ∷ []) n2 (winning_lines choice table (map without_value withouts))
+            (payment_plan b ++ closing_plan b s) stop two h)
 
         -- one in the payments and rows, behind the parts
         pub payment_stops : (stop : CertStop) → Halts bytes n2 (payment_plan b) stop → StopsAt b s bytes stop
@@ -90,15 +99,18 @@ module _ (b s : ℕ) (bytes : List ℕ) where
         module _ (pay : List ℤ) (rows : List CertRow) (n3 : ℕ) (three : Leads bytes n2 (payment_plan b) n3 [] (payment_lines pay (map row_value rows))) where
           -- one in the lowered table and the last line, behind the rows
           pub closing_stops : (stop : CertStop) → Halts bytes n3 (closing_plan b s) stop → StopsAt b s bytes stop
-          closing_stops stop h = from_payments stop (halts_then bytes n2 (payment_plan b) n3 (payment_lines pay (map row_value rows)) (closing_plan b s) stop three h)
+          closing_stops stop h = from_payments stop (halts_then bytes n2 (payment_plan b) n3 (payment_lines pay (map row_value rows))
+              (closing_plan b s) stop three h)
 
           module _ (lowered : List (List ℤ)) (n4 : ℕ) (four : Leads bytes n3 (closing_plan b s) n4 [] (closing_lines lowered)) where
             abbrev value_read : CertValue
             value_read = cert_from den value choice table withouts pay rows lowered
 
             body : Leads bytes n0 (body_plan b s) n4 [] (body_lines value_read)
-            body = leads_then bytes n0 opening_plan n1 (opening_lines den value) (winning_kind b s ∷ (payment_plan b ++ closing_plan b s)) n4 (winning_lines choice table (map without_value withouts) ++ (payment_lines pay (map row_value rows) ++ closing_lines lowered)) one
-                (leads_then bytes n1 (winning_kind b s ∷ []) n2 (winning_lines choice table (map without_value withouts)) (payment_plan b ++ closing_plan b s) n4 (payment_lines pay (map row_value rows) ++ closing_lines lowered) two
+            body = leads_then bytes n0 opening_plan n1 (opening_lines den value) (winning_kind b s ∷ (payment_plan b ++ closing_plan b s)) n4
+                (winning_lines choice table (map without_value withouts) ++ (payment_lines pay (map row_value rows) ++ closing_lines lowered)) one
+                (leads_then bytes n1 (winning_kind b s ∷ []) n2 (winning_lines choice table (map without_value withouts))
+                (payment_plan b ++ closing_plan b s) n4 (payment_lines pay (map row_value rows) ++ closing_lines lowered) two
                 (leads_then bytes n2 (payment_plan b) n3 (payment_lines pay (map row_value rows)) (closing_plan b s) n4 (closing_lines lowered) three four))
 
             whole : Leads bytes 0 (cert_plan b s) n4 [] (version_lines b s ++ body_lines value_read)
@@ -113,9 +125,13 @@ module _ (b s : ℕ) (bytes : List ℕ) where
 
             -- where no bytes are left, they are the text of the certificate that was read
             pub text_read : IsCertificate b s value_read → length (drop n4 bytes) ≡ 0 → IsTextOf (IsCertText b s) lines bytes (cert_lines value_read)
-            text_read is none = reached-end bytes n4 (cert_lines value_read) (subst (λ (ls : List Line). Reached b s bytes n4 [] (ls ++ body_lines value_read)) (sym (version_is b s value_read is)) reached) none
+            text_read is none = reached-end bytes n4 (cert_lines value_read) (subst
+                (λ (ls : List Line). Reached b s bytes n4 [] (ls ++ body_lines value_read)) (sym (version_is b s value_read is)) reached) none
 
 -- what was read of each stage makes a certificate
-pub made : (b s : ℕ) (den value : ℤ) (choice : List ℕ) (table : List (List ℤ)) (withouts : List WithoutPart) (pay : List ℤ) (rows : List CertRow) (lowered : List (List ℤ)) → InRange den × InRange value → IsChoice b choice → IsTable b s table
-    → AreWithouts b s 1 choice (map without_value withouts) → (length pay ≡ b) × AllInRange pay → length (map row_value rows) ≤ 10 → AreRows b (map row_value rows) → IsTable b s lowered → IsCertificate b s (cert_from den value choice table withouts pay rows lowered)
-made b s den value choice table withouts pay rows lowered range c t w p few r l = record { den = range.0; value = range.1; choice = c; table = t; withouts = w; pay = p; few = few; rows = r; lowered = l }
+pub made : (b s : ℕ) (den value : ℤ) (choice : List ℕ) (table : List (List ℤ)) (withouts : List WithoutPart) (pay : List ℤ) (rows : List CertRow)
+    (lowered : List (List ℤ)) → InRange den × InRange value → IsChoice b choice → IsTable b s table
+    → AreWithouts b s 1 choice (map without_value withouts) → (length pay ≡ b) × AllInRange pay → length (map row_value rows) ≤ 10
+    → AreRows b (map row_value rows) → IsTable b s lowered → IsCertificate b s (cert_from den value choice table withouts pay rows lowered)
+made b s den value choice table withouts pay rows lowered range c t w p few r l =
+    record { den = range.0; value = range.1; choice = c; table = t; withouts = w; pay = p; few = few; rows = r; lowered = l }

@@ -1,5 +1,6 @@
 -- What the lines of a certificate add to a text.
-use Rattle.std.proofs.Common.{◌≡◌, ℕ, zero, suc, ◌+◌, ◌<◌, ◌≤◌, ◌^◌, ℤ, pos, List, [], ◌∷◌, ◌++◌, length, codes, get_or, drop, map, refl, sym, ap, ◌∙◌, arith, append_assoc}
+use Rattle.std.proofs.Common.{◌≡◌, ℕ, zero, suc, ◌+◌, ◌<◌, ◌≤◌, ◌^◌, ℤ, pos, List, [], ◌∷◌, ◌++◌, length, codes, get_or, drop, map, refl, sym, ap, ◌∙◌, arith}
+use Rattle.std.proofs.Common.{append_assoc}
 use Rattle.std.proofs.lemmas.List.{length-map}
 use Rattle.std.specs.List.{AllByRecursion}
 use Rattle.cert_form.specs.line_text.specs.LineText.{text_of}
@@ -14,7 +15,8 @@ use Rattle.cert_form.specs.Says.{cert_text}
 use Rattle.cert_form.specs.line_text.proofs.Decimals.{decimal_numeral}
 use Rattle.cert_text.specs.Parts.{row_value, without_value}
 use Rattle.cert_text.specs.CertValues.{cert_value}
-use Rattle.cert_text.specs.Written.{bytes_of, lines_of_head, lines_of_part, lines_of_parts, lines_of_rows, lines_of_table, Adds, ArePartsInRange, IsRowInRange, IsTableInRange}
+use Rattle.cert_text.specs.Written.{bytes_of, lines_of_head, lines_of_part, lines_of_parts, lines_of_rows, lines_of_table, Adds, ArePartsInRange}
+use Rattle.cert_text.specs.Written.{IsRowInRange, IsTableInRange}
 use Rattle.cert_text.specs.declared.certificate.Certificate.{Certificate}
 use Rattle.cert_text.specs.declared.certificate.CertRow.{CertRow}
 use Rattle.cert_text.specs.declared.certificate.WithoutPart.{WithoutPart}
@@ -26,7 +28,8 @@ bytes_append (l ∷ ls) ys = ap (λ (b : List ℕ). spell l ++ 10 ∷ b) (bytes_
 
 -- these lines, and then those
 pub adds_both : (a b c : List ℕ) (xs ys : List Line) → Adds a b xs → Adds b c ys → Adds a c (xs ++ ys)
-adds_both a b c xs ys first then = then ∙ ap (λ (t : List ℕ). t ++ bytes_of ys) first ∙ append_assoc a (bytes_of xs) (bytes_of ys) ∙ ap (λ (t : List ℕ). a ++ t) (sym (bytes_append xs ys))
+adds_both a b c xs ys first then = then ∙ ap (λ (t : List ℕ). t ++ bytes_of ys) first ∙ append_assoc a (bytes_of xs) (bytes_of ys)
+    ∙ ap (λ (t : List ℕ). a ++ t) (sym (bytes_append xs ys))
 
 -- small numbers in the library's digits are those of a certificate
 pub small_decimals : (ns : List ℕ) → ((i : ℕ) → i < length ns → get_or ns i 0 < 2 ^ 16) → decimals_text ns ≡ numbers_text (as_numbers ns)
@@ -43,13 +46,17 @@ added_line text word numbers a b d first second third =
     ∙ append_assoc text (word ++ numbers) (10 ∷ [])
 
 -- the next part
-pub next_part : (parts : List WithoutPart) (i : ℕ) (part : WithoutPart) (whole before behind : List ℕ) → i < length parts → part ≡ get_or parts i part → before ++ bytes_of (part_lines (map without_value (drop i parts))) ≡ whole
+pub next_part : (parts : List WithoutPart) (i : ℕ) (part : WithoutPart) (whole before behind : List ℕ) → i < length parts → part ≡ get_or parts i part
+    → before ++ bytes_of (part_lines (map without_value (drop i parts))) ≡ whole
     → Adds before behind (lines_of_part part) → behind ++ bytes_of (part_lines (map without_value (drop (i + 1) parts))) ≡ whole
 next_part parts i part whole before behind inside item so_far step =
     let others = drop (i + 1) parts in
-    let split : bytes_of (part_lines (map without_value (get_or parts i part ∷ others))) ≡ bytes_of (lines_of_part part) ++ bytes_of (part_lines (map without_value others)) =
-    ap (λ (w : WithoutPart). bytes_of (part_lines (map without_value (w ∷ others)))) (sym item) ∙ bytes_append (lines_of_part part) (part_lines (map without_value others)) in
-    one_more (λ (l : List WithoutPart). bytes_of (part_lines (map without_value l))) parts i part whole before behind (bytes_of (lines_of_part part)) inside split so_far step
+    let split : bytes_of (part_lines (map without_value (get_or parts i part ∷ others))) ≡ bytes_of (lines_of_part part)
+    ++ bytes_of (part_lines (map without_value others)) =
+    ap (λ (w : WithoutPart). bytes_of (part_lines (map without_value (w ∷ others)))) (sym item) ∙ bytes_append (lines_of_part part)
+    (part_lines (map without_value others)) in
+    one_more (λ (l : List WithoutPart). bytes_of (part_lines (map without_value l))) parts i part whole before behind
+    (bytes_of (lines_of_part part)) inside split so_far step
 
 -- the bytes of lines are their text, wherever the lines begin
 pub bytes_are : (p : ℕ) (ls : List Line) → text_of (placed spell over p ls) ≡ bytes_of ls
@@ -98,15 +105,19 @@ module _ (b s : ℕ) where
 -- the parts of a certificate's text, one behind the other
 pub whole_cert : (c : Certificate) (v a e f g h i : List ℕ) → Adds [] v (version_lines (length c.choice) (width_of c.table)) → Adds v a (lines_of_head c)
     → Adds a e (lines_of_table (codes "table") c.table ++ lines_of_parts c.withouts)
-    → Adds e f (line (codes "pay") c.pay ∷ []) → Adds f g (lines_of_rows c.rows) → Adds g h (lines_of_table (codes "lowered") c.lowered) → Adds h i (line (codes "end") [] ∷ []) → i ≡ cert_text (cert_value c)
+    → Adds e f (line (codes "pay") c.pay ∷ []) → Adds f g (lines_of_rows c.rows) → Adds g h (lines_of_table (codes "lowered") c.lowered)
+    → Adds h i (line (codes "end") [] ∷ []) → i ≡ cert_text (cert_value c)
 whole_cert c v a e f g h i version head to_tables pay rows lowered end =
     let first = version_lines (length c.choice) (width_of c.table) in
     let tables = lines_of_table (codes "table") c.table ++ lines_of_parts c.withouts in
     let last = lines_of_table (codes "lowered") c.lowered ++ line (codes "end") [] ∷ [] in
     let tail = (line (codes "pay") c.pay ∷ []) ++ (lines_of_rows c.rows ++ last) in
     let to_last : Adds g i last = adds_both g h i (lines_of_table (codes "lowered") c.lowered) (line (codes "end") [] ∷ []) lowered end in
-    let to_tail : Adds e i tail = adds_both e f i (line (codes "pay") c.pay ∷ []) (lines_of_rows c.rows ++ last) pay (adds_both f g i (lines_of_rows c.rows) last rows to_last) in
-    let to_head : Adds v i (lines_of_head c ++ (tables ++ tail)) = adds_both v a i (lines_of_head c) (tables ++ tail) head (adds_both a e i tables tail to_tables to_tail) in
+    let to_tail : Adds e i tail = adds_both e f i (line (codes "pay") c.pay ∷ []) (lines_of_rows c.rows ++ last) pay
+    (adds_both f g i (lines_of_rows c.rows) last rows to_last) in
+    let to_head : Adds v i (lines_of_head c ++ (tables ++ tail)) = adds_both v a i (lines_of_head c) (tables ++ tail) head
+    (adds_both a e i tables tail to_tables to_tail) in
     adds_both [] v i first (lines_of_head c ++ (tables ++ tail)) version to_head
-    ∙ ap (λ (n : ℕ). bytes_of (first ++ (lines_of_head c ++ (tables ++ line (codes "pay") c.pay ∷ line (codes "rows") (pos n ∷ []) ∷ (row_lines (map row_value c.rows) ++ last))))) (sym (length-map c.rows row_value))
+    ∙ ap (λ (n : ℕ). bytes_of (first ++ (lines_of_head c ++ (tables ++ line (codes "pay") c.pay ∷ line (codes "rows") (pos n ∷ []) ∷
+    (row_lines (map row_value c.rows) ++ last))))) (sym (length-map c.rows row_value))
     ∙ sym (bytes_are 0 (cert_lines (cert_value c)))

@@ -1,5 +1,6 @@
 -- Going through the numbers of a bidder, from the last in the order of ties to the first, finds the first of the greatest choices.
-use Rattle.std.specs.Prelude.{◌≡◌, ◌⊎◌, ℕ, zero, suc, ◌+◌, ◌-◌, ◌≤◌, ◌<◌, Bool, true, false, ◌&&◌, ◌||◌, nat_le, nat_lt, ◌==◌, IsTrue, List, [], ◌∷◌, ℤ, ◌≤ℤ◌, ◌<ℤ◌, refl}
+use Rattle.std.specs.Prelude.{◌≡◌, ◌⊎◌, ℕ, zero, suc, ◌+◌, ◌-◌, ◌≤◌, ◌<◌, Bool, true, false, ◌&&◌, ◌||◌, nat_le, nat_lt, ◌==◌, IsTrue, List, [], ◌∷◌, ℤ, ◌≤ℤ◌}
+use Rattle.std.specs.Prelude.{◌<ℤ◌, refl}
 use Rattle.std.proofs.Common.{inl, inr, sym, ◌∙◌, arith}
 use Rattle.std.proofs.lemmas.Bool.{false≢true, and_parts, and_from, or_cases, or_left, or_right, leb-true, le-leb, ltb-true, lt-ltb, eqb-true, eq-eqb, cases_eq}
 use Rattle.std.proofs.lemmas.Int.{ints}
@@ -54,7 +55,8 @@ module _ (m : Menu) (k : ℕ) (left : List ℕ) (h : ℕ) (c : List ℕ) where
 
 module _ (m : Menu) (counts : ℕ → ℕ → ℤ) (k : ℕ) (left : List ℕ) where
   -- number 0 is the last
-  pub past-none : (r : List ℕ) → m.lots (suc k) 0 ≡ [] → IsFirstGreatest (fits_after m (suc k) left) (sum_after counts (suc k)) r → IsBestPast m counts k left (m.bids (suc k)) (0 ∷ r)
+  pub past-none : (r : List ℕ) → m.lots (suc k) 0 ≡ [] → IsFirstGreatest (fits_after m (suc k) left) (sum_after counts (suc k)) r
+      → IsBestPast m counts k left (m.bids (suc k)) (0 ∷ r)
   past-none r empty g = record {
     passed = past-from m k left 0 r (m.bids (suc k)) (inl refl) (record {
       known = omega arith;
@@ -123,7 +125,8 @@ module _ (m : Menu) (counts : ℕ → ℕ → ℤ) (k : ℕ) (left : List ℕ) w
       ]
 
   -- the package of bid i + 1 doesn't fit
-  pub past-skips : (i : ℕ) (c : List ℕ) → is_within (m.lots (suc k) (suc i)) left ≡ false → IsBestPast m counts k left (suc i) c → IsBestPast m counts k left i c
+  pub past-skips : (i : ℕ) (c : List ℕ) → is_within (m.lots (suc k) (suc i)) left ≡ false → IsBestPast m counts k left (suc i) c
+      → IsBestPast m counts k left i c
   past-skips i c out g = record {
     passed = past-more i c g.passed;
     greatest = λ d t. g.greatest d (past d t);
@@ -138,7 +141,9 @@ module _ (m : Menu) (counts : ℕ → ℕ → ℤ) (k : ℕ) (left : List ℕ) w
             | inr other ↦ past-other i h d other t
           ]
 
-  module _ (i : ℕ) (r b : List ℕ) (known : suc i ≤ m.bids (suc k)) (own : IsTrue (is_within (m.lots (suc k) (suc i)) left)) (g : IsFirstGreatest (fits_after m (suc k) (less left (m.lots (suc k) (suc i)))) (sum_after counts (suc k)) r) (h : IsBestPast m counts k left (suc i) b) where
+  module _ (i : ℕ) (r b : List ℕ) (known : suc i ≤ m.bids (suc k)) (own : IsTrue (is_within (m.lots (suc k) (suc i)) left))
+      (g : IsFirstGreatest (fits_after m (suc k) (less left (m.lots (suc k) (suc i)))) (sum_after counts (suc k)) r)
+      (h : IsBestPast m counts k left (suc i) b) where
     -- a choice that begins with i + 1 has no more than the best of these
     same-most : (n : ℕ) (d : List ℕ) → n ≡ suc i → IsTrue (fits_past m k left i (n ∷ d)) → sum_after counts k (n ∷ d) ≤ℤ sum_after counts k (suc i ∷ r)
     same-most n d same t =
@@ -159,7 +164,8 @@ module _ (m : Menu) (counts : ℕ → ℕ → ℤ) (k : ℕ) (left : List ℕ) w
         greatest (n ∷ d) t =
             elim (cases_eq n (suc i)) [
               | inl same ↦ same-most n d same t
-              | inr other ↦ let low : sum_after counts k (n ∷ d) ≤ℤ sum_after counts k b = h.greatest (n ∷ d) (past-other i n d other t) in omega (arith, ints, low, most)
+              | inr other ↦ let low : sum_after counts k (n ∷ d) ≤ℤ sum_after counts k b = h.greatest (n ∷ d) (past-other i n d other t) in
+                  omega (arith, ints, low, most)
             ]
 
         first : (d : List ℕ) → IsTrue (fits_past m k left i d) → IsTrue (is_earlier d (suc i ∷ r)) → sum_after counts k d <ℤ sum_after counts k (suc i ∷ r)
@@ -222,12 +228,14 @@ module _ (m : Menu) (counts : ℕ → ℕ → ℤ) (k : ℕ) (left : List ℕ) w
       past (n ∷ d) t = past-from m k left n d 0 (some n) (fits-says m k left n d t)
 
 -- the same, by the number of the bidder and as a loop counts down
-pub past-first : (m : Menu) (counts : ℕ → ℕ → ℤ) (k j : ℕ) (left r : List ℕ) → j ≡ suc k → m.lots j 0 ≡ [] → IsFirstGreatest (fits_after m j left) (sum_after counts j) r → IsBestPast m counts k left (m.bids j) (0 ∷ r)
+pub past-first : (m : Menu) (counts : ℕ → ℕ → ℤ) (k j : ℕ) (left r : List ℕ) → j ≡ suc k → m.lots j 0 ≡ []
+    → IsFirstGreatest (fits_after m j left) (sum_after counts j) r → IsBestPast m counts k left (m.bids j) (0 ∷ r)
 past-first m counts k j left r next empty g = rw next (past-none m counts k left r (rw next at empty) (rw next at g))
 
 module _ (m : Menu) (counts : ℕ → ℕ → ℤ) (k j : ℕ) (left : List ℕ) (next : j ≡ suc k) where
   -- a number whose package isn't within what is left leaves the best choice as it is
-  pub past-passes : (i : ℕ) (b : List ℕ) → 0 < i → is_within (m.lots j (i - 1 + 1)) left ≡ false → IsBestPast m counts k left i b → IsBestPast m counts k left (i - 1) b
+  pub past-passes : (i : ℕ) (b : List ℕ) → 0 < i → is_within (m.lots j (i - 1 + 1)) left ≡ false → IsBestPast m counts k left i b
+      → IsBestPast m counts k left (i - 1) b
   past-passes zero b some out h = absurd (omega (arith, some))
   past-passes (suc i) b some out h =
       let low : suc i - 1 ≡ i = omega arith in
@@ -236,7 +244,9 @@ module _ (m : Menu) (counts : ℕ → ℕ → ℤ) (k j : ℕ) (left : List ℕ)
 
   module _ (r b after : List ℕ) where
     -- a number that fits and, with the best choice of those after, counts at least as much gives the best choice
-    pub past-better : (i : ℕ) → 0 < i → i ≤ m.bids j → IsTrue (is_within (m.lots j (i - 1 + 1)) left) → after ≡ less left (m.lots j (i - 1 + 1)) → IsFirstGreatest (fits_after m j after) (sum_after counts j) r → IsBestPast m counts k left i b → sum_after counts k b ≤ℤ sum_after counts k ((i - 1 + 1) ∷ r) → IsBestPast m counts k left (i - 1) ((i - 1 + 1) ∷ r)
+    pub past-better : (i : ℕ) → 0 < i → i ≤ m.bids j → IsTrue (is_within (m.lots j (i - 1 + 1)) left) → after ≡ less left (m.lots j (i - 1 + 1))
+        → IsFirstGreatest (fits_after m j after) (sum_after counts j) r → IsBestPast m counts k left i b
+        → sum_after counts k b ≤ℤ sum_after counts k ((i - 1 + 1) ∷ r) → IsBestPast m counts k left (i - 1) ((i - 1 + 1) ∷ r)
     past-better zero some known own is g h most = absurd (omega (arith, some))
     past-better (suc i) some known own is g h most =
         let low : suc i - 1 ≡ i = omega arith in
@@ -244,7 +254,9 @@ module _ (m : Menu) (counts : ℕ → ℕ → ℤ) (k j : ℕ) (left : List ℕ)
         rw (low, up) (past-takes m counts k left i r b (rw next at known) (rw (next, low, up) at own) (rw (is, next, low, up) at g) h (rw (low, up) at most))
 
     -- a number that fits but, with the best choice of those after, counts less leaves the best choice as it is
-    pub past-worse : (i : ℕ) → 0 < i → i ≤ m.bids j → IsTrue (is_within (m.lots j (i - 1 + 1)) left) → after ≡ less left (m.lots j (i - 1 + 1)) → IsFirstGreatest (fits_after m j after) (sum_after counts j) r → IsBestPast m counts k left i b → sum_after counts k ((i - 1 + 1) ∷ r) <ℤ sum_after counts k b → IsBestPast m counts k left (i - 1) b
+    pub past-worse : (i : ℕ) → 0 < i → i ≤ m.bids j → IsTrue (is_within (m.lots j (i - 1 + 1)) left) → after ≡ less left (m.lots j (i - 1 + 1))
+        → IsFirstGreatest (fits_after m j after) (sum_after counts j) r → IsBestPast m counts k left i b
+        → sum_after counts k ((i - 1 + 1) ∷ r) <ℤ sum_after counts k b → IsBestPast m counts k left (i - 1) b
     past-worse zero some known own is g h less_than = absurd (omega (arith, some))
     past-worse (suc i) some known own is g h less_than =
         let low : suc i - 1 ≡ i = omega arith in

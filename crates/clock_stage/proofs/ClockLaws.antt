@@ -11,7 +11,8 @@ use Rattle.award_file.specs.auction_rules.specs.declared.Stage.TheVariants as st
 use Rattle.award_file.specs.auction_rules.specs.Terms.{Terms, entrant, no_lots}
 use Rattle.award_file.specs.auction_rules.specs.Replies.{is_clock, is_ok_reply, bid_reply, reply_to}
 use Rattle.award_file.specs.auction_rules.specs.Rounds.{listing}
-use Rattle.award_file.specs.auction_rules.specs.State.{DeskState, state_of, asked, close_reply_in, closed_state, clock_stopped, next_round, reply_in, taken, state_with}
+use Rattle.award_file.specs.auction_rules.specs.State.{DeskState, state_of, asked, close_reply_in, closed_state, clock_stopped, next_round, reply_in, taken}
+use Rattle.award_file.specs.auction_rules.specs.State.{state_with}
 use Rattle.award_file.specs.auction_rules.proofs.Stands.{reply_in-state_of, state_with-state_of}
 use Rattle.clock_stage.specs.ClockState.{ClockState, clock_with, clock_of, round_with, reply_to_bid, after_bid, reply_to_close, after_close, clock_closed}
 use Rattle.clock_stage.specs.declared.closes.Closed.{Closed}
@@ -58,13 +59,15 @@ staged-reply terms st = refl
 
 staged-closed : (terms : Terms) (st : DeskState) → clock_of (closed_state Clock (staged terms Clock st)) ≡ clock_closed terms (clock_of st)
 unfolding staged
-staged-closed terms st = if-ap clock_of (is_within (asked terms st.held) terms.supply) (clock_stopped (staged terms Clock st)) (next_round (staged terms Clock st))
+staged-closed terms st = if-ap clock_of (is_within (asked terms st.held) terms.supply) (clock_stopped (staged terms Clock st))
+    (next_round (staged terms Clock st))
 
 staged-clock : (terms : Terms) (st : DeskState) → is_clock st.stage ≡ true → clock_of (staged terms Clock st) ≡ clock_of st
 unfolding staged
 staged-clock terms st runs = ap (λ (b : Bool). clock_with b st.rounds (round_with st.prices st.eligibility st.held)) (sym runs)
 
-staged-state : (terms : Terms) (st : DeskState) → is_clock st.stage ≡ true → clock_of (state_with (staged terms Clock st) Close) ≡ after_close terms (clock_of st)
+staged-state : (terms : Terms) (st : DeskState) → is_clock st.stage ≡ true → clock_of (state_with (staged terms Clock st) Close) ≡ after_close terms
+    (clock_of st)
 unfolding staged
 staged-state terms st runs =
     let u : DeskState = staged terms Clock st in
@@ -99,7 +102,8 @@ bid-stands terms log old new j lots r is running replied moved =
     let same : st.terms ≡ terms = terms-state_of terms log in
     let runs : is_clock st.stage ≡ true = ap (λ (c : ClockState). c.running) (sym is) ∙ running in (
       replied ∙ ap (λ (c : ClockState). reply_to_bid terms c j lots) is ∙ sym (bid-reply terms st same runs j lots) ∙ reply_in-state_of terms log (Bid j lots),
-      moved ∙ ap (λ (c : ClockState). after_bid terms c j lots) is ∙ sym (bid-state terms st same runs j lots) ∙ ap clock_of (state_with-state_of terms log (Bid j lots)),
+      moved ∙ ap (λ (c : ClockState). after_bid terms c j lots) is ∙ sym (bid-state terms st same runs j lots)
+          ∙ ap clock_of (state_with-state_of terms log (Bid j lots)),
     )
 
 -- a clock that stands for a log, runs and takes a close answers by the rules, and stands for the log with the close
@@ -111,16 +115,20 @@ close-stands terms log old new closed is running moved =
     let st : DeskState = state_of terms log in
     let same : st.terms ≡ terms = terms-state_of terms log in
     let runs : is_clock st.stage ≡ true = ap (λ (c : ClockState). c.running) (sym is) ∙ running in
-    let reply_is : reply_to_close terms old ≡ reply_to terms log Close = ap (reply_to_close terms) is ∙ sym (close-reply terms st same runs) ∙ reply_in-state_of terms log Close in
-    let after_is : after_close terms old ≡ clock_of (state_of terms (Close ∷ log)) = ap (after_close terms) is ∙ sym (close-state terms st same runs) ∙ ap clock_of (state_with-state_of terms log Close) in
+    let reply_is : reply_to_close terms old ≡ reply_to terms log Close = ap (reply_to_close terms) is ∙ sym (close-reply terms st same runs)
+    ∙ reply_in-state_of terms log Close in
+    let after_is : after_close terms old ≡ clock_of (state_of terms (Close ∷ log)) = ap (after_close terms) is ∙ sym (close-state terms st same runs)
+    ∙ ap clock_of (state_with-state_of terms log Close) in
     elim moved [
       | inl kept ↦ inl kept
       | inr told ↦ inr (subst (λ (r : Reply). Tells closed r new) reply_is told.0, told.1 ∙ after_is)
     ]
 
 -- the clock of round 1 stands for the empty log
-pub start-stands : (terms : Terms) → clock_with true [] (round_with terms.reserves (listing (λ j. (entrant terms j).eligibility) (length terms.bidders)) (replicate (length terms.bidders) (no_lots terms)))
+pub start-stands : (terms : Terms) → clock_with true [] (round_with terms.reserves (listing (λ j. (entrant terms j).eligibility) (length terms.bidders))
+    (replicate (length terms.bidders) (no_lots terms)))
     ≡ clock_of (state_of terms [])
 unfolding state_of
 start-stands terms =
-    ap (λ (held : List (List ℕ)). clock_with true [] (round_with terms.reserves (listing (λ j. (entrant terms j).eligibility) (length terms.bidders)) held)) (sym (listing-same_each (no_lots terms) (length terms.bidders)))
+    ap (λ (held : List (List ℕ)). clock_with true [] (round_with terms.reserves (listing (λ j. (entrant terms j).eligibility) (length terms.bidders)) held))
+    (sym (listing-same_each (no_lots terms) (length terms.bidders)))

@@ -1,5 +1,6 @@
 -- Sums of packages, and packages without a lot.
-use Rattle.std.proofs.Common.{◌≡◌, ℕ, zero, suc, ◌+◌, ◌-◌, ◌*◌, ◌/◌, ◌%◌, ◌<◌, ◌≤◌, List, [], ◌∷◌, ◌++◌, length, map, drop, take, get_or, refl, sym, ap, ◌∙◌, arith, add-one}
+use Rattle.std.proofs.Common.{◌≡◌, ℕ, zero, suc, ◌+◌, ◌-◌, ◌*◌, ◌/◌, ◌%◌, ◌<◌, ◌≤◌, List, [], ◌∷◌, ◌++◌, length, map, drop, take, get_or, refl, sym, ap, ◌∙◌}
+use Rattle.std.proofs.Common.{arith, add-one}
 use Rattle.std.specs.Prelude.{sum, replicate, ◌==◌}
 use Rattle.std.specs.List.{All, AllByRecursion}
 use Rattle.std.proofs.lemmas.List.{replicate_more, take-append-le, take_all, get_or_default}
@@ -25,14 +26,16 @@ counts-low (a ∷ p) most few =
     let parts : sum (a ∷ p) ≡ a + sum p = sum_by-cons (λ (n : ℕ). n) a p in
     (omega arith, counts-low p most (omega arith))
 
-sums-low : (p q : List ℕ) (a b : ℕ) → length q ≡ length p → AllByRecursion (λ n. n ≤ a) p → AllByRecursion (λ n. n ≤ b) q → AllByRecursion (λ n. n ≤ a + b) (together p q)
+sums-low : (p q : List ℕ) (a b : ℕ) → length q ≡ length p → AllByRecursion (λ n. n ≤ a) p → AllByRecursion (λ n. n ≤ b) q
+    → AllByRecursion (λ n. n ≤ a + b) (together p q)
 sums-low [] [] a b e low few = tt
 sums-low [] (y ∷ q) a b e low few = absurd (omega arith)
 sums-low (x ∷ p) [] a b e low few = absurd (omega arith)
 sums-low (x ∷ p) (y ∷ q) a b e low few = (omega (arith, low.0, few.0), sums-low p q a b (omega arith) low.1 few.1)
 
 -- a package of at most 40 lots more
-pub added-most : (demand p : List ℕ) (k : ℕ) → length p ≡ length demand → sum p ≤ 40 → All (λ n. n ≤ 40 * k) demand → All (λ n. n ≤ 40 * (k + 1)) (together demand p)
+pub added-most : (demand p : List ℕ) (k : ℕ) → length p ≡ length demand → sum p ≤ 40 → All (λ n. n ≤ 40 * k) demand
+    → All (λ n. n ≤ 40 * (k + 1)) (together demand p)
 added-most demand p k e few low =
     let more : 40 * k + 40 ≡ 40 * (k + 1) = omega arith in
     All-from_recursion (λ n. n ≤ 40 * (k + 1)) (together demand p)
@@ -51,7 +54,8 @@ left_at-zero (s ∷ supply) =
 pub zeros-sum : (supply : List ℕ) → sum (map {A = ℕ} {B = ℕ} (λ n. 0) supply) ≡ 0
 zeros-sum [] = refl
 zeros-sum (s ∷ supply) =
-    let parts : sum (0 ∷ map {A = ℕ} {B = ℕ} (λ n. 0) supply) ≡ 0 + sum (map {A = ℕ} {B = ℕ} (λ n. 0) supply) = sum_by-cons (λ (n : ℕ). n) 0 (map {A = ℕ} {B = ℕ} (λ n. 0) supply) in
+    let parts : sum (0 ∷ map {A = ℕ} {B = ℕ} (λ n. 0) supply) ≡ 0 + sum (map {A = ℕ} {B = ℕ} (λ n. 0) supply) =
+    sum_by-cons (λ (n : ℕ). n) 0 (map {A = ℕ} {B = ℕ} (λ n. 0) supply) in
     omega (arith, parts, zeros-sum supply)
 
 -- a package without a lot is as many zeros as there are categories

@@ -7,7 +7,8 @@ use Rattle.clock_stage.specs.Kept.{IsRound, IsHistory, bidders_in, categories_in
 use Rattle.clock_stage.specs.Rounds.{round_value, round_values}
 
 -- what a read of the fields gives
-pub round-read : (rounds : List ClockRound) (seen : List Round) (r : ℕ) (round : ClockRound) → round_values rounds ≡ seen → 1 ≤ r → r ≤ length seen → round ≡ get_or rounds (r - 1) round
+pub round-read : (rounds : List ClockRound) (seen : List Round) (r : ℕ) (round : ClockRound) → round_values rounds ≡ seen → 1 ≤ r → r ≤ length seen
+    → round ≡ get_or rounds (r - 1) round
     → round_value round ≡ round_at seen r
 round-read rounds seen r round is low high read =
     let inside : r - 1 < length rounds = omega (arith, ap length is, length-map rounds round_value) in

@@ -1,5 +1,6 @@
 -- What bids and closes leave of what a clock keeps.
-use Rattle.std.proofs.Common.{◌≡◌, ℕ, suc, ◌<◌, ◌≤◌, ◌^◌, Bool, true, false, not, ◌&&◌, List, [], ◌∷◌, ◌++◌, Option, Some, None, length, map, set, refl, sym, ap, subst, ◌∙◌, arith, inl, inr}
+use Rattle.std.proofs.Common.{◌≡◌, ℕ, suc, ◌<◌, ◌≤◌, ◌^◌, Bool, true, false, not, ◌&&◌, List, [], ◌∷◌, ◌++◌, Option, Some, None, length, map, set, refl, sym}
+use Rattle.std.proofs.Common.{ap, subst, ◌∙◌, arith, inl, inr}
 use Rattle.std.specs.Prelude.{sum, replicate, nat_le, nat_lt, if◌then◌else◌}
 use Rattle.std.specs.List.{All, AllByRecursion}
 use Rattle.std.proofs.lemmas.Bool.{cases_Bool, leb-true, leb-false, cond-true}
@@ -22,7 +23,8 @@ use Rattle.clock_stage.specs.Kept.{IsHeld, IsRound, IsClock, IsFor}
 use Rattle.clock_stage.proofs.Demands.{zeros-sum, map-same}
 
 -- a reply that is Ok passed each condition
-pub passed : (holds : Bool) (r : Reply) (rest : List (Option Reply)) → (r ≡ reply.Ok → ⊥) → first_reply (when holds r ∷ rest) ≡ reply.Ok → (holds ≡ false) × (first_reply rest ≡ reply.Ok)
+pub passed : (holds : Bool) (r : Reply) (rest : List (Option Reply)) → (r ≡ reply.Ok → ⊥) → first_reply (when holds r ∷ rest) ≡ reply.Ok
+    → (holds ≡ false) × (first_reply rest ≡ reply.Ok)
 passed true r rest other ok = absurd (other ok)
 passed false r rest other ok = (refl, ok)
 
@@ -38,7 +40,8 @@ behind_supply terms eligibility j lots = spectrum_reply (broken_cap terms j lots
 bid-within : (terms : Terms) (eligibility j : ℕ) (lots : List ℕ) → bid_reply terms Clock eligibility j lots ≡ reply.Ok → is_within lots terms.supply ≡ true
 unfolding behind_supply
 bid-within terms eligibility j lots ok =
-    let known = passed (not (nat_lt 0 j && nat_le j (length terms.bidders))) reply.Unknown (supply_reply (first_over 1 lots terms.supply) ∷ behind_supply terms eligibility j lots) (λ e. cc) ok in
+    let known = passed (not (nat_lt 0 j && nat_le j (length terms.bidders))) reply.Unknown
+    (supply_reply (first_over 1 lots terms.supply) ∷ behind_supply terms eligibility j lots) (λ e. cc) ok in
     first_over-within 1 lots terms.supply (supply_passed (first_over 1 lots terms.supply) (behind_supply terms eligibility j lots) known.1)
 
 -- and has at most 40 lots
@@ -49,9 +52,11 @@ bid-lots terms eligibility j lots award ok = omega (arith, sum-within lots terms
 no_lots-held : (terms : Terms) (categories : ℕ) → length terms.supply ≡ categories → IsHeld categories (no_lots terms)
 no_lots-held terms categories e = record { count = length-map terms.supply (λ n. 0) ∙ e; few = omega (arith, zeros-sum terms.supply) }
 
-empty_held : (terms : Terms) (categories : ℕ) (held : List (List ℕ)) → length terms.supply ≡ categories → All (IsHeld categories) (map (λ lots. no_lots terms) held)
+empty_held : (terms : Terms) (categories : ℕ) (held : List (List ℕ)) → length terms.supply ≡ categories
+    → All (IsHeld categories) (map (λ lots. no_lots terms) held)
 empty_held terms categories held e =
-    subst (All (IsHeld categories)) (sym (map-same (no_lots terms) held)) (All-replicate (IsHeld categories) (length held) (no_lots terms) (no_lots-held terms categories e))
+    subst (All (IsHeld categories)) (sym (map-same (no_lots terms) held)) (All-replicate (IsHeld categories) (length held) (no_lots terms)
+    (no_lots-held terms categories e))
 
 -- the clock after a bid
 pub bid-kept : (clock : ClockState) (i : ℕ) (lots : List ℕ) → IsClock clock → length lots ≡ length clock.posted.prices → sum lots ≤ 40
@@ -75,7 +80,8 @@ bid-kept clock i lots kept e few =
     }
 
 -- there are as many raised prices as prices
-pub length-raised_prices : (tick : ℕ) (thresholds : List (ℕ × ℕ)) (prices d supply : List ℕ) → length (raised_prices tick thresholds prices d supply) ≡ length prices
+pub length-raised_prices : (tick : ℕ) (thresholds : List (ℕ × ℕ)) (prices d supply : List ℕ) → length
+    (raised_prices tick thresholds prices d supply) ≡ length prices
 length-raised_prices tick thresholds [] d supply = refl
 length-raised_prices tick thresholds (p ∷ prices) [] supply = refl
 length-raised_prices tick thresholds (p ∷ prices) (n ∷ d) [] = refl
@@ -95,16 +101,21 @@ close-passed : (terms : Terms) (clock : ClockState) → has_excess terms clock �
     → ((has_excess terms clock && nat_le 300 (suc (length clock.rounds))) ≡ false) × (first_reply (price_top 1 (next_prices terms clock) ∷ []) ≡ reply.Ok)
 close-passed terms clock excess ok =
     let early = passed (has_excess terms clock && nat_le 300 (suc (length clock.rounds))) (reply.Full 300)
-    ((if has_excess terms clock then price_top 1 (next_prices terms clock) else None) ∷ []) (λ e. cc) ok in
-    (early.0, ap (λ (o : Option Reply). first_reply (o ∷ [])) (sym (cond-true (has_excess terms clock) (price_top 1 (next_prices terms clock)) None excess)) ∙ early.1)
+    ((if has_excess terms clock then price_top 1 (next_prices terms clock) else None) ∷ []) (λ e. cc) ok in (
+      early.0,
+      ap (λ (o : Option Reply). first_reply (o ∷ [])) (sym (cond-true (has_excess terms clock) (price_top 1 (next_prices terms clock)) None excess))
+          ∙ early.1,
+    )
 
 -- the clock after a close with excess demand
 pub next-kept : (terms : Terms) (clock : ClockState) → IsFor terms clock → IsClock clock → has_excess terms clock ≡ true → reply_to_close terms clock ≡ reply.Ok
     → IsClock (clock_with true (clock.rounds ++ clock.posted ∷ []) (next_round terms (next_prices terms clock) clock.posted))
 next-kept terms clock fits kept excess ok =
     let conditions = close-passed terms clock excess ok in
-    let early : suc (length clock.rounds) < 300 = leb-false 300 (suc (length clock.rounds)) (ap (λ b. b && nat_le 300 (suc (length clock.rounds))) (sym excess) ∙ conditions.0) in
-    let prices : length (next_prices terms clock) ≡ length clock.posted.prices = length-raised_prices terms.tick terms.thresholds clock.posted.prices (asked terms clock.posted.held) terms.supply in
+    let early : suc (length clock.rounds) < 300 = leb-false 300 (suc (length clock.rounds))
+    (ap (λ b. b && nat_le 300 (suc (length clock.rounds))) (sym excess) ∙ conditions.0) in
+    let prices : length (next_prices terms clock) ≡ length clock.posted.prices = length-raised_prices terms.tick terms.thresholds clock.posted.prices
+    (asked terms clock.posted.held) terms.supply in
     let bidders : length (map (λ lots. no_lots terms) clock.posted.held) ≡ length clock.posted.held = length-map clock.posted.held (λ lots. no_lots terms) in
     let count : length (clock.rounds ++ clock.posted ∷ []) ≡ suc (length clock.rounds) = length-append clock.rounds (clock.posted ∷ []) ∙ (omega arith) in
     let closed : All (IsRound (length clock.posted.held) (length clock.posted.prices)) (clock.rounds ++ clock.posted ∷ [])
@@ -126,7 +137,8 @@ next-kept terms clock fits kept excess ok =
     }
 
 -- and it stays a clock of the award
-pub next-for : (terms : Terms) (clock : ClockState) → IsFor terms clock → IsFor terms (clock_with true (clock.rounds ++ clock.posted ∷ []) (next_round terms (next_prices terms clock) clock.posted))
+pub next-for : (terms : Terms) (clock : ClockState) → IsFor terms clock → IsFor terms
+    (clock_with true (clock.rounds ++ clock.posted ∷ []) (next_round terms (next_prices terms clock) clock.posted))
 next-for terms clock fits = record {
   bidders = length-map clock.posted.held (λ lots. no_lots terms) ∙ fits.bidders;
   categories = length-raised_prices terms.tick terms.thresholds clock.posted.prices (asked terms clock.posted.held) terms.supply ∙ fits.categories;
@@ -158,7 +170,8 @@ start-kept terms eligibility award e =
         most_price = award.most_reserve;
         eligibility = e ∙ sym bidders;
         held = refl;
-        packages = All-replicate (IsHeld (length terms.reserves)) (length terms.bidders) (no_lots terms) (no_lots-held terms (length terms.reserves) (sym award.reserves));
+        packages = All-replicate (IsHeld (length terms.reserves)) (length terms.bidders) (no_lots terms)
+            (no_lots-held terms (length terms.reserves) (sym award.reserves));
       };
       closed = All-nil (IsRound (length (replicate (length terms.bidders) (no_lots terms))) (length terms.reserves));
       few = omega arith;

@@ -11,14 +11,16 @@ rising-from low (t ∷ thresholds) rise = (rise.0, rising-from t.0 thresholds ri
 
 -- the thresholds of an award reach each excess
 reached : (thresholds : List (ℕ × ℕ)) (excess : ℕ) → AreThresholds thresholds → 1 ≤ excess
-    → ((first : ℕ × ℕ) (later : List (ℕ × ℕ)) (e : ℕ) → AreRisingFrom first.0 later → first.0 ≤ e → IsReachedShare (first ∷ later) e (permille_at (first ∷ later) e))
+    → ((first : ℕ × ℕ) (later : List (ℕ × ℕ)) (e : ℕ) → AreRisingFrom first.0 later → first.0 ≤ e → IsReachedShare (first ∷ later) e
+    (permille_at (first ∷ later) e))
     → IsReachedShare thresholds excess (permille_at thresholds excess)
 reached [] excess none some law = absurd none
 reached (t ∷ thresholds) excess are some law =
     law t thresholds excess (rising-from t.0 thresholds are.1.4) (subst (λ (n : ℕ). n ≤ excess) (sym are.0) some)
 
 pub raised-price : (table : Steps) (price excess raised : ℕ)
-    → ((first : ℕ × ℕ) (later : List (ℕ × ℕ)) (e : ℕ) → AreRisingFrom first.0 later → first.0 ≤ e → IsReachedShare (first ∷ later) e (permille_at (first ∷ later) e))
+    → ((first : ℕ × ℕ) (later : List (ℕ × ℕ)) (e : ℕ) → AreRisingFrom first.0 later → first.0 ≤ e → IsReachedShare (first ∷ later) e
+    (permille_at (first ∷ later) e))
     → ((tick p permille : ℕ) → 1 ≤ tick → IsRaise tick p permille (ticks_of tick p permille * tick))
     → IsSteps table → 1 ≤ excess → raised ≡ stepped table.tick table.thresholds price excess → IsRaisedPrice table price excess raised
 raised-price table price excess raised threshold least steps some is = record {

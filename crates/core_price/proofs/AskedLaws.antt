@@ -25,14 +25,16 @@ pub blocks-last : (past : List Turn) (t : Turn) → t.block ≡ None → blocks_
 blocks-last past t e = blocks-more past t ∙ ap (λ o. blocks_of past ++ with_block o []) e ∙ append-nil (blocks_of past)
 
 -- the rows with that of the block are the first ones and those of all turns with this one
-pub rows-block : (rows start : List Row) (past : List Turn) (t : Turn) (b : Block) → t.block ≡ Some b → rows ≡ start ++ block_rows past → rows ++ b.row ∷ [] ≡ start ++ block_rows (past ++ t ∷ [])
+pub rows-block : (rows start : List Row) (past : List Turn) (t : Turn) (b : Block) → t.block ≡ Some b → rows ≡ start ++ block_rows past
+    → rows ++ b.row ∷ [] ≡ start ++ block_rows (past ++ t ∷ [])
 rows-block rows start past t b e h =
     ap (λ l. l ++ b.row ∷ []) h
     ∙ append_assoc start (block_rows past) (b.row ∷ [])
     ∙ ap (λ l. start ++ l) (sym (map-append (λ b. b.row) (blocks_of past) (b ∷ [])) ∙ ap (map (λ b. b.row)) (sym (blocks-block past t b e)))
 
 -- the choices with that of the block are the first ones and those of all turns with this one
-pub choices-block : (choices start : List (List ℕ)) (past : List Turn) (t : Turn) (b : Block) → t.block ≡ Some b → choices ≡ start ++ block_choices past → choices ++ b.choice ∷ [] ≡ start ++ block_choices (past ++ t ∷ [])
+pub choices-block : (choices start : List (List ℕ)) (past : List Turn) (t : Turn) (b : Block) → t.block ≡ Some b → choices ≡ start ++ block_choices past
+    → choices ++ b.choice ∷ [] ≡ start ++ block_choices (past ++ t ∷ [])
 choices-block choices start past t b e h =
     ap (λ l. l ++ b.choice ∷ []) h
     ∙ append_assoc start (block_choices past) (b.choice ∷ [])

@@ -1,5 +1,6 @@
 -- A free point with multipliers on rows is in the core: no winner pays more than its bid, though no row asks for it.
-use Rattle.std.specs.Prelude.{◌≡◌, ℕ, zero, suc, ◌-◌, ◌<◌, ◌≤◌, ◌==◌, Bool, true, false, cond, not, ◌&&◌, IsTrue, List, length, ℤ, pos, ◌+ℤ◌, ◌-ℤ◌, ◌*ℤ◌, ◌≤ℤ◌, refl}
+use Rattle.std.specs.Prelude.{◌≡◌, ℕ, zero, suc, ◌-◌, ◌<◌, ◌≤◌, ◌==◌, Bool, true, false, cond, not, ◌&&◌, IsTrue, List, length, ℤ, pos, ◌+ℤ◌, ◌-ℤ◌, ◌*ℤ◌}
+use Rattle.std.specs.Prelude.{◌≤ℤ◌, refl}
 use Rattle.std.proofs.Common.{◌∙◌, ap, arith, ◌⊎◌, inl, inr}
 use Rattle.std.proofs.lemmas.Int.{ints}
 use Rattle.std.proofs.lemmas.Bool.{ne_eqb, eq-eqb}
@@ -31,7 +32,8 @@ pub sum-change : (n : ℕ) (f g : ℕ → ℤ) (k : ℕ) → k < n → ((i : ℕ
 sum-change zero f g k lt h = absurd (omega arith)
 sum-change (suc n) f g k lt h =
     elim (lt_or k n lt) [
-      | inl l ↦ (let a = sum-change n f g k l (λ i li d. h i (omega arith) d) in let b : f n ≡ g n = h n (omega arith) (λ e. absurd (omega arith)) in omega (arith, ints))
+      | inl l ↦ (let a = sum-change n f g k l (λ i li d. h i (omega arith) d) in let b : f n ≡ g n = h n (omega arith) (λ e. absurd (omega arith)) in
+          omega (arith, ints))
       | inr e ↦ (let a = total-same n f g (λ i li. h i (omega arith) (λ q. absurd (omega arith))) in let c = ap f e in let d = ap g e in omega (arith, ints))
     ]
 
@@ -43,13 +45,16 @@ find-term (suc n) f h = by (zero_or (f n)) (λ d. find-term n f d)
     by (inr d) rec = (n, omega arith, d)
     by (inl e) rec = let r = rec (λ q. h (omega (arith, ints))) in (r.0, omega (arith, r.1), r.2)
 
-module _ (m : Market) (lawful : IsMarket m) (z : List ℕ) (win : IsWinning m z) (rows : List Row) (choices : List (List ℕ)) (given : (i : ℕ) → i < length rows → IsGivenBy m z (row_at rows i) (choice_at choices i))
-    (den : ℤ) (at first : List ℤ) (firsts : AreFirst (winners_in z) (length rows) (coefficients rows) (bounds rows) den (nth at) (nth first)) (sums : SumsTo (winners_in z) (length rows) (coefficients rows) den (nth first)) (free : IsUnblocked m z (point_of z den at)) where
+module _ (m : Market) (lawful : IsMarket m) (z : List ℕ) (win : IsWinning m z) (rows : List Row) (choices : List (List ℕ))
+    (given : (i : ℕ) → i < length rows → IsGivenBy m z (row_at rows i) (choice_at choices i))
+    (den : ℤ) (at first : List ℤ) (firsts : AreFirst (winners_in z) (length rows) (coefficients rows) (bounds rows) den (nth at) (nth first))
+    (sums : SumsTo (winners_in z) (length rows) (coefficients rows) den (nth first)) (free : IsUnblocked m z (point_of z den at)) where
   len : length z ≡ m.bidders
   len = lawful.lengths z win.passed
 
   -- a price above its bid lies in a tight row, and the row without that winner would be violated
-  tight-below : (i : ℕ) → i < length rows → dot (winners_in z) (coefficients rows i) (nth at) ≡ den *ℤ bounds rows i → (k : ℕ) → k < m.bidders → row_of z (row_at rows i).members (suc k) ≡ true → of_bidder (for_bidders z at) (suc k) ≤ℤ (den *ℤ worth_in m z (suc k))
+  tight-below : (i : ℕ) → i < length rows → dot (winners_in z) (coefficients rows i) (nth at) ≡ den *ℤ bounds rows i → (k : ℕ) → k < m.bidders
+      → row_of z (row_at rows i).members (suc k) ≡ true → of_bidder (for_bidders z at) (suc k) ≤ℤ (den *ℤ worth_in m z (suc k))
   tight-below i lt tight k lk member =
       let row = given i lt in
       let p : Point = point_of z den at in
@@ -60,11 +65,17 @@ module _ (m : Market) (lawful : IsMarket m) (z : List ℕ) (win : IsWinning m z)
       let none : excess_of m z (point_of z den at) (row_of z bits) c ≡ pos 0 = omega (arith, ints) in
       let x = excess-is m lawful z (point_of z den at) c row.allowed (row_of z bits) in
       let y = excess-is m lawful z (point_of z den at) c row.allowed (λ j. row_of z bits j && not (j == suc k)) in
-      let w = free-excess m lawful z (point_of z den at) free c row.allowed (λ j. row_of z bits j && not (j == suc k)) (λ j q le u. out (row_of z bits j) (j == suc k) (idle-outside m z c (row_of z bits) row.idle j q le u)) in
-      let h = sum-change m.bidders (terms m z (point_of z den at) c (λ j. not (row_of z bits j))) (terms m z (point_of z den at) c (λ j. not (row_of z bits j && not (j == suc k)))) k lk
-      (λ l ll d. ap (λ t. (den *ℤ worth_in m c (suc l)) -ℤ cond t (den *ℤ worth_in m z (suc l)) (of_bidder (for_bidders z at) (suc l))) (other (row_of z bits (suc l)) (suc l == suc k) (ne_eqb (suc l) (suc k) (λ q. d (let a = q in omega arith))))) in
-      let own : terms m z (point_of z den at) c (λ j. not (row_of z bits j)) k ≡ (den *ℤ worth_in m c (suc k)) -ℤ of_bidder (for_bidders z at) (suc k) = ap (λ t. (den *ℤ worth_in m c (suc k)) -ℤ cond (not t) (den *ℤ worth_in m z (suc k)) (of_bidder (for_bidders z at) (suc k))) member in
-      let now : terms m z (point_of z den at) c (λ j. not (row_of z bits j && not (j == suc k))) k ≡ (den *ℤ worth_in m c (suc k)) -ℤ (den *ℤ worth_in m z (suc k)) = ap (λ t. (den *ℤ worth_in m c (suc k)) -ℤ cond t (den *ℤ worth_in m z (suc k)) (of_bidder (for_bidders z at) (suc k))) (gone (row_of z bits (suc k)) (suc k == suc k) (eq-eqb (suc k) (suc k) refl)) in
+      let w = free-excess m lawful z (point_of z den at) free c row.allowed (λ j. row_of z bits j && not (j == suc k))
+      (λ j q le u. out (row_of z bits j) (j == suc k) (idle-outside m z c (row_of z bits) row.idle j q le u)) in
+      let h = sum-change m.bidders (terms m z (point_of z den at) c (λ j. not (row_of z bits j)))
+      (terms m z (point_of z den at) c (λ j. not (row_of z bits j && not (j == suc k)))) k lk
+      (λ l ll d. ap (λ t. (den *ℤ worth_in m c (suc l)) -ℤ cond t (den *ℤ worth_in m z (suc l)) (of_bidder (for_bidders z at) (suc l)))
+      (other (row_of z bits (suc l)) (suc l == suc k) (ne_eqb (suc l) (suc k) (λ q. d (let a = q in omega arith))))) in
+      let own : terms m z (point_of z den at) c (λ j. not (row_of z bits j)) k ≡ (den *ℤ worth_in m c (suc k)) -ℤ of_bidder (for_bidders z at) (suc k) =
+      ap (λ t. (den *ℤ worth_in m c (suc k)) -ℤ cond (not t) (den *ℤ worth_in m z (suc k)) (of_bidder (for_bidders z at) (suc k))) member in
+      let now : terms m z (point_of z den at) c (λ j. not (row_of z bits j && not (j == suc k))) k ≡ (den *ℤ worth_in m c (suc k)) -ℤ
+      (den *ℤ worth_in m z (suc k)) = ap (λ t. (den *ℤ worth_in m c (suc k)) -ℤ cond t (den *ℤ worth_in m z (suc k))
+      (of_bidder (for_bidders z at) (suc k))) (gone (row_of z bits (suc k)) (suc k == suc k) (eq-eqb (suc k) (suc k) refl)) in
       omega (arith, ints)
     where
       out : (s b : Bool) → not s ≡ true → not (s && not b) ≡ true
@@ -112,7 +123,8 @@ module _ (m : Market) (lawful : IsMarket m) (z : List ℕ) (win : IsWinning m z)
         unblocked = free;
       }
     where
-      winner : (j : ℕ) → 0 < j → j ≤ m.bidders → IsTrue (uses z j) → (pos 0 ≤ℤ of_bidder (for_bidders z at) j) × (of_bidder (for_bidders z at) j ≤ℤ (den *ℤ worth_in m z j))
+      winner : (j : ℕ) → 0 < j → j ≤ m.bidders → IsTrue (uses z j) → (pos 0 ≤ℤ of_bidder (for_bidders z at) j)
+          × (of_bidder (for_bidders z at) j ≤ℤ (den *ℤ worth_in m z j))
       winner zero q le u = absurd (omega arith)
       winner (suc k) q le u =
           let s = place-of z k (omega (arith, len)) u in

@@ -58,11 +58,16 @@ zero_same g (negsuc x) (pos zero) p e = absurd (some-product g (negsuc x) p e (�
 zero_same g (negsuc x) (pos (suc y)) p e = refl
 zero_same g (negsuc x) (negsuc y) p e = refl
 
-pairs_same : (n : ℕ) (first second all_first all_second : ℕ → ℤ) → ((i : ℕ) → i < n → is_zero (first i) ≡ is_zero (all_first i)) → ((i : ℕ) → i < n → is_zero (second i) ≡ is_zero (all_second i))
+pairs_same : (n : ℕ) (first second all_first all_second : ℕ → ℤ) → ((i : ℕ) → i < n → is_zero (first i) ≡ is_zero (all_first i))
+    → ((i : ℕ) → i < n → is_zero (second i) ≡ is_zero (all_second i))
     → pairs_used n first second ≡ pairs_used n all_first all_second
 pairs_same zero first second all_first all_second f s = refl
 pairs_same (suc n) first second all_first all_second f s =
-    rw (pairs_same n first second all_first all_second (λ i lt. f i (omega (arith, lt))) (λ i lt. s i (omega (arith, lt))), f n (omega arith), s n (omega arith)) refl
+    rw (
+      pairs_same n first second all_first all_second (λ i lt. f i (omega (arith, lt))) (λ i lt. s i (omega (arith, lt))),
+      f n (omega arith),
+      s n (omega arith),
+    ) refl
 
 module _ (prices : List ℤ) (weights : List ℕ) (rows : List Row) (g den : ℤ) (at first second : List ℤ) (all_den : ℤ) (all_at all_first all_second : List ℤ)
     (h : IsMultiple g den at first second all_den all_at all_first all_second) (a : IsAnswer prices weights rows all_den all_at all_first all_second) where
@@ -70,14 +75,17 @@ module _ (prices : List ℤ) (weights : List ℕ) (rows : List Row) (g den : ℤ
   some = not-zero g h.positive
 
   row-times : (i : ℕ) → dot (length prices) (coefficients rows i) (nth all_at) ≡ g *ℤ dot (length prices) (coefficients rows i) (nth at)
-  row-times i = sym (dot-same (length prices) (coefficients rows i) (λ j. g *ℤ nth at j) (nth all_at) (λ j lt. h.at_is.is j (omega (arith, lt, a.long_at)))) ∙ dot-scale (length prices) g (coefficients rows i) (nth at)
+  row-times i = sym (dot-same (length prices) (coefficients rows i) (λ j. g *ℤ nth at j) (nth all_at) (λ j lt. h.at_is.is j (omega (arith, lt, a.long_at))))
+      ∙ dot-scale (length prices) g (coefficients rows i) (nth at)
 
   bound-times : (i : ℕ) → all_den *ℤ bounds rows i ≡ g *ℤ (den *ℤ bounds rows i)
   bound-times i = ap (λ (t : ℤ). t *ℤ bounds rows i) (sym h.den_is) ∙ mul_assoc g den (bounds rows i)
 
-  sum-times : (list all : List ℤ) → AreQuotients g all list → length all ≡ length rows → (j : ℕ) → sum_at (length rows) (coefficients rows) (nth all) j ≡ g *ℤ sum_at (length rows) (coefficients rows) (nth list) j
+  sum-times : (list all : List ℤ) → AreQuotients g all list → length all ≡ length rows → (j : ℕ) → sum_at (length rows) (coefficients rows)
+      (nth all) j ≡ g *ℤ sum_at (length rows) (coefficients rows) (nth list) j
   sum-times list all k long j =
-      total-same (length rows) (λ i. nth all i *ℤ coefficients rows i j) (λ i. g *ℤ nth list i *ℤ coefficients rows i j) (λ i lt. ap (λ (t : ℤ). t *ℤ coefficients rows i j) (sym (k.is i (omega (arith, lt, long)))))
+      total-same (length rows) (λ i. nth all i *ℤ coefficients rows i j) (λ i. g *ℤ nth list i *ℤ coefficients rows i j)
+      (λ i lt. ap (λ (t : ℤ). t *ℤ coefficients rows i j) (sym (k.is i (omega (arith, lt, long)))))
       ∙ dot-scale_left (length rows) g (nth list) (λ i. coefficients rows i j)
 
   first-is : (i : ℕ) → i < length rows → g *ℤ nth first i ≡ nth all_first i
@@ -86,7 +94,8 @@ module _ (prices : List ℤ) (weights : List ℕ) (rows : List Row) (g den : ℤ
   second-is : (i : ℕ) → i < length rows → g *ℤ nth second i ≡ nth all_second i
   second-is i lt = h.second_is.is i (omega (arith, lt, a.long_second))
 
-  tight-too : (i : ℕ) → dot (length prices) (coefficients rows i) (nth all_at) ≡ all_den *ℤ bounds rows i → dot (length prices) (coefficients rows i) (nth at) ≡ den *ℤ bounds rows i
+  tight-too : (i : ℕ) → dot (length prices) (coefficients rows i) (nth all_at) ≡ all_den *ℤ bounds rows i
+      → dot (length prices) (coefficients rows i) (nth at) ≡ den *ℤ bounds rows i
   tight-too i e = mul_cancel g (dot (length prices) (coefficients rows i) (nth at)) (den *ℤ bounds rows i) some (sym (row-times i) ∙ e ∙ bound-times i)
 
   den-positive : pos 0 <ℤ den
@@ -113,7 +122,8 @@ module _ (prices : List ℤ) (weights : List ℕ) (rows : List Row) (g den : ℤ
       ∙ sym (mul-sub g (nth at j) (den *ℤ nth prices j)))
 
   den-below : (top : ℕ) → all_den <ℤ pos top → den <ℤ pos top
-  den-below top small = size-below den top (let f = factor_size g den h.positive in let e = ap unsigned_abs h.den_is in let k = below-size all_den top a.meets.positive small in omega (arith, f, e, k))
+  den-below top small = size-below den top (let f = factor_size g den h.positive in let e = ap unsigned_abs h.den_is in let k =
+      below-size all_den top a.meets.positive small in omega (arith, f, e, k))
 
   -- an answer whose numbers are all divided by the same number is an answer
   pub answer-divided : IsAnswer prices weights rows den at first second
@@ -123,24 +133,32 @@ module _ (prices : List ℤ) (weights : List ℕ) (rows : List Row) (g den : ℤ
     long_second = h.second_is.long ∙ a.long_second;
     meets = record {
       positive = den-positive;
-      above = λ i lt. cancel_le g (den *ℤ bounds rows i) (dot (length prices) (coefficients rows i) (nth at)) h.positive (subst (λ (t : ℤ). t ≤ℤ (g *ℤ dot (length prices) (coefficients rows i) (nth at))) (bound-times i) (subst (λ (t : ℤ). (all_den *ℤ bounds rows i) ≤ℤ t) (row-times i) (a.meets.above i lt)));
+      above = λ i lt. cancel_le g (den *ℤ bounds rows i) (dot (length prices) (coefficients rows i) (nth at)) h.positive
+          (subst (λ (t : ℤ). t ≤ℤ (g *ℤ dot (length prices) (coefficients rows i) (nth at))) (bound-times i)
+          (subst (λ (t : ℤ). (all_den *ℤ bounds rows i) ≤ℤ t) (row-times i) (a.meets.above i lt)));
     };
     firsts = record {
       positive = den-positive;
       not_negative = λ i lt. nonneg-too (nth first i) (nth all_first i) (first-is i lt) (a.firsts.not_negative i lt);
       tight = λ i lt d. tight-too i (a.firsts.tight i lt (other-too (nth first i) (nth all_first i) (first-is i lt) d));
     };
-    sums = λ j lt. mul_cancel g (sum_at (length rows) (coefficients rows) (nth first) j) den some (sym (sum-times first all_first h.first_is a.long_first j) ∙ a.sums j lt ∙ sym h.den_is);
+    sums = λ j lt. mul_cancel g (sum_at (length rows) (coefficients rows) (nth first) j) den some
+        (sym (sum-times first all_first h.first_is a.long_first j) ∙ a.sums j lt ∙ sym h.den_is);
     seconds = record {
-      sign = λ i lt z. nonneg-too (nth second i) (nth all_second i) (second-is i lt) (a.seconds.sign i lt (zero-too (nth first i) (nth all_first i) (first-is i lt) z));
+      sign = λ i lt z. nonneg-too (nth second i) (nth all_second i) (second-is i lt)
+          (a.seconds.sign i lt (zero-too (nth first i) (nth all_first i) (first-is i lt) z));
       tight = λ i lt d. tight-too i (a.seconds.tight i lt (other-too (nth second i) (nth all_second i) (second-is i lt) d));
       sums = second-sum;
     };
     small_den = (let k = den-below (320 ^ 4 + 1) (let s = a.small_den in omega (arith, ints, s)) in omega (arith, ints, k));
     den_of_ones = λ ones. den-below (2 ^ 32) (a.den_of_ones ones);
-    small_at = λ i lt. (let l : i < length all_at = omega (arith, lt, h.at_is.long) in let f = factor_size g (nth at i) h.positive in let e = ap unsigned_abs (h.at_is.is i l) in let k = a.small_at i l in omega (arith, f, e, k));
-    small_second = λ i lt. (let l : i < length all_second = omega (arith, lt, h.second_is.long) in let f = factor_size g (nth second i) h.positive in let e = ap unsigned_abs (h.second_is.is i l) in let k = a.small_second i l in omega (arith, f, e, k));
+    small_at = λ i lt. (let l : i < length all_at = omega (arith, lt, h.at_is.long) in let f = factor_size g (nth at i) h.positive in let e =
+        ap unsigned_abs (h.at_is.is i l) in let k = a.small_at i l in omega (arith, f, e, k));
+    small_second = λ i lt. (let l : i < length all_second = omega (arith, lt, h.second_is.long) in let f = factor_size g (nth second i) h.positive in let e =
+        ap unsigned_abs (h.second_is.is i l) in let k = a.small_second i l in omega (arith, f, e, k));
     few =
-        let same = pairs_same (length rows) (nth first) (nth second) (nth all_first) (nth all_second) (λ i lt. zero_same g (nth first i) (nth all_first i) h.positive (first-is i lt)) (λ i lt. zero_same g (nth second i) (nth all_second i) h.positive (second-is i lt)) in
+        let same = pairs_same (length rows) (nth first) (nth second) (nth all_first) (nth all_second)
+        (λ i lt. zero_same g (nth first i) (nth all_first i) h.positive (first-is i lt))
+        (λ i lt. zero_same g (nth second i) (nth all_second i) h.positive (second-is i lt)) in
         omega (arith, same, a.few);
   }

@@ -18,7 +18,8 @@ pub divides-through : (d e x : ℤ) → Divides d e → Divides e x → Divides 
 divides-through d e x p q = (p.0 *ℤ q.0, sym (mul_assoc d p.0 q.0) ∙ ap (λ (t : ℤ). t *ℤ q.0) p.1 ∙ q.1)
 
 -- what divides two numbers divides their greatest common divisor, which divides both
-pub gcd-divides : (a b g : ℤ) → pos 0 ≤ℤ g → IsGcd (unsigned_abs a) (unsigned_abs b) (unsigned_abs g) → Divides g a × Divides g b × ((d : ℤ) → Divides d a → Divides d b → Divides d g)
+pub gcd-divides : (a b g : ℤ) → pos 0 ≤ℤ g → IsGcd (unsigned_abs a) (unsigned_abs b) (unsigned_abs g)
+    → Divides g a × Divides g b × ((d : ℤ) → Divides d a → Divides d b → Divides d g)
 gcd-divides a b g low is =
     let w = gcd_parts a b g low is in
     ((w.p, w.p_is), (w.q, w.q_is), λ d p q. (w.s *ℤ p.0 +ℤ w.t *ℤ q.0, joined d w.s w.t p.0 q.0 a b g p.1 q.1 w.sum_is))
@@ -53,14 +54,19 @@ divisor-some d (pos (suc x)) p low q = omega (arith, ints)
 divisor-some d (negsuc x) p low q = absurd (omega (arith, ints))
 
 -- the greatest common divisor so far and the next number have that of one number more
-pub common-more : (start : ℤ) (numbers : List ℤ) (k : ℕ) (divisor next : ℤ) → IsCommon start numbers k divisor → k < length numbers → pos 0 ≤ℤ next → IsGcd (unsigned_abs divisor) (unsigned_abs (nth numbers k)) (unsigned_abs next) → InRange next → IsCommon start numbers (k + 1) next
+pub common-more : (start : ℤ) (numbers : List ℤ) (k : ℕ) (divisor next : ℤ) → IsCommon start numbers k divisor → k < length numbers → pos 0 ≤ℤ next
+    → IsGcd (unsigned_abs divisor) (unsigned_abs (nth numbers k)) (unsigned_abs next) → InRange next → IsCommon start numbers (k + 1) next
 common-more start numbers k divisor next far lt low is range =
     let d = gcd-divides divisor (nth numbers k) next low is in
     record {
       positive = divisor-some divisor next far.positive low d.0;
       range = range;
       start_is = divides-through next divisor start d.0 far.start_is;
-      each = λ i li. elim (lt_or i k (omega arith)) [ inl l ↦ divides-through next divisor (nth numbers i) d.0 (far.each i l) | inr e ↦ subst (λ j. Divides next (nth numbers j)) (sym e) d.1 ];
+      each = λ i li. elim (lt_or i k (omega arith)) [
+        | inl l ↦ divides-through next divisor (nth numbers i) d.0 (far.each i l)
+        | inr e ↦ subst
+            (λ j. Divides next (nth numbers j)) (sym e) d.1
+      ];
       greatest = λ g s all. d.2 (pos g) (far.greatest g s all) (all k lt);
     }
 
@@ -79,7 +85,8 @@ one-left g d p q = by d q.0 (mul_cancel g (pos d *ℤ q.0) (pos 1) (λ e. absurd
     by (suc (suc d)) (negsuc q) e = absurd (omega (arith, ints))
 
 -- nothing but 1 divides a point and its multipliers when they are divided by the greatest common divisor
-pub lowest-of : (den : ℤ) (at first second : List ℤ) (all_den : ℤ) (all_at all_first all_second : List ℤ) (all : ℤ) → IsMultiple all den at first second all_den all_at all_first all_second
+pub lowest-of : (den : ℤ) (at first second : List ℤ) (all_den : ℤ) (all_at all_first all_second : List ℤ) (all : ℤ)
+    → IsMultiple all den at first second all_den all_at all_first all_second
     → ((g : ℕ) → DividesPoint (pos g) all_den all_at all_first all_second → Divides (pos g) all) → IsLowest den at first second
 lowest-of den at first second all_den all_at all_first all_second (negsuc n) h most d q = absurd (let p = h.positive in omega (arith, ints))
 lowest-of den at first second all_den all_at all_first all_second (pos n) h most d q =
@@ -102,7 +109,8 @@ pub record IsGreatest (start : ℤ) (numbers : List ℤ) (divisor : ℤ) : Type 
   pub greatest : (g : ℕ) → Divides (pos g) start → DividesAll (pos g) numbers → Divides (pos g) divisor
 
 -- the greatest common divisor of a point, list by list
-pub point-divided : (den : ℤ) (at first second : List ℤ) (one two all : ℤ) → IsGreatest den at one → IsGreatest one first two → IsGreatest two second all → DividesPoint all den at first second
+pub point-divided : (den : ℤ) (at first second : List ℤ) (one two all : ℤ) → IsGreatest den at one → IsGreatest one first two → IsGreatest two second all
+    → DividesPoint all den at first second
 point-divided den at first second one two all a b c =
     let d = divides-through all two one c.start_is b.start_is in
     record {
@@ -113,5 +121,6 @@ point-divided den at first second one two all a b c =
     }
 
 -- what divides a point and its multipliers divides the greatest common divisor taken list by list
-pub point-greatest : (den : ℤ) (at first second : List ℤ) (one two all : ℤ) → IsGreatest den at one → IsGreatest one first two → IsGreatest two second all → (g : ℕ) → DividesPoint (pos g) den at first second → Divides (pos g) all
+pub point-greatest : (den : ℤ) (at first second : List ℤ) (one two all : ℤ) → IsGreatest den at one → IsGreatest one first two → IsGreatest two second all
+    → (g : ℕ) → DividesPoint (pos g) den at first second → Divides (pos g) all
 point-greatest den at first second one two all a b c g q = c.greatest g (b.greatest g (a.greatest g q.den_is q.at_is) q.first_is) q.second_is

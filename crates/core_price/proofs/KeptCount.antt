@@ -31,18 +31,26 @@ count-from_first (suc n) f s = let r = count-from_first n f s in omega (arith, r
 count-one : (x : PricedRow) (xs : List PricedRow) → length (filter is_used (x ∷ xs)) ≡ counted x.first x.second + length (filter is_used xs)
 count-one x xs =
     elim (take_or_skip x xs) [
-      | inl t ↦ let l = ap (λ (k : List PricedRow). length k) t.1 in let c = counted-some x.first x.second (used-some x.first x.second t.0) in omega (arith, l, c)
-      | inr t ↦ let l = ap (λ (k : List PricedRow). length k) t.1 in let c = counted-none x.first x.second (unused-none x.first x.second t.0) in omega (arith, l, c)
+      | inl t ↦ let l = ap (λ (k : List PricedRow). length k) t.1 in let c = counted-some x.first x.second (used-some x.first x.second t.0) in
+          omega (arith, l, c)
+      | inr t ↦ let l = ap (λ (k : List PricedRow). length k) t.1 in let c = counted-none x.first x.second (unused-none x.first x.second t.0) in
+          omega (arith, l, c)
     ]
 
 -- as many rows are kept as have a pair other than 0, 0
-pub kept-count : (rows : List Row) (choices : List (List ℕ)) (first second : List ℤ) → AreLong rows choices first second → length (kept_of rows choices first second) ≡ pairs_used (length rows) (nth first) (nth second)
+pub kept-count : (rows : List Row) (choices : List (List ℕ)) (first second : List ℤ) → AreLong rows choices first second
+    → length (kept_of rows choices first second) ≡ pairs_used (length rows) (nth first) (nth second)
 kept-count [] choices first second long = refl
 kept-count (r ∷ rows) [] first second long = absurd (omega (arith, long.choices_long))
 kept-count (r ∷ rows) (c ∷ choices) [] second long = absurd (omega (arith, long.first_long))
 kept-count (r ∷ rows) (c ∷ choices) (f ∷ first) [] long = absurd (omega (arith, long.second_long))
 kept-count (r ∷ rows) (c ∷ choices) (f ∷ first) (s ∷ second) long =
-    let rest = kept-count rows choices first second (record { choices_long = omega (arith, long.choices_long); first_long = omega (arith, long.first_long); second_long = omega (arith, long.second_long) }) in
+    let rest = kept-count rows choices first second (record {
+      choices_long = omega (arith, long.choices_long);
+      first_long =
+          omega (arith, long.first_long);
+      second_long = omega (arith, long.second_long);
+    }) in
     let one = count-one (record { row = r; choice = c; first = f; second = s }) (with_pairs rows choices first second) in
     let all = count-from_first (length rows) (nth (f ∷ first)) (nth (s ∷ second)) in
     omega (arith, rest, one, all)
@@ -53,7 +61,8 @@ below-all limit (r ∷ kept) all zero lt = all.0
 below-all limit (r ∷ kept) all (suc i) lt = below-all limit kept all.1 i (omega arith)
 
 -- the second multipliers that are kept are no larger than all
-pub kept-seconds_below : (limit : ℕ) (rows : List Row) (choices : List (List ℕ)) (first second : List ℤ) → AreLong rows choices first second → AreBelow limit second → AreBelow limit (seconds (kept_of rows choices first second))
+pub kept-seconds_below : (limit : ℕ) (rows : List Row) (choices : List (List ℕ)) (first second : List ℤ) → AreLong rows choices first second
+    → AreBelow limit second → AreBelow limit (seconds (kept_of rows choices first second))
 kept-seconds_below limit rows choices first second long below =
     below-all limit (kept_of rows choices first second)
     (kept-each (λ (r : PricedRow). unsigned_abs r.second < limit) rows choices first second long (λ i lt used. below i (omega (arith, lt, long.second_long))))

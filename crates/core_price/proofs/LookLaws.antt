@@ -1,5 +1,6 @@
 -- The point of a turn meets the conditions of the look for a block, and leaves room for the whole value.
-use Rattle.std.specs.Prelude.{◌≡◌, ℕ, zero, suc, ◌+◌, ◌*◌, ◌^◌, ◌<◌, ◌≤◌, true, false, IsFalse, List, length, ℤ, pos, negsuc, ◌+ℤ◌, ◌-ℤ◌, ◌*ℤ◌, ◌≤ℤ◌, ◌<ℤ◌, unsigned_abs}
+use Rattle.std.specs.Prelude.{◌≡◌, ℕ, zero, suc, ◌+◌, ◌*◌, ◌^◌, ◌<◌, ◌≤◌, true, false, IsFalse, List, length, ℤ, pos, negsuc, ◌+ℤ◌, ◌-ℤ◌, ◌*ℤ◌, ◌≤ℤ◌, ◌<ℤ◌}
+use Rattle.std.specs.Prelude.{unsigned_abs}
 use Rattle.std.proofs.Common.{◌∙◌, ap, arith, inl, inr, ◌⊎◌}
 use Rattle.std.proofs.lemmas.Int.{ints}
 use Rattle.std.proofs.lemmas.Bool.{cases_Bool}
@@ -53,7 +54,8 @@ whole-range n d v s a b c e =
 pub value-range : (d v : ℤ) (w : ℕ) → pos 1 ≤ℤ d → d ≤ℤ pos (320 ^ 4) → pos 0 ≤ℤ v → v ≤ℤ pos (w * 2 ^ 42) → w ≤ 6 → (d *ℤ (v +ℤ pos 1)) <ℤ pos (2 ^ 120)
 value-range d v w a b p q few = let r = small-product d (v +ℤ pos 1) (omega (arith, ints)) b (omega (arith, ints)) (omega (arith, ints)) in omega (arith, ints)
 
-module _ (m : Market) (lawful : IsMarket m) (z : List ℕ) (win : IsWinning m z) (small : m.bidders ≤ 64) (few : winners_in z ≤ 6) (worth : value_of m z ≤ℤ pos (winners_in z * 2 ^ 42)) (den : ℤ) (at : List ℤ) (long : length at ≡ winners_in z)
+module _ (m : Market) (lawful : IsMarket m) (z : List ℕ) (win : IsWinning m z) (small : m.bidders ≤ 64) (few : winners_in z ≤ 6)
+    (worth : value_of m z ≤ℤ pos (winners_in z * 2 ^ 42)) (den : ℤ) (at : List ℤ) (long : length at ≡ winners_in z)
     (dp : pos 1 ≤ℤ den) (dm : den ≤ℤ pos (320 ^ 4)) (low : (i : ℕ) → i < winners_in z → pos 0 ≤ℤ nth at i) (below : AreBelow (2 ^ 109) at) where
   len : length z ≡ m.bidders
   len = lawful.lengths z win.passed
@@ -64,8 +66,10 @@ module _ (m : Market) (lawful : IsMarket m) (z : List ℕ) (win : IsWinning m z)
   each : (k : ℕ) → k < m.bidders → (pos 0 ≤ℤ of_bidder (for_bidders z at) (suc k)) × (of_bidder (for_bidders z at) (suc k) <ℤ pos (2 ^ 109))
   each k lt = by (cases_Bool (uses z (suc k)))
     where
-      by : (uses z (suc k) ≡ true) ⊎ (uses z (suc k) ≡ false) → (pos 0 ≤ℤ of_bidder (for_bidders z at) (suc k)) × (of_bidder (for_bidders z at) (suc k) <ℤ pos (2 ^ 109))
-      by (inl u) = let s = place-of z k (omega (arith, len)) u in let e = at-bidder z at k ∙ s.1.number at in let a = low s.0 s.1.inside in let b = high s.0 s.1.inside in (omega (arith, ints), omega (arith, ints))
+      by : (uses z (suc k) ≡ true) ⊎ (uses z (suc k) ≡ false) → (pos 0 ≤ℤ of_bidder (for_bidders z at) (suc k))
+          × (of_bidder (for_bidders z at) (suc k) <ℤ pos (2 ^ 109))
+      by (inl u) = let s = place-of z k (omega (arith, len)) u in let e = at-bidder z at k ∙ s.1.number at in let a = low s.0 s.1.inside in let b =
+          high s.0 s.1.inside in (omega (arith, ints), omega (arith, ints))
       by (inr u) = let e = at-bidder z at k ∙ loser-zero z at k u in (omega (arith, ints), omega (arith, ints))
 
   surplus-small : (j : ℕ) → 0 < j → j ≤ m.bidders → unsigned_abs (of_bidder (surpluses_of m z den (for_bidders z at)) j) ≤ 2 ^ 110
@@ -77,7 +81,8 @@ module _ (m : Market) (lawful : IsMarket m) (z : List ℕ) (win : IsWinning m z)
       let p = mul_nonneg den (worth_in m z (suc k)) (omega (arith, ints)) w.0 in
       let r = small-product den (worth_in m z (suc k)) (omega (arith, ints)) dm w.0 (omega (arith, ints, w.1)) in
       let a = each k (omega arith) in
-      rw e (abs-of ((den *ℤ worth_in m z (suc k)) -ℤ of_bidder (for_bidders z at) (suc k)) (2 ^ 110) (omega (arith, ints, a.0, a.1)) (omega (arith, ints, a.0, a.1)))
+      rw e (abs-of ((den *ℤ worth_in m z (suc k)) -ℤ of_bidder (for_bidders z at) (suc k)) (2 ^ 110) (omega (arith, ints, a.0, a.1))
+      (omega (arith, ints, a.0, a.1)))
 
   -- the point of a turn meets the conditions of the look for a block
   pub can-look : CanLook m z den (for_bidders z at)
@@ -85,12 +90,15 @@ module _ (m : Market) (lawful : IsMarket m) (z : List ℕ) (win : IsWinning m z)
     asks = asks-winners m z len den at;
     not_negative = λ j q le. each-of j q le;
     winners = omega arith;
-    range = let a = ap (λ n. sum_over everyone (of_bidder (for_bidders z at)) n) len in let b = paid-zip z at in let c = few-sum (winners_in z) (nth at) (2 ^ 109) high in omega (arith, ints);
+    range = let a = ap (λ n. sum_over everyone (of_bidder (for_bidders z at)) n) len in let b = paid-zip z at in let c =
+        few-sum (winners_in z) (nth at) (2 ^ 109) high in omega (arith, ints);
     lowered = record {
       bidders = surpluses-length m z den 0 (for_bidders z at) ∙ all-bidders z at ∙ len;
       losers = λ j q le e. lost j q le e;
       den_positive = dp;
-      range = whole-range m.bidders (unsigned_abs den) (unsigned_abs (value_of m z)) _ small (den-abs den dp dm) (abs-of (value_of m z) (2 ^ 46) (omega (arith, ints)) (let s = worth-low in omega (arith, ints))) (abs-sum m.bidders (λ j. unsigned_abs (of_bidder (surpluses_of m z den (for_bidders z at)) j)) (2 ^ 110) surplus-small);
+      range = whole-range m.bidders (unsigned_abs den) (unsigned_abs (value_of m z)) _ small (den-abs den dp dm)
+          (abs-of (value_of m z) (2 ^ 46) (omega (arith, ints)) (let s = worth-low in omega (arith, ints)))
+          (abs-sum m.bidders (λ j. unsigned_abs (of_bidder (surpluses_of m z den (for_bidders z at)) j)) (2 ^ 110) surplus-small);
     };
   }
     where

@@ -21,7 +21,8 @@ use Rattle.core_price.proofs.Core.{core-of}
 use Rattle.core_price.proofs.LookLaws.{value-range}
 use Rattle.core_price.proofs.Points.{MeetsBits, firsts, least-of, nearest-of, sums}
 
-module _ (m : Market) (lawful : IsMarket m) (z : List ℕ) (win : IsWinning m z) (prices : List ℤ) (weights : List ℕ) (can : CanTurn m z prices weights) (rows : List Row) (choices : List (List ℕ)) (turns : List Turn) (den : ℤ) (at first second : List ℤ)
+module _ (m : Market) (lawful : IsMarket m) (z : List ℕ) (win : IsWinning m z) (prices : List ℤ) (weights : List ℕ) (can : CanTurn m z prices weights)
+    (rows : List Row) (choices : List (List ℕ)) (turns : List Turn) (den : ℤ) (at first second : List ℤ)
     (ended : HasEnded m z prices weights rows choices turns den at first second) where
   len : length z ≡ m.bidders
   len = lawful.lengths z win.passed
@@ -44,13 +45,16 @@ module _ (m : Market) (lawful : IsMarket m) (z : List ℕ) (win : IsWinning m z)
   pub outcome : IsCoreOutcome m (weight_of weights) z (point_of z den at)
   outcome = record {
     greatest = record { passed = win.passed; greatest = win.greatest };
-    core = core-of m lawful z win rows choices ended.given den at first (firsts m z len weights can.weighing prices can.long rows den at first second ended.answer) (sums m z len weights can.weighing prices can.long rows den at first second ended.answer) ended.free den-positive ended.not_negative;
+    core = core-of m lawful z win rows choices ended.given den at first (firsts m z len weights can.weighing prices can.long rows den at first second
+        ended.answer) (sums m z len weights can.weighing prices can.long rows den at first second ended.answer) ended.free den-positive ended.not_negative;
     least = λ q core. least-of m z len weights can.weighing prices can.long rows den at first second ended.answer q (core-bits q core);
-    nearest = λ v ps q core same other. nearest-of m z len weights can.weighing prices can.long rows den at first second ended.answer v (priced v ps) q (core-bits q core) same other;
+    nearest = λ v ps q core same other. nearest-of m z len weights can.weighing prices can.long rows den at first second ended.answer v (priced v ps) q
+        (core-bits q core) same other;
   }
     where
       priced : (v : ℕ → ℤ) → AreVickreyPrices m z v → (k : ℕ) → k < m.bidders → v (suc k) ≡ of_bidder (for_bidders z prices) (suc k)
-      priced v ps k lt = vickrey-one m z (suc k) (v (suc k)) (of_bidder (for_bidders z prices) (suc k)) (ps (suc k) (omega arith) (omega arith)) (can.vickrey (suc k) (omega arith) (omega arith))
+      priced v ps k lt = vickrey-one m z (suc k) (v (suc k)) (of_bidder (for_bidders z prices) (suc k)) (ps (suc k) (omega arith) (omega arith))
+          (can.vickrey (suc k) (omega arith) (omega arith))
 
   -- den times one more than the value is below 2^120
   pub range : (den *ℤ (value_of m z +ℤ pos 1)) <ℤ pos (2 ^ 120)

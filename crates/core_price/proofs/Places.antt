@@ -29,7 +29,15 @@ place-of (zero ∷ z) zero lt e = absurd (lie e)
 place-of (zero ∷ z) (suc k) lt e =
     let r = place-of z k (omega arith) (let b : suc (suc k) - 1 ≡ suc (suc k - 1) = omega arith in rw b at e) in
     (r.0, record { inside = r.1.inside; member = r.1.member; number = r.1.number })
-place-of (suc n ∷ z) zero lt e = (0, record { inside = omega arith; member = λ bits d. odd (bits % 2) (mod_below bits 2 (omega arith)) (λ q. d (holds-front bits ∙ q)); number = λ xs. first xs })
+place-of (suc n ∷ z) zero lt e = (
+  0,
+  record {
+    inside = omega arith;
+    member = λ bits d. odd (bits % 2) (mod_below bits 2 (omega arith))
+        (λ q. d (holds-front bits ∙ q));
+    number = λ xs. first xs;
+  },
+)
   where
     first : (xs : List ℤ) → nth (for_bidders (suc n ∷ z) xs) 0 ≡ nth xs 0
     first [] = refl

@@ -6,7 +6,8 @@ use Rattle.std.proofs.lemmas.Int.{ints}
 use Rattle.std.proofs.lemmas.Bool.{cases_Bool}
 use Rattle.nearest_point.specs.auction_model.specs.Market.{Market, uses}
 use Rattle.nearest_point.specs.auction_model.specs.Lowered.{of_bidder}
-use Rattle.nearest_point.specs.auction_model.specs.Prices.{Point, everyone, paid, share, sum_over, square_distance, SamePoint, HasLeastSum, IsNearestTo, weight_of}
+use Rattle.nearest_point.specs.auction_model.specs.Prices.{Point, everyone, paid, share, sum_over, square_distance, SamePoint, HasLeastSum, IsNearestTo}
+use Rattle.nearest_point.specs.auction_model.specs.Prices.{weight_of}
 use Rattle.blocking.specs.far_num.specs.declared.Row.{Row}
 use Rattle.nearest_point.specs.Problem.{bounds, coefficients, row_at, share_at, weight_at}
 use Rattle.nearest_point.specs.point_laws.specs.Multipliers.{AreFirst, AreSecond, AreShares, SumsTo}
@@ -51,7 +52,8 @@ asks-winners m z len den at = record {
 module _ (m : Market) (z : List ℕ) (len : length z ≡ m.bidders) where
   -- a point that asks nothing of losers is the one made of its numbers for winners
   pub back-of : (q : Point) → AsksWinnersOnly m z q → for_bidders z (for_winners z q.at) ≡ q.at
-  back-of q asks = there_and_back z q.at (omega (arith, asks.bidders, len)) (λ k lt e. let b : suc k - 1 ≡ k = omega arith in let h = asks.losers (suc k) (omega arith) (omega (arith, len)) e in rw b at h)
+  back-of q asks = there_and_back z q.at (omega (arith, asks.bidders, len)) (λ k lt e. let b : suc k - 1 ≡ k = omega arith in let h =
+      asks.losers (suc k) (omega arith) (omega (arith, len)) e in rw b at h)
 
   -- the payments of a point made of numbers for winners add up to the sum of these
   pub paid-own : (den : ℤ) (at : List ℤ) → paid m (point_of z den at) ≡ total (winners_in z) (nth at)
@@ -62,7 +64,9 @@ module _ (m : Market) (z : List ℕ) (len : length z ≡ m.bidders) where
   paid-asks q asks = ap (λ l. paid m (record { den = q.den; at = l })) (sym (back-of q asks)) ∙ paid-own q.den (for_winners z q.at)
 
 -- the answer of a turn, its prices being those of the winners
-module _ (m : Market) (z : List ℕ) (len : length z ≡ m.bidders) (weights : List ℕ) (weighed : CanWeigh m z weights) (prices : List ℤ) (some : length prices ≡ winners_in z) (rows : List Row) (den : ℤ) (at first second : List ℤ) (answer : IsAnswer prices (weights_in z weights) rows den at first second) where
+module _ (m : Market) (z : List ℕ) (len : length z ≡ m.bidders) (weights : List ℕ) (weighed : CanWeigh m z weights) (prices : List ℤ)
+    (some : length prices ≡ winners_in z) (rows : List Row) (den : ℤ) (at first second : List ℤ)
+    (answer : IsAnswer prices (weights_in z weights) rows den at first second) where
   -- it has first multipliers, with a coordinate for each winner
   pub firsts : AreFirst (winners_in z) (length rows) (coefficients rows) (bounds rows) den (nth at) (nth first)
   firsts = subst (λ w. AreFirst w (length rows) (coefficients rows) (bounds rows) den (nth at) (nth first)) some answer.firsts
@@ -72,8 +76,10 @@ module _ (m : Market) (z : List ℕ) (len : length z ≡ m.bidders) (weights : L
   sums = subst (λ w. SumsTo w (length rows) (coefficients rows) den (nth first)) some answer.sums
 
   -- it has second multipliers, by the weights of the winners
-  pub seconds : AreSecond (winners_in z) (length rows) (coefficients rows) (bounds rows) den (nth at) (nth first) (nth second) (nth prices) (weight_at (weights_in z weights))
-  seconds = subst (λ w. AreSecond w (length rows) (coefficients rows) (bounds rows) den (nth at) (nth first) (nth second) (nth prices) (weight_at (weights_in z weights))) some answer.seconds
+  pub seconds : AreSecond (winners_in z) (length rows) (coefficients rows) (bounds rows) den (nth at) (nth first) (nth second) (nth prices)
+      (weight_at (weights_in z weights))
+  seconds = subst (λ w. AreSecond w (length rows) (coefficients rows) (bounds rows) den (nth at) (nth first) (nth second) (nth prices)
+      (weight_at (weights_in z weights))) some answer.seconds
 
   -- it meets the rows, with a coordinate for each winner
   pub meets : MeetsRows (winners_in z) (length rows) (coefficients rows) (bounds rows) den (nth at)
@@ -100,14 +106,16 @@ module _ (m : Market) (z : List ℕ) (len : length z ≡ m.bidders) (weights : L
 
     -- what bidder k + 1 counts
     abbrev term : ℤ → List ℤ → ℕ → ℤ
-    term d xs k = share (weight_of weights (suc k)) *ℤ ((of_bidder (for_bidders z xs) (suc k) -ℤ d *ℤ v (suc k)) *ℤ (of_bidder (for_bidders z xs) (suc k) -ℤ d *ℤ v (suc k)))
+    term d xs k = share (weight_of weights (suc k)) *ℤ ((of_bidder (for_bidders z xs) (suc k) -ℤ d *ℤ v (suc k)) *ℤ
+        (of_bidder (for_bidders z xs) (suc k) -ℤ d *ℤ v (suc k)))
 
     won-term : (d : ℤ) (xs : List ℤ) (i : ℕ) → i < winners_in z → term d xs (spot z i) ≡ share_at (weights_in z weights) i *ℤ square d (nth xs i) (nth prices i)
     won-term d xs i lt =
         let inside = spot-inside z i lt in
         let w : weight_of weights (suc (spot z i)) ≡ get_or (weights_in z weights) i 0 = weight-is weights (spot z i) ∙ sym (weights-at z weights i lt) in
         let x : of_bidder (for_bidders z xs) (suc (spot z i)) ≡ nth xs i = at-bidder z xs (spot z i) ∙ spot-number z i xs lt in
-        let p : v (suc (spot z i)) ≡ nth prices i = priced (spot z i) (omega (arith, inside, len)) ∙ at-bidder z prices (spot z i) ∙ spot-number z i prices lt in
+        let p : v (suc (spot z i)) ≡ nth prices i = priced (spot z i) (omega (arith, inside, len)) ∙ at-bidder z prices (spot z i)
+        ∙ spot-number z i prices lt in
         ap (λ n. share n *ℤ square d (of_bidder (for_bidders z xs) (suc (spot z i))) (v (suc (spot z i)))) w
         ∙ ap (λ (t : ℤ). share_at (weights_in z weights) i *ℤ square d t (v (suc (spot z i)))) x
         ∙ ap (λ (t : ℤ). share_at (weights_in z weights) i *ℤ square d (nth xs i) t) p
@@ -121,9 +129,11 @@ module _ (m : Market) (z : List ℕ) (len : length z ≡ m.bidders) (weights : L
         ∙ ap (λ (t : ℤ). share (weight_of weights (suc k)) *ℤ t) (square-none d)
         ∙ *ℤ-zero (share (weight_of weights (suc k)))
 
-    square-is : (d : ℤ) (xs : List ℤ) → square_distance m (weight_of weights) v (point_of z d xs) ≡ distance (winners_in z) (share_at (weights_in z weights)) (nth prices) d (nth xs)
+    square-is : (d : ℤ) (xs : List ℤ) → square_distance m (weight_of weights) v (point_of z d xs) ≡ distance (winners_in z) (share_at (weights_in z weights))
+        (nth prices) d (nth xs)
     square-is d xs =
-        over-is everyone (λ j. share (weight_of weights j) *ℤ ((of_bidder (for_bidders z xs) j -ℤ d *ℤ v j) *ℤ (of_bidder (for_bidders z xs) j -ℤ d *ℤ v j))) m.bidders
+        over-is everyone (λ j. share (weight_of weights j) *ℤ ((of_bidder (for_bidders z xs) j -ℤ d *ℤ v j) *ℤ (of_bidder (for_bidders z xs) j -ℤ d *ℤ v j)))
+        m.bidders
         ∙ sym (ap (λ n. total n (term d xs)) len)
         ∙ sum-spots z (term d xs) (λ i. share_at (weights_in z weights) i *ℤ square d (nth xs i) (nth prices i)) (won-term d xs) (lost-term d xs)
 
@@ -162,10 +172,14 @@ module _ (m : Market) (z : List ℕ) (len : length z ≡ m.bidders) (weights : L
         let xs : ℕ → ℤ = nth (for_winners z q.at) in
         let a = ap (λ (t : ℤ). q.den *ℤ t) (paid-own m z len den at) in
         let b = ap (λ (t : ℤ). den *ℤ t) (paid-asks m z len q h.asks) in
-        let n = nearest (winners_in z) (length rows) (coefficients rows) (bounds rows) den (nth at) (nth first) (nth second) (nth prices) (weight_at (weights_in z weights)) (pos 232792560) (share_at (weights_in z weights)) firsts seconds shares
-        q.den xs (numbers-meet q h, at_each (winners_in z) (length rows) (coefficients rows) den (nth at) (nth first) q.den xs sums) (omega (arith, ints)) (λ all. other (same-of q h.asks all)) in
+        let n = nearest (winners_in z) (length rows) (coefficients rows) (bounds rows) den (nth at) (nth first) (nth second) (nth prices)
+        (weight_at (weights_in z weights)) (pos 232792560) (share_at (weights_in z weights)) firsts seconds shares
+        q.den xs (numbers-meet q h, at_each (winners_in z) (length rows) (coefficients rows) den (nth at) (nth first) q.den xs sums) (omega (arith, ints))
+        (λ all. other (same-of q h.asks all)) in
         let s = square-is den at in
-        let t : square_distance m (weight_of weights) v q ≡ distance (winners_in z) (share_at (weights_in z weights)) (nth prices) q.den xs = ap (λ l. square_distance m (weight_of weights) v (record { den = q.den; at = l })) (sym (back-of m z len q h.asks)) ∙ square-is q.den (for_winners z q.at) in
+        let t : square_distance m (weight_of weights) v q ≡ distance (winners_in z) (share_at (weights_in z weights)) (nth prices) q.den xs =
+        ap (λ l. square_distance m (weight_of weights) v (record { den = q.den; at = l })) (sym (back-of m z len q h.asks))
+        ∙ square-is q.den (for_winners z q.at) in
         let s' = ap (λ (x : ℤ). (q.den *ℤ q.den) *ℤ x) s in
         let t' = ap (λ (x : ℤ). (den *ℤ den) *ℤ x) t in
         omega (arith, ints)

@@ -19,11 +19,17 @@ use Rattle.blocking.specs.row_laws.specs.Weights.{CanWeigh, weights_in}
 use Rattle.core_price.proofs.Points.{MeetsBits, asks-winners, back-of, least-of, meets, nearest-of}
 
 -- what each row of bits asks, as a list of rows of bidders
-each-from : (m : Market) (z : List ℕ) → length z ≡ m.bidders → (den : ℤ) (at : List ℤ) (rows : List Row) → ((i : ℕ) → i < length rows → Meets z (row_at rows i) den at) → AllByRecursion (MeetsRow m (point_of z den at)) (map (row_in z) rows)
+each-from : (m : Market) (z : List ℕ) → length z ≡ m.bidders → (den : ℤ) (at : List ℤ) (rows : List Row)
+    → ((i : ℕ) → i < length rows → Meets z (row_at rows i) den at) → AllByRecursion (MeetsRow m (point_of z den at)) (map (row_in z) rows)
 each-from m z len den at [] h = tt
-each-from m z len den at (row ∷ rows) h = (meets-bidders m z len den at row (h 0 (omega arith)), each-from m z len den at rows (λ i lt. h (suc i) (omega arith)))
+each-from m z len den at (row ∷ rows) h = (
+  meets-bidders m z len den at row (h 0 (omega arith)),
+  each-from m z len den at rows
+      (λ i lt. h (suc i) (omega arith)),
+)
 
-each-to : (m : Market) (z : List ℕ) → length z ≡ m.bidders → (den : ℤ) (at : List ℤ) (rows : List Row) → AllByRecursion (MeetsRow m (point_of z den at)) (map (row_in z) rows) → (i : ℕ) → i < length rows → Meets z (row_at rows i) den at
+each-to : (m : Market) (z : List ℕ) → length z ≡ m.bidders → (den : ℤ) (at : List ℤ) (rows : List Row)
+    → AllByRecursion (MeetsRow m (point_of z den at)) (map (row_in z) rows) → (i : ℕ) → i < length rows → Meets z (row_at rows i) den at
 each-to m z len den at [] h i lt = absurd (omega arith)
 each-to m z len den at (row ∷ rows) h zero lt = meets-winners m z len den at row h.0
 each-to m z len den at (row ∷ rows) h (suc i) lt = each-to m z len den at rows h.1 i (omega arith)
@@ -37,12 +43,15 @@ module _ (m : Market) (z : List ℕ) (len : length z ≡ m.bidders) (rows : List
       record {
         positive = h.den_positive;
         asks = asks;
-        above = each-to m z len q.den (for_winners z q.at) rows (subst (λ l. AllByRecursion (MeetsRow m (record { den = q.den; at = l })) (map (row_in z) rows)) (sym back) h.each);
+        above = each-to m z len q.den (for_winners z q.at) rows (subst (λ l. AllByRecursion (MeetsRow m (record { den = q.den; at = l }))
+            (map (row_in z) rows)) (sym back) h.each);
       }
 
-  module _ (weights : List ℕ) (weighed : CanWeigh m z weights) (prices : List ℤ) (some : length prices ≡ winners_in z) (den : ℤ) (at first second : List ℤ) (answer : IsAnswer prices (weights_in z weights) rows den at first second) where
+  module _ (weights : List ℕ) (weighed : CanWeigh m z weights) (prices : List ℤ) (some : length prices ≡ winners_in z) (den : ℤ) (at first second : List ℤ)
+      (answer : IsAnswer prices (weights_in z weights) rows den at first second) where
     -- the answer of a turn is its point
-    pub turn-point : (v : ℕ → ℤ) → ((k : ℕ) → k < m.bidders → v (suc k) ≡ of_bidder (for_bidders z prices) (suc k)) → IsTurnPoint m (weight_of weights) z v (map (row_in z) rows) (point_of z den at)
+    pub turn-point : (v : ℕ → ℤ) → ((k : ℕ) → k < m.bidders → v (suc k) ≡ of_bidder (for_bidders z prices) (suc k))
+        → IsTurnPoint m (weight_of weights) z v (map (row_in z) rows) (point_of z den at)
     turn-point v priced =
         let own = meets m z len weights weighed prices some rows den at first second answer in
         let asks = asks-winners m z len den at in

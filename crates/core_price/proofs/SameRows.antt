@@ -23,7 +23,8 @@ AreSame m (a ∷ as_) [] = ⊥
 AreSame m (a ∷ as_) (b ∷ bs) = IsSame m a b × AreSame m as_ bs
 
 -- lists of the same length with the same row at each place are the same
-pub same-by_place : (m : Market) (d : Row) (xs ys : List Row) → length xs ≡ length ys → ((i : ℕ) → i < length xs → IsSame m (get_or xs i d) (get_or ys i d)) → AreSame m xs ys
+pub same-by_place : (m : Market) (d : Row) (xs ys : List Row) → length xs ≡ length ys → ((i : ℕ) → i < length xs → IsSame m (get_or xs i d) (get_or ys i d))
+    → AreSame m xs ys
 same-by_place m d [] [] long h = tt
 same-by_place m d [] (y ∷ ys) long h = absurd (omega arith)
 same-by_place m d (x ∷ xs) [] long h = absurd (omega arith)
@@ -59,7 +60,8 @@ each-same m p (x ∷ xs) (y ∷ ys) h met = (one-same m p x y h.0 met.0, each-sa
 meets-same : (m : Market) (z : List ℕ) (p : Point) (xs ys : List Row) → AreSame m xs ys → MeetsRows m z xs p → MeetsRows m z ys p
 meets-same m z p xs ys h met = record { den_positive = met.den_positive; bidders = met.bidders; losers = met.losers; each = each-same m p xs ys h met.each }
 
-point-same : (m : Market) (w : ℕ → ℕ) (z : List ℕ) (v : ℕ → ℤ) (p : Point) (xs ys : List Row) → AreSame m xs ys → IsTurnPoint m w z v xs p → IsTurnPoint m w z v ys p
+point-same : (m : Market) (w : ℕ → ℕ) (z : List ℕ) (v : ℕ → ℤ) (p : Point) (xs ys : List Row) → AreSame m xs ys → IsTurnPoint m w z v xs p
+    → IsTurnPoint m w z v ys p
 point-same m w z v p xs ys h t = record {
   meets = meets-same m z p xs ys h t.meets;
   least = λ q met. t.least q (meets-same m z q ys xs (same-turned m xs ys h) met);
@@ -67,10 +69,14 @@ point-same m w z v p xs ys h t = record {
 }
 
 -- turns that go on from some rows go on from the same rows in another list
-pub go-same : (m : Market) (w : ℕ → ℕ) (z : List ℕ) (v : ℕ → ℤ) (xs ys : List Row) (turns : List Turn) → AreSame m xs ys → GoOn m w z v xs turns → GoOn m w z v ys turns
+pub go-same : (m : Market) (w : ℕ → ℕ) (z : List ℕ) (v : ℕ → ℤ) (xs ys : List Row) (turns : List Turn) → AreSame m xs ys → GoOn m w z v xs turns
+    → GoOn m w z v ys turns
 go-same m w z v xs ys [] h go = go
-go-same m w z v xs ys (t ∷ turns) h go =
-    (point-same m w z v t.point xs ys h go.0, by t.block (λ b more. go-same m w z v (xs ++ b.row ∷ []) (ys ++ b.row ∷ []) turns (same-more m xs ys b.row h) more) go.1)
+go-same m w z v xs ys (t ∷ turns) h go = (
+  point-same m w z v t.point xs ys h go.0,
+  by t.block (λ b more. go-same m w z v (xs ++ b.row ∷ []) (ys ++ b.row ∷ []) turns
+      (same-more m xs ys b.row h) more) go.1,
+)
   where
     by : (o : Option Block) → ((b : Block) → GoOn m w z v (xs ++ b.row ∷ []) turns → GoOn m w z v (ys ++ b.row ∷ []) turns)
         → MatchOption o ((turns ≡ []) × IsGreatestExcess m z t.point (pos 0)) (λ b. IsBlockOf m z t.point b × GoOn m w z v (xs ++ b.row ∷ []) turns)

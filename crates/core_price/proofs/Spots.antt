@@ -88,12 +88,15 @@ spot-bit (zero ∷ z) i (suc k) lt inside = spot-bit z i k lt (omega arith) ∙ 
 spot-bit (suc n ∷ z) zero zero lt inside = refl
 spot-bit (suc n ∷ z) zero (suc k) lt inside = no-bit z k ∙ sym (ne_eqb (suc (suc k)) 1 (omega arith))
 spot-bit (suc n ∷ z) (suc i) zero lt inside = ap (λ r. r == 1) (two-even i) ∙ sym (ne_eqb 1 (suc (suc (spot z i))) (omega arith))
-spot-bit (suc n ∷ z) (suc i) (suc k) lt inside = ap (λ b. has_bit z b k) (two-half i) ∙ spot-bit z i k (omega arith) (omega arith) ∙ next-same (suc k) (suc (spot z i))
+spot-bit (suc n ∷ z) (suc i) (suc k) lt inside = ap (λ b. has_bit z b k) (two-half i) ∙ spot-bit z i k (omega arith) (omega arith)
+    ∙ next-same (suc k) (suc (spot z i))
 
 -- the rows of each bidder alone
-pub single-at : (v : ℕ → ℤ) (s : ℕ) (z : List ℕ) (i : ℕ) (d : Row) → i < winners_in z → get_or (single_rows v s z) i d ≡ record { members = λ j. j == suc (s + spot z i); bound = v (suc (s + spot z i)) }
+pub single-at : (v : ℕ → ℤ) (s : ℕ) (z : List ℕ) (i : ℕ) (d : Row) → i < winners_in z → get_or (single_rows v s z) i d ≡ record
+    { members = λ j. j == suc (s + spot z i); bound = v (suc (s + spot z i)) }
 single-at v s [] i d lt = absurd (omega arith)
-single-at v s (zero ∷ z) i d lt = single-at v (suc s) z i d lt ∙ ap (λ t. one v t) (let e : suc (suc s + spot z i) ≡ suc (s + suc (spot z i)) = omega arith in e)
+single-at v s (zero ∷ z) i d lt = single-at v (suc s) z i d lt ∙ ap (λ t. one v t)
+    (let e : suc (suc s + spot z i) ≡ suc (s + suc (spot z i)) = omega arith in e)
   where
     one : (ℕ → ℤ) → ℕ → Row
     one v t = record { members = λ j. j == t; bound = v t }
@@ -101,7 +104,8 @@ single-at v s (suc n ∷ z) zero d lt = ap (λ t. one v t) (let e : suc s ≡ su
   where
     one : (ℕ → ℤ) → ℕ → Row
     one v t = record { members = λ j. j == t; bound = v t }
-single-at v s (suc n ∷ z) (suc i) d lt = single-at v (suc s) z i d (omega arith) ∙ ap (λ t. one v t) (let e : suc (suc s + spot z i) ≡ suc (s + suc (spot z i)) = omega arith in e)
+single-at v s (suc n ∷ z) (suc i) d lt = single-at v (suc s) z i d (omega arith) ∙ ap (λ t. one v t)
+    (let e : suc (suc s + spot z i) ≡ suc (s + suc (spot z i)) = omega arith in e)
   where
     one : (ℕ → ℤ) → ℕ → Row
     one v t = record { members = λ j. j == t; bound = v t }

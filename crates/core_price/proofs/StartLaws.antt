@@ -42,7 +42,8 @@ each-at P (x ∷ xs) h zero lt = h.0
 each-at P (x ∷ xs) h (suc i) lt = each-at P xs h.1 i (omega arith)
 
 -- the single row at a place has the bit of its winner and the price of that winner
-pub bits-at : (s : ℕ) (singles : List Single) (i : ℕ) → i < length singles → row_at (single_bits s singles) i ≡ record { members = 2 ^ (s + i); bound = (single_at singles i).price }
+pub bits-at : (s : ℕ) (singles : List Single) (i : ℕ) → i < length singles → row_at (single_bits s singles) i ≡ record
+    { members = 2 ^ (s + i); bound = (single_at singles i).price }
 bits-at s [] i lt = absurd (omega arith)
 bits-at s (x ∷ singles) zero lt = let e : s + 0 ≡ s = omega arith in rw e refl
 bits-at s (x ∷ singles) (suc i) lt = let e : suc s + i ≡ s + suc i = omega arith in rw e at (bits-at (suc s) singles i (omega arith))
@@ -55,7 +56,11 @@ bits-count s (x ∷ singles) = ap suc (bits-count (suc s) singles)
 -- the sets of the later bits are others
 later-bits : (x s : ℕ) (singles : List Single) → x < 2 ^ s → AllByRecursion (λ y. eqb x y ≡ false) (map (λ r. r.members) (single_bits s singles))
 later-bits x s [] lt = tt
-later-bits x s (y ∷ singles) lt = (ne_eqb x (2 ^ s) (λ e. absurd (omega arith)), later-bits x (suc s) singles (let p = pow_below s (suc s) (omega arith) in omega arith))
+later-bits x s (y ∷ singles) lt = (
+  ne_eqb x (2 ^ s) (λ e. absurd (omega arith)),
+  later-bits x (suc s) singles
+      (let p = pow_below s (suc s) (omega arith) in omega arith),
+)
 
 bits-distinct : (s : ℕ) (singles : List Single) → IsDistinct eqb (map (λ r. r.members) (single_bits s singles))
 unfolding IsDistinct
@@ -97,7 +102,9 @@ module _ (m : Market) (lawful : IsMarket m) (z : List ℕ) (win : IsWinning m z)
   bidder-price : (k : ℕ) → k < m.bidders → uses z (suc k) ≡ true → IsVickreyPrice m z (suc k) (of_bidder (for_bidders z (prices_of singles)) (suc k))
   bidder-price k lt used =
       let s = spot-of z k (omega (arith, lt, len)) used in
-      let e : of_bidder (for_bidders z (prices_of singles)) (suc k) ≡ (single_at singles s.0).price = at-bidder z (prices_of singles) k ∙ ap (nth (for_bidders z (prices_of singles))) (sym s.2) ∙ spot-number z s.0 (prices_of singles) s.1 ∙ price-at s.0 s.1 in
+      let e : of_bidder (for_bidders z (prices_of singles)) (suc k) ≡ (single_at singles s.0).price =
+      at-bidder z (prices_of singles) k ∙ ap (nth (for_bidders z (prices_of singles))) (sym s.2) ∙ spot-number z s.0 (prices_of singles) s.1
+      ∙ price-at s.0 s.1 in
       subst (λ x. IsVickreyPrice m z (suc k) x) (sym e) (subst (λ n. IsVickreyPrice m z (suc n) (single_at singles s.0).price) s.2 (price-of s.0 s.1))
 
   -- the prices of the singles are the Vickrey prices
@@ -109,10 +116,12 @@ module _ (m : Market) (lawful : IsMarket m) (z : List ℕ) (win : IsWinning m z)
       by (inl used) = bidder-price k (omega arith) used
       by (inr loses) = ((λ wins. absurd (false≢true (sym loses ∙ wins))), (λ _. at-bidder z (prices_of singles) k ∙ loser-zero z (prices_of singles) k loses))
 
-  range-of : (k : ℕ) → k < m.bidders → (pos 0 ≤ℤ of_bidder (for_bidders z (prices_of singles)) (suc k)) × (of_bidder (for_bidders z (prices_of singles)) (suc k) ≤ℤ worth_in m z (suc k))
+  range-of : (k : ℕ) → k < m.bidders → (pos 0 ≤ℤ of_bidder (for_bidders z (prices_of singles)) (suc k))
+      × (of_bidder (for_bidders z (prices_of singles)) (suc k) ≤ℤ worth_in m z (suc k))
   range-of k lt = by (cases_Bool (uses z (suc k)))
     where
-      by : (uses z (suc k) ≡ true) ⊎ (uses z (suc k) ≡ false) → (pos 0 ≤ℤ of_bidder (for_bidders z (prices_of singles)) (suc k)) × (of_bidder (for_bidders z (prices_of singles)) (suc k) ≤ℤ worth_in m z (suc k))
+      by : (uses z (suc k) ≡ true) ⊎ (uses z (suc k) ≡ false) → (pos 0 ≤ℤ of_bidder (for_bidders z (prices_of singles)) (suc k))
+          × (of_bidder (for_bidders z (prices_of singles)) (suc k) ≤ℤ worth_in m z (suc k))
       by (inl used) = price-range m lawful z win k lt used (of_bidder (for_bidders z (prices_of singles)) (suc k)) (bidder-price k lt used)
       by (inr loses) =
           let e = at-bidder z (prices_of singles) k ∙ loser-zero z (prices_of singles) k loses in
@@ -130,7 +139,8 @@ module _ (m : Market) (lawful : IsMarket m) (z : List ℕ) (win : IsWinning m z)
       omega (arith, ints, a, b, c, d, e)
 
   module _ (few : winners_in z ≤ 6) (worth : value_of m z ≤ℤ pos (winners_in z * 2 ^ 42)) where
-    price-low : (i : ℕ) → i < winners_in z → (pos 0 ≤ℤ (single_at singles i).price) × ((single_at singles i).price ≤ℤ pos (2 ^ 46)) × ((single_at singles i).price ≤ℤ value_of m z)
+    price-low : (i : ℕ) → i < winners_in z → (pos 0 ≤ℤ (single_at singles i).price) × ((single_at singles i).price ≤ℤ pos (2 ^ 46))
+        × ((single_at singles i).price ≤ℤ value_of m z)
     price-low i lt =
         let r = price-range m lawful z win (spot z i) (spot-low i lt) (spot-wins z i lt) (single_at singles i).price (price-of i lt) in
         let w = won-low m lawful z win.passed (suc (spot z i)) (omega arith) (let l = spot-low i lt in omega arith) in
@@ -146,7 +156,8 @@ module _ (m : Market) (lawful : IsMarket m) (z : List ℕ) (win : IsWinning m z)
       long = prices-count;
       vickrey = vickrey;
       targets = record {
-        not_negative = λ i lt. (let l : i < winners_in z = omega (arith, lt, prices-count) in let e = price-at i l in let r = (price-low i l).0 in omega (arith, ints, e, r));
+        not_negative = λ i lt. (let l : i < winners_in z = omega (arith, lt, prices-count) in let e = price-at i l in let r = (price-low i l).0 in
+            omega (arith, ints, e, r));
         sum = let a = ap (λ n. total n (nth (prices_of singles))) prices-count in let b = total-price in omega (arith, ints, a, b);
       };
       sum = let a = ap (λ n. total n (nth (prices_of singles))) prices-count in let b = total-price in omega (arith, ints, a, b);
@@ -168,14 +179,19 @@ module _ (m : Market) (lawful : IsMarket m) (z : List ℕ) (win : IsWinning m z)
         let first = subst (λ j. IsFirstGreatest (allowed_without m j) (value_of m) (single_at singles i).choice) (winner-is i lt) ((single i lt).choice) in
         record {
           members = (pow_pos i, pow_below i (winners_in z) lt);
-          allowed = single-allowed m lawful z win k (spot-low i lt) (spot-wins z i lt) (single_at singles i).price (price-of i lt) (single_at singles i).choice first (row_of z (2 ^ i)) (bit-is i lt);
-          idle = single-idle m lawful z win k (spot-low i lt) (spot-wins z i lt) (single_at singles i).price (price-of i lt) (single_at singles i).choice first (row_of z (2 ^ i)) (bit-is i lt);
-          given = single-given m lawful z win k (spot-low i lt) (spot-wins z i lt) (single_at singles i).price (price-of i lt) (single_at singles i).choice first (row_of z (2 ^ i)) (bit-is i lt);
-          greatest = single-greatest m lawful z win k (spot-low i lt) (spot-wins z i lt) (single_at singles i).price (price-of i lt) (single_at singles i).choice first (row_of z (2 ^ i)) (bit-is i lt);
+          allowed = single-allowed m lawful z win k (spot-low i lt) (spot-wins z i lt) (single_at singles i).price (price-of i lt)
+              (single_at singles i).choice first (row_of z (2 ^ i)) (bit-is i lt);
+          idle = single-idle m lawful z win k (spot-low i lt) (spot-wins z i lt) (single_at singles i).price (price-of i lt)
+              (single_at singles i).choice first (row_of z (2 ^ i)) (bit-is i lt);
+          given = single-given m lawful z win k (spot-low i lt) (spot-wins z i lt) (single_at singles i).price (price-of i lt)
+              (single_at singles i).choice first (row_of z (2 ^ i)) (bit-is i lt);
+          greatest = single-greatest m lawful z win k (spot-low i lt) (spot-wins z i lt) (single_at singles i).price (price-of i lt)
+              (single_at singles i).choice first (row_of z (2 ^ i)) (bit-is i lt);
         }
 
     same-start : (v : ℕ → ℤ) → AreVickreyPrices m z v → AreSame m (map (row_in z) (single_bits 0 singles)) (single_rows v 0 z)
-    same-start v ps = same-by_place m none (map (row_in z) (single_bits 0 singles)) (single_rows v 0 z) (length-map (single_bits 0 singles) (row_in z) ∙ rows-count ∙ sym (singles-count v 0 z))
+    same-start v ps = same-by_place m none (map (row_in z) (single_bits 0 singles)) (single_rows v 0 z)
+        (length-map (single_bits 0 singles) (row_in z) ∙ rows-count ∙ sym (singles-count v 0 z))
         (λ i lt. at i (let l = length-map (single_bits 0 singles) (row_in z) in omega (arith, lt, l, rows-count)))
       where
         none : BidderRow
@@ -183,12 +199,15 @@ module _ (m : Market) (lawful : IsMarket m) (z : List ℕ) (win : IsWinning m z)
 
         at : (i : ℕ) → i < winners_in z → IsSame m (get_or (map (row_in z) (single_bits 0 singles)) i none) (get_or (single_rows v 0 z) i none)
         at i lt =
-            let a : get_or (map (row_in z) (single_bits 0 singles)) i none ≡ row_in z (row_at (single_bits 0 singles) i) = get_or-map (row_in z) (single_bits 0 singles) i (record { members = 0; bound = pos 0 }) none (omega (arith, lt, rows-count)) in
+            let a : get_or (map (row_in z) (single_bits 0 singles)) i none ≡ row_in z (row_at (single_bits 0 singles) i) =
+            get_or-map (row_in z) (single_bits 0 singles) i (record { members = 0; bound = pos 0 }) none (omega (arith, lt, rows-count)) in
             let b = single-at v 0 z i none lt in
-            let p = vickrey-one m z (suc (spot z i)) (single_at singles i).price (v (suc (spot z i))) (price-of i lt) (ps (suc (spot z i)) (omega arith) (let l = spot-low i lt in omega arith)) in
+            let p = vickrey-one m z (suc (spot z i)) (single_at singles i).price (v (suc (spot z i))) (price-of i lt)
+            (ps (suc (spot z i)) (omega arith) (let l = spot-low i lt in omega arith)) in
             let e : 0 + spot z i ≡ spot z i = omega arith in
             subst (λ x. IsSame m x (get_or (single_rows v 0 z) i none)) (sym (a ∙ ap (row_in z) (at-start i lt)))
-            (subst (λ x. IsSame m (row_in z (record { members = 2 ^ i; bound = (single_at singles i).price })) x) (sym b) (rw e record { bound = p; members = bit-is i lt }))
+            (subst (λ x. IsSame m (row_in z (record { members = 2 ^ i; bound = (single_at singles i).price })) x) (sym b)
+            (rw e record { bound = p; members = bit-is i lt }))
 
     -- the single rows with their choices are the rows when the first turn begins
     pub start : (weights : List ℕ) → IsSoFar m z weights (single_bits 0 singles) (map (λ s. s.choice) singles) []
@@ -198,10 +217,13 @@ module _ (m : Market) (lawful : IsMarket m) (z : List ℕ) (win : IsWinning m z)
       given = λ i lt. given i (omega (arith, lt, rows-count));
       distinct = bits-distinct 0 singles;
       row_bounds = record {
-        not_negative = λ i lt. (let l : i < winners_in z = omega (arith, lt, rows-count) in let e = ap (λ (r : Row). r.bound) (at-start i l) in let p = price-low i l in omega (arith, ints, e, p.0));
-        small = λ i lt. (let l : i < winners_in z = omega (arith, lt, rows-count) in let e = ap (λ (r : Row). r.bound) (at-start i l) in let p = price-low i l in omega (arith, ints, e, p.1));
+        not_negative = λ i lt. (let l : i < winners_in z = omega (arith, lt, rows-count) in let e = ap (λ (r : Row). r.bound) (at-start i l) in let p =
+            price-low i l in omega (arith, ints, e, p.0));
+        small = λ i lt. (let l : i < winners_in z = omega (arith, lt, rows-count) in let e = ap (λ (r : Row). r.bound) (at-start i l) in let p =
+            price-low i l in omega (arith, ints, e, p.1));
       };
-      below_value = λ i lt. (let l : i < winners_in z = omega (arith, lt, rows-count) in let e = ap (λ (r : Row). r.bound) (at-start i l) in let p = price-low i l in omega (arith, ints, e, p.2));
+      below_value = λ i lt. (let l : i < winners_in z = omega (arith, lt, rows-count) in let e = ap (λ (r : Row). r.bound) (at-start i l) in let p =
+          price-low i l in omega (arith, ints, e, p.2));
       singles = λ j lt. (j, omega (arith, lt, rows-count), ap (λ (r : Row). r.members) (at-start j lt));
       each = tt;
       run = λ v ps rest go. go-same m (weight_of weights) z v (map (row_in z) (single_bits 0 singles)) (single_rows v 0 z) rest (same-start v ps) go;
@@ -209,5 +231,7 @@ module _ (m : Market) (lawful : IsMarket m) (z : List ℕ) (win : IsWinning m z)
       where
         given : (i : ℕ) → i < winners_in z → IsGivenBy m z (row_at (single_bits 0 singles) i) (choice_at (map (λ s. s.choice) singles) i)
         given i lt =
-            let c : choice_at (map (λ s. s.choice) singles) i ≡ (single_at singles i).choice = get_or-map (λ s. s.choice) singles i (record { winner = 0; price = pos 0; choice = [] }) [] (omega (arith, lt, count)) in
-            subst (λ (r : Row). IsGivenBy m z r (choice_at (map (λ s. s.choice) singles) i)) (sym (at-start i lt)) (subst (λ f. IsGivenBy m z (record { members = 2 ^ i; bound = (single_at singles i).price }) f) (sym c) (given-by i lt))
+            let c : choice_at (map (λ s. s.choice) singles) i ≡ (single_at singles i).choice = get_or-map (λ s. s.choice) singles i
+            (record { winner = 0; price = pos 0; choice = [] }) [] (omega (arith, lt, count)) in
+            subst (λ (r : Row). IsGivenBy m z r (choice_at (map (λ s. s.choice) singles) i)) (sym (at-start i lt))
+            (subst (λ f. IsGivenBy m z (record { members = 2 ^ i; bound = (single_at singles i).price }) f) (sym c) (given-by i lt))

@@ -19,16 +19,20 @@ pub value-is : (m : Market) → IsMarket m → (c : List ℕ) → IsTrue (m.allo
 value-is m lawful c t = choice-is m.worth c ∙ ap (λ n. total n (λ k. worth_in m c (suc k))) (lawful.lengths c t)
 
 -- what all win with but one bidder
-others-win : (m : Market) → IsMarket m → (z : List ℕ) → IsTrue (m.allowed z) → (k : ℕ) → k < m.bidders → sum_over (λ j. not (j == suc k)) (worth_in m z) m.bidders ≡ value_of m z -ℤ worth_in m z (suc k)
+others-win : (m : Market) → IsMarket m → (z : List ℕ) → IsTrue (m.allowed z) → (k : ℕ) → k < m.bidders
+    → sum_over (λ j. not (j == suc k)) (worth_in m z) m.bidders ≡ value_of m z -ℤ worth_in m z (suc k)
 others-win m lawful z t k lt =
     let a = over-is (λ j. not (j == suc k)) (worth_in m z) m.bidders in
-    let b = sum-change m.bidders (λ i. worth_in m z (suc i)) (λ i. cond (not (suc i == suc k)) (worth_in m z (suc i)) (pos 0)) k lt (λ i li d. sym (ap (λ q. cond (not q) (worth_in m z (suc i)) (pos 0)) (ne_eqb (suc i) (suc k) (λ e. d (let x = e in omega arith))))) in
-    let c : cond (not (suc k == suc k)) (worth_in m z (suc k)) (pos 0) ≡ pos 0 = ap (λ q. cond (not q) (worth_in m z (suc k)) (pos 0)) (eq-eqb (suc k) (suc k) refl) in
+    let b = sum-change m.bidders (λ i. worth_in m z (suc i)) (λ i. cond (not (suc i == suc k)) (worth_in m z (suc i)) (pos 0)) k lt
+    (λ i li d. sym (ap (λ q. cond (not q) (worth_in m z (suc i)) (pos 0)) (ne_eqb (suc i) (suc k) (λ e. d (let x = e in omega arith))))) in
+    let c : cond (not (suc k == suc k)) (worth_in m z (suc k)) (pos 0) ≡ pos 0 = ap (λ q. cond (not q) (worth_in m z (suc k)) (pos 0))
+    (eq-eqb (suc k) (suc k) refl) in
     let v = value-is m lawful z t in
     omega (arith, ints, a, b, c, v)
 
 -- the winning choice without a winner
-without : (m : Market) → IsMarket m → (z : List ℕ) → IsTrue (m.allowed z) → (k : ℕ) → k < m.bidders → (IsTrue (allowed_without m (suc k) (slice_set z k 0))) × (value_of m (slice_set z k 0) ≡ value_of m z -ℤ worth_in m z (suc k))
+without : (m : Market) → IsMarket m → (z : List ℕ) → IsTrue (m.allowed z) → (k : ℕ) → k < m.bidders → (IsTrue (allowed_without m (suc k) (slice_set z k 0)))
+    × (value_of m (slice_set z k 0) ≡ value_of m z -ℤ worth_in m z (suc k))
 without m lawful z t k lt =
     let b : suc k - 1 ≡ k = omega arith in
     let ok : IsTrue (m.allowed (slice_set z k 0)) = subst (λ n. IsTrue (m.allowed (slice_set z n 0))) b (lawful.fewer z (suc k) t) in
@@ -45,7 +49,8 @@ without m lawful z t k lt =
     other i d = let e : suc i - 1 ≡ i = omega arith in ap (λ n. get_or z n 0) e ∙ sym (ap (λ n. get_or (slice_set z k 0) n 0) e ∙ get_or-set_other z k i 0 0 d)
 
 -- the Vickrey price of a winner is from 0 to what it wins
-pub price-range : (m : Market) → IsMarket m → (z : List ℕ) → IsWinning m z → (k : ℕ) → k < m.bidders → uses z (suc k) ≡ true → (v : ℤ) → IsVickreyPrice m z (suc k) v → (pos 0 ≤ℤ v) × (v ≤ℤ worth_in m z (suc k))
+pub price-range : (m : Market) → IsMarket m → (z : List ℕ) → IsWinning m z → (k : ℕ) → k < m.bidders → uses z (suc k) ≡ true → (v : ℤ)
+    → IsVickreyPrice m z (suc k) v → (pos 0 ≤ℤ v) × (v ≤ℤ worth_in m z (suc k))
 price-range m lawful z win k lt used v price =
     let g = price.0 used in
     let w = without m lawful z win.passed k lt in
@@ -58,7 +63,8 @@ price-range m lawful z win k lt used v price =
 
 -- The set with the one winner k + 1, and the first of the greatest choices without it: the choice gives the set its price,
 -- and no choice that doesn't use the winner gives it more.
-module _ (m : Market) (lawful : IsMarket m) (z : List ℕ) (win : IsWinning m z) (k : ℕ) (lt : k < m.bidders) (used : uses z (suc k) ≡ true) (v : ℤ) (price : IsVickreyPrice m z (suc k) v) (c : List ℕ) (first : IsFirstGreatest (allowed_without m (suc k)) (value_of m) c)
+module _ (m : Market) (lawful : IsMarket m) (z : List ℕ) (win : IsWinning m z) (k : ℕ) (lt : k < m.bidders) (used : uses z (suc k) ≡ true) (v : ℤ)
+    (price : IsVickreyPrice m z (suc k) v) (c : List ℕ) (first : IsFirstGreatest (allowed_without m (suc k)) (value_of m) c)
     (members : ℕ → Bool) (is : (j : ℕ) → 0 < j → j ≤ m.bidders → members j ≡ (j == suc k)) where
   -- that choice is allowed
   pub single-allowed : IsTrue (m.allowed c)

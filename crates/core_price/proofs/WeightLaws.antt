@@ -48,24 +48,28 @@ can-weigh m z ws len are = record {
         rw d (are.some (spot z i) inside, are.most (spot z i) inside)
 
 -- a sum over all bidders, where losers count nothing, is one over the winners
-pub sum-spots : (z : List ℕ) (f t : ℕ → ℤ) → ((i : ℕ) → i < winners_in z → f (spot z i) ≡ t i) → ((k : ℕ) → k < length z → uses z (suc k) ≡ false → f k ≡ pos 0) → total (length z) f ≡ total (winners_in z) t
+pub sum-spots : (z : List ℕ) (f t : ℕ → ℤ) → ((i : ℕ) → i < winners_in z → f (spot z i) ≡ t i)
+    → ((k : ℕ) → k < length z → uses z (suc k) ≡ false → f k ≡ pos 0) → total (length z) f ≡ total (winners_in z) t
 sum-spots [] f t won lost = refl
 sum-spots (zero ∷ z) f t won lost =
     let rest = sum-spots z (λ k. f (suc k)) t won (λ k lt e. lost (suc k) (omega arith) (let b : suc (suc k) - 1 ≡ suc (suc k - 1) = omega arith in rw b e)) in
     let none = lost zero (omega arith) refl in
     total-first (length z) f ∙ omega (arith, ints, none, rest)
 sum-spots (suc n ∷ z) f t won lost =
-    let rest = sum-spots z (λ k. f (suc k)) (λ i. t (suc i)) (λ i lt. won (suc i) (omega arith)) (λ k lt e. lost (suc k) (omega arith) (let b : suc (suc k) - 1 ≡ suc (suc k - 1) = omega arith in rw b e)) in
+    let rest = sum-spots z (λ k. f (suc k)) (λ i. t (suc i)) (λ i lt. won (suc i) (omega arith))
+    (λ k lt e. lost (suc k) (omega arith) (let b : suc (suc k) - 1 ≡ suc (suc k - 1) = omega arith in rw b e)) in
     let one = won zero (omega arith) in
     let last = total-first (winners_in z) t in
     total-first (length z) f ∙ omega (arith, ints, one, rest, last)
 
 -- the weights of the winners among the first k bidders
-pub more-winner : (z ws list : List ℕ) (k : ℕ) → length ws ≡ length z → k < length z → get_or z k 0 ≢ 0 → list ++ weights_in (drop k z) (drop k ws) ≡ weights_in z ws
+pub more-winner : (z ws list : List ℕ) (k : ℕ) → length ws ≡ length z → k < length z → get_or z k 0 ≢ 0
+    → list ++ weights_in (drop k z) (drop k ws) ≡ weights_in z ws
     → (list ++ get_or ws k 0 ∷ []) ++ weights_in (drop (k + 1) z) (drop (k + 1) ws) ≡ weights_in z ws
 more-winner z ws list k long lt wins made =
     append_assoc list (get_or ws k 0 ∷ []) (weights_in (drop (k + 1) z) (drop (k + 1) ws))
-    ∙ ap (λ l. list ++ l) (sym (let lw : k < length ws = omega (arith, lt, long) in by (get_or z k 0) wins (drop k z) (rw (add-one, drop-cons z k 0) refl) (drop k ws) (rw (add-one, drop-cons ws k 0) refl)))
+    ∙ ap (λ l. list ++ l) (sym (let lw : k < length ws = omega (arith, lt, long) in by (get_or z k 0) wins (drop k z) (rw (add-one, drop-cons z k 0) refl)
+    (drop k ws) (rw (add-one, drop-cons ws k 0) refl)))
     ∙ made
   where
     by : (n : ℕ) → n ≢ 0 → (rest : List ℕ) → rest ≡ n ∷ drop (k + 1) z → (more : List ℕ) → more ≡ get_or ws k 0 ∷ drop (k + 1) ws
@@ -74,10 +78,12 @@ more-winner z ws list k long lt wins made =
     by (suc n) d rest e more f = rw (e, f) refl
 
 -- and a loser adds none
-pub more-loser : (z ws list : List ℕ) (k : ℕ) → length ws ≡ length z → k < length z → get_or z k 0 ≡ 0 → list ++ weights_in (drop k z) (drop k ws) ≡ weights_in z ws
+pub more-loser : (z ws list : List ℕ) (k : ℕ) → length ws ≡ length z → k < length z → get_or z k 0 ≡ 0
+    → list ++ weights_in (drop k z) (drop k ws) ≡ weights_in z ws
     → list ++ weights_in (drop (k + 1) z) (drop (k + 1) ws) ≡ weights_in z ws
 more-loser z ws list k long lt loses made =
-    ap (λ l. list ++ l) (sym (let lw : k < length ws = omega (arith, lt, long) in by (drop k z) (rw (add-one, drop-cons z k 0, loses) refl) (drop k ws) (rw (add-one, drop-cons ws k 0) refl))) ∙ made
+    ap (λ l. list ++ l) (sym (let lw : k < length ws = omega (arith, lt, long) in by (drop k z) (rw (add-one, drop-cons z k 0, loses) refl) (drop k ws)
+    (rw (add-one, drop-cons ws k 0) refl))) ∙ made
   where
     by : (rest : List ℕ) → rest ≡ 0 ∷ drop (k + 1) z → (more : List ℕ) → more ≡ get_or ws k 0 ∷ drop (k + 1) ws
         → weights_in rest more ≡ weights_in (drop (k + 1) z) (drop (k + 1) ws)

@@ -8,13 +8,15 @@ one zero c some = absurd (some refl)
 one (suc i) c some = refl
 
 -- a loser isn't counted
-pub count-loser : (z : List ℕ) (k count : ℕ) → k < length z → get_or z k 0 ≡ 0 → count + winners_in (drop k z) ≡ winners_in z → count + winners_in (drop (k + 1) z) ≡ winners_in z
+pub count-loser : (z : List ℕ) (k count : ℕ) → k < length z → get_or z k 0 ≡ 0 → count + winners_in (drop k z) ≡ winners_in z
+    → count + winners_in (drop (k + 1) z) ≡ winners_in z
 count-loser z k count h none was =
     let e : winners_in (drop k z) ≡ winners_in (drop (k + 1) z) = rw (add-one, drop-cons z k 0, none) refl in
     omega (arith, e, was)
 
 -- a winner is counted once
-pub count-winner : (z : List ℕ) (k count : ℕ) → k < length z → get_or z k 0 ≢ 0 → count + winners_in (drop k z) ≡ winners_in z → count + 1 + winners_in (drop (k + 1) z) ≡ winners_in z
+pub count-winner : (z : List ℕ) (k count : ℕ) → k < length z → get_or z k 0 ≢ 0 → count + winners_in (drop k z) ≡ winners_in z
+    → count + 1 + winners_in (drop (k + 1) z) ≡ winners_in z
 count-winner z k count h some was =
     let e : winners_in (drop k z) ≡ suc (winners_in (drop (k + 1) z)) = rw (add-one, drop-cons z k 0) (one (get_or z k 0) (drop (suc k) z) some) in
     omega (arith, e, was)

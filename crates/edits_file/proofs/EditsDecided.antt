@@ -14,7 +14,8 @@ use Rattle.edits_file.proofs.Reading.{AddsNamed, IsSound, NamedStage, NamedStep,
 
 decided_package : (categories : ℕ) (name lots : List ℕ) → Decided (NamesPackage categories name lots)
 decided_package categories name lots =
-    decided_as (decided_three (decided_name name) (cases_eq (length lots) categories) (decided_all (λ n. n ≤ MOST_STATED_COUNT) (λ n. decided_le n MOST_STATED_COUNT) lots))
+    decided_as (decided_three (decided_name name) (cases_eq (length lots) categories)
+    (decided_all (λ n. n ≤ MOST_STATED_COUNT) (λ n. decided_le n MOST_STATED_COUNT) lots))
     (λ all. record { name_is = all.0; count = all.1; each = all.2 }) (λ is. (is.name_is, is.count, is.each))
 
 -- the numbers are those of a package, and an amount
@@ -50,7 +51,8 @@ module _ (categories : ℕ) (line : List ℕ) where
   SaysPackage = (name : List ℕ) × (ns : List ℕ) × (line ≡ codes "drop " ++ (name ++ decimals_text ns)) × NamesPackage categories name ns
 
   package_known : Decided SaysPackage
-  package_known = some_named (2 ^ 120) (codes "drop ") (NamesPackage categories) (decided_package categories) (λ name ns is. at_most ns (low_small ns is.each)) line
+  package_known = some_named (2 ^ 120) (codes "drop ") (NamesPackage categories) (decided_package categories)
+      (λ name ns is. at_most ns (low_small ns is.each)) line
 
   -- an edit that the line states
   abbrev SaysEdit : Type 0
@@ -63,7 +65,8 @@ module _ (categories : ℕ) (line : List ℕ) where
   edit_known : Decided SaysEdit
   edit_known = by (bid_known (codes "add ")) (bid_known (codes "raise ")) package_known
     where
-      none : (SaysBid (codes "add ") → ⊥) → (SaysBid (codes "raise ") → ⊥) → (SaysPackage → ⊥) → (e : NamedEdit) → IsNamedEdit categories e → line ≡ edit_text e → ⊥
+      none : (SaysBid (codes "add ") → ⊥) → (SaysBid (codes "raise ") → ⊥) → (SaysPackage → ⊥) → (e : NamedEdit) → IsNamedEdit categories e
+          → line ≡ edit_text e → ⊥
       none adds raises drops (add name lots amount) valid is = adds (name, lots ++ amount ∷ [], is, (lots, amount, refl, valid))
       none adds raises drops (raise name lots amount) valid is = raises (name, lots ++ amount ∷ [], is, (lots, amount, refl, valid))
       none adds raises drops (remove name lots) valid is = drops (name, lots, is, valid)

@@ -19,7 +19,16 @@ use Rattle.edits_file.proofs.FieldLaws.{AreLow, heads_one}
 
 -- the first line has no line feed
 pub first_word : IsLine (codes "edits 1")
-first_word = ((λ is. absurd (omega arith)), ((λ is. absurd (omega arith)), ((λ is. absurd (omega arith)), ((λ is. absurd (omega arith)), ((λ is. absurd (omega arith)), ((λ is. absurd (omega arith)), ((λ is. absurd (omega arith)), tt)))))))
+first_word = (
+  (λ is. absurd (omega arith)),
+  (
+    (λ is. absurd (omega arith)),
+    (
+      (λ is. absurd (omega arith)),
+      ((λ is. absurd (omega arith)), ((λ is. absurd (omega arith)), ((λ is. absurd (omega arith)), ((λ is. absurd (omega arith)), tt)))),
+    ),
+  ),
+)
 
 -- nor has the last one
 pub end_word : IsLine (codes "end")
@@ -29,10 +38,28 @@ add_word : IsLine (codes "add ")
 add_word = ((λ is. absurd (omega arith)), ((λ is. absurd (omega arith)), ((λ is. absurd (omega arith)), ((λ is. absurd (omega arith)), tt))))
 
 raise_word : IsLine (codes "raise ")
-raise_word = ((λ is. absurd (omega arith)), ((λ is. absurd (omega arith)), ((λ is. absurd (omega arith)), ((λ is. absurd (omega arith)), ((λ is. absurd (omega arith)), ((λ is. absurd (omega arith)), tt))))))
+raise_word = (
+  (λ is. absurd (omega arith)),
+  (
+    (λ is. absurd (omega arith)),
+    (
+      (λ is. absurd (omega arith)),
+      ((λ is. absurd (omega arith)), ((λ is. absurd (omega arith)), ((λ is. absurd (omega arith)), tt))),
+    ),
+  ),
+)
 
 drop_word : IsLine (codes "drop ")
-drop_word = ((λ is. absurd (omega arith)), ((λ is. absurd (omega arith)), ((λ is. absurd (omega arith)), ((λ is. absurd (omega arith)), ((λ is. absurd (omega arith)), tt)))))
+drop_word = (
+  (λ is. absurd (omega arith)),
+  (
+    (λ is. absurd (omega arith)),
+    (
+      (λ is. absurd (omega arith)),
+      ((λ is. absurd (omega arith)), ((λ is. absurd (omega arith)), tt)),
+    ),
+  ),
+)
 
 -- counts that a text may state are below 2 ^ 120
 pub low_small : (ns : List ℕ) → AreLow ns → AreSmall ns
@@ -47,11 +74,16 @@ bid_small (n ∷ ns) amount low top = (omega (arith, low.0), bid_small ns amount
 -- no edit's line has a line feed
 pub edit_feeds : (categories : ℕ) (e : NamedEdit) → IsNamedEdit categories e → IsLine (edit_text e)
 edit_feeds categories (add name lots amount) is =
-    line_append (codes "add ") (name ++ decimals_text (lots ++ amount ∷ [])) add_word (line_append name (decimals_text (lots ++ amount ∷ [])) (name_line name is.0.name_is) (numbers_line (lots ++ amount ∷ []) (bid_small lots amount is.0.each is.1)))
+    line_append (codes "add ") (name ++ decimals_text (lots ++ amount ∷ [])) add_word
+    (line_append name (decimals_text (lots ++ amount ∷ [])) (name_line name is.0.name_is)
+    (numbers_line (lots ++ amount ∷ []) (bid_small lots amount is.0.each is.1)))
 edit_feeds categories (raise name lots amount) is =
-    line_append (codes "raise ") (name ++ decimals_text (lots ++ amount ∷ [])) raise_word (line_append name (decimals_text (lots ++ amount ∷ [])) (name_line name is.0.name_is) (numbers_line (lots ++ amount ∷ []) (bid_small lots amount is.0.each is.1)))
+    line_append (codes "raise ") (name ++ decimals_text (lots ++ amount ∷ [])) raise_word
+    (line_append name (decimals_text (lots ++ amount ∷ [])) (name_line name is.0.name_is)
+    (numbers_line (lots ++ amount ∷ []) (bid_small lots amount is.0.each is.1)))
 edit_feeds categories (remove name lots) is =
-    line_append (codes "drop ") (name ++ decimals_text lots) drop_word (line_append name (decimals_text lots) (name_line name is.name_is) (numbers_line lots (low_small lots is.each)))
+    line_append (codes "drop ") (name ++ decimals_text lots) drop_word (line_append name (decimals_text lots) (name_line name is.name_is)
+    (numbers_line lots (low_small lots is.each)))
 
 -- the first byte of a line tells its kind
 abbrev pub kind_of : NamedEdit → ℕ
@@ -78,7 +110,8 @@ end_no_edit e l last is = no_end e (sym (first_byte e) ∙ ap (λ (x : List ℕ)
     no_end (remove name lots) same = omega (arith, same)
 
 -- the fields of a bid are one name, one package and one amount
-bid_one : (categories : ℕ) (name other p q : List ℕ) (m n : ℕ) → NamesPackage categories name p → NamesPackage categories other q → IsSpelledAmount m → IsSpelledAmount n
+bid_one : (categories : ℕ) (name other p q : List ℕ) (m n : ℕ) → NamesPackage categories name p → NamesPackage categories other q → IsSpelledAmount m
+    → IsSpelledAmount n
     → name ++ decimals_text (p ++ m ∷ []) ≡ other ++ decimals_text (q ++ n ∷ []) → (name ≡ other) × (p ≡ q) × (m ≡ n)
 bid_one categories name other p q m n a b tm tn is =
     let parts = heads_one name other p q (32 ∷ decimal m) (32 ∷ decimal n) a.name_is b.name_is (a.count ∙ sym b.count) a.each b.each refl refl
@@ -87,7 +120,8 @@ bid_one categories name other p q m n a b tm tn is =
     let digits : decimal m ≡ decimal n = cc in
     (parts.0, parts.1, decimal_one m n (omega (arith, tm)) (omega (arith, tn)) digits)
 
-package_one : (categories : ℕ) (name other p q : List ℕ) → NamesPackage categories name p → NamesPackage categories other q → name ++ decimals_text p ≡ other ++ decimals_text q → (name ≡ other) × (p ≡ q)
+package_one : (categories : ℕ) (name other p q : List ℕ) → NamesPackage categories name p → NamesPackage categories other q
+    → name ++ decimals_text p ≡ other ++ decimals_text q → (name ≡ other) × (p ≡ q)
 package_one categories name other p q a b is =
     let parts = heads_one name other p q [] [] a.name_is b.name_is (a.count ∙ sym b.count) a.each b.each tt tt (widen name p ∙ is ∙ sym (widen other q)) in
     (parts.0, parts.1)
@@ -98,10 +132,12 @@ package_one categories name other p q a b is =
 -- a line says one edit
 pub edit_one : (categories : ℕ) (a b : NamedEdit) → IsNamedEdit categories a → IsNamedEdit categories b → edit_text a ≡ edit_text b → a ≡ b
 edit_one categories (add name p m) (add other q n) x y is =
-    let parts = bid_one categories name other p q m n x.0 y.0 x.1 y.1 (append_cancel_left (codes "add ") (name ++ decimals_text (p ++ m ∷ [])) (other ++ decimals_text (q ++ n ∷ [])) is) in
+    let parts = bid_one categories name other p q m n x.0 y.0 x.1 y.1 (append_cancel_left (codes "add ") (name ++ decimals_text (p ++ m ∷ []))
+    (other ++ decimals_text (q ++ n ∷ [])) is) in
     λ i. add (parts.0 i) (parts.1 i) (parts.2 i)
 edit_one categories (raise name p m) (raise other q n) x y is =
-    let parts = bid_one categories name other p q m n x.0 y.0 x.1 y.1 (append_cancel_left (codes "raise ") (name ++ decimals_text (p ++ m ∷ [])) (other ++ decimals_text (q ++ n ∷ [])) is) in
+    let parts = bid_one categories name other p q m n x.0 y.0 x.1 y.1 (append_cancel_left (codes "raise ") (name ++ decimals_text (p ++ m ∷ []))
+    (other ++ decimals_text (q ++ n ∷ [])) is) in
     λ i. raise (parts.0 i) (parts.1 i) (parts.2 i)
 edit_one categories (remove name p) (remove other q) x y is =
     let parts = package_one categories name other p q x y (append_cancel_left (codes "drop ") (name ++ decimals_text p) (other ++ decimals_text q) is) in
@@ -116,46 +152,100 @@ edit_one categories (remove name p) (raise other q n) x y is = let e = same_kind
 -- A line that begins with a word states just what its fields state.
 
 -- a line of the word `add` and the fields of a bid states that the bid is added
-pub add_stated : (book : Book) (line fields : List ℕ) (bidder : ℕ) (lots : List ℕ) (amount : ℕ) → line ≡ codes "add " ++ fields → StatesBid book fields bidder lots amount → (named : NamedEdit) × States book line named (Add bidder lots amount)
+pub add_stated : (book : Book) (line fields : List ℕ) (bidder : ℕ) (lots : List ℕ) (amount : ℕ) → line ≡ codes "add " ++ fields
+    → StatesBid book fields bidder lots amount → (named : NamedEdit) × States book line named (Add bidder lots amount)
 add_stated book line fields bidder lots amount is bid = (
   add bid.name lots amount,
-  record { valid = (bid.named, bid.top); spelled = is ∙ ap (λ (l : List ℕ). codes "add " ++ l) bid.spelled; edit_is = ap (λ (j : ℕ). Add j lots amount) bid.bidder_is },
+  record {
+    valid = (bid.named, bid.top);
+    spelled = is ∙ ap (λ (l : List ℕ). codes "add " ++ l) bid.spelled;
+    edit_is =
+        ap (λ (j : ℕ). Add j lots amount) bid.bidder_is;
+  },
 )
 
 -- a line of the word `raise` and the fields of a bid states that the bid is raised
-pub raise_stated : (book : Book) (line fields : List ℕ) (bidder : ℕ) (lots : List ℕ) (amount : ℕ) → line ≡ codes "raise " ++ fields → StatesBid book fields bidder lots amount → (named : NamedEdit) × States book line named (Raise bidder lots amount)
+pub raise_stated : (book : Book) (line fields : List ℕ) (bidder : ℕ) (lots : List ℕ) (amount : ℕ) → line ≡ codes "raise " ++ fields
+    → StatesBid book fields bidder lots amount → (named : NamedEdit) × States book line named (Raise bidder lots amount)
 raise_stated book line fields bidder lots amount is bid = (
   raise bid.name lots amount,
-  record { valid = (bid.named, bid.top); spelled = is ∙ ap (λ (l : List ℕ). codes "raise " ++ l) bid.spelled; edit_is = ap (λ (j : ℕ). Raise j lots amount) bid.bidder_is },
+  record {
+    valid = (bid.named, bid.top);
+    spelled = is ∙ ap (λ (l : List ℕ). codes "raise " ++ l) bid.spelled;
+    edit_is =
+        ap (λ (j : ℕ). Raise j lots amount) bid.bidder_is;
+  },
 )
 
 -- a line of the word `drop` and the fields of a package states that its bid is taken out
-pub remove_stated : (book : Book) (line fields : List ℕ) (bidder : ℕ) (lots : List ℕ) → line ≡ codes "drop " ++ fields → StatesPackage book fields bidder lots → (named : NamedEdit) × States book line named (Remove bidder lots)
+pub remove_stated : (book : Book) (line fields : List ℕ) (bidder : ℕ) (lots : List ℕ) → line ≡ codes "drop " ++ fields → StatesPackage book fields bidder lots
+    → (named : NamedEdit) × States book line named (Remove bidder lots)
 remove_stated book line fields bidder lots is wanted = (
   remove wanted.name lots,
-  record { valid = wanted.named; spelled = is ∙ ap (λ (l : List ℕ). codes "drop " ++ l) wanted.spelled; edit_is = ap (λ (j : ℕ). Remove j lots) wanted.bidder_is },
+  record {
+    valid = wanted.named;
+    spelled = is ∙ ap (λ (l : List ℕ). codes "drop " ++ l) wanted.spelled;
+    edit_is =
+        ap (λ (j : ℕ). Remove j lots) wanted.bidder_is;
+  },
 )
 
 other_kind : (e : NamedEdit) (line word fields : List ℕ) (c : ℕ) → line ≡ (c ∷ word) ++ fields → line ≡ edit_text e → c ≡ kind_of e
 other_kind e line word fields c starts is = ap (λ (l : List ℕ). get_or l 0 0) (sym starts ∙ is) ∙ first_byte e
 
 -- a line of the word `add` and fields that are no bid states no edit
-pub add_only : (book : Book) (line fields : List ℕ) → line ≡ codes "add " ++ fields → ((bidder : ℕ) (lots : List ℕ) (amount : ℕ) → StatesBid book fields bidder lots amount → ⊥) → (named : NamedEdit) (edit : Edit) → States book line named edit → ⊥
+pub add_only : (book : Book) (line fields : List ℕ) → line ≡ codes "add " ++ fields
+    → ((bidder : ℕ) (lots : List ℕ) (amount : ℕ) → StatesBid book fields bidder lots amount → ⊥) → (named : NamedEdit) (edit : Edit)
+    → States book line named edit → ⊥
 add_only book line fields is none (add name lots amount) edit s =
-    none _ lots amount (record { name = name; named = s.valid.0; top = s.valid.1; spelled = append_cancel_left (codes "add ") fields (name ++ decimals_text (lots ++ amount ∷ [])) (sym is ∙ s.spelled); bidder_is = refl })
+    none _ lots amount (record {
+      name = name;
+      named = s.valid.0;
+      top = s.valid.1;
+      spelled = append_cancel_left (codes "add ") fields
+          (name ++ decimals_text (lots ++ amount ∷ [])) (sym is ∙ s.spelled);
+      bidder_is = refl;
+    })
 add_only book line fields is none (raise name lots amount) edit s = omega (arith, other_kind (raise name lots amount) line (codes "dd ") fields 97 is s.spelled)
 add_only book line fields is none (remove name lots) edit s = omega (arith, other_kind (remove name lots) line (codes "dd ") fields 97 is s.spelled)
 
 -- a line of the word `raise` and fields that are no bid states no edit
-pub raise_only : (book : Book) (line fields : List ℕ) → line ≡ codes "raise " ++ fields → ((bidder : ℕ) (lots : List ℕ) (amount : ℕ) → StatesBid book fields bidder lots amount → ⊥) → (named : NamedEdit) (edit : Edit) → States book line named edit → ⊥
+pub raise_only : (book : Book) (line fields : List ℕ) → line ≡ codes "raise " ++ fields
+    → ((bidder : ℕ) (lots : List ℕ) (amount : ℕ) → StatesBid book fields bidder lots amount → ⊥) → (named : NamedEdit) (edit : Edit)
+    → States book line named edit → ⊥
 raise_only book line fields is none (raise name lots amount) edit s =
-    none _ lots amount (record { name = name; named = s.valid.0; top = s.valid.1; spelled = append_cancel_left (codes "raise ") fields (name ++ decimals_text (lots ++ amount ∷ [])) (sym is ∙ s.spelled); bidder_is = refl })
-raise_only book line fields is none (add name lots amount) edit s = omega (arith, other_kind (add name lots amount) line (codes "aise ") fields 114 is s.spelled)
+    none _ lots amount (record {
+      name = name;
+      named = s.valid.0;
+      top = s.valid.1;
+      spelled = append_cancel_left (codes "raise ") fields
+          (name ++ decimals_text (lots ++ amount ∷ [])) (sym is ∙ s.spelled);
+      bidder_is = refl;
+    })
+raise_only book line fields is none (add name lots amount) edit s = omega (
+  arith,
+  other_kind (add name lots amount) line
+      (codes "aise ") fields 114 is s.spelled,
+)
 raise_only book line fields is none (remove name lots) edit s = omega (arith, other_kind (remove name lots) line (codes "aise ") fields 114 is s.spelled)
 
 -- a line of the word `drop` and fields that are no package states no edit
-pub remove_only : (book : Book) (line fields : List ℕ) → line ≡ codes "drop " ++ fields → ((bidder : ℕ) (lots : List ℕ) → StatesPackage book fields bidder lots → ⊥) → (named : NamedEdit) (edit : Edit) → States book line named edit → ⊥
+pub remove_only : (book : Book) (line fields : List ℕ) → line ≡ codes "drop " ++ fields
+    → ((bidder : ℕ) (lots : List ℕ) → StatesPackage book fields bidder lots → ⊥) → (named : NamedEdit) (edit : Edit) → States book line named edit → ⊥
 remove_only book line fields is none (remove name lots) edit s =
-    none _ lots (record { name = name; named = s.valid; spelled = append_cancel_left (codes "drop ") fields (name ++ decimals_text lots) (sym is ∙ s.spelled); bidder_is = refl })
-remove_only book line fields is none (add name lots amount) edit s = omega (arith, other_kind (add name lots amount) line (codes "rop ") fields 100 is s.spelled)
-remove_only book line fields is none (raise name lots amount) edit s = omega (arith, other_kind (raise name lots amount) line (codes "rop ") fields 100 is s.spelled)
+    none _ lots (record {
+      name = name;
+      named = s.valid;
+      spelled = append_cancel_left (codes "drop ") fields (name ++ decimals_text lots) (sym is ∙ s.spelled);
+      bidder_is = refl;
+    })
+remove_only book line fields is none (add name lots amount) edit s = omega (
+  arith,
+  other_kind (add name lots amount) line
+      (codes "rop ") fields 100 is s.spelled,
+)
+remove_only book line fields is none (raise name lots amount) edit s = omega (
+  arith,
+  other_kind (raise name lots amount) line
+      (codes "rop ") fields 100 is s.spelled,
+)

@@ -1,5 +1,6 @@
 -- The reader's stages with the edits as their lines name them. These stages read the form of a file of edits.
-use Rattle.std.proofs.Common.{inl, inr, ◌⊎◌, ◌≡◌, ℕ, ◌+◌, ◌≤◌, ◌<◌, Option, Some, None, List, [], ◌∷◌, ◌++◌, length, take, refl, sym, ap, subst, ◌∙◌, arith, append_assoc, length-append}
+use Rattle.std.proofs.Common.{inl, inr, ◌⊎◌, ◌≡◌, ℕ, ◌+◌, ◌≤◌, ◌<◌, Option, Some, None, List, [], ◌∷◌, ◌++◌, length, take, refl, sym, ap, subst, ◌∙◌, arith}
+use Rattle.std.proofs.Common.{append_assoc, length-append}
 use Rattle.std.specs.Prelude.{codes}
 use Rattle.std.specs.List.{AllByRecursion}
 use Rattle.std.proofs.lemmas.Bool.Decides.{nat_tests}
@@ -79,7 +80,8 @@ lifted book (listing had) l next (inl last) = record { to = ended had; step = in
 lifted book (listing had) l next (inr adds) = record {
   to = listing (had ++ adds.named ∷ []);
   step = inr (record { edit = adds.named; valid = adds.states.valid; spelled = adds.states.spelled; next_is = refl });
-  is = adds.next_is ∙ ap (λ (e : Edit). stage.Listing (edits_of book had ++ e ∷ [])) adds.states.edit_is ∙ ap (λ (r : List Edit). stage.Listing r) (sym (edits-push book had adds.named));
+  is = adds.next_is ∙ ap (λ (e : Edit). stage.Listing (edits_of book had ++ e ∷ [])) adds.states.edit_is
+      ∙ ap (λ (r : List Edit). stage.Listing r) (sym (edits-push book had adds.named));
 }
 lifted book (ended had) l next step = absurd step
 
@@ -96,7 +98,8 @@ ended_held book (listing had) edits is = absurd (cc is)
 ended_held book (ended had) edits is = (had, refl, cc is)
 
 -- each edit that the lines name has a count for each category of the book
-pub counts_of : (book : Book) (named : List NamedEdit) → AreNamedEdits (length book.supply) named → AllByRecursion (λ (e : Edit). length (edit_lots e) ≡ length book.supply) (edits_of book named)
+pub counts_of : (book : Book) (named : List NamedEdit) → AreNamedEdits (length book.supply) named → AllByRecursion
+    (λ (e : Edit). length (edit_lots e) ≡ length book.supply) (edits_of book named)
 counts_of book [] all = tt
 counts_of book (e ∷ named) all = (count_of e all.0, counts_of book named all.1)
   where
@@ -174,7 +177,8 @@ IsSound categories (listing had) = AreNamedEdits categories had
 IsSound categories (ended had) = AreNamedEdits categories had
 
 -- one more edit is one more line
-lines-push : (before : ℕ) (had : List NamedEdit) (e : NamedEdit) → edit_lines before (had ++ e ∷ []) ≡ edit_lines before had ++ (edit_text e, edit_excess (before + length had + 1)) ∷ []
+lines-push : (before : ℕ) (had : List NamedEdit) (e : NamedEdit) → edit_lines before (had ++ e ∷ []) ≡ edit_lines before had
+    ++ (edit_text e, edit_excess (before + length had + 1)) ∷ []
 lines-push before [] e = ap (λ (n : ℕ). (edit_text e, edit_excess n) ∷ []) (let same : before + 1 ≡ before + 0 + 1 = omega arith in same)
 lines-push before (d ∷ had) e =
     ap (λ (r : List Line). (edit_text d, edit_excess (before + 1)) ∷ r)
@@ -182,16 +186,19 @@ lines-push before (d ∷ had) e =
 
 module _ (categories : ℕ) where
   -- a step keeps a stage sound, and its line stands behind the next stage
-  step_behind : (s t : NamedStage) (l : List ℕ) → IsSound categories s → NamedStep categories s l t → IsSound categories t × (behind t ≡ behind s ++ (l, named_excess t) ∷ [])
+  step_behind : (s t : NamedStage) (l : List ℕ) → IsSound categories s → NamedStep categories s l t → IsSound categories t
+      × (behind t ≡ behind s ++ (l, named_excess t) ∷ [])
   step_behind s t l = by_stage s
     where
       F : List Line → List ℕ → NamedStage → Type 0
       F before line u = IsSound categories u × (behind u ≡ before ++ (line, named_excess u) ∷ [])
 
       move : (before : List Line) (line : List ℕ) (u : NamedStage) → l ≡ line → t ≡ u → F before line u → F before l t
-      move before line u line_is stage_is here = subst (λ (v : NamedStage). F before l v) (sym stage_is) (subst (λ (m : List ℕ). F before m u) (sym line_is) here)
+      move before line u line_is stage_is here = subst (λ (v : NamedStage). F before l v) (sym stage_is)
+          (subst (λ (m : List ℕ). F before m u) (sym line_is) here)
 
-      more : (had : List NamedEdit) (e : NamedEdit) → behind (listing (had ++ e ∷ [])) ≡ behind (listing had) ++ (edit_text e, edit_excess (length (had ++ e ∷ []))) ∷ []
+      more : (had : List NamedEdit) (e : NamedEdit) → behind (listing (had ++ e ∷ [])) ≡ behind (listing had)
+          ++ (edit_text e, edit_excess (length (had ++ e ∷ []))) ∷ []
       more had e =
           let count : 0 + length had + 1 ≡ length (had ++ e ∷ []) = omega (arith, length-append had (e ∷ [])) in
           ap (λ (r : List Line). (codes "edits 1", None) ∷ r) (lines-push 0 had e ∙ ap (λ (n : ℕ). edit_lines 0 had ++ (edit_text e, edit_excess n) ∷ []) count)
@@ -200,7 +207,8 @@ module _ (categories : ℕ) where
       by_stage beginning sound step = move [] (codes "edits 1") (listing []) step.0 step.1 (tt, refl)
       by_stage (listing had) sound (inl last) = move (behind (listing had)) (codes "end") (ended had) last.0 last.1 (sound, refl)
       by_stage (listing had) sound (inr adds) =
-          move (behind (listing had)) (edit_text adds.edit) (listing (had ++ adds.edit ∷ [])) adds.spelled adds.next_is (each-push (IsNamedEdit categories) had adds.edit sound adds.valid, more had adds.edit)
+          move (behind (listing had)) (edit_text adds.edit) (listing (had ++ adds.edit ∷ [])) adds.spelled adds.next_is
+          (each-push (IsNamedEdit categories) had adds.edit sound adds.valid, more had adds.edit)
       by_stage (ended had) sound step = absurd step
 
   front_of : (s : NamedStage) → IsSound categories s → FrontOf (AreNamedEdits categories) lines (behind s)
@@ -214,13 +222,16 @@ module _ (categories : ℕ) where
   front_of (ended had) sound = record { value = had; count = length (lines had); valid = sound; same = take_all (length (lines had)) (lines had) (omega arith) }
 
   -- the stages go over the lines of edits
-  edits_run : (had es : List NamedEdit) → AreNamedEdits categories es → Runs (NamedStep categories) named_excess (listing had) (edit_lines (length had) es) (listing (had ++ es))
+  edits_run : (had es : List NamedEdit) → AreNamedEdits categories es → Runs (NamedStep categories) named_excess (listing had) (edit_lines (length had) es)
+      (listing (had ++ es))
   edits_run had [] all = ap listing (sym (append-nil had))
   edits_run had (e ∷ es) all =
       let rest = edits_run (had ++ e ∷ []) es all.1 in
       let moved : Runs (NamedStep categories) named_excess (listing (had ++ e ∷ [])) (edit_lines (length had + 1) es) (listing (had ++ e ∷ es)) =
-      subst (λ (r : List NamedEdit). Runs (NamedStep categories) named_excess (listing (had ++ e ∷ [])) (edit_lines (length had + 1) es) (listing r)) (append_assoc had (e ∷ []) es)
-      (subst (λ (n : ℕ). Runs (NamedStep categories) named_excess (listing (had ++ e ∷ [])) (edit_lines n es) (listing ((had ++ e ∷ []) ++ es))) (length-append had (e ∷ [])) rest) in (
+      subst (λ (r : List NamedEdit). Runs (NamedStep categories) named_excess (listing (had ++ e ∷ [])) (edit_lines (length had + 1) es) (listing r))
+      (append_assoc had (e ∷ []) es)
+      (subst (λ (n : ℕ). Runs (NamedStep categories) named_excess (listing (had ++ e ∷ [])) (edit_lines n es) (listing ((had ++ e ∷ []) ++ es)))
+      (length-append had (e ∷ [])) rest) in (
         listing (had ++ e ∷ []),
         edit_feeds categories e all.0,
         inr (record { edit = e; valid = all.0; spelled = refl; next_is = refl }),
@@ -231,7 +242,8 @@ module _ (categories : ℕ) where
   complete : (edits : List NamedEdit) → AreNamedEdits categories edits → Runs (NamedStep categories) named_excess begin (lines edits) (finish edits)
   complete edits valid =
       let body = edits_run [] edits valid in
-      let last : Runs (NamedStep categories) named_excess (listing edits) ((codes "end", None) ∷ []) (finish edits) = (finish edits, end_word, inl (refl, refl), refl, refl) in (
+      let last : Runs (NamedStep categories) named_excess (listing edits) ((codes "end", None) ∷ []) (finish edits) =
+      (finish edits, end_word, inl (refl, refl), refl, refl) in (
         listing [],
         first_word,
         (refl, refl),
@@ -248,7 +260,8 @@ module _ (categories : ℕ) where
       by_stage (listing had) sound (inl a) (inr b) = absurd (end_no_edit b.edit l a.0 b.spelled)
       by_stage (listing had) sound (inr a) (inl b) = absurd (end_no_edit a.edit l b.0 a.spelled)
       by_stage (listing had) sound (inr a) (inr b) =
-          a.next_is ∙ ap (λ (e : NamedEdit). listing (had ++ e ∷ [])) (edit_one categories a.edit b.edit a.valid b.valid (sym a.spelled ∙ b.spelled)) ∙ sym b.next_is
+          a.next_is ∙ ap (λ (e : NamedEdit). listing (had ++ e ∷ [])) (edit_one categories a.edit b.edit a.valid b.valid (sym a.spelled ∙ b.spelled))
+          ∙ sym b.next_is
       by_stage (ended had) sound a b = absurd a
 
   one_value : (v w : List NamedEdit) → finish v ≡ finish w → v ≡ w

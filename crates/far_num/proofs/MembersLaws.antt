@@ -15,7 +15,8 @@ pair_same a b c d e f = cc
 member_added : (members : ℕ) (xs : List Far) (n : ℕ) → bit_at members n ≡ 1 → members_sum members xs (suc n) ≡ sum_of (members_sum members xs n) (pair_at xs n)
 member_added members xs n is =
     let one : (y : ℤ) → holds members n *ℤ y ≡ y = λ y. ap (λ (b : ℕ). pos b *ℤ y) is ∙ *ℤ_comm (pos 1) y ∙ *ℤ-one y in
-    pair_same _ _ _ _ (ap (λ (y : ℤ). (members_sum members xs n).far +ℤ y) (one (far_at xs n))) (ap (λ (y : ℤ). (members_sum members xs n).near +ℤ y) (one (near_at xs n)))
+    pair_same _ _ _ _ (ap (λ (y : ℤ). (members_sum members xs n).far +ℤ y) (one (far_at xs n)))
+    (ap (λ (y : ℤ). (members_sum members xs n).near +ℤ y) (one (near_at xs n)))
 
 other_left_out : (members : ℕ) (xs : List Far) (n : ℕ) → bit_at members n ≡ 0 → members_sum members xs (suc n) ≡ members_sum members xs n
 other_left_out members xs n is =
@@ -39,7 +40,8 @@ pub record IsAtEntry (members : ℕ) (xs : List Far) (n : ℕ) (sum : Far) (left
   pub inside : StayInRange members xs n
 
 -- past an entry that is no member the sum stays as it is, and one bit fewer is left
-pub passed_other : (members : ℕ) (xs : List Far) (n : ℕ) (sum : Far) (left : ℕ) → IsAtEntry members xs n sum left → left % 2 ≡ 0 → IsAtEntry members xs (suc n) sum (left / 2)
+pub passed_other : (members : ℕ) (xs : List Far) (n : ℕ) (sum : Far) (left : ℕ) → IsAtEntry members xs n sum left → left % 2 ≡ 0
+    → IsAtEntry members xs (suc n) sum (left / 2)
 passed_other members xs n sum left h bit =
     let same = other_left_out members xs n (ap (λ (k : ℕ). k % 2) (sym h.left_is) ∙ bit) in
     record {
@@ -49,7 +51,8 @@ passed_other members xs n sum left h bit =
     }
 
 -- past a member the sum grows by its pair, where that stays in the range, and one bit fewer is left
-pub passed_member : (members : ℕ) (xs : List Far) (n : ℕ) (sum next x : Far) (left : ℕ) → IsAtEntry members xs n sum left → left % 2 ≡ 1 → x ≡ pair_at xs n → next ≡ sum_of sum x → IsInRange (sum_of sum x) → IsAtEntry members xs (suc n) next (left / 2)
+pub passed_member : (members : ℕ) (xs : List Far) (n : ℕ) (sum next x : Far) (left : ℕ) → IsAtEntry members xs n sum left → left % 2 ≡ 1 → x ≡ pair_at xs n
+    → next ≡ sum_of sum x → IsInRange (sum_of sum x) → IsAtEntry members xs (suc n) next (left / 2)
 passed_member members xs n sum next x left h bit item is here =
     let more : sum_of sum x ≡ members_sum members xs (suc n) =
     ap (sum_of sum) item ∙ ap (λ (s : Far). sum_of s (pair_at xs n)) h.sum_is ∙ sym (member_added members xs n (ap (λ (k : ℕ). k % 2) (sym h.left_is) ∙ bit)) in

@@ -30,15 +30,18 @@ module _ (lines : List (List ℤ)) (fars nears : List ℤ) (ps : List Pivot) (sy
   signs = system.signs
 
   plain : (k : ℕ) → k < length lines → (z : ℕ → ℤ) → dot (length lines) (λ (i : ℕ). pos (unsigned_abs (row lines k i))) z ≡ dot (length lines) (row lines k) z
-  plain k l z = total-same (length lines) (λ (i : ℕ). pos (unsigned_abs (row lines k i)) *ℤ z i) (λ (i : ℕ). row lines k i *ℤ z i) (λ i li. ap (λ (x : ℤ). x *ℤ z i) (signs k i l li))
+  plain k l z = total-same (length lines) (λ (i : ℕ). pos (unsigned_abs (row lines k i)) *ℤ z i) (λ (i : ℕ). row lines k i *ℤ z i)
+      (λ i li. ap (λ (x : ℤ). x *ℤ z i) (signs k i l li))
 
   inj : Injective (length lines) (λ (m i : ℕ). pos (unsigned_abs (row lines m i)))
   inj z h i l = only z (λ k lk. sym (plain k lk z) ∙ h k lk) i l
 
-  shared_by : (limit : ℕ) → 1 ≤ limit → AreSized limit (length lines) lines → Common (length lines) limit (λ (m i : ℕ). pos (unsigned_abs (row lines m i))) (nth fars) (nth nears)
+  shared_by : (limit : ℕ) → 1 ≤ limit → AreSized limit (length lines) lines → Common (length lines) limit (λ (m i : ℕ). pos (unsigned_abs (row lines m i)))
+      (nth fars) (nth nears)
   shared_by limit some sized = common (length lines) limit (λ (m i : ℕ). unsigned_abs (row lines m i)) (nth fars) (nth nears) some inj sized
 
-  product_of : (f v r : ℕ → ℤ) (k : ℤ) (i : ℕ) → i < length lines → Clears (length lines) (row lines) f i → ((m : ℕ) → m < length lines → dot (length lines) (row lines m) v ≡ k *ℤ r m) →
+  product_of : (f v r : ℕ → ℤ) (k : ℤ) (i : ℕ) → i < length lines → Clears (length lines) (row lines) f i
+      → ((m : ℕ) → m < length lines → dot (length lines) (row lines m) v ≡ k *ℤ r m) →
       dot (length lines) f (λ (m : ℕ). row lines m i) *ℤ v i ≡ k *ℤ dot (length lines) f r
   product_of f v r k i l c h =
       sym (pick (length lines) (row lines) f v i l c.clear)
@@ -51,7 +54,8 @@ module _ (lines : List (List ℤ)) (fars nears : List ℤ) (ps : List Pivot) (sy
   two : (c far x d e : ℤ) → c ≡ e → far ≡ d → (k : ℤ) → e *ℤ x ≡ k *ℤ d → c *ℤ x ≡ k *ℤ far
   two c far x d e h g k l = ap (λ (t : ℤ). t *ℤ x) h ∙ l ∙ ap (λ (t : ℤ). k *ℤ t) (sym g)
 
-  whole_by : (limit : ℕ) (shared : Common (length lines) limit (λ (m i : ℕ). pos (unsigned_abs (row lines m i))) (nth fars) (nth nears)) → AreWhole (length ps) ps (pos shared.den)
+  whole_by : (limit : ℕ) (shared : Common (length lines) limit (λ (m i : ℕ). pos (unsigned_abs (row lines m i))) (nth fars) (nth nears))
+      → AreWhole (length ps) ps (pos shared.den)
   whole_by limit shared i l =
       let p = are i (low i l) in
       let c = clears_of i lines p.f p.clearing in (
@@ -90,18 +94,23 @@ module _ (lines : List (List ℤ)) (fars nears : List ℤ) (ps : List Pivot) (sy
         pivot_apart (length lines) (row lines) only (nth p.f) i (low i l) (clears_of i lines p.f p.clearing) (sym p.c_is ∙ e);
     cs = λ i l.
         let p = are i (low i l) in
-        mono own_shared.den (system.limit ^ length lines) (unsigned_abs (pivot ps i).c) (system.limit * bound system.limit (length lines)) (2 ^ 120) own_shared.small
+        mono own_shared.den (system.limit ^ length lines) (unsigned_abs (pivot ps i).c) (system.limit * bound system.limit (length lines))
+        (2 ^ 120) own_shared.small
         (c_small i system.limit lines p.f p.clearing system.within.some system.within.columns (pivot ps i).c p.c_is (low i l)) system.cs;
     fars = λ i l.
         let p = are i (low i l) in
         wider (own_shared.den * unsigned_abs (pivot ps i).far)
-        (mono own_shared.den (system.limit ^ length lines) (unsigned_abs (pivot ps i).far) (length lines * bound system.limit (length lines) * system.edge) (2 ^ 119) own_shared.small
-        (part_small i system.limit lines p.f p.clearing system.within.some system.within.columns (nth fars) system.edge (pivot ps i).far p.far_is system.within.far_sizes) system.parts);
+        (mono own_shared.den (system.limit ^ length lines) (unsigned_abs (pivot ps i).far) (length lines * bound system.limit (length lines) * system.edge)
+        (2 ^ 119) own_shared.small
+        (part_small i system.limit lines p.f p.clearing system.within.some system.within.columns (nth fars) system.edge
+        (pivot ps i).far p.far_is system.within.far_sizes) system.parts);
     nears = λ i l.
         let p = are i (low i l) in
         wider (own_shared.den * unsigned_abs (pivot ps i).near)
-        (mono own_shared.den (system.limit ^ length lines) (unsigned_abs (pivot ps i).near) (length lines * bound system.limit (length lines) * system.edge) (2 ^ 119) own_shared.small
-        (part_small i system.limit lines p.f p.clearing system.within.some system.within.columns (nth nears) system.edge (pivot ps i).near p.near_is system.within.near_sizes) system.parts);
+        (mono own_shared.den (system.limit ^ length lines) (unsigned_abs (pivot ps i).near) (length lines * bound system.limit (length lines) * system.edge)
+        (2 ^ 119) own_shared.small
+        (part_small i system.limit lines p.f p.clearing system.within.some system.within.columns (nth nears) system.edge
+        (pivot ps i).near p.near_is system.within.near_sizes) system.parts);
   }
 
   -- no other values over any e
@@ -111,7 +120,8 @@ module _ (lines : List (List ℤ)) (fars nears : List ℤ) (ps : List Pivot) (sy
     only = λ y e g i l.
         minus_out (d *ℤ y i) (e *ℤ x i)
         (only (λ (i : ℕ). d *ℤ y i -ℤ e *ℤ x i)
-        (λ k lk. dot-lin (length lines) d e (row lines k) y x ∙ equal_out d e (dot (length lines) (row lines k) y) (dot (length lines) (row lines k) x) (r k) (g k lk) (h k lk)) i l);
+        (λ k lk. dot-lin (length lines) d e (row lines k) y x ∙ equal_out d e (dot (length lines) (row lines k) y) (dot (length lines) (row lines k) x) (r k)
+        (g k lk) (h k lk)) i l);
   }
     where
       minus_out : (x y : ℤ) → x -ℤ y ≡ pos 0 → x ≡ y
@@ -120,7 +130,8 @@ module _ (lines : List (List ℤ)) (fars nears : List ℤ) (ps : List Pivot) (sy
       equal_out : (d e p q r : ℤ) → p ≡ e *ℤ r → q ≡ d *ℤ r → d *ℤ p -ℤ e *ℤ q ≡ pos 0
       equal_out d e p q r h g = omega (arith, lin, ap (λ (t : ℤ). d *ℤ t) h, ap (λ (t : ℤ). e *ℤ t) g, swap_mul d e r)
 
-  module _ (den : ℤ) (values : List Far) (cd : IsCommonDen ps den) (lv : length values ≡ length ps) (av : AreValues ps den (length ps) (far_at values) (near_at values)) where
+  module _ (den : ℤ) (values : List Far) (cd : IsCommonDen ps den) (lv : length values ≡ length ps)
+      (av : AreValues ps den (length ps) (far_at values) (near_at values)) where
     up : (i : ℕ) → i < length lines → i < length ps
     up i l = subst (λ (n : ℕ). i < n) (sym long) l
 
@@ -131,15 +142,26 @@ module _ (lines : List (List ℤ)) (fars nears : List ℤ) (ps : List Pivot) (sy
       long = lv ∙ long;
       far = others (far_at values) (nth fars) den
           (solution (length lines) (row lines) only (nth fars) (far_at values) den
-          (λ i l. let p = are i l in (nth p.f, clears_of i lines p.f p.clearing, ap (λ (t : ℤ). t *ℤ far_at values i) (sym p.c_is) ∙ av.far i (up i l) ∙ ap (λ (t : ℤ). den *ℤ t) p.far_is)));
+          (λ i l. let p = are i l in (
+            nth p.f,
+            clears_of i lines p.f p.clearing,
+            ap (λ (t : ℤ). t *ℤ far_at values i) (sym p.c_is) ∙ av.far i (up i l)
+                ∙ ap (λ (t : ℤ). den *ℤ t) p.far_is,
+          )));
       near = others (near_at values) (nth nears) den
           (solution (length lines) (row lines) only (nth nears) (near_at values) den
-          (λ i l. let p = are i l in (nth p.f, clears_of i lines p.f p.clearing, ap (λ (t : ℤ). t *ℤ near_at values i) (sym p.c_is) ∙ av.near i (up i l) ∙ ap (λ (t : ℤ). den *ℤ t) p.near_is)));
+          (λ i l. let p = are i l in (
+            nth p.f,
+            clears_of i lines p.f p.clearing,
+            ap (λ (t : ℤ). t *ℤ near_at values i) (sym p.c_is) ∙ av.near i (up i l)
+                ∙ ap (λ (t : ℤ). den *ℤ t) p.near_is,
+          )));
     }
 
     value_small : (c x d f : ℤ) (top e : ℕ) → c ≢ pos 0 → c *ℤ x ≡ d *ℤ f → unsigned_abs d ≤ top → unsigned_abs f ≤ e → unsigned_abs x < top * e + 1
     value_small c x d f top e nc h ld lf =
-        go (unsigned_abs c) (unsigned_abs x) (unsigned_abs d) (unsigned_abs f) (abs_pos c nc) (sym (unsigned_abs-mul c x) ∙ ap unsigned_abs h ∙ unsigned_abs-mul d f) ld lf
+        go (unsigned_abs c) (unsigned_abs x) (unsigned_abs d) (unsigned_abs f) (abs_pos c nc)
+        (sym (unsigned_abs-mul c x) ∙ ap unsigned_abs h ∙ unsigned_abs-mul d f) ld lf
       where
         factor_le : (c x p : ℕ) → 0 < c → c * x ≡ p → x ≤ p
         factor_le c x p l e = grind arith
@@ -152,7 +174,8 @@ module _ (lines : List (List ℤ)) (fars nears : List ℤ) (ps : List Pivot) (sy
       by_limit = shared_by limit w.some w.sized
 
       den_within : unsigned_abs den ≤ limit ^ length lines
-      den_within = den_small ps den (pos by_limit.den) (limit ^ length lines) cd.least (omega (arith, ints, by_limit.some)) (whole_by limit by_limit) by_limit.small
+      den_within = den_small ps den (pos by_limit.den) (limit ^ length lines) cd.least (omega (arith, ints, by_limit.some))
+          (whole_by limit by_limit) by_limit.small
 
       -- by each limit that the system keeps, the answer of this denominator and these values is small
       pub small_answer : IsSmallAnswer (limit ^ length lines + 1) (most limit edge (length lines) + 1) (One den values)
@@ -162,9 +185,11 @@ module _ (lines : List (List ℤ)) (fars nears : List ℤ) (ps : List Pivot) (sy
             let li : i < length ps = subst (λ (n : ℕ). i < n) lv l in
             let p = are i (low i li) in
             let hc : HaveCommon ps = have_common in (
-              value_small (pivot ps i).c (far_at values i) den (pivot ps i).far (limit ^ length lines) (length lines * bound limit (length lines) * edge) (hc.apart i li) (av.far i li) den_within
+              value_small (pivot ps i).c (far_at values i) den (pivot ps i).far (limit ^ length lines) (length lines * bound limit (length lines) * edge)
+                  (hc.apart i li) (av.far i li) den_within
                   (part_small i limit lines p.f p.clearing w.some w.columns (nth fars) edge (pivot ps i).far p.far_is w.far_sizes),
-              value_small (pivot ps i).c (near_at values i) den (pivot ps i).near (limit ^ length lines) (length lines * bound limit (length lines) * edge) (hc.apart i li) (av.near i li) den_within
+              value_small (pivot ps i).c (near_at values i) den (pivot ps i).near (limit ^ length lines) (length lines * bound limit (length lines) * edge)
+                  (hc.apart i li) (av.near i li) den_within
                   (part_small i limit lines p.f p.clearing w.some w.columns (nth nears) edge (pivot ps i).near p.near_is w.near_sizes),
             ),
       )

@@ -1,5 +1,6 @@
 -- A basis of the rows that a list of equations sends to 0: one row for each free coordinate. The row of a free coordinate is 0 at the others.
-use Rattle.std.proofs.Common.{◌≡◌, ◌≢◌, ℕ, zero, suc, ◌<◌, ◌≤◌, ℤ, pos, ◌-ℤ◌, ◌*ℤ◌, refl, sym, ap, ◌∙◌, subst, arith, List, [], ◌∷◌, inl, inr, length, Bool, true, false, cond}
+use Rattle.std.proofs.Common.{◌≡◌, ◌≢◌, ℕ, zero, suc, ◌<◌, ◌≤◌, ℤ, pos, ◌-ℤ◌, ◌*ℤ◌, refl, sym, ap, ◌∙◌, subst, arith, List, [], ◌∷◌, inl, inr, length, Bool}
+use Rattle.std.proofs.Common.{true, false, cond}
 use Rattle.std.proofs.lemmas.Int.{ints}
 use Rattle.std.proofs.lemmas.Bool.{cases_eq}
 use Rattle.std.proofs.Math.IntN.{*ℤ_comm, *ℤ-zero}
@@ -47,7 +48,8 @@ pub record Basis (n : ℕ) (free : ℕ → Bool) (kept : List (ℕ → ℤ)) (v 
   pub count : length kept ≤ taken n free
 
 -- where all coordinates are free, their unit rows are a basis for no rows at all
-pub start : (n : ℕ) (free : ℕ → Bool) (v : ℕ → ℕ → ℤ) → ((j : ℕ) → j < n → free j ≡ true) → ((j : ℕ) → j < n → v j j ≡ pos 1) → ((j l : ℕ) → j < n → l < n → l ≢ j → v j l ≡ pos 0) → Basis n free [] v
+pub start : (n : ℕ) (free : ℕ → Bool) (v : ℕ → ℕ → ℤ) → ((j : ℕ) → j < n → free j ≡ true) → ((j : ℕ) → j < n → v j j ≡ pos 1)
+    → ((j l : ℕ) → j < n → l < n → l ≢ j → v j l ≡ pos 0) → Basis n free [] v
 start n free v all one none = record {
   own = λ j b f e. absurd (omega (arith, ints, one j b, e));
   others = λ j l b c f g ne. none j l b c ne;
@@ -80,14 +82,20 @@ right_zero s t x y e h = omega (arith, lin, ap (λ (d : ℤ). s *ℤ d) e, *ℤ-
 pub taken_one : (n p : ℕ) (f g : ℕ → Bool) → p < n → f p ≡ true → g p ≡ false → ((i : ℕ) → i ≢ p → g i ≡ f i) → taken n g ≡ suc (taken n f)
 taken_one zero p f g l a b h = absurd (omega arith)
 taken_one (suc n) zero f g l a b h =
-    let e : taken n (λ (i : ℕ). g (suc i)) ≡ taken n (λ (i : ℕ). f (suc i)) = same n (λ (i : ℕ). f (suc i)) (λ (i : ℕ). g (suc i)) (λ i. h (suc i) (omega arith)) in
+    let e : taken n (λ (i : ℕ). g (suc i)) ≡ taken n (λ (i : ℕ). f (suc i)) = same n (λ (i : ℕ). f (suc i)) (λ (i : ℕ). g (suc i))
+    (λ i. h (suc i) (omega arith)) in
     simp (a, b) (omega (arith, e))
   where
     same : (n : ℕ) (f g : ℕ → Bool) → ((i : ℕ) → g i ≡ f i) → taken n g ≡ taken n f
     same zero f g h = refl
     same (suc n) f g h = omega (arith, ap held (h zero), same n (λ (i : ℕ). f (suc i)) (λ (i : ℕ). g (suc i)) (λ i. h (suc i)))
 taken_one (suc n) (suc p) f g l a b h =
-    omega (arith, ap held (h zero (omega arith)), taken_one n p (λ (i : ℕ). f (suc i)) (λ (i : ℕ). g (suc i)) (omega arith) a b (λ i ne. h (suc i) (omega arith)))
+    omega (
+      arith,
+      ap held (h zero (omega arith)),
+      taken_one n p (λ (i : ℕ). f (suc i)) (λ (i : ℕ). g (suc i)) (omega arith) a b
+          (λ i ne. h (suc i) (omega arith)),
+    )
 
 module _ (n : ℕ) (free free' : ℕ → Bool) (kept : List (ℕ → ℤ)) (v v' : ℕ → ℕ → ℤ) (a : ℕ → ℤ) (p : ℕ)
     (b : Basis n free kept v) (lp : p < n) (fp : free p ≡ true) (ap_ne : dot n a (v p) ≢ pos 0)
@@ -103,7 +111,8 @@ module _ (n : ℕ) (free free' : ℕ → Bool) (kept : List (ℕ → ℤ)) (v v'
   new_own j l f e =
       let c : Cleared n a (v j) (v p) (v' j) = new j l (still j f) (apart_p j f) in
       let z : v p j ≡ pos 0 = b.others p j lp l fp (still j f) (apart_p j f) in
-      let h : dot n a (v p) *ℤ v j j ≡ pos 0 = left_zero (dot n a (v p)) (dot n a (v j)) (v j j) (v p j) z (sym (c.is j l) ∙ ap (λ (x : ℤ). c.g *ℤ x) e ∙ *ℤ-zero c.g) in
+      let h : dot n a (v p) *ℤ v j j ≡ pos 0 = left_zero (dot n a (v p)) (dot n a (v j)) (v j j) (v p j) z
+      (sym (c.is j l) ∙ ap (λ (x : ℤ). c.g *ℤ x) e ∙ *ℤ-zero c.g) in
       b.own j l (still j f) (mul-zero_cases (dot n a (v p)) (v j j) h ap_ne)
 
   new_others : (j l : ℕ) → j < n → l < n → free' j ≡ true → free' l ≡ true → l ≢ j → v' j l ≡ pos 0
@@ -132,7 +141,8 @@ module _ (n : ℕ) (free free' : ℕ → Bool) (kept : List (ℕ → ℤ)) (v v'
         | inr ne ↦ minus_zero (v p p) (z p) (z i) (v p i) (h i bi (rest i ne ∙ f)) (b.others p i lp bi fp f ne)
       ]) in
       let k : z p *ℤ dot n a (v p) ≡ pos 0 =
-      right_zero (v p p) (z p) (dot n a z) (dot n a (v p)) s.0 (sym (dot-lin n (v p p) (z p) a z (v p)) ∙ dot-zero n a (λ (i : ℕ). v p p *ℤ z i -ℤ z p *ℤ v p i) y) in
+      right_zero (v p p) (z p) (dot n a z) (dot n a (v p)) s.0 (sym (dot-lin n (v p p) (z p) a z (v p))
+      ∙ dot-zero n a (λ (i : ℕ). v p p *ℤ z i -ℤ z p *ℤ v p i) y) in
       let zp : z p ≡ pos 0 = mul-zero_cases (dot n a (v p)) (z p) (*ℤ_comm (dot n a (v p)) (z p) ∙ k) ap_ne in
       mul-zero_cases (v p p) (z l) (clear (v p p) (z p) (z l) (v p l) zp (y l bl)) (b.own p lp fp)
     where

@@ -1,6 +1,7 @@
 -- The columns but one have a kernel row, and it clears them.
 use Rattle.std.proofs.Math.Nat.{le_of_eq, le_trans}
-use Rattle.std.proofs.Common.{◌≡◌, ℕ, zero, suc, ◌<◌, ◌≤◌, ℤ, pos, ◌*ℤ◌, refl, sym, ap, ◌∙◌, subst, arith, unsigned_abs, List, [], inl, inr, length, slice_index_or}
+use Rattle.std.proofs.Common.{◌≡◌, ℕ, zero, suc, ◌<◌, ◌≤◌, ℤ, pos, ◌*ℤ◌, refl, sym, ap, ◌∙◌, subst, arith, unsigned_abs, List, [], inl, inr, length}
+use Rattle.std.proofs.Common.{slice_index_or}
 use Rattle.std.proofs.lemmas.Bool.{cases_eq}
 use Rattle.far_num.specs.wide_num.proofs.Ints.{*ℤ-one}
 use Rattle.lin_solve.specs.Matrix.{row, IsCleared, OnlyZero}
@@ -26,9 +27,11 @@ module _ (out : ℕ) (lines all : List (List ℤ)) (b : IsBounded lines) (lo : o
       sized_at k l =
           let c = columns k l in
           elim (cases_eq k out) [
-            | inl e ↦ (let z : size (length lines) (row all k) ≡ 0 = nat_total-zero (length lines) (λ (i : ℕ). unsigned_abs (row all k i)) (λ i li. ap unsigned_abs (c.zero e i li)) in omega (arith, z))
+            | inl e ↦ (let z : size (length lines) (row all k) ≡ 0 = nat_total-zero (length lines) (λ (i : ℕ). unsigned_abs (row all k i))
+                (λ i li. ap unsigned_abs (c.zero e i li)) in omega (arith, z))
             | inr ne ↦ le_trans {m = size (length lines) (λ (m : ℕ). row lines m k)}
-                (nat_total-le (length lines) (λ (i : ℕ). unsigned_abs (row all k i)) (λ (i : ℕ). unsigned_abs (row lines i k)) (λ i li. le_of_eq (ap unsigned_abs (c.is ne i li))))
+                (nat_total-le (length lines) (λ (i : ℕ). unsigned_abs (row all k i)) (λ (i : ℕ). unsigned_abs (row lines i k))
+                (λ i li. le_of_eq (ap unsigned_abs (c.is ne i li))))
                 (h k l)
           ]
 

@@ -1,5 +1,6 @@
 -- The loop of the common denominator.
-use Rattle.std.proofs.Common.{◌≡◌, ℕ, zero, suc, ◌+◌, ◌*◌, ◌<◌, ◌≤◌, ◌^◌, ℤ, pos, ◌*ℤ◌, ◌≤ℤ◌, sym, ap, ◌∙◌, subst, arith, unsigned_abs, List, length, below_more}
+use Rattle.std.proofs.Common.{◌≡◌, ℕ, zero, suc, ◌+◌, ◌*◌, ◌<◌, ◌≤◌, ◌^◌, ℤ, pos, ◌*ℤ◌, ◌≤ℤ◌, sym, ap, ◌∙◌, subst, arith, unsigned_abs, List, length}
+use Rattle.std.proofs.Common.{below_more}
 use Rattle.std.proofs.lemmas.Int.{ints, unsigned_abs-mul}
 use Rattle.std.proofs.Math.IntN.{*ℤ_comm}
 use Rattle.far_num.specs.wide_num.proofs.Ints.{mul_assoc, *ℤ-one}
@@ -26,7 +27,8 @@ den_small ps den k top least p whole l =
     factor_below (unsigned_abs den) (unsigned_abs w.0) (unsigned_abs k) top (ap unsigned_abs w.1 ∙ unsigned_abs-mul den w.0) (one_abs k p) l
 
 -- a number that divides each k over which all are whole is at most the one that the pivots are known to have
-pub den_common : (ps : List Pivot) (den : ℤ) (h : HaveCommon ps) → ((k : ℤ) → AreWhole (length ps) ps k → (q : ℤ) × (k ≡ den *ℤ q)) → unsigned_abs den ≤ unsigned_abs h.k
+pub den_common : (ps : List Pivot) (den : ℤ) (h : HaveCommon ps) → ((k : ℤ) → AreWhole (length ps) ps k → (q : ℤ) × (k ≡ den *ℤ q))
+    → unsigned_abs den ≤ unsigned_abs h.k
 den_common ps den h least = den_small ps den h.k (unsigned_abs h.k) least h.positive h.whole (omega arith)
 
 -- where t times the size of y is in the range, so is the size of y times that of an x of at most t in size
@@ -52,7 +54,8 @@ scaled c u k f q d e h =
     sym (mul_assoc c u q) ∙ ap (λ (x : ℤ). x *ℤ q) h ∙ mul_assoc k f q ∙ ap (λ (x : ℤ). k *ℤ x) (*ℤ_comm f q) ∙ sym (mul_assoc k q f) ∙ ap (λ (x : ℤ). x *ℤ f) e
 
 -- where the first i pivots are whole over a denominator, one pivot more is whole over the grown one
-pub whole_more : (i : ℕ) (ps : List Pivot) (den d : ℤ) → AreWhole i ps den → IsGrown den (pivot ps i).c (pivot ps i).far (pivot ps i).near d → AreWhole (i + 1) ps d
+pub whole_more : (i : ℕ) (ps : List Pivot) (den d : ℤ) → AreWhole i ps den → IsGrown den (pivot ps i).c (pivot ps i).far (pivot ps i).near d
+    → AreWhole (i + 1) ps d
 whole_more i ps den d h g =
     below_more (λ (j : ℕ). IsWholeOver (pivot ps j).c (pivot ps j).far (pivot ps j).near d) i
     (λ j l. let w = h j l in (
@@ -62,7 +65,8 @@ whole_more i ps den d h g =
     ((g.far_part, g.fars), (g.near_part, g.nears))
 
 -- where a denominator divides each k over which all are whole, so does the grown one
-pub least_more : (i : ℕ) (ps : List Pivot) (den d : ℤ) → i < length ps → ((k : ℤ) → AreWhole (length ps) ps k → (q : ℤ) × (k ≡ den *ℤ q)) → IsGrown den (pivot ps i).c (pivot ps i).far (pivot ps i).near d → (k : ℤ) → AreWhole (length ps) ps k → (q : ℤ) × (k ≡ d *ℤ q)
+pub least_more : (i : ℕ) (ps : List Pivot) (den d : ℤ) → i < length ps → ((k : ℤ) → AreWhole (length ps) ps k → (q : ℤ) × (k ≡ den *ℤ q))
+    → IsGrown den (pivot ps i).c (pivot ps i).far (pivot ps i).near d → (k : ℤ) → AreWhole (length ps) ps k → (q : ℤ) × (k ≡ d *ℤ q)
 least_more i ps den d l least g k h =
     let m = least k h in
     let w = h i l in
@@ -73,11 +77,13 @@ pub least_one : (ps : List Pivot) (k : ℤ) → AreWhole (length ps) ps k → (q
 least_one ps k h = (k, sym (*ℤ_comm (pos 1) k ∙ *ℤ-one k))
 
 -- a denominator over which all pivots are whole, and that divides each k of that kind, is the common one
-pub finished : (i : ℕ) (ps : List Pivot) (den : ℤ) → i ≡ length ps → pos 1 ≤ℤ den → AreWhole i ps den → ((k : ℤ) → AreWhole (length ps) ps k → (q : ℤ) × (k ≡ den *ℤ q)) → IsCommonDen ps den
+pub finished : (i : ℕ) (ps : List Pivot) (den : ℤ) → i ≡ length ps → pos 1 ≤ℤ den → AreWhole i ps den
+    → ((k : ℤ) → AreWhole (length ps) ps k → (q : ℤ) × (k ≡ den *ℤ q)) → IsCommonDen ps den
 finished i ps den e p w least = record { positive = p; whole = subst (λ (n : ℕ). AreWhole n ps den) e w; least = least }
 
 -- the values of the first i pivots with the value of the next one pushed are those of i + 1 pivots
-pub values_more : (ps : List Pivot) (den : ℤ) (i : ℕ) (xs ys : List Far) (f : Far) → ys ≡ xs ++ f ∷ [] → length xs ≡ i → AreValues ps den i (far_at xs) (near_at xs) →
+pub values_more : (ps : List Pivot) (den : ℤ) (i : ℕ) (xs ys : List Far) (f : Far) → ys ≡ xs ++ f ∷ [] → length xs ≡ i
+    → AreValues ps den i (far_at xs) (near_at xs) →
     (pivot ps i).c *ℤ f.far ≡ den *ℤ (pivot ps i).far → (pivot ps i).c *ℤ f.near ≡ den *ℤ (pivot ps i).near → AreValues ps den (i + 1) (far_at ys) (near_at ys)
 values_more ps den i xs ys f e l h a b = record {
   far = below_more (λ (k : ℕ). (pivot ps k).c *ℤ far_at ys k ≡ den *ℤ (pivot ps k).far) i

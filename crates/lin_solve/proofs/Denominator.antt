@@ -1,5 +1,6 @@
 -- A denominator that shares no factor with its numerators is at most the number of lists of sums.
-use Rattle.std.proofs.Common.{◌≡◌, ℕ, zero, suc, ◌+◌, ◌-◌, ◌*◌, ◌/◌, ◌%◌, ◌^◌, ◌<◌, ◌≤◌, ℤ, pos, negsuc, ◌+ℤ◌, ◌-ℤ◌, ◌*ℤ◌, neg_ℤ, refl, sym, ap, ◌∙◌, subst, arith, unsigned_abs, inl, inr}
+use Rattle.std.proofs.Common.{◌≡◌, ℕ, zero, suc, ◌+◌, ◌-◌, ◌*◌, ◌/◌, ◌%◌, ◌^◌, ◌<◌, ◌≤◌, ℤ, pos, negsuc, ◌+ℤ◌, ◌-ℤ◌, ◌*ℤ◌, neg_ℤ, refl, sym, ap, ◌∙◌, subst}
+use Rattle.std.proofs.Common.{arith, unsigned_abs, inl, inr}
 use Rattle.std.proofs.lemmas.Int.{ints}
 use Rattle.std.proofs.lemmas.Bool.{cases_lt}
 use Rattle.std.proofs.lemmas.Nat.Gcd.{mod-eq-zero_of_dvd}
@@ -54,7 +55,17 @@ front x f (suc i) = f i
 
 -- d and any n numbers have a common divisor that is a combination of them
 pub content : (n d : ℕ) (p : ℕ → ℤ) → Content n d p
-content zero d p = record { g = d; rest = 1; whole = omega arith; x = pos 1; e = λ (i : ℕ). pos 0; sum_is = omega (arith, ints); part = λ (i : ℕ). pos 0; parts = λ i l. absurd (omega arith) }
+content zero d p = record {
+  g = d;
+  rest = 1;
+  whole = omega arith;
+  x = pos 1;
+  e = λ (i : ℕ). pos 0;
+  sum_is = omega (arith, ints);
+  part =
+      λ (i : ℕ). pos 0;
+  parts = λ i l. absurd (omega arith);
+}
 content (suc n) d p =
     let r : Content n d (λ (i : ℕ). p (suc i)) = content n d (λ (i : ℕ). p (suc i)) in
     let w : Combined r.g (unsigned_abs (p zero)) = combined (unsigned_abs (p zero)) r.g (unsigned_abs (p zero)) (omega arith) in
@@ -64,7 +75,9 @@ content (suc n) d p =
       whole = whole_is r.rest (r.g / w.g) w.g r.g d (div_out w.g r.g (mod-eq-zero_of_dvd w.g w.is.0)) r.whole;
       x = w.s *ℤ r.x;
       e = front (w.t *ℤ sign_of (p zero)) (λ (i : ℕ). w.s *ℤ r.e i);
-      sum_is = ap (λ (y : ℤ). w.s *ℤ r.x *ℤ pos d +ℤ y) (total-first n (λ (i : ℕ). front (w.t *ℤ sign_of (p zero)) (λ (i : ℕ). w.s *ℤ r.e i) i *ℤ p i)) ∙ sum_of w.s w.t (p zero) (pos (unsigned_abs (p zero))) (sign_of (p zero)) r.x (pos d) (dot n r.e (λ (i : ℕ). p (suc i))) (pos r.g) (pos w.g) (dot n (λ (i : ℕ). w.s *ℤ r.e i) (λ (i : ℕ). p (suc i)))
+      sum_is = ap (λ (y : ℤ). w.s *ℤ r.x *ℤ pos d +ℤ y) (total-first n (λ (i : ℕ). front (w.t *ℤ sign_of (p zero)) (λ (i : ℕ). w.s *ℤ r.e i) i *ℤ p i))
+          ∙ sum_of w.s w.t (p zero) (pos (unsigned_abs (p zero))) (sign_of (p zero)) r.x (pos d) (dot n r.e (λ (i : ℕ). p (suc i))) (pos r.g) (pos w.g)
+          (dot n (λ (i : ℕ). w.s *ℤ r.e i) (λ (i : ℕ). p (suc i)))
           (size_is (p zero)) r.sum_is (dot-scale_left n w.s r.e (λ (i : ℕ). p (suc i))) w.sum_is;
       part = front (sign_of (p zero) *ℤ pos (unsigned_abs (p zero) / w.g)) (λ (i : ℕ). pos (r.g / w.g) *ℤ r.part i);
       parts = parts_of n w.g r.g p r.part (r.g / w.g) (div_out w.g r.g (mod-eq-zero_of_dvd w.g w.is.0)) (mod-eq-zero_of_dvd w.g w.is.1) r.parts;
@@ -80,10 +93,12 @@ content (suc n) d p =
     sum_of s t p0 a0 sg x d y g w sy ha h hs k =
         omega (arith, lin, mul_assoc s x d, mul_assoc t sg p0, ap (λ (v : ℤ). t *ℤ v) ha, hs, mul-add s (x *ℤ d) y, ap (λ (v : ℤ). s *ℤ v) h, k)
 
-    parts_of : (n g b : ℕ) (p part : ℕ → ℤ) (q : ℕ) → q * g ≡ b → unsigned_abs (p zero) % g ≡ 0 → ((i : ℕ) → i < n → pos b *ℤ part i ≡ p (suc i)) → (i : ℕ) → i < suc n → pos g *ℤ front (sign_of (p zero) *ℤ pos (unsigned_abs (p zero) / g)) (λ (i : ℕ). pos q *ℤ part i) i ≡ p i
+    parts_of : (n g b : ℕ) (p part : ℕ → ℤ) (q : ℕ) → q * g ≡ b → unsigned_abs (p zero) % g ≡ 0 → ((i : ℕ) → i < n → pos b *ℤ part i ≡ p (suc i)) → (i : ℕ)
+        → i < suc n → pos g *ℤ front (sign_of (p zero) *ℤ pos (unsigned_abs (p zero) / g)) (λ (i : ℕ). pos q *ℤ part i) i ≡ p i
     parts_of n g b p part q h z more zero l =
         swap_mul (pos g) (sign_of (p zero)) (pos (unsigned_abs (p zero) / g))
-        ∙ ap (λ (x : ℤ). sign_of (p zero) *ℤ x) (ap pos (let e : g * (unsigned_abs (p zero) / g) ≡ unsigned_abs (p zero) = omega (arith, div-add-mod (unsigned_abs (p zero)) g) in e))
+        ∙ ap (λ (x : ℤ). sign_of (p zero) *ℤ x) (ap pos (let e : g * (unsigned_abs (p zero) / g) ≡ unsigned_abs (p zero) =
+        omega (arith, div-add-mod (unsigned_abs (p zero)) g) in e))
         ∙ from_size (p zero)
     parts_of n g b p part q h z more (suc i) l =
         sym (mul_assoc (pos g) (pos q) (part i)) ∙ ap (λ (x : ℤ). x *ℤ part i) (ap pos (let e : g * q ≡ b = omega (arith, h) in e)) ∙ more i (omega arith)
@@ -112,16 +127,19 @@ unfolding code
 code_below zero s w h = omega (arith, pow-zero (suc s))
 code_below (suc n) s w h =
     let l : w zero + suc s * code n s (λ (i : ℕ). w (suc i)) < suc s * suc s ^ n =
-    joined_below (w zero) s (code n s (λ (i : ℕ). w (suc i))) (suc s ^ n) (h zero (omega arith)) (code_below n s (λ (i : ℕ). w (suc i)) (λ i b. h (suc i) (omega arith))) in
+    joined_below (w zero) s (code n s (λ (i : ℕ). w (suc i))) (suc s ^ n) (h zero (omega arith))
+    (code_below n s (λ (i : ℕ). w (suc i)) (λ i b. h (suc i) (omega arith))) in
     omega (arith, l, pow-suc (suc s) n)
 
 code_same : (n s : ℕ) (w v : ℕ → ℕ) → ((i : ℕ) → i < n → w i ≤ s) → ((i : ℕ) → i < n → v i ≤ s) → code n s w ≡ code n s v → (i : ℕ) → i < n → w i ≡ v i
 unfolding code
 code_same zero s w v h k e i l = absurd (omega arith)
-code_same (suc n) s w v h k e zero l = (joined_same (w zero) s (code n s (λ (i : ℕ). w (suc i))) (v zero) (code n s (λ (i : ℕ). v (suc i))) (h zero (omega arith)) (k zero (omega arith)) e).0
+code_same (suc n) s w v h k e zero l = (joined_same (w zero) s (code n s (λ (i : ℕ). w (suc i))) (v zero) (code n s (λ (i : ℕ). v (suc i)))
+    (h zero (omega arith)) (k zero (omega arith)) e).0
 code_same (suc n) s w v h k e (suc i) l =
     code_same n s (λ (i : ℕ). w (suc i)) (λ (i : ℕ). v (suc i)) (λ i b. h (suc i) (omega arith)) (λ i b. k (suc i) (omega arith))
-    (joined_same (w zero) s (code n s (λ (i : ℕ). w (suc i))) (v zero) (code n s (λ (i : ℕ). v (suc i))) (h zero (omega arith)) (k zero (omega arith)) e).1 i (omega arith)
+    (joined_same (w zero) s (code n s (λ (i : ℕ). w (suc i))) (v zero) (code n s (λ (i : ℕ). v (suc i))) (h zero (omega arith)) (k zero (omega arith)) e).1 i
+    (omega arith)
 
 div_below : (d x s : ℕ) → 1 ≤ d → x ≤ s * (d - 1) → 1 ≤ s → x / d ≤ s - 1
 div_below d x s one h k =
@@ -159,28 +177,44 @@ module _ (n s d : ℕ) (a : ℕ → ℕ → ℕ) (p q b c : ℕ → ℤ) (s1 : 1
   value_at i j m = nat_total n (λ (l : ℕ). a m l * (rest_at i j l).r)
 
   -- the matrix sends the rests to a multiple of d
-  value_is : (i j m : ℕ) → m < n → pos (value_at i j m) ≡ pos d *ℤ (pos i *ℤ b m -ℤ neg_ℤ (pos j) *ℤ c m -ℤ dot n (λ (l : ℕ). pos (a m l)) (λ (l : ℕ). (rest_at i j l).q))
+  value_is : (i j m : ℕ) → m < n → pos (value_at i j m) ≡ pos d *ℤ (pos i *ℤ b m -ℤ neg_ℤ (pos j) *ℤ c m -ℤ dot n (λ (l : ℕ). pos (a m l))
+      (λ (l : ℕ). (rest_at i j l).q))
   unfolding value_at sum_at
   value_is i j m l =
       pos-nat_total n (λ (l : ℕ). a m l * (rest_at i j l).r)
-      ∙ dot-same n (λ (l : ℕ). pos (a m l)) (λ (l : ℕ). pos ((rest_at i j l).r)) (λ (l : ℕ). pos 1 *ℤ sum_at i j l -ℤ pos d *ℤ (rest_at i j l).q) (λ l b. out (sum_at i j l) (pos ((rest_at i j l).r)) (pos d *ℤ (rest_at i j l).q) (rest_at i j l).is)
+      ∙ dot-same n (λ (l : ℕ). pos (a m l)) (λ (l : ℕ). pos ((rest_at i j l).r)) (λ (l : ℕ). pos 1 *ℤ sum_at i j l -ℤ pos d *ℤ (rest_at i j l).q)
+      (λ l b. out (sum_at i j l) (pos ((rest_at i j l).r)) (pos d *ℤ (rest_at i j l).q) (rest_at i j l).is)
       ∙ dot-lin n (pos 1) (pos d) (λ (l : ℕ). pos (a m l)) (sum_at i j) (λ (l : ℕ). (rest_at i j l).q)
-      ∙ ap (λ (x : ℤ). pos 1 *ℤ x -ℤ pos d *ℤ dot n (λ (l : ℕ). pos (a m l)) (λ (l : ℕ). (rest_at i j l).q)) (dot-lin n (pos i) (neg_ℤ (pos j)) (λ (l : ℕ). pos (a m l)) p q)
-      ∙ close (pos i) (neg_ℤ (pos j)) (pos d) (b m) (c m) (dot n (λ (l : ℕ). pos (a m l)) p) (dot n (λ (l : ℕ). pos (a m l)) q) (dot n (λ (l : ℕ). pos (a m l)) (λ (l : ℕ). (rest_at i j l).q)) (is_p m l) (is_q m l)
+      ∙ ap (λ (x : ℤ). pos 1 *ℤ x -ℤ pos d *ℤ dot n (λ (l : ℕ). pos (a m l)) (λ (l : ℕ). (rest_at i j l).q))
+      (dot-lin n (pos i) (neg_ℤ (pos j)) (λ (l : ℕ). pos (a m l)) p q)
+      ∙ close (pos i) (neg_ℤ (pos j)) (pos d) (b m) (c m) (dot n (λ (l : ℕ). pos (a m l)) p) (dot n (λ (l : ℕ). pos (a m l)) q)
+      (dot n (λ (l : ℕ). pos (a m l)) (λ (l : ℕ). (rest_at i j l).q)) (is_p m l) (is_q m l)
     where
       out : (z r k : ℤ) → z ≡ r +ℤ k → r ≡ pos 1 *ℤ z -ℤ k
       out z r k h = omega (arith, lin, *ℤ_comm (pos 1) z, *ℤ-one z, h)
 
       close : (i j d b c x y k : ℤ) → x ≡ d *ℤ b → y ≡ d *ℤ c → pos 1 *ℤ (i *ℤ x -ℤ j *ℤ y) -ℤ d *ℤ k ≡ d *ℤ (i *ℤ b -ℤ j *ℤ c -ℤ k)
       close i j d b c x y k h e =
-          omega (arith, lin, *ℤ_comm (pos 1) (i *ℤ x -ℤ j *ℤ y), *ℤ-one (i *ℤ x -ℤ j *ℤ y), ap (λ (t : ℤ). i *ℤ t) h, ap (λ (t : ℤ). j *ℤ t) e, swap_mul i d b, swap_mul j d c, mul-sub d (i *ℤ b -ℤ j *ℤ c) k, mul-sub d (i *ℤ b) (j *ℤ c))
+          omega (
+            arith,
+            lin,
+            *ℤ_comm (pos 1) (i *ℤ x -ℤ j *ℤ y),
+            *ℤ-one (i *ℤ x -ℤ j *ℤ y),
+            ap (λ (t : ℤ). i *ℤ t) h,
+            ap (λ (t : ℤ). j *ℤ t) e,
+            swap_mul i d b,
+            swap_mul j d c,
+            mul-sub d (i *ℤ b -ℤ j *ℤ c) k,
+            mul-sub d (i *ℤ b) (j *ℤ c),
+          )
 
   value_below : (i j m : ℕ) → m < n → value_at i j m ≤ s * (d - 1)
   unfolding value_at
   value_below i j m l =
       omega (
         arith,
-        nat_total-le n (λ (l : ℕ). a m l * (rest_at i j l).r) (λ (l : ℕ). a m l * (d - 1)) (λ l b. le_mul (a m l) ((rest_at i j l).r) (d - 1) (below_pred d ((rest_at i j l).r) (rest_at i j l).below)),
+        nat_total-le n (λ (l : ℕ). a m l * (rest_at i j l).r) (λ (l : ℕ). a m l * (d - 1))
+            (λ l b. le_mul (a m l) ((rest_at i j l).r) (d - 1) (below_pred d ((rest_at i j l).r) (rest_at i j l).below)),
         nat_total-scale n (d - 1) (a m),
         mul_le (d - 1) (nat_total n (a m)) s (rows m l),
       )
@@ -196,7 +230,8 @@ module _ (n s d : ℕ) (a : ℕ → ℕ → ℕ) (p q b c : ℕ → ℤ) (s1 : 1
       (inj (λ (l : ℕ). pos 1 *ℤ pos ((rest_at i j l).r) -ℤ pos 1 *ℤ pos ((rest_at i' j' l).r))
       (λ m b.
       dot-lin n (pos 1) (pos 1) (λ (l : ℕ). pos (a m l)) (λ (l : ℕ). pos ((rest_at i j l).r)) (λ (l : ℕ). pos ((rest_at i' j' l).r))
-      ∙ minus_equal (dot n (λ (l : ℕ). pos (a m l)) (λ (l : ℕ). pos ((rest_at i j l).r))) (dot n (λ (l : ℕ). pos (a m l)) (λ (l : ℕ). pos ((rest_at i' j' l).r)))
+      ∙ minus_equal (dot n (λ (l : ℕ). pos (a m l)) (λ (l : ℕ). pos ((rest_at i j l).r)))
+      (dot n (λ (l : ℕ). pos (a m l)) (λ (l : ℕ). pos ((rest_at i' j' l).r)))
       (sym (pos-nat_total n (λ (l : ℕ). a m l * (rest_at i j l).r)) ∙ ap pos (same_value m b) ∙ pos-nat_total n (λ (l : ℕ). a m l * (rest_at i' j' l).r)))
       l bl)
     where
@@ -217,10 +252,12 @@ module _ (n s d : ℕ) (a : ℕ → ℕ → ℕ) (p q b c : ℕ → ℤ) (s1 : 1
       (pos i -ℤ pos i') *ℤ p l +ℤ (pos j -ℤ pos j') *ℤ q l ≡ pos d *ℤ ((rest_at i j l).q -ℤ (rest_at i' j' l).q)
   unfolding sum_at
   pairs_apart i j i' j' h l bl =
-      apart_is (pos i) (pos j) (pos i') (pos j') (p l) (q l) (pos d) (pos ((rest_at i j l).r)) (pos ((rest_at i' j' l).r)) ((rest_at i j l).q) ((rest_at i' j' l).q)
+      apart_is (pos i) (pos j) (pos i') (pos j') (p l) (q l) (pos d) (pos ((rest_at i j l).r)) (pos ((rest_at i' j' l).r)) ((rest_at i j l).q)
+      ((rest_at i' j' l).q)
       (rest_at i j l).is (rest_at i' j' l).is (ap pos (h l bl))
     where
-      apart_is : (i j i' j' p q d r r' k k' : ℤ) → i *ℤ p -ℤ neg_ℤ j *ℤ q ≡ r +ℤ d *ℤ k → i' *ℤ p -ℤ neg_ℤ j' *ℤ q ≡ r' +ℤ d *ℤ k' → r ≡ r' → (i -ℤ i') *ℤ p +ℤ (j -ℤ j') *ℤ q ≡ d *ℤ (k -ℤ k')
+      apart_is : (i j i' j' p q d r r' k k' : ℤ) → i *ℤ p -ℤ neg_ℤ j *ℤ q ≡ r +ℤ d *ℤ k → i' *ℤ p -ℤ neg_ℤ j' *ℤ q ≡ r' +ℤ d *ℤ k' → r ≡ r'
+          → (i -ℤ i') *ℤ p +ℤ (j -ℤ j') *ℤ q ≡ d *ℤ (k -ℤ k')
       apart_is i j i' j' p q d r r' k k' e f g =
           omega (
             arith,
@@ -247,7 +284,8 @@ module _ (n s d : ℕ) (a : ℕ → ℕ → ℕ) (p q b c : ℕ → ℤ) (s1 : 1
     ct : Content n d p
     ct = content n d p
 
-    module _ (i j i' j' : ℕ) (hi : i < ct.rest) (hi' : i' < ct.rest) (hj : j < ct.g) (hj' : j' < ct.g) (h : (m : ℕ) → m < n → value_at i j m / d ≡ value_at i' j' m / d) where
+    module _ (i j i' j' : ℕ) (hi : i < ct.rest) (hi' : i' < ct.rest) (hj : j < ct.g) (hj' : j' < ct.g)
+        (h : (m : ℕ) → m < n → value_at i j m / d ≡ value_at i' j' m / d) where
       abbrev k : ℕ → ℤ
       k l = (rest_at i j l).q -ℤ (rest_at i' j' l).q
 
@@ -274,9 +312,11 @@ module _ (n s d : ℕ) (a : ℕ → ℕ → ℕ) (p q b c : ℕ → ℤ) (s1 : 1
           small_multiple ct.g j j' (pos ct.rest *ℤ ((pos j -ℤ pos j') *ℤ x) +ℤ (pos j -ℤ pos j') *ℤ dot n e ct.part +ℤ dot n f inner) hj hj'
           (j_is (pos j -ℤ pos j') x (pos d) (pos ct.g) (pos ct.rest) (dot n e p) (dot n e ct.part) (dot n f q) (dot n f inner) primitive whole_is
           (dot-same n e p (λ (l : ℕ). pos ct.g *ℤ ct.part l) (λ l b. sym (ct.parts l b)) ∙ dot-scale n (pos ct.g) e ct.part)
-          (sym (dot-scale n (pos j -ℤ pos j') f q) ∙ dot-same n f (λ (l : ℕ). (pos j -ℤ pos j') *ℤ q l) (λ (l : ℕ). pos ct.g *ℤ inner l) q_part ∙ dot-scale n (pos ct.g) f inner))
+          (sym (dot-scale n (pos j -ℤ pos j') f q) ∙ dot-same n f (λ (l : ℕ). (pos j -ℤ pos j') *ℤ q l) (λ (l : ℕ). pos ct.g *ℤ inner l) q_part
+          ∙ dot-scale n (pos ct.g) f inner))
         where
-          j_is : (j x d g r ep et fq fi : ℤ) → x *ℤ d +ℤ ep +ℤ fq ≡ pos 1 → g *ℤ r ≡ d → ep ≡ g *ℤ et → j *ℤ fq ≡ g *ℤ fi → j ≡ g *ℤ (r *ℤ (j *ℤ x) +ℤ j *ℤ et +ℤ fi)
+          j_is : (j x d g r ep et fq fi : ℤ) → x *ℤ d +ℤ ep +ℤ fq ≡ pos 1 → g *ℤ r ≡ d → ep ≡ g *ℤ et → j *ℤ fq ≡ g *ℤ fi
+              → j ≡ g *ℤ (r *ℤ (j *ℤ x) +ℤ j *ℤ et +ℤ fi)
           j_is j x d g r ep et fq fi one w u v =
               omega (
                 arith,
@@ -301,7 +341,8 @@ module _ (n s d : ℕ) (a : ℕ → ℕ → ℕ) (p q b c : ℕ → ℤ) (s1 : 1
           small_multiple ct.rest i i' ((pos i -ℤ pos i') *ℤ ct.x +ℤ dot n ct.e k) hi hi'
           (mul_cancel (pos ct.g) (pos i -ℤ pos i') (pos ct.rest *ℤ ((pos i -ℤ pos i') *ℤ ct.x +ℤ dot n ct.e k)) (λ z. absurd (omega (arith, ints, z, hj)))
           (i_is (pos i -ℤ pos i') ct.x (pos d) (pos ct.g) (pos ct.rest) (dot n ct.e p) (dot n ct.e k) ct.sum_is whole_is
-          (sym (dot-scale n (pos i -ℤ pos i') ct.e p) ∙ dot-same n ct.e (λ (l : ℕ). (pos i -ℤ pos i') *ℤ p l) (λ (l : ℕ). pos d *ℤ k l) (λ l b. alone (pos i -ℤ pos i') j j' (p l) (q l) (pos d *ℤ k l) same (line l b)) ∙ dot-scale n (pos d) ct.e k)))
+          (sym (dot-scale n (pos i -ℤ pos i') ct.e p) ∙ dot-same n ct.e (λ (l : ℕ). (pos i -ℤ pos i') *ℤ p l) (λ (l : ℕ). pos d *ℤ k l)
+          (λ l b. alone (pos i -ℤ pos i') j j' (p l) (q l) (pos d *ℤ k l) same (line l b)) ∙ dot-scale n (pos d) ct.e k)))
         where
           alone : (i : ℤ) (j j' : ℕ) (p q t : ℤ) → j ≡ j' → i *ℤ p +ℤ (pos j -ℤ pos j') *ℤ q ≡ t → i *ℤ p ≡ t
           alone i j j' p q t same h =
@@ -339,7 +380,8 @@ module _ (n s d : ℕ) (a : ℕ → ℕ → ℕ) (p q b c : ℕ → ℤ) (s1 : 1
               (mod-lt w.i rest_pos) (mod-lt w.j rest_pos) (quot_below w.i (omega (arith, w.order, w.below))) (quot_below w.j w.below)
               (code_same n (s - 1) (λ (m : ℕ). value_at (w.i % ct.rest) (w.i / ct.rest) m / d) (λ (m : ℕ). value_at (w.j % ct.rest) (w.j / ct.rest) m / d)
               (value_small w.i) (value_small w.j) w.same) in
-              let e : w.i ≡ w.j = sym (div-add-mod w.i ct.rest) ∙ ap (λ (x : ℕ). ct.rest * (w.i / ct.rest) + x) r.0 ∙ ap (λ (x : ℕ). ct.rest * x + w.j % ct.rest) r.1 ∙ div-add-mod w.j ct.rest in
+              let e : w.i ≡ w.j = sym (div-add-mod w.i ct.rest) ∙ ap (λ (x : ℕ). ct.rest * (w.i / ct.rest) + x) r.0
+              ∙ ap (λ (x : ℕ). ct.rest * x + w.j % ct.rest) r.1 ∙ div-add-mod w.j ct.rest in
               absurd (omega (arith, e, w.order))
         ]
       where
@@ -350,7 +392,8 @@ module _ (n s d : ℕ) (a : ℕ → ℕ → ℕ) (p q b c : ℕ → ℤ) (s1 : 1
         value_small t m l = div_below d (value_at (t % ct.rest) (t / ct.rest) m) s d1 (value_below (t % ct.rest) (t / ct.rest) m l) s1
 
         coded_below : (t : ℕ) → t < d → coded t < s ^ n
-        coded_below t l = subst (λ (k : ℕ). coded t < k ^ n) (let e : suc (s - 1) ≡ s = omega (arith, s1) in e) (code_below n (s - 1) (λ (m : ℕ). value_at (t % ct.rest) (t / ct.rest) m / d) (value_small t))
+        coded_below t l = subst (λ (k : ℕ). coded t < k ^ n) (let e : suc (s - 1) ≡ s = omega (arith, s1) in e)
+            (code_below n (s - 1) (λ (m : ℕ). value_at (t % ct.rest) (t / ct.rest) m / d) (value_small t))
 
         rest_pos : 0 < ct.rest
         rest_pos = factor_pos ct.rest ct.g d ct.whole d1

@@ -38,7 +38,8 @@ gcd_parts a b g h is =
     record {
       s = w.0 *ℤ sign_of a;
       t = w.1 *ℤ sign_of b;
-      sum_is = signs w.0 w.1 (sign_of a) (sign_of b) a b (pos (unsigned_abs a)) (pos (unsigned_abs b)) (pos (unsigned_abs g)) g (size_is a) (size_is b) w.2 (abs_is_pos g h);
+      sum_is = signs w.0 w.1 (sign_of a) (sign_of b) a b (pos (unsigned_abs a)) (pos (unsigned_abs b)) (pos (unsigned_abs g)) g (size_is a) (size_is b) w.2
+          (abs_is_pos g h);
       p = sign_of a *ℤ pos (unsigned_abs a / unsigned_abs g);
       p_is = divided g a h (mod-eq-zero_of_dvd (unsigned_abs g) is.0);
       q = sign_of b *ℤ pos (unsigned_abs b / unsigned_abs g);
@@ -77,7 +78,8 @@ content_more n v g h c w = record {
       w.sum_is;
   part = patch (λ (k : ℕ). w.p *ℤ c.part k) n w.q;
   parts = λ k l. elim (cases_eq k n) [
-    | inl e ↦ subst (λ (j : ℕ). h *ℤ patch (λ (k : ℕ). w.p *ℤ c.part k) n w.q j ≡ v j) (sym e) (ap (λ (x : ℤ). h *ℤ x) (patch-same (λ (k : ℕ). w.p *ℤ c.part k) n w.q) ∙ w.q_is)
+    | inl e ↦ subst (λ (j : ℕ). h *ℤ patch (λ (k : ℕ). w.p *ℤ c.part k) n w.q j ≡ v j) (sym e)
+        (ap (λ (x : ℤ). h *ℤ x) (patch-same (λ (k : ℕ). w.p *ℤ c.part k) n w.q) ∙ w.q_is)
     | inr ne ↦
         ap (λ (x : ℤ). h *ℤ x) (patch-other (λ (k : ℕ). w.p *ℤ c.part k) n w.q k ne)
         ∙ sym (mul_assoc h w.p (c.part k)) ∙ ap (λ (x : ℤ). x *ℤ c.part k) w.p_is ∙ c.parts k (omega arith)

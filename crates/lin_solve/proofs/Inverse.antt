@@ -44,12 +44,16 @@ box_full (suc n) h = omega (arith, ap (λ (x : ℕ). suc h * x) (box_full n h), 
 -- fewer rows than unknowns: some solution isn't zero
 pub few_rows : (n m : ℕ) (a : ℕ → ℕ → ℤ) → m < n → (u : ℕ → ℕ) × Solution n u (rows_of m a)
 few_rows n m a l =
-    let s : ℕ = suc (nat_total m (λ (k : ℕ). size n (a k))) in
-    (λ (i : ℕ). s ^ m, siegel n (λ (i : ℕ). s ^ m) (rows_of m a) (enough (suc (nat_total m (λ (k : ℕ). size n (a k)))) (omega arith) (sizes_within n m (suc (nat_total m (λ (k : ℕ). size n (a k)))) a (omega arith))))
+    let s : ℕ = suc (nat_total m (λ (k : ℕ). size n (a k))) in (
+      λ (i : ℕ). s ^ m,
+      siegel n (λ (i : ℕ). s ^ m) (rows_of m a) (enough (suc (nat_total m (λ (k : ℕ). size n (a k)))) (omega arith)
+          (sizes_within n m (suc (nat_total m (λ (k : ℕ). size n (a k)))) a (omega arith))),
+    )
   where
     enough : (s : ℕ) → 1 ≤ s → SizesWithin n s (rows_of m a) → room n (λ (i : ℕ). s ^ m) (rows_of m a) < box n (λ (i : ℕ). s ^ m)
     enough s one h =
-        let r : room n (λ (i : ℕ). s ^ m) (rows_of m a) ≤ suc (s * s ^ m) ^ length (rows_of m a) = room_below n s (s ^ m) (λ (i : ℕ). s ^ m) (rows_of m a) (λ i l. omega arith) h in
+        let r : room n (λ (i : ℕ). s ^ m) (rows_of m a) ≤ suc (s * s ^ m) ^ length (rows_of m a) = room_below n s (s ^ m) (λ (i : ℕ). s ^ m) (rows_of m a)
+        (λ i l. omega arith) h in
         let e : suc (s * s ^ m) ^ length (rows_of m a) ≡ suc (s * s ^ m) ^ m = ap (λ (x : ℕ). suc (s * s ^ m) ^ x) (length-rows_of m a) in
         let c : suc (s * s ^ m) ^ m < suc (s ^ m) ^ n = crowd s m n one l in
         omega (arith, r, e, c, box_full n (s ^ m))
@@ -119,7 +123,8 @@ unfolding unit
 unit-other p k h = elim (cases_eq k p) as (λ c. elim c as (λ _. ℤ) [ inl e ↦ pos 1 | inr ne ↦ pos 0 ] ≡ pos 0) [ inl e ↦ absurd (h e) | inr ne ↦ refl ]
 
 -- the product of f with the matrix' product
-pub pick : (n : ℕ) (a : ℕ → ℕ → ℤ) (f z : ℕ → ℤ) (i : ℕ) → i < n → ((k : ℕ) → k < n → k ≢ i → dot n f (λ (m : ℕ). a m k) ≡ pos 0) → dot n f (λ (m : ℕ). dot n (a m) z) ≡ dot n f (λ (m : ℕ). a m i) *ℤ z i
+pub pick : (n : ℕ) (a : ℕ → ℕ → ℤ) (f z : ℕ → ℤ) (i : ℕ) → i < n → ((k : ℕ) → k < n → k ≢ i → dot n f (λ (m : ℕ). a m k) ≡ pos 0)
+    → dot n f (λ (m : ℕ). dot n (a m) z) ≡ dot n f (λ (m : ℕ). a m i) *ℤ z i
 pick n a f z i l h =
     dot-through n n f a z
     ∙ total-one n i (λ (k : ℕ). dot n f (λ (m : ℕ). a m k) *ℤ z k) l

@@ -1,5 +1,6 @@
 -- The two cases of the conditions of a system, and the limits that they give.
-use Rattle.std.proofs.Common.{◌≡◌, ◌⊎◌, inl, inr, ℕ, ◌+◌, ◌-◌, ◌*◌, ◌^◌, ◌<◌, ◌≤◌, ℤ, pos, ◌≤ℤ◌, sym, ◌∙◌, subst, arith, unsigned_abs, List, [], length, slice_index_or}
+use Rattle.std.proofs.Common.{◌≡◌, ◌⊎◌, inl, inr, ℕ, ◌+◌, ◌-◌, ◌*◌, ◌^◌, ◌<◌, ◌≤◌, ℤ, pos, ◌≤ℤ◌, sym, ◌∙◌, subst, arith, unsigned_abs, List, [], length}
+use Rattle.std.proofs.Common.{slice_index_or}
 use Rattle.std.proofs.lemmas.Int.{ints}
 use Rattle.std.proofs.Math.Nat.{mul-le-mul, pow-le-pow_right, le_refl, le_trans, lt_of_le_of_lt}
 use Rattle.far_num.specs.declared.Far.{Far}
@@ -14,7 +15,8 @@ use Rattle.far_num.specs.wide_num.specs.Sums.{nth}
 use Rattle.lin_solve.proofs.PivotFacts.{size_small}
 
 -- at most `count` lines with entries up to `top`, and parts up to the edge: the limit is their product
-module _ (count top edge : ℕ) (m : List (List ℤ)) (right : List Far) (ys zs : List ℤ) (long : length right ≡ length m) (sys : IsSmallSystem count top edge m right)
+module _ (count top edge : ℕ) (m : List (List ℤ)) (right : List Far) (ys zs : List ℤ) (long : length right ≡ length m)
+    (sys : IsSmallSystem count top edge m right)
     (square : (k : ℕ) → k < length m → length (slice_index_or m k []) ≡ length m)
     (py : AreParts (length right) (far_at right) ys) (pz : AreParts (length right) (near_at right) zs) (some : 1 ≤ count * top) where
   row_le : (a : ℕ → ℤ) → IsWithin top (length m) a → size (length m) a ≤ count * top
@@ -53,16 +55,22 @@ module _ (count top edge : ℕ) (m : List (List ℤ)) (right : List Far) (ys zs 
     signs = λ k i l li. let h : pos 0 ≤ℤ row m k i = sys.signs k i l li in omega (arith, ints, h);
     long_fars = py.long ∙ long;
     long_nears = pz.long ∙ long;
-    room = lt_of_le_of_lt {m = 2 * (count * top * (bound (count * top) count * bound (count * top) count))} (mul-le-mul (le_refl 2) (mul-le-mul (le_refl (count * top)) (mul-le-mul bound_le bound_le))) room;
+    room = lt_of_le_of_lt {m = 2 * (count * top * (bound (count * top) count * bound (count * top) count))}
+        (mul-le-mul (le_refl 2) (mul-le-mul (le_refl (count * top)) (mul-le-mul bound_le bound_le))) room;
     parts = lt_of_le_of_lt {m = most (count * top) edge count} most_le parts;
-    cs = lt_of_le_of_lt {m = (count * top) ^ count * (count * top * bound (count * top) count)} (mul-le-mul den_le (mul-le-mul (le_refl (count * top)) bound_le)) cs;
+    cs = lt_of_le_of_lt {m = (count * top) ^ count * (count * top * bound (count * top) count)}
+        (mul-le-mul den_le (mul-le-mul (le_refl (count * top)) bound_le)) cs;
   }
 
 -- a system of either case
-pub system_of : (m : List (List ℤ)) (right : List Far) (ys zs : List ℤ) → length right ≡ length m → IsSmallSystem 6 6 (2 ^ 46) m right ⊎ IsSmallSystem 4 80 (2 ^ 45) m right
-    → ((k : ℕ) → k < length m → length (slice_index_or m k []) ≡ length m) → AreParts (length right) (far_at right) ys → AreParts (length right) (near_at right) zs → IsSystem m ys zs
-system_of m right ys zs long (inl s) square py pz = is_system 6 6 (2 ^ 46) m right ys zs long s square py pz (omega arith) (omega arith) (omega arith) (omega arith)
-system_of m right ys zs long (inr s) square py pz = is_system 4 80 (2 ^ 45) m right ys zs long s square py pz (omega arith) (omega arith) (omega arith) (omega arith)
+pub system_of : (m : List (List ℤ)) (right : List Far) (ys zs : List ℤ) → length right ≡ length m → IsSmallSystem 6 6 (2 ^ 46) m right
+    ⊎ IsSmallSystem 4 80 (2 ^ 45) m right
+    → ((k : ℕ) → k < length m → length (slice_index_or m k []) ≡ length m) → AreParts (length right) (far_at right) ys
+    → AreParts (length right) (near_at right) zs → IsSystem m ys zs
+system_of m right ys zs long (inl s) square py pz = is_system 6 6 (2 ^ 46) m right ys zs long s square py pz (omega arith) (omega arith) (omega arith)
+    (omega arith)
+system_of m right ys zs long (inr s) square py pz = is_system 4 80 (2 ^ 45) m right ys zs long s square py pz (omega arith) (omega arith) (omega arith)
+    (omega arith)
 
 -- wider bounds of an answer
 pub wider_answer : (a b p q : ℕ) (s : Solved) → a ≤ b → p ≤ q → IsSmallAnswer a p s → IsSmallAnswer b q s
@@ -73,7 +81,8 @@ wider_answer a b p q (One den values) le more h = (below {b = a} le h.0, λ i l.
 wider_answer a b p q (Dependent v) le more h = λ i l. let k = h i l in omega (arith, k)
 
 -- a kernel row is small by each limit
-pub small_combination : (lines : List (List ℤ)) (fars nears v : List ℤ) → IsKernelRow (length lines) lines v → (limit edge : ℕ) → IsWithinLimits limit edge lines fars nears
+pub small_combination : (lines : List (List ℤ)) (fars nears v : List ℤ) → IsKernelRow (length lines) lines v → (limit edge : ℕ)
+    → IsWithinLimits limit edge lines fars nears
     → (i : ℕ) → i < length v → unsigned_abs (nth v i) < limit ^ length lines + 1
 small_combination lines fars nears v k limit edge w i l =
     let b = k.small limit w.some w.sized i (let e = k.long in omega arith) in
@@ -81,7 +90,8 @@ small_combination lines fars nears v k limit edge w i l =
     omega (arith, b, p)
 
 -- the answer of a system of one case is small by that case
-module _ (count top edge : ℕ) (m : List (List ℤ)) (right : List Far) (ys zs : List ℤ) (long : length right ≡ length m) (sys : IsSmallSystem count top edge m right)
+module _ (count top edge : ℕ) (m : List (List ℤ)) (right : List Far) (ys zs : List ℤ) (long : length right ≡ length m)
+    (sys : IsSmallSystem count top edge m right)
     (square : (k : ℕ) → k < length m → length (slice_index_or m k []) ≡ length m)
     (py : AreParts (length right) (far_at right) ys) (pz : AreParts (length right) (near_at right) zs) (some : 1 ≤ count * top) (s : Solved)
     (small : (limit edge : ℕ) → IsWithinLimits limit edge m ys zs → IsSmallAnswer (limit ^ length m + 1) (most limit edge (length m) + 1) s) where
@@ -93,7 +103,8 @@ module _ (count top edge : ℕ) (m : List (List ℤ)) (right : List Far) (ys zs 
       wider_answer ((count * top) ^ length m + 1) a (most (count * top) edge (length m) + 1) p s (omega (arith, d, la)) (omega (arith, o, lp))
       (small (count * top) edge (within_limits count top edge m right ys zs long sys square py pz some))
 
-module _ (m : List (List ℤ)) (right : List Far) (ys zs : List ℤ) (long : length right ≡ length m) (square : (k : ℕ) → k < length m → length (slice_index_or m k []) ≡ length m)
+module _ (m : List (List ℤ)) (right : List Far) (ys zs : List ℤ) (long : length right ≡ length m)
+    (square : (k : ℕ) → k < length m → length (slice_index_or m k []) ≡ length m)
     (py : AreParts (length right) (far_at right) ys) (pz : AreParts (length right) (near_at right) zs) (s : Solved)
     (small : (limit edge : ℕ) → IsWithinLimits limit edge m ys zs → IsSmallAnswer (limit ^ length m + 1) (most limit edge (length m) + 1) s) where
   -- with up to six lines and entries up to 6, the answer is small by the bounds 2^32 and 2^106

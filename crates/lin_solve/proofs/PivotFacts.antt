@@ -36,7 +36,8 @@ module _ (i limit : ℕ) (lines : List (List ℤ)) (f : List ℤ) (c : IsClearin
   column_size li own k =
       subst (λ (n : ℕ). size n (nth own) ≤ limit) (sym k.long)
       (le_trans {m = size (length lines) (λ (m : ℕ). row lines m i)}
-      (nat_total-le (length lines) (λ (m : ℕ). unsigned_abs (nth own m)) (λ (m : ℕ). unsigned_abs (row lines m i)) (λ m l. le_of_eq (ap unsigned_abs (k.is m l))))
+      (nat_total-le (length lines) (λ (m : ℕ). unsigned_abs (nth own m)) (λ (m : ℕ). unsigned_abs (row lines m i))
+      (λ m l. le_of_eq (ap unsigned_abs (k.is m l))))
       (columns i li))
 
   row_within : (own : List ℤ) → IsColumn lines i own → IsWithin (bound limit (length lines)) (length own) (nth f)
@@ -44,17 +45,21 @@ module _ (i limit : ℕ) (lines : List (List ℤ)) (f : List ℤ) (c : IsClearin
 
   -- the sizes of the products of column i with the row that clears the others sum to a number in the range
   pub c_room : i < length lines → HasRoom limit (length lines) → (own : List ℤ) → IsColumn lines i own → reach own f < 2 ^ 120
-  c_room li room own k = reach_room limit (bound limit (length lines)) (reach own f) (bound_some limit (length lines) some) (reach_small own f limit (bound limit (length lines)) (column_size li own k) (row_within own k)) room
+  c_room li room own k = reach_room limit (bound limit (length lines)) (reach own f) (bound_some limit (length lines) some)
+      (reach_small own f limit (bound limit (length lines)) (column_size li own k) (row_within own k)) room
 
   f_size : size (length f) (nth f) ≤ length lines * bound limit (length lines)
-  f_size = subst (λ (n : ℕ). size n (nth f) ≤ length lines * bound limit (length lines)) (sym c.long) (size_small (length lines) (bound limit (length lines)) (nth f) small)
+  f_size = subst (λ (n : ℕ). size n (nth f) ≤ length lines * bound limit (length lines)) (sym c.long)
+      (size_small (length lines) (bound limit (length lines)) (nth f) small)
 
   part_reach : (part : List ℤ) (edge : ℕ) → IsWithin edge (length lines) (nth part) → reach f part ≤ length lines * bound limit (length lines) * edge
-  part_reach part edge w = reach_small f part (length lines * bound limit (length lines)) edge f_size (subst (λ (n : ℕ). IsWithin edge n (nth part)) (sym c.long) w)
+  part_reach part edge w = reach_small f part (length lines * bound limit (length lines)) edge f_size
+      (subst (λ (n : ℕ). IsWithin edge n (nth part)) (sym c.long) w)
 
   -- the sizes of the products of the clearing row with a part of the right side sum to a number in the range
   pub part_room : (part : List ℤ) (edge : ℕ) → IsWithin edge (length lines) (nth part) → most limit edge (length lines) < 2 ^ 119 → reach f part < 2 ^ 120
-  part_room part edge w h = within_large (limit ^ length lines) (reach f part) (length lines * bound limit (length lines) * edge) (one-le-pow (length lines) limit some) (part_reach part edge w) h
+  part_room part edge w h = within_large (limit ^ length lines) (reach f part) (length lines * bound limit (length lines) * edge)
+      (one-le-pow (length lines) limit some) (part_reach part edge w) h
 
   -- the product of the clearing row with the column at i is at most the limit times the bound in size
   pub c_small : (c : ℤ) → c ≡ dot (length lines) (nth f) (λ (m : ℕ). row lines m i) → i < length lines → unsigned_abs c ≤ limit * bound limit (length lines)
@@ -62,9 +67,11 @@ module _ (i limit : ℕ) (lines : List (List ℤ)) (f : List ℤ) (c : IsClearin
       (dot_small (length lines) (λ (m : ℕ). row lines m i) (nth f) limit (bound limit (length lines)) (columns i li) small)
 
   -- the product of the clearing row with a part up to the edge is at most lines times bound times edge in size
-  pub part_small : (part : ℕ → ℤ) (edge : ℕ) (p : ℤ) → p ≡ dot (length lines) (nth f) part → IsWithin edge (length lines) part → unsigned_abs p ≤ length lines * bound limit (length lines) * edge
+  pub part_small : (part : ℕ → ℤ) (edge : ℕ) (p : ℤ) → p ≡ dot (length lines) (nth f) part → IsWithin edge (length lines) part
+      → unsigned_abs p ≤ length lines * bound limit (length lines) * edge
   part_small part edge p e w = subst (λ (t : ℤ). unsigned_abs t ≤ length lines * bound limit (length lines) * edge) (sym e)
-      (dot_small (length lines) (nth f) part (length lines * bound limit (length lines)) edge (size_small (length lines) (bound limit (length lines)) (nth f) small) w)
+      (dot_small (length lines) (nth f) part (length lines * bound limit (length lines)) edge
+      (size_small (length lines) (bound limit (length lines)) (nth f) small) w)
 
 -- the products of a clearing row with the column at i and with both parts of the right side are a pivot
 pub pivot_is : (i : ℕ) (lines : List (List ℤ)) (f : List ℤ) → IsClearing lines i f → (own fars nears : List ℤ) (x y z : ℤ) → IsColumn lines i own
@@ -72,7 +79,8 @@ pub pivot_is : (i : ℕ) (lines : List (List ℤ)) (f : List ℤ) → IsClearing
 pivot_is i lines f c own fars nears x y z k ex ey ez = record {
   f = f;
   clearing = c;
-  c_is = ex ∙ ap (λ (n : ℕ). dot n (nth own) (nth f)) k.long ∙ dot_comm (length lines) (nth own) (nth f) ∙ dot-same (length lines) (nth f) (nth own) (λ (m : ℕ). row lines m i) k.is;
+  c_is = ex ∙ ap (λ (n : ℕ). dot n (nth own) (nth f)) k.long ∙ dot_comm (length lines) (nth own) (nth f)
+      ∙ dot-same (length lines) (nth f) (nth own) (λ (m : ℕ). row lines m i) k.is;
   far_is = ey ∙ ap (λ (n : ℕ). dot n (nth f) (nth fars)) c.long;
   near_is = ez ∙ ap (λ (n : ℕ). dot n (nth f) (nth nears)) c.long;
 }

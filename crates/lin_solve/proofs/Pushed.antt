@@ -12,7 +12,8 @@ pub nth-front : (xs : List ℤ) (x : ℤ) (k : ℕ) → k < length xs → nth (x
 nth-front xs x k h = get_or_append_left xs (x ∷ []) (pos 0) k h
 
 -- an invariant on the items below i, one step on
-pub grown : (P : ℕ → ℤ → Type 0) (xs ys : List ℤ) (x : ℤ) (i : ℕ) → ys ≡ xs ++ x ∷ [] → length xs ≡ i → ((k : ℕ) → k < i → P k (nth xs k)) → P i x → (k : ℕ) → k < i + 1 → P k (nth ys k)
+pub grown : (P : ℕ → ℤ → Type 0) (xs ys : List ℤ) (x : ℤ) (i : ℕ) → ys ≡ xs ++ x ∷ [] → length xs ≡ i → ((k : ℕ) → k < i → P k (nth xs k)) → P i x → (k : ℕ)
+    → k < i + 1 → P k (nth ys k)
 grown P xs ys x i e l all here =
     below_more _ i
     (λ k h. subst (P k) (sym (ap (λ (zs : List ℤ). nth zs k) e ∙ nth-front xs x k (omega (arith, l, h)))) (all k h))

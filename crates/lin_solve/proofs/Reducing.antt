@@ -1,5 +1,6 @@
 -- A row divided by its content is primitive.
-use Rattle.std.proofs.Common.{◌≡◌, ◌≢◌, ℕ, ◌+◌, ◌*◌, ◌<◌, ◌≤◌, ◌^◌, ℤ, pos, ◌-ℤ◌, ◌*ℤ◌, length, List, arith, refl, ◌∙◌, sym, ap, subst, unsigned_abs, Result, Ok, Err, IfOk, Option, Some, None, MatchOption}
+use Rattle.std.proofs.Common.{◌≡◌, ◌≢◌, ℕ, ◌+◌, ◌*◌, ◌<◌, ◌≤◌, ◌^◌, ℤ, pos, ◌-ℤ◌, ◌*ℤ◌, length, List, arith, refl, ◌∙◌, sym, ap, subst, unsigned_abs, Result}
+use Rattle.std.proofs.Common.{Ok, Err, IfOk, Option, Some, None, MatchOption}
 use Rattle.std.proofs.lemmas.Int.{ints, unsigned_abs-mul}
 use Rattle.std.proofs.Math.IntN.{*ℤ_comm, *ℤ-zero}
 use Rattle.far_num.specs.wide_num.proofs.Ints.{mul_cancel, *ℤ-one}

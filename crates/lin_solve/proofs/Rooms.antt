@@ -13,7 +13,8 @@ sum_small : (n : ℕ) (a v : ℕ → ℤ) (s h : ℕ) → size n a ≤ s → IsW
 sum_small n a v s h sized small =
     omega (
       arith,
-      nat_total-le n (λ (i : ℕ). unsigned_abs (a i) * unsigned_abs (v i)) (λ (i : ℕ). unsigned_abs (a i) * h) (λ i l. le_mul (unsigned_abs (a i)) (unsigned_abs (v i)) h (small i l)),
+      nat_total-le n (λ (i : ℕ). unsigned_abs (a i) * unsigned_abs (v i)) (λ (i : ℕ). unsigned_abs (a i) * h)
+          (λ i l. le_mul (unsigned_abs (a i)) (unsigned_abs (v i)) h (small i l)),
       nat_total-scale n h (λ (i : ℕ). unsigned_abs (a i)),
       mul_le h (size n a) s sized,
     )

@@ -65,7 +65,8 @@ module _ (n s d : ℕ) (a : ℕ → ℕ → ℕ) (b c p q : ℕ → ℤ) (s1 : 1
       ∙ ap (λ (x : ℤ). x *ℤ r m) (ap pos (let e : d ≡ two_ct.g * (one_ct.rest * two_ct.rest) = omega (arith, whole) in e))
       ∙ mul_assoc (pos two_ct.g) (pos (one_ct.rest * two_ct.rest)) (r m))
 
-  no_factor : two_ct.x *ℤ one_ct.x *ℤ pos (one_ct.rest * two_ct.rest) +ℤ dot n (λ (i : ℕ). two_ct.x *ℤ one_ct.e i) (λ (i : ℕ). pos two_ct.rest *ℤ one_ct.part i) +ℤ dot n two_ct.e two_ct.part ≡ pos 1
+  no_factor : two_ct.x *ℤ one_ct.x *ℤ pos (one_ct.rest * two_ct.rest) +ℤ dot n (λ (i : ℕ). two_ct.x *ℤ one_ct.e i)
+      (λ (i : ℕ). pos two_ct.rest *ℤ one_ct.part i) +ℤ dot n two_ct.e two_ct.part ≡ pos 1
   no_factor =
       mul_cancel (pos two_ct.g) _ (pos 1) g_apart
       (collected (pos two_ct.g) two_ct.x one_ct.x (pos (one_ct.rest * two_ct.rest)) (pos d)
@@ -79,7 +80,8 @@ module _ (n s d : ℕ) (a : ℕ → ℕ → ℕ) (b c p q : ℕ → ℤ) (s1 : 1
       one_ct.sum_is two_ct.sum_is
       ∙ sym (*ℤ-one (pos two_ct.g)))
     where
-      collected : (g x y k d u v ep eq h : ℤ) → g *ℤ k ≡ d → g *ℤ u ≡ x *ℤ ep → g *ℤ v ≡ eq → y *ℤ d +ℤ ep ≡ h → x *ℤ h +ℤ eq ≡ g → g *ℤ (x *ℤ y *ℤ k +ℤ u +ℤ v) ≡ g
+      collected : (g x y k d u v ep eq h : ℤ) → g *ℤ k ≡ d → g *ℤ u ≡ x *ℤ ep → g *ℤ v ≡ eq → y *ℤ d +ℤ ep ≡ h → x *ℤ h +ℤ eq ≡ g
+          → g *ℤ (x *ℤ y *ℤ k +ℤ u +ℤ v) ≡ g
       collected g x y k d u v ep eq h a b c e f =
           omega (
             arith,
@@ -111,7 +113,8 @@ module _ (n s d : ℕ) (a : ℕ → ℕ → ℕ) (b c p q : ℕ → ℤ) (s1 : 1
   }
 
 -- how the code's denominator d grows: k is a multiple of d, and of d times what c doesn't share with d times the numerators
-pub grows : (k d m c c' g f h x y z u v : ℤ) → k ≡ d *ℤ m → c ≡ g *ℤ c' → g ≢ pos 0 → x *ℤ c +ℤ (y *ℤ (d *ℤ f) +ℤ z *ℤ (d *ℤ h)) ≡ g → c *ℤ u ≡ k *ℤ f → c *ℤ v ≡ k *ℤ h →
+pub grows : (k d m c c' g f h x y z u v : ℤ) → k ≡ d *ℤ m → c ≡ g *ℤ c' → g ≢ pos 0 → x *ℤ c +ℤ (y *ℤ (d *ℤ f) +ℤ z *ℤ (d *ℤ h)) ≡ g → c *ℤ u ≡ k *ℤ f
+    → c *ℤ v ≡ k *ℤ h →
     k ≡ d *ℤ c' *ℤ (x *ℤ m +ℤ (y *ℤ u +ℤ z *ℤ v))
 grows k d m c c' g f h x y z u v ek ec ne eg eu ev =
     let w : m ≡ c' *ℤ (x *ℤ m +ℤ (y *ℤ u +ℤ z *ℤ v)) =
@@ -125,7 +128,8 @@ grows k d m c c' g f h x y z u v ek ec ne eg eu ev =
     turned : (d m k f : ℤ) → k ≡ d *ℤ m → m *ℤ (d *ℤ f) ≡ k *ℤ f
     turned d m k f e = sym (mul_assoc m d f) ∙ ap (λ (t : ℤ). t *ℤ f) (*ℤ_comm m d ∙ sym e)
 
-    spread : (m x c y z p q r s u v : ℤ) → m *ℤ p ≡ r → m *ℤ q ≡ s → r ≡ c *ℤ u → s ≡ c *ℤ v → m *ℤ (x *ℤ c +ℤ (y *ℤ p +ℤ z *ℤ q)) ≡ c *ℤ (x *ℤ m +ℤ (y *ℤ u +ℤ z *ℤ v))
+    spread : (m x c y z p q r s u v : ℤ) → m *ℤ p ≡ r → m *ℤ q ≡ s → r ≡ c *ℤ u → s ≡ c *ℤ v → m *ℤ (x *ℤ c +ℤ (y *ℤ p +ℤ z *ℤ q)) ≡ c *ℤ
+        (x *ℤ m +ℤ (y *ℤ u +ℤ z *ℤ v))
     spread m x c y z p q r s u v a b e f =
         omega (
           arith,
@@ -146,15 +150,18 @@ grows k d m c c' g f h x y z u v ek ec ne eg eu ev =
         )
 
 -- the denominator for two right sides: at most the n-th power of s
-pub common : (n s : ℕ) (a : ℕ → ℕ → ℕ) (b c : ℕ → ℤ) → 1 ≤ s → Injective n (λ (m i : ℕ). pos (a m i)) → ((m : ℕ) → m < n → nat_total n (a m) ≤ s) → Common n s (λ (m i : ℕ). pos (a m i)) b c
+pub common : (n s : ℕ) (a : ℕ → ℕ → ℕ) (b c : ℕ → ℤ) → 1 ≤ s → Injective n (λ (m i : ℕ). pos (a m i)) → ((m : ℕ) → m < n → nat_total n (a m) ≤ s)
+    → Common n s (λ (m i : ℕ). pos (a m i)) b c
 common n s a b c s1 inj rows =
     let v : Solvable n (λ (m i : ℕ). pos (a m i)) b = solvable n (λ (m i : ℕ). pos (a m i)) inj b in
     let w : Solvable n (λ (m i : ℕ). pos (a m i)) c = solvable n (λ (m i : ℕ). pos (a m i)) inj c in
     let t : ℤ = sign_of (v.d *ℤ w.d) in
     reduced n s (unsigned_abs (v.d *ℤ w.d)) a b c (λ (i : ℕ). sign_of (v.d *ℤ w.d) *ℤ w.d *ℤ v.y i) (λ (i : ℕ). sign_of (v.d *ℤ w.d) *ℤ v.d *ℤ w.y i) s1
     (abs_pos (v.d *ℤ w.d) (λ e. w.apart (mul-zero_cases v.d w.d e v.apart))) inj rows
-    (λ m l. dot-scale n (sign_of (v.d *ℤ w.d) *ℤ w.d) (λ (i : ℕ). pos (a m i)) v.y ∙ ap (λ (x : ℤ). sign_of (v.d *ℤ w.d) *ℤ w.d *ℤ x) (v.is m l) ∙ left (sign_of (v.d *ℤ w.d)) v.d w.d (b m) (pos (unsigned_abs (v.d *ℤ w.d))) (size_is (v.d *ℤ w.d)))
-    (λ m l. dot-scale n (sign_of (v.d *ℤ w.d) *ℤ v.d) (λ (i : ℕ). pos (a m i)) w.y ∙ ap (λ (x : ℤ). sign_of (v.d *ℤ w.d) *ℤ v.d *ℤ x) (w.is m l) ∙ right (sign_of (v.d *ℤ w.d)) v.d w.d (c m) (pos (unsigned_abs (v.d *ℤ w.d))) (size_is (v.d *ℤ w.d)))
+    (λ m l. dot-scale n (sign_of (v.d *ℤ w.d) *ℤ w.d) (λ (i : ℕ). pos (a m i)) v.y ∙ ap (λ (x : ℤ). sign_of (v.d *ℤ w.d) *ℤ w.d *ℤ x) (v.is m l)
+    ∙ left (sign_of (v.d *ℤ w.d)) v.d w.d (b m) (pos (unsigned_abs (v.d *ℤ w.d))) (size_is (v.d *ℤ w.d)))
+    (λ m l. dot-scale n (sign_of (v.d *ℤ w.d) *ℤ v.d) (λ (i : ℕ). pos (a m i)) w.y ∙ ap (λ (x : ℤ). sign_of (v.d *ℤ w.d) *ℤ v.d *ℤ x) (w.is m l)
+    ∙ right (sign_of (v.d *ℤ w.d)) v.d w.d (c m) (pos (unsigned_abs (v.d *ℤ w.d))) (size_is (v.d *ℤ w.d)))
   where
     right : (t d e c k : ℤ) → k ≡ t *ℤ (d *ℤ e) → t *ℤ d *ℤ (e *ℤ c) ≡ k *ℤ c
     right t d e c k h = sym (mul_assoc (t *ℤ d) e c) ∙ ap (λ (x : ℤ). x *ℤ c) (mul_assoc t d e ∙ sym h)

@@ -1,5 +1,6 @@
 -- Few equations in many unknowns have a small solution that isn't zero.
-use Rattle.std.proofs.Common.{◌≡◌, ◌≢◌, ◌⊎◌, ℕ, zero, suc, ◌+◌, ◌-◌, ◌*◌, ◌/◌, ◌%◌, ◌<◌, ◌≤◌, ℤ, pos, negsuc, ◌+ℤ◌, ◌-ℤ◌, ◌*ℤ◌, refl, sym, ap, ◌∙◌, subst, arith, unsigned_abs, List, [], ◌∷◌, inl, inr}
+use Rattle.std.proofs.Common.{◌≡◌, ◌≢◌, ◌⊎◌, ℕ, zero, suc, ◌+◌, ◌-◌, ◌*◌, ◌/◌, ◌%◌, ◌<◌, ◌≤◌, ℤ, pos, negsuc, ◌+ℤ◌, ◌-ℤ◌, ◌*ℤ◌, refl, sym, ap, ◌∙◌, subst}
+use Rattle.std.proofs.Common.{arith, unsigned_abs, List, [], ◌∷◌, inl, inr}
 use Rattle.std.proofs.lemmas.Int.{ints, unsigned_abs-mul}
 use Rattle.std.proofs.lemmas.Bool.{cases_eq}
 use Rattle.std.proofs.Math.Nat.{div-add-mod, mod-lt, mul-le-mul, div-lt_iff_lt-mul}
@@ -48,12 +49,23 @@ nat_total-same (suc n) f g h = omega (arith, h zero, nat_total-same n (λ (i : �
 
 -- the size of a sum of products is at most the sum of the products of the sizes
 pub abs_dot : (n : ℕ) (a v : ℕ → ℤ) → unsigned_abs (dot n a v) ≤ nat_total n (λ (i : ℕ). unsigned_abs (a i) * unsigned_abs (v i))
-abs_dot n a v = omega (arith, abs_total n (λ (i : ℕ). a i *ℤ v i), nat_total-same n (λ (i : ℕ). unsigned_abs (a i *ℤ v i)) (λ (i : ℕ). unsigned_abs (a i) * unsigned_abs (v i)) (λ i. unsigned_abs-mul (a i) (v i)))
+abs_dot n a v = omega (
+  arith,
+  abs_total n (λ (i : ℕ). a i *ℤ v i),
+  nat_total-same n (λ (i : ℕ). unsigned_abs (a i *ℤ v i))
+      (λ (i : ℕ). unsigned_abs (a i) * unsigned_abs (v i)) (λ i. unsigned_abs-mul (a i) (v i)),
+)
 
 -- one more product stays within the whole sum
-pub dot_room : (i n : ℕ) (a v : ℕ → ℤ) → i < n → unsigned_abs (dot i a v) + unsigned_abs (a i) * unsigned_abs (v i) ≤ nat_total n (λ (k : ℕ). unsigned_abs (a k) * unsigned_abs (v k))
+pub dot_room : (i n : ℕ) (a v : ℕ → ℤ) → i < n → unsigned_abs (dot i a v) + unsigned_abs (a i) * unsigned_abs (v i) ≤ nat_total n
+    (λ (k : ℕ). unsigned_abs (a k) * unsigned_abs (v k))
 dot_room i n a v l =
-    omega (arith, abs_dot i a v, nat_total-last i (λ (k : ℕ). unsigned_abs (a k) * unsigned_abs (v k)), nat_total-more (suc i) n (λ (k : ℕ). unsigned_abs (a k) * unsigned_abs (v k)) l)
+    omega (
+      arith,
+      abs_dot i a v,
+      nat_total-last i (λ (k : ℕ). unsigned_abs (a k) * unsigned_abs (v k)),
+      nat_total-more (suc i) n (λ (k : ℕ). unsigned_abs (a k) * unsigned_abs (v k)) l,
+    )
 
 -- what a row of numbers gives at most on a box
 abbrev pub weight : ℕ → (ℕ → ℤ) → (ℕ → ℕ) → ℕ
@@ -93,7 +105,8 @@ pub pos-nat_total : (n : ℕ) (f : ℕ → ℕ) → pos (nat_total n f) ≡ tota
 pos-nat_total zero f = refl
 pos-nat_total (suc n) f = ap pos (nat_total-last n f) ∙ ap (λ (x : ℤ). x +ℤ pos (f n)) (pos-nat_total n f)
 
-image_is : (n : ℕ) (a : ℕ → ℤ) (u z : ℕ → ℕ) → ((i : ℕ) → i < n → z i ≤ u i) → pos (image n a u z) ≡ dot n a (λ (i : ℕ). pos (z i)) +ℤ total n (λ (i : ℕ). offset (a i) (u i))
+image_is : (n : ℕ) (a : ℕ → ℤ) (u z : ℕ → ℕ) → ((i : ℕ) → i < n → z i ≤ u i) → pos (image n a u z) ≡ dot n a (λ (i : ℕ). pos (z i)) +ℤ total n
+    (λ (i : ℕ). offset (a i) (u i))
 unfolding image
 image_is n a u z h =
     pos-nat_total n (λ (i : ℕ). part (a i) (u i) (z i))
@@ -126,7 +139,8 @@ joined_below x w q r h l = step (mul-le-mul (le_refl_of (suc w)) l)
 images_below : (n : ℕ) (u : ℕ → ℕ) (rows : List (ℕ → ℤ)) (z : ℕ → ℕ) → ((i : ℕ) → i < n → z i ≤ u i) → images n u rows z < room n u rows
 unfolding images
 images_below n u [] z h = omega arith
-images_below n u (a ∷ rows) z h = joined_below (image n a u z) (weight n a u) (images n u rows z) (room n u rows) (image_below n a u z h) (images_below n u rows z h)
+images_below n u (a ∷ rows) z h = joined_below (image n a u z) (weight n a u) (images n u rows z) (room n u rows) (image_below n a u z h)
+    (images_below n u rows z h)
 
 -- two pairs that are joined to the same number, each with a first number up to w, are the same pair
 pub joined_same : (x w q x' q' : ℕ) → x ≤ w → x' ≤ w → x + suc w * q ≡ x' + suc w * q' → (x ≡ x') × (q ≡ q')
@@ -136,11 +150,13 @@ joined_same x w (suc q) x' zero h h' e = absurd (omega arith)
 joined_same x w (suc q) x' (suc q') h h' e =
     let r = joined_same x w q x' q' h h' (omega arith) in (r.0, ap suc r.1)
 
-images_same : (n : ℕ) (u : ℕ → ℕ) (rows : List (ℕ → ℤ)) (z y : ℕ → ℕ) → ((i : ℕ) → i < n → z i ≤ u i) → ((i : ℕ) → i < n → y i ≤ u i) → images n u rows z ≡ images n u rows y → SameOn n (λ (i : ℕ). pos (z i)) (λ (i : ℕ). pos (y i)) rows
+images_same : (n : ℕ) (u : ℕ → ℕ) (rows : List (ℕ → ℤ)) (z y : ℕ → ℕ) → ((i : ℕ) → i < n → z i ≤ u i) → ((i : ℕ) → i < n → y i ≤ u i)
+    → images n u rows z ≡ images n u rows y → SameOn n (λ (i : ℕ). pos (z i)) (λ (i : ℕ). pos (y i)) rows
 unfolding images
 images_same n u [] z y h k e = tt
 images_same n u (a ∷ rows) z y h k e =
-    let r = joined_same (image n a u z) (weight n a u) (images n u rows z) (image n a u y) (images n u rows y) (image_below n a u z h) (image_below n a u y k) e in (
+    let r = joined_same (image n a u z) (weight n a u) (images n u rows z) (image n a u y) (images n u rows y) (image_below n a u z h)
+    (image_below n a u y k) e in (
       omega (arith, lin, ap pos r.0, image_is n a u z h, image_is n a u y k),
       images_same n u rows z y h k r.1,
     )

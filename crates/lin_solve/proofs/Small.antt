@@ -1,5 +1,6 @@
 -- The rows of a basis are small where they are primitive.
-use Rattle.std.proofs.Common.{◌≡◌, ◌≢◌, ℕ, zero, suc, ◌+◌, ◌*◌, ◌^◌, ◌<◌, ◌≤◌, ℤ, pos, ◌-ℤ◌, ◌*ℤ◌, sym, ap, ◌∙◌, subst, arith, unsigned_abs, List, [], ◌∷◌, inl, inr, length, Bool, true, false, cond}
+use Rattle.std.proofs.Common.{◌≡◌, ◌≢◌, ℕ, zero, suc, ◌+◌, ◌*◌, ◌^◌, ◌<◌, ◌≤◌, ℤ, pos, ◌-ℤ◌, ◌*ℤ◌, sym, ap, ◌∙◌, subst, arith, unsigned_abs, List, [], ◌∷◌}
+use Rattle.std.proofs.Common.{inl, inr, length, Bool, true, false, cond}
 use Rattle.std.proofs.lemmas.Int.{unsigned_abs-mul}
 use Rattle.std.proofs.lemmas.Bool.{cases_eq}
 use Rattle.std.proofs.Math.IntN.{*ℤ_comm, *ℤ-zero}
@@ -56,7 +57,8 @@ mask free h i = cond (free i) 0 h
 
 box_is : (n h : ℕ) (free : ℕ → Bool) → box n (mask free h) ≡ suc h ^ taken n free
 box_is zero h free = sym (pow-zero (suc h))
-box_is (suc n) h free = box_more (free zero) h (box n (λ (i : ℕ). mask free h (suc i))) (taken n (λ (i : ℕ). free (suc i))) (box_is n h (λ (i : ℕ). free (suc i)))
+box_is (suc n) h free = box_more (free zero) h (box n (λ (i : ℕ). mask free h (suc i))) (taken n (λ (i : ℕ). free (suc i)))
+    (box_is n h (λ (i : ℕ). free (suc i)))
   where
     box_more : (b : Bool) (h x t : ℕ) → x ≡ suc h ^ t → suc (cond b 0 h) * x ≡ suc h ^ (held b + t)
     box_more true h x t e = omega (arith, e, ap (λ (k : ℕ). suc h ^ k) (zero-add t))

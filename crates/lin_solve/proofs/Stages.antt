@@ -1,5 +1,6 @@
 -- The state of the elimination: a flag and a row for each coordinate.
-use Rattle.std.proofs.Common.{◌≡◌, ◌≢◌, ℕ, zero, suc, ◌-◌, ◌^◌, ◌<◌, ◌≤◌, ℤ, pos, ◌-ℤ◌, ◌*ℤ◌, refl, sym, ap, ◌∙◌, subst, arith, unsigned_abs, List, [], ◌∷◌, inl, inr, length, Bool, true, false, set, get_or, replicate}
+use Rattle.std.proofs.Common.{◌≡◌, ◌≢◌, ℕ, zero, suc, ◌-◌, ◌^◌, ◌<◌, ◌≤◌, ℤ, pos, ◌-ℤ◌, ◌*ℤ◌, refl, sym, ap, ◌∙◌, subst, arith, unsigned_abs, List, [], ◌∷◌}
+use Rattle.std.proofs.Common.{inl, inr, length, Bool, true, false, set, get_or, replicate}
 use Rattle.std.proofs.lemmas.Bool.{cases_eq, cases_lt}
 use Rattle.std.proofs.lemmas.List.{get_or-set_same, get_or-set_other, get_or_past, get_or-replicate}
 use Rattle.std.proofs.Math.Nat.{pow-le-pow_right, le_trans}
@@ -88,7 +89,8 @@ module _ (n k : ℕ) (lines : List (List ℤ)) (free : List Bool) (vs : List (Li
 
 module _ (n k p : ℕ) (lines : List (List ℤ)) (free : List Bool) (vs ws : List (List ℤ)) (st : State n k lines free vs)
     (lp : p < n) (fp : flag free p ≡ true) (apart : dot n (row lines k) (row vs p) ≢ pos 0) (lk : k < length lines)
-    (new : (j : ℕ) → j < n → flag free j ≡ true → j ≢ p → Reduces (dot n (row lines k) (row vs p)) (dot n (row lines k) (row vs j)) (get_or vs j []) (get_or vs p []) (get_or ws j [])) where
+    (new : (j : ℕ) → j < n → flag free j ≡ true → j ≢ p → Reduces (dot n (row lines k) (row vs p)) (dot n (row lines k) (row vs j)) (get_or vs j [])
+    (get_or vs p []) (get_or ws j [])) where
   cleared : (j : ℕ) → j < n → flag free j ≡ true → j ≢ p → Cleared n (row lines k) (row vs j) (row vs p) (row ws j)
   cleared j l f ne =
       let r = new j l f ne in
@@ -103,12 +105,15 @@ module _ (n k p : ℕ) (lines : List (List ℤ)) (free : List Bool) (vs ws : Lis
   cleared_at : (j : ℕ) → j < n → flag (set free p false) j ≡ true → (i : ℕ) → i < suc k → dot n (row lines i) (row ws j) ≡ pos 0
   cleared_at j l f i b =
       let c : Cleared n (row lines k) (row vs j) (row vs p) (row ws j) = cleared j l (was j f) (gone j f) in
-      (Solves-part n c.g (row ws j) (λ (m : ℕ). dot n (row lines k) (row vs p) *ℤ row vs j m -ℤ dot n (row lines k) (row vs j) *ℤ row vs p m) (row lines i ∷ []) c.apart c.is (
+      (Solves-part n c.g (row ws j) (λ (m : ℕ). dot n (row lines k) (row vs p) *ℤ row vs j m -ℤ dot n (row lines k) (row vs j) *ℤ row vs p m)
+      (row lines i ∷ []) c.apart c.is (
         dot-lin n (dot n (row lines k) (row vs p)) (dot n (row lines k) (row vs j)) (row lines i) (row vs j) (row vs p)
             ∙ elim (cases_eq i k) [
-              | inl e ↦ subst (λ (m : ℕ). dot n (row lines k) (row vs p) *ℤ dot n (row lines m) (row vs j) -ℤ dot n (row lines k) (row vs j) *ℤ dot n (row lines m) (row vs p) ≡ pos 0) (sym e)
+              | inl e ↦ subst (λ (m : ℕ). dot n (row lines k) (row vs p) *ℤ dot n (row lines m) (row vs j) -ℤ dot n (row lines k) (row vs j) *ℤ dot n
+                  (row lines m) (row vs p) ≡ pos 0) (sym e)
                   (minus_same (dot n (row lines k) (row vs p)) (dot n (row lines k) (row vs j)))
-              | inr ne ↦ minus_zero (dot n (row lines k) (row vs p)) (dot n (row lines k) (row vs j)) (dot n (row lines i) (row vs j)) (dot n (row lines i) (row vs p))
+              | inr ne ↦ minus_zero (dot n (row lines k) (row vs p)) (dot n (row lines k) (row vs j)) (dot n (row lines i) (row vs j))
+                  (dot n (row lines i) (row vs p))
                   (st.done j l (was j f) i (omega arith)) (st.done p lp fp i (omega arith))
             ],
         tt,
@@ -135,7 +140,11 @@ opening : (n : ℕ) (lines : List (List ℤ)) (free : List Bool) (vs : List (Lis
 opening n lines free vs all long one none = record {
   kept = [];
   basis = start n (flag free) (row vs) all one none;
-  primitive = λ j l f. (row vs j, total-one n j (λ (i : ℕ). row vs j i *ℤ row vs j i) l (λ i b ne. ap (λ (x : ℤ). row vs j i *ℤ x) (none j i l b ne) ∙ *ℤ-zero (row vs j i)) ∙ ap (λ (x : ℤ). x *ℤ x) (one j l));
+  primitive = λ j l f. (
+    row vs j,
+    total-one n j (λ (i : ℕ). row vs j i *ℤ row vs j i) l
+        (λ i b ne. ap (λ (x : ℤ). row vs j i *ℤ x) (none j i l b ne) ∙ *ℤ-zero (row vs j i)) ∙ ap (λ (x : ℤ). x *ℤ x) (one j l),
+  );
   long = λ j l f. long j l;
   sized = λ s h. tt;
   done = λ j l f i b. absurd (omega arith);
@@ -143,7 +152,8 @@ opening n lines free vs all long one none = record {
 }
 
 -- after the first k lines the rows of the free coordinates are ready for line k
-pub ready_of : (n k : ℕ) (lines : List (List ℤ)) (free : List Bool) (vs : List (List ℤ)) → AreLines n lines → State n k lines free vs → k < length lines → length free ≡ n → length vs ≡ n → Ready (get_or lines k []) vs free
+pub ready_of : (n k : ℕ) (lines : List (List ℤ)) (free : List Bool) (vs : List (List ℤ)) → AreLines n lines → State n k lines free vs → k < length lines
+    → length free ≡ n → length vs ≡ n → Ready (get_or lines k []) vs free
 ready_of n k lines free vs a st lk ef ev =
     let el : length (get_or lines k []) ≡ n = a.long k lk in
     record {
@@ -154,7 +164,8 @@ ready_of n k lines free vs a st lk ef ev =
       sized = subst (λ (m : ℕ). size m (nth (get_or lines k [])) ≤ a.limit) (sym el) (a.sized k lk);
       room = subst (HasRoom a.limit) (sym el) a.room;
       lengths = λ j l f. st.long j (low j l) f ∙ sym ef;
-      small = λ j l f. subst (λ (m : ℕ). IsWithin (bound a.limit m) m (row vs j)) (sym el) (rows_small n a.limit k lines free vs a.some a.sized st j (low j l) f);
+      small = λ j l f. subst (λ (m : ℕ). IsWithin (bound a.limit m) m (row vs j)) (sym el)
+          (rows_small n a.limit k lines free vs a.some a.sized st j (low j l) f);
       own = λ j l f. st.basis.own j (low j l) f;
       others = λ j i l li f g ne. st.basis.others j i (low j l) (low i li) f g ne;
     }
@@ -167,7 +178,8 @@ pub product_is : (n : ℕ) (a v : List ℤ) → length a ≡ n → product a v �
 product_is n a v e = ap (λ (m : ℕ). dot m (nth a) (nth v)) e
 
 -- one more line, cleared at p
-pub advanced : (n k p : ℕ) (lines : List (List ℤ)) (free : List Bool) (vs ws : List (List ℤ)) → AreLines n lines → State n k lines free vs → k < length lines → length free ≡ n →
+pub advanced : (n k p : ℕ) (lines : List (List ℤ)) (free : List Bool) (vs ws : List (List ℤ)) → AreLines n lines → State n k lines free vs → k < length lines
+    → length free ≡ n →
     (p < length free) × (flag free p ≡ true) × (product (get_or lines k []) (get_or vs p []) ≢ pos 0) →
     ((j : ℕ) → j < length free → flag free j ≡ true → j ≢ p → IsNext (get_or lines k []) vs p j (get_or ws j [])) →
     State n (suc k) lines (set free p false) ws
@@ -179,20 +191,23 @@ advanced n k p lines free vs ws a st lk ef pv next =
     (next j (subst (λ (m : ℕ). j < m) (sym ef) l) f ne)))
 
 -- no free row answers the line
-pub skipped : (n k : ℕ) (lines : List (List ℤ)) (free : List Bool) (vs : List (List ℤ)) → AreLines n lines → State n k lines free vs → k < length lines → length free ≡ n →
+pub skipped : (n k : ℕ) (lines : List (List ℤ)) (free : List Bool) (vs : List (List ℤ)) → AreLines n lines → State n k lines free vs → k < length lines
+    → length free ≡ n →
     ((j : ℕ) → j < length free → flag free j ≡ true → product (get_or lines k []) (get_or vs j []) ≡ pos 0) → State n (suc k) lines free vs
 skipped n k lines free vs a st lk ef none =
     skip n k lines free vs st (λ j l f. sym (product_is n (get_or lines k []) (get_or vs j []) (a.long k lk)) ∙ none j (subst (λ (m : ℕ). j < m) (sym ef) l) f)
 
 -- a list of n flags that are all true, with a unit row for each, is the state before any line
-pub opened : (n : ℕ) (lines : List (List ℤ)) (free : List Bool) (vs : List (List ℤ)) → free ≡ replicate n true → ((j : ℕ) → j < n → IsUnit n j (get_or vs j [])) → State n 0 lines free vs
+pub opened : (n : ℕ) (lines : List (List ℤ)) (free : List Bool) (vs : List (List ℤ)) → free ≡ replicate n true
+    → ((j : ℕ) → j < n → IsUnit n j (get_or vs j [])) → State n 0 lines free vs
 opened n lines free vs e u =
     opening n lines free vs
     (λ j l. ap (λ (fs : List Bool). flag fs j) e ∙ get_or-replicate n j true false l)
     (λ j l. let w = u j l in w.long) (λ j l. let w = u j l in w.one l) (λ j i l li ne. let w = u j l in w.none i li ne)
 
 -- after all lines the row of a free coordinate is a kernel row of the lines
-pub row_found : (n : ℕ) (lines : List (List ℤ)) (free : List Bool) (vs : List (List ℤ)) (j : ℕ) → State n (length lines) lines free vs → j < n → flag free j ≡ true → IsKernelRow n lines (get_or vs j [])
+pub row_found : (n : ℕ) (lines : List (List ℤ)) (free : List Bool) (vs : List (List ℤ)) (j : ℕ) → State n (length lines) lines free vs → j < n
+    → flag free j ≡ true → IsKernelRow n lines (get_or vs j [])
 row_found n lines free vs j st l f = record {
   long = st.long j l f;
   place = j;

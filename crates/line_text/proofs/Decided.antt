@@ -1,5 +1,6 @@
 -- What holds or doesn't, and is known to: among them that a line is a word and numbers which keep a rule.
-use Rattle.std.proofs.Common.{inl, inr, ◌⊎◌, ⊎_elim, ◌≡◌, ℕ, zero, suc, ◌≤◌, ◌<◌, Bool, true, false, IsTrue, List, [], ◌∷◌, ◌++◌, length, take, drop, refl, sym, ap, subst, ◌∙◌, arith, length-append, take-append-drop}
+use Rattle.std.proofs.Common.{inl, inr, ◌⊎◌, ⊎_elim, ◌≡◌, ℕ, zero, suc, ◌≤◌, ◌<◌, Bool, true, false, IsTrue, List, [], ◌∷◌, ◌++◌, length, take, drop, refl}
+use Rattle.std.proofs.Common.{sym, ap, subst, ◌∙◌, arith, length-append, take-append-drop}
 use Rattle.std.specs.Fmt.{decimal}
 use Rattle.std.specs.List.{AllByRecursion}
 use Rattle.std.proofs.lemmas.Bool.{cases_eq, cases_lt}
@@ -63,7 +64,8 @@ decided_same [] [] = inl refl
 decided_same [] (y ∷ ys) = inr (λ is. absurd (cc is))
 decided_same (x ∷ xs) [] = inr (λ is. absurd (cc is))
 decided_same (x ∷ xs) (y ∷ ys) =
-    decided_as (decided_both (cases_eq x y) (decided_same xs ys)) (λ both. cc (both.0, both.1)) (λ is. (let heads : x ≡ y = cc in heads, let tails : xs ≡ ys = cc in tails))
+    decided_as (decided_both (cases_eq x y) (decided_same xs ys)) (λ both. cc (both.0, both.1))
+    (λ is. (let heads : x ≡ y = cc in heads, let tails : xs ≡ ys = cc in tails))
 
 pub decided_all : {A : Type 0} (P : A → Type 0) → ((a : A) → Decided (P a)) → (xs : List A) → Decided (AllByRecursion P xs)
 decided_all P one [] = inl tt
@@ -103,15 +105,18 @@ abbrev Begins : ℕ → (List ℕ → Type 0) → List ℕ → ℕ → Type 0
 Begins most P text n = (rest : List ℕ) × (text ≡ decimal n ++ rest) × Spells most (λ ns. P (n ∷ ns)) rest
 
 first_number : (most fuel : ℕ) (P : List ℕ → Type 0) (text : List ℕ) → length text ≤ fuel → ((ns : List ℕ) → Decided (P ns))
-    → ((Q : List ℕ → Type 0) → ((ns : List ℕ) → Decided (Q ns)) → (t : List ℕ) → length t ≤ fuel → Decided (Spells most Q t)) → (n : ℕ) → Decided (Begins most P text n)
+    → ((Q : List ℕ → Type 0) → ((ns : List ℕ) → Decided (Q ns)) → (t : List ℕ) → length t ≤ fuel → Decided (Spells most Q t)) → (n : ℕ)
+    → Decided (Begins most P text n)
 first_number most fuel P text few one rest_of n = by (after_word (decimal n) text)
   where
     go : (rest : List ℕ) → text ≡ decimal n ++ rest → Decided (Spells most (λ ns. P (n ∷ ns)) rest) → Decided (Begins most P text n)
     go rest is (inl found) = inl (rest, is, found)
-    go rest is (inr never) = inr (λ found. never (subst (Spells most (λ ns. P (n ∷ ns))) (append_cancel_left (decimal n) found.0 rest (sym found.1 ∙ is)) found.2))
+    go rest is (inr never) = inr (λ found. never (subst (Spells most (λ ns. P (n ∷ ns))) (append_cancel_left (decimal n) found.0 rest (sym found.1 ∙ is))
+        found.2))
 
     by : Decided ((rest : List ℕ) × (text ≡ decimal n ++ rest)) → Decided (Begins most P text n)
-    by (inl found) = go found.0 found.1 (rest_of (λ ns. P (n ∷ ns)) (λ ns. one (n ∷ ns)) found.0 (omega (arith, few, ap length found.1, length-append (decimal n) found.0)))
+    by (inl found) = go found.0 found.1 (rest_of (λ ns. P (n ∷ ns)) (λ ns. one (n ∷ ns)) found.0
+        (omega (arith, few, ap length found.1, length-append (decimal n) found.0)))
     by (inr never) = inr (λ found. never (found.0, found.1))
 
 no_numbers : (P : List ℕ → Type 0) (ns : List ℕ) → [] ≡ decimals_text ns → P ns → P []
@@ -119,10 +124,12 @@ no_numbers P [] is p = p
 no_numbers P (n ∷ ns) is p = absurd (cc is)
 
 -- that a text is such fields
-pub some_numbers : (most fuel : ℕ) (P : List ℕ → Type 0) → ((ns : List ℕ) → Decided (P ns)) → (text : List ℕ) → length text ≤ fuel → Decided (Spells most P text)
+pub some_numbers : (most fuel : ℕ) (P : List ℕ → Type 0) → ((ns : List ℕ) → Decided (P ns)) → (text : List ℕ) → length text ≤ fuel
+    → Decided (Spells most P text)
 some_numbers most fuel P one [] few = decided_as (one []) (λ p. ([], tt, refl, p)) (λ found. no_numbers P found.0 found.2 found.3)
 some_numbers most zero P one (c ∷ text) few = absurd (omega (arith, few))
-some_numbers most (suc fuel) P one (c ∷ text) few = by (cases_eq c 32) (some_below most (Begins most P text) (first_number most fuel P text (omega (arith, few)) one (some_numbers most fuel)))
+some_numbers most (suc fuel) P one (c ∷ text) few = by (cases_eq c 32) (some_below most (Begins most P text)
+    (first_number most fuel P text (omega (arith, few)) one (some_numbers most fuel)))
   where
     space_first : (ns : List ℕ) → c ∷ text ≡ decimals_text ns → c ≡ 32
     space_first [] is = absurd (cc is)
@@ -155,20 +162,32 @@ module _ (most : ℕ) (word : List ℕ) where
           (λ found. (found.0, small found.0 found.2, append_cancel_left word rest (decimals_text found.0) (sym is ∙ found.1), found.2))
 
   -- that it is the word, a name and such fields
-  pub some_named : (P : List ℕ → List ℕ → Type 0) → ((name ns : List ℕ) → Decided (P name ns)) → ((name ns : List ℕ) → P name ns → AllByRecursion (λ n. n ≤ most) ns) → (line : List ℕ)
+  pub some_named : (P : List ℕ → List ℕ → Type 0) → ((name ns : List ℕ) → Decided (P name ns))
+      → ((name ns : List ℕ) → P name ns → AllByRecursion (λ n. n ≤ most) ns) → (line : List ℕ)
       → Decided ((name : List ℕ) × (ns : List ℕ) × (line ≡ word ++ (name ++ decimals_text ns)) × P name ns)
   some_named P one small line = by (after_word word line)
     where
       back : (rest name ns : List ℕ) → rest ≡ name ++ decimals_text ns → P name ns → (k : ℕ) × (k ≤ length rest) × Cut most P rest k
       back rest name ns is p =
           let name_is : take (length name) rest ≡ name = ap (take (length name)) is ∙ take_at name (decimals_text ns) (length name) refl in
-          let fields : drop (length name) rest ≡ decimals_text ns = ap (drop (length name)) is ∙ drop_at name (decimals_text ns) (length name) refl in
-          (length name, omega (arith, ap length is, length-append name (decimals_text ns)), (ns, small name ns p, fields, subst (λ (n : List ℕ). P n ns) (sym name_is) p))
+          let fields : drop (length name) rest ≡ decimals_text ns = ap (drop (length name)) is ∙ drop_at name (decimals_text ns) (length name) refl in (
+            length name,
+            omega (arith, ap length is, length-append name (decimals_text ns)),
+            (ns, small name ns p, fields, subst (λ (n : List ℕ). P n ns) (sym name_is) p),
+          )
 
-      by : Decided ((rest : List ℕ) × (line ≡ word ++ rest)) → Decided ((name : List ℕ) × (ns : List ℕ) × (line ≡ word ++ (name ++ decimals_text ns)) × P name ns)
+      by : Decided ((rest : List ℕ) × (line ≡ word ++ rest)) → Decided ((name : List ℕ) × (ns : List ℕ) × (line ≡ word ++ (name ++ decimals_text ns))
+          × P name ns)
       by (inr never) = inr (λ found. never (found.0 ++ decimals_text found.1, found.2))
       by (inl (rest, is)) =
           decided_as
-          (some_below (length rest) (Cut most P rest) (λ k. some_numbers most (length (drop k rest)) (P (take k rest)) (one (take k rest)) (drop k rest) (omega arith)))
-          (λ found. (take found.0 rest, found.2.0, is ∙ ap (λ (r : List ℕ). word ++ r) (sym (take-append-drop found.0 rest) ∙ ap (λ (r : List ℕ). take found.0 rest ++ r) found.2.2), found.2.3))
+          (some_below (length rest) (Cut most P rest) (λ k. some_numbers most (length (drop k rest)) (P (take k rest)) (one (take k rest)) (drop k rest)
+          (omega arith)))
+          (λ found. (
+            take found.0 rest,
+            found.2.0,
+            is ∙ ap (λ (r : List ℕ). word ++ r)
+                (sym (take-append-drop found.0 rest) ∙ ap (λ (r : List ℕ). take found.0 rest ++ r) found.2.2),
+            found.2.3,
+          ))
           (λ found. back rest found.0 found.1 (append_cancel_left word rest (found.0 ++ decimals_text found.1) (sym is ∙ found.2)) found.3)

@@ -1,5 +1,6 @@
 -- Numbers of a line, one after the other.
-use Rattle.std.proofs.Common.{◌≡◌, ◌≢◌, ℕ, suc, zero, ◌+◌, ◌≤◌, ◌<◌, Bool, true, false, List, [], ◌∷◌, ◌++◌, length, get_or, take, drop, take-append-drop, refl, sym, ap, subst, ◌∙◌, arith, append_assoc, length-append, drop-drop, length-drop}
+use Rattle.std.proofs.Common.{◌≡◌, ◌≢◌, ℕ, suc, zero, ◌+◌, ◌≤◌, ◌<◌, Bool, true, false, List, [], ◌∷◌, ◌++◌, length, get_or, take, drop, take-append-drop}
+use Rattle.std.proofs.Common.{refl, sym, ap, subst, ◌∙◌, arith, append_assoc, length-append, drop-drop, length-drop}
 use Rattle.std.specs.Prelude.{ℤ, ◌||◌}
 use Rattle.std.proofs.lemmas.List.{append-nil, take_all}
 use Rattle.line_text.specs.Numeral.{signed_numeral, numbers_text}
@@ -11,7 +12,8 @@ use Rattle.line_text.specs.Fields.{FieldEnds, IsNoField, KeepsNumber, KeepsNumbe
 -- the text of one number more
 pub numbers-push : (ns : List ℤ) (z : ℤ) → numbers_text (ns ++ z ∷ []) ≡ numbers_text ns ++ 32 ∷ signed_numeral z
 numbers-push [] z = ap (λ (l : List ℕ). 32 ∷ l) (append-nil (signed_numeral z))
-numbers-push (n ∷ ns) z = ap (λ (l : List ℕ). 32 ∷ signed_numeral n ++ l) (numbers-push ns z) ∙ ap (λ (l : List ℕ). 32 ∷ l) (sym (append_assoc (signed_numeral n) (numbers_text ns) (32 ∷ signed_numeral z)))
+numbers-push (n ∷ ns) z = ap (λ (l : List ℕ). 32 ∷ signed_numeral n ++ l) (numbers-push ns z) ∙ ap (λ (l : List ℕ). 32 ∷ l)
+    (sym (append_assoc (signed_numeral n) (numbers_text ns) (32 ∷ signed_numeral z)))
 
 -- one more number, in range or not
 pub out-push : (ns : List ℤ) (z : ℤ) → any_out (ns ++ z ∷ []) ≡ any_out ns || is_out z
@@ -26,13 +28,15 @@ out-push (n ∷ ns) z = ap (λ (b : Bool). is_out n || b) (out-push ns z) ∙ as
     assoc true b c = refl
     assoc false b c = refl
 
-take-more : (text : List ℕ) (at stop : ℕ) → at < length text → get_or text at 0 ≡ 32 → take (at + (stop + 1)) text ≡ take at text ++ 32 ∷ take stop (drop (at + 1) text)
+take-more : (text : List ℕ) (at stop : ℕ) → at < length text → get_or text at 0 ≡ 32 → take (at + (stop + 1)) text ≡ take at text
+    ++ 32 ∷ take stop (drop (at + 1) text)
 take-more [] at stop lt e = absurd (omega arith)
 take-more (c ∷ text) zero stop lt e = ap (λ (n : ℕ). take n (c ∷ text)) swap ∙ ap (λ (x : ℕ). x ∷ take stop text) e
   where
     swap : 0 + (stop + 1) ≡ suc stop
     swap = omega arith
-take-more (c ∷ text) (suc at) stop lt e = ap (λ (n : ℕ). take n (c ∷ text)) left ∙ ap (λ (l : List ℕ). c ∷ l) (take-more text at stop (omega arith) e) ∙ ap (λ (l : List ℕ). c ∷ take at text ++ 32 ∷ take stop l) (ap (λ (n : ℕ). drop n (c ∷ text)) right)
+take-more (c ∷ text) (suc at) stop lt e = ap (λ (n : ℕ). take n (c ∷ text)) left ∙ ap (λ (l : List ℕ). c ∷ l) (take-more text at stop (omega arith) e)
+    ∙ ap (λ (l : List ℕ). c ∷ take at text ++ 32 ∷ take stop l) (ap (λ (n : ℕ). drop n (c ∷ text)) right)
   where
     left : suc at + (stop + 1) ≡ suc (at + (stop + 1))
     left = omega arith
@@ -45,11 +49,13 @@ pub numbers-start : (text : List ℕ) → KeepsNumbers text 0 [] [] false
 numbers-start text = record { within = omega arith; front = refl; ends = λ some. absurd (omega (arith, some)); count = refl; out = refl; same = λ e. refl }
 
 -- behind the numbers so far, a space and what is kept of one more number are kept with them
-pub numbers-more : (text : List ℕ) (at : ℕ) (ns items : List ℤ) (beyond : Bool) (k : Kept) (z : ℤ) → KeepsNumbers text at ns items beyond → at < length text → get_or text at 0 ≡ 32 → KeepsNumber (drop (at + 1) text) k z
+pub numbers-more : (text : List ℕ) (at : ℕ) (ns items : List ℤ) (beyond : Bool) (k : Kept) (z : ℤ) → KeepsNumbers text at ns items beyond → at < length text
+    → get_or text at 0 ≡ 32 → KeepsNumber (drop (at + 1) text) k z
     → KeepsNumbers text (at + (k.stop + 1)) (ns ++ z ∷ []) (items ++ k.number ∷ []) (beyond || k.beyond)
 numbers-more text at ns items beyond k z h lt space kept = record {
   within = omega (arith, kept.field.within, length-drop (at + 1) text, lt);
-  front = take-more text at k.stop lt space ∙ ap (λ (l : List ℕ). l ++ 32 ∷ take k.stop (drop (at + 1) text)) h.front ∙ ap (λ (l : List ℕ). numbers_text ns ++ 32 ∷ l) kept.field.spelled ∙ sym (numbers-push ns z);
+  front = take-more text at k.stop lt space ∙ ap (λ (l : List ℕ). l ++ 32 ∷ take k.stop (drop (at + 1) text)) h.front
+      ∙ ap (λ (l : List ℕ). numbers_text ns ++ 32 ∷ l) kept.field.spelled ∙ sym (numbers-push ns z);
   ends = λ some. subst FieldEnds (drop-drop k.stop (at + 1) text ∙ ap (λ (n : ℕ). drop n text) (omega arith)) kept.field.ends;
   count = omega (arith, h.count, length-append items (k.number ∷ []), length-append ns (z ∷ []));
   out = out-push ns z ∙ ap (λ (b : Bool). b || is_out z) h.out ∙ ap (λ (b : Bool). beyond || b) kept.beyond;
@@ -86,7 +92,8 @@ left (n ∷ ns) (m ∷ ms) r ends e =
     last (x ∷ ms) = omega arith
 
 -- in a text of numbers, the bytes behind the numbers so far are numbers as well
-pub numbers-left : (text : List ℕ) (at : ℕ) (ns items : List ℤ) (beyond : Bool) → KeepsNumbers text at ns items beyond → (ms : List ℤ) → text ≡ numbers_text ms → (rest : List ℤ) × (drop at text ≡ numbers_text rest)
+pub numbers-left : (text : List ℕ) (at : ℕ) (ns items : List ℤ) (beyond : Bool) → KeepsNumbers text at ns items beyond → (ms : List ℤ)
+    → text ≡ numbers_text ms → (rest : List ℤ) × (drop at text ≡ numbers_text rest)
 numbers-left text at ns items beyond h ms e =
     left ns ms (drop at text) (λ some. h.ends (positive at some h.front)) (ap (λ (l : List ℕ). l ++ drop at text) (sym h.front) ∙ take-append-drop at text ∙ e)
   where
@@ -99,7 +106,8 @@ numbers-left text at ns items beyond h ms e =
     positive (suc at) some front = omega arith
 
 -- a byte that is no space begins no number
-pub no_space : (text : List ℕ) (at : ℕ) (ns items : List ℤ) (beyond : Bool) → KeepsNumbers text at ns items beyond → at < length text → get_or text at 0 ≢ 32 → (ms : List ℤ) → text ≡ numbers_text ms → ⊥
+pub no_space : (text : List ℕ) (at : ℕ) (ns items : List ℤ) (beyond : Bool) → KeepsNumbers text at ns items beyond → at < length text → get_or text at 0 ≢ 32
+    → (ms : List ℤ) → text ≡ numbers_text ms → ⊥
 no_space text at ns items beyond h lt other ms e =
     let l = numbers-left text at ns items beyond h ms e in
     first l.0 text at lt other l.1
@@ -111,7 +119,8 @@ no_space text at ns items beyond h lt other ms e =
     first rest (c ∷ text) (suc at) lt other e = first rest text at (omega arith) other e
 
 -- and where no number stands behind the space
-pub no_field : (text : List ℕ) (at : ℕ) (ns items : List ℤ) (beyond : Bool) → KeepsNumbers text at ns items beyond → at < length text → IsNoField (drop (at + 1) text) → (ms : List ℤ) → text ≡ numbers_text ms → ⊥
+pub no_field : (text : List ℕ) (at : ℕ) (ns items : List ℤ) (beyond : Bool) → KeepsNumbers text at ns items beyond → at < length text
+    → IsNoField (drop (at + 1) text) → (ms : List ℤ) → text ≡ numbers_text ms → ⊥
 no_field text at ns items beyond h lt none ms e =
     let l = numbers-left text at ns items beyond h ms e in
     next l.0 text at lt none l.1
@@ -130,5 +139,6 @@ no_field text at ns items beyond h lt none ms e =
         same = omega arith
 
 -- where the numbers so far reach the end of the text, the whole text is these numbers
-pub numbers-whole : (text : List ℕ) (at : ℕ) (ns items : List ℤ) (beyond : Bool) → KeepsNumbers text at ns items beyond → length text ≤ at → HasNumbers text items beyond
+pub numbers-whole : (text : List ℕ) (at : ℕ) (ns items : List ℤ) (beyond : Bool) → KeepsNumbers text at ns items beyond
+    → length text ≤ at → HasNumbers text items beyond
 numbers-whole text at ns items beyond h le = record { numbers = ns; spelled = sym (take_all at text le) ∙ h.front; count = h.count; out = h.out; same = h.same }

@@ -1,5 +1,6 @@
 -- What digits at the front of a text say of the numeral there.
-use Rattle.std.proofs.Common.{◌≡◌, ◌≢◌, ℕ, suc, zero, ◌≤◌, ◌<◌, List, [], ◌∷◌, ◌++◌, length, get_or, take, drop, refl, sym, ap, subst, ◌∙◌, arith, length-append, length-take, inl, inr}
+use Rattle.std.proofs.Common.{◌≡◌, ◌≢◌, ℕ, suc, zero, ◌≤◌, ◌<◌, List, [], ◌∷◌, ◌++◌, length, get_or, take, drop, refl, sym, ap, subst, ◌∙◌, arith}
+use Rattle.std.proofs.Common.{length-append, length-take, inl, inr}
 use Rattle.std.proofs.lemmas.Bool.{cases_lt}
 use Rattle.line_text.specs.Numeral.{numeral}
 use Rattle.wide_num.proofs.Decimal.{AreDigits, IsDigit, IsNumeral, read_on}
@@ -24,7 +25,8 @@ space_at [] (c ∷ rest) ends lt = ends
 space_at (x ∷ xs) rest ends lt = space_at xs rest ends (omega arith)
 
 -- a byte that is neither a digit nor a space ends no field
-pub no_number_at : (text : List ℕ) (i : ℕ) → AreDigits (take i text) → i < length text → get_or text i 0 ≢ 32 → (IsDigit (get_or text i 0) → ⊥) → (n : ℕ) (rest : List ℕ) → FieldEnds rest → text ≡ numeral n ++ rest → ⊥
+pub no_number_at : (text : List ℕ) (i : ℕ) → AreDigits (take i text) → i < length text → get_or text i 0 ≢ 32 → (IsDigit (get_or text i 0) → ⊥)
+    → (n : ℕ) (rest : List ℕ) → FieldEnds rest → text ≡ numeral n ++ rest → ⊥
 no_number_at text i d lt space digit n rest ends e =
     at (numeral n) (numeral_is n).digits e
   where
@@ -34,7 +36,8 @@ no_number_at text i d lt space digit n rest ends e =
         elim (cases_lt i (length xs)) [
           | inl before ↦ digit (subst (λ (t : List ℕ). IsDigit (get_or t i 0)) (sym e) (digit_at xs rest i dx before))
           | inr here ↦ (let same : length xs ≡ i = omega (arith, here, le) in
-              space (ap (λ (t : List ℕ). get_or t i 0) e ∙ ap (λ (x : ℕ). get_or (xs ++ rest) x 0) (sym same) ∙ space_at xs rest ends (omega (arith, lt, same, ap length e))))
+              space (ap (λ (t : List ℕ). get_or t i 0) e ∙ ap (λ (x : ℕ). get_or (xs ++ rest) x 0) (sym same)
+              ∙ space_at xs rest ends (omega (arith, lt, same, ap length e))))
         ]
 
 first_of : (xs rest : List ℕ) → 0 < length xs → get_or (xs ++ rest) 0 0 ≡ get_or xs 0 0
@@ -42,14 +45,16 @@ first_of [] rest some = absurd (omega arith)
 first_of (x ∷ xs) rest some = refl
 
 -- a field where the digits stop has at least one, and no zero before others
-pub no_leading_zero : (text : List ℕ) (stop : ℕ) → AreDigits (take stop text) → stop ≤ length text → FieldEnds (drop stop text) → (n : ℕ) (rest : List ℕ) → FieldEnds rest → text ≡ numeral n ++ rest → HasNoLeadingZero text stop
+pub no_leading_zero : (text : List ℕ) (stop : ℕ) → AreDigits (take stop text) → stop ≤ length text → FieldEnds (drop stop text) → (n : ℕ) (rest : List ℕ)
+    → FieldEnds rest → text ≡ numeral n ++ rest → HasNoLeadingZero text stop
 no_leading_zero text stop d le here n rest ends e =
     let is = numeral_is n in
     let low = within_field (numeral n) rest stop ends (subst (λ (t : List ℕ). AreDigits (take stop t)) e d) (omega (arith, le, ap length e)) in
     let first : get_or text 0 0 ≡ get_or (numeral n) 0 0 = ap (λ (t : List ℕ). get_or t 0 0) e ∙ first_of (numeral n) rest is.some in (
       elim (cases_lt 0 stop) [
         | inl some ↦ some
-        | inr none ↦ absurd (let z : stop ≡ 0 = omega (arith, none) in stops text z (subst (λ (s : ℕ). FieldEnds (drop s text)) z here) (omega (arith, ap length e, length-append (numeral n) rest, is.some)) (subst (λ (c : ℕ). 48 ≤ c) (sym (first)) (digit_first (numeral n) is)))
+        | inr none ↦ absurd (let z : stop ≡ 0 = omega (arith, none) in stops text z (subst (λ (s : ℕ). FieldEnds (drop s text)) z here)
+            (omega (arith, ap length e, length-append (numeral n) rest, is.some)) (subst (λ (c : ℕ). 48 ≤ c) (sym (first)) (digit_first (numeral n) is)))
       ],
       λ long zero_first. let l = is.leading (omega (arith, long, low)) in omega (arith, l, first, zero_first),
     )
@@ -63,13 +68,15 @@ no_leading_zero text stop d le here n rest ends e =
     stops (c ∷ text) z ends some high = omega (arith, ends, high)
 
 -- the digits are a field
-pub field_made : (text : List ℕ) (stop : ℕ) → AreDigits (take stop text) → stop ≤ length text → FieldEnds (drop stop text) → HasNoLeadingZero text stop → IsField text (read_on 0 (take stop text)) stop
+pub field_made : (text : List ℕ) (stop : ℕ) → AreDigits (take stop text) → stop ≤ length text → FieldEnds (drop stop text) → HasNoLeadingZero text stop
+    → IsField text (read_on 0 (take stop text)) stop
 field_made text stop d le ends lead = record {
   within = le;
   spelled = one_numeral (take stop text) (read_on 0 (take stop text)) (record {
     digits = d;
     some = omega (arith, length-take stop text, lead.0, le);
-    leading = λ long. high (take stop text) d (omega (arith, lead.0, le, length-take stop text)) (λ e. lead.1 (omega (arith, long, length-take stop text)) (sym (first text stop lead.0) ∙ e));
+    leading = λ long. high (take stop text) d (omega (arith, lead.0, le, length-take stop text))
+        (λ e. lead.1 (omega (arith, long, length-take stop text)) (sym (first text stop lead.0) ∙ e));
     value = refl;
   });
   ends = ends;

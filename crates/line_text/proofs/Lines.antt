@@ -74,13 +74,32 @@ pub record StopsWithin {O : Type 0} (ls ms : List (List ℕ × Option O)) : Type
 pub compare_lines : {O : Type 0} (ls ms : List (List ℕ × Option O)) (x y : List ℕ) → AreLines ls → AreLines ms
     → text_of ls ++ x ≡ text_of ms ++ y → StopsWithin ls ms ⊎ GoesOn ls ms x
 compare_lines [] [] x y al am is = inl (record { start = []; after = []; whole = refl; same = tt })
-compare_lines [] (m ∷ ms) x y al am is = inr (record { start = []; next = m; after = ms; whole = refl; same = tt; more = text_of ms ++ y; rest_is = is ∙ append_assoc m.0 (10 ∷ text_of ms) y })
+compare_lines [] (m ∷ ms) x y al am is = inr (record {
+  start = [];
+  next = m;
+  after = ms;
+  whole = refl;
+  same = tt;
+  more = text_of ms ++ y;
+  rest_is =
+      is ∙ append_assoc m.0 (10 ∷ text_of ms) y;
+})
 compare_lines (l ∷ ls) [] x y al am is = inl (record { start = []; after = l ∷ ls; whole = refl; same = tt })
 compare_lines (l ∷ ls) (m ∷ ms) x y al am is =
-    let heads = one_line l.0 m.0 (text_of ls ++ x) (text_of ms ++ y) al.0 am.0 (sym (append_assoc l.0 (10 ∷ text_of ls) x) ∙ is ∙ append_assoc m.0 (10 ∷ text_of ms) y) in
+    let heads = one_line l.0 m.0 (text_of ls ++ x) (text_of ms ++ y) al.0 am.0 (sym (append_assoc l.0 (10 ∷ text_of ls) x) ∙ is
+    ∙ append_assoc m.0 (10 ∷ text_of ms) y) in
     ⊎_elim
     (λ (s : StopsWithin ls ms). inl (record { start = l ∷ s.start; after = s.after; whole = ap (λ (r : List _). l ∷ r) s.whole; same = (sym heads.0, s.same) }))
-    (λ (s : GoesOn ls ms x). inr (record { start = m ∷ s.start; next = s.next; after = s.after; whole = ap (λ (r : List _). m ∷ r) s.whole; same = (heads.0, s.same); more = s.more; rest_is = s.rest_is }))
+    (λ (s : GoesOn ls ms x). inr (record {
+      start = m ∷ s.start;
+      next = s.next;
+      after = s.after;
+      whole = ap (λ (r : List _). m ∷ r) s.whole;
+      same =
+          (heads.0, s.same);
+      more = s.more;
+      rest_is = s.rest_is;
+    }))
     (compare_lines ls ms x y al.1 am.1 heads.1)
 
 -- a line with one more byte, no line feed, is a line

@@ -1,5 +1,6 @@
 -- A numeral is digits without a leading zero, and a number has one numeral, whatever its size.
-use Rattle.std.proofs.Common.{◌≡◌, ℕ, suc, zero, ◌+◌, ◌-◌, ◌*◌, ◌/◌, ◌%◌, ◌≤◌, ◌<◌, Bool, true, false, List, [], ◌∷◌, ◌++◌, length, get_or, refl, sym, ap, subst, ◌∙◌, arith, append_assoc, length-append, inl, inr}
+use Rattle.std.proofs.Common.{◌≡◌, ℕ, suc, zero, ◌+◌, ◌-◌, ◌*◌, ◌/◌, ◌%◌, ◌≤◌, ◌<◌, Bool, true, false, List, [], ◌∷◌, ◌++◌, length, get_or, refl, sym, ap}
+use Rattle.std.proofs.Common.{subst, ◌∙◌, arith, append_assoc, length-append, inl, inr}
 use Rattle.std.proofs.lemmas.List.{append-nil}
 use Rattle.std.proofs.lemmas.Bool.{cases_lt, lt-ltb, le-ltb}
 use Rattle.std.specs.Prelude.{ℤ, pos, negsuc}
@@ -8,11 +9,13 @@ use Rattle.line_text.specs.Numeral.{digits_of, numeral, signed_numeral, numbers_
 
 digits-one : (most n : ℕ) → n < 10 → digits_of (suc most) n ≡ (48 + n) ∷ []
 unfolding digits_of
-digits-one most n lt = ap (λ (b : Bool). elim b as (λ _. List ℕ) [ true ↦ (48 + n) ∷ [] | false ↦ digits_of most (n / 10) ++ (48 + n % 10) ∷ [] ]) (lt-ltb n 10 lt)
+digits-one most n lt = ap (λ (b : Bool). elim b as (λ _. List ℕ) [ true ↦ (48 + n) ∷ [] | false ↦ digits_of most (n / 10) ++ (48 + n % 10) ∷ [] ])
+    (lt-ltb n 10 lt)
 
 digits-more : (most n : ℕ) → 10 ≤ n → digits_of (suc most) n ≡ digits_of most (n / 10) ++ (48 + n % 10) ∷ []
 unfolding digits_of
-digits-more most n le = ap (λ (b : Bool). elim b as (λ _. List ℕ) [ true ↦ (48 + n) ∷ [] | false ↦ digits_of most (n / 10) ++ (48 + n % 10) ∷ [] ]) (le-ltb n 10 le)
+digits-more most n le = ap (λ (b : Bool). elim b as (λ _. List ℕ) [ true ↦ (48 + n) ∷ [] | false ↦ digits_of most (n / 10) ++ (48 + n % 10) ∷ [] ])
+    (le-ltb n 10 le)
 
 digits_same : (f g n : ℕ) → n < f → n < g → digits_of f n ≡ digits_of g n
 digits_same zero g n lf lg = absurd (omega arith)
@@ -20,7 +23,8 @@ digits_same (suc f) zero n lf lg = absurd (omega arith)
 digits_same (suc f) (suc g) n lf lg =
     elim (cases_lt n 10) [
       | inl low ↦ digits-one f n low ∙ sym (digits-one g n low)
-      | inr high ↦ digits-more f n high ∙ ap (λ (l : List ℕ). l ++ (48 + n % 10) ∷ []) (digits_same f g (n / 10) (omega arith) (omega arith)) ∙ sym (digits-more g n high)
+      | inr high ↦ digits-more f n high ∙ ap (λ (l : List ℕ). l ++ (48 + n % 10) ∷ []) (digits_same f g (n / 10) (omega arith) (omega arith))
+          ∙ sym (digits-more g n high)
     ]
 
 -- the numeral of a number below 10 is its one digit
@@ -44,7 +48,8 @@ first_same (d ∷ ds) c some = refl
 good_more : (n : ℕ) (ds : List ℕ) → 10 ≤ n → Good ds (n / 10) → Good (ds ++ (48 + n % 10) ∷ []) n
 good_more n ds le p =
     let lead : 48 < get_or (ds ++ (48 + n % 10) ∷ []) 0 0 = rw (first_same ds (48 + n % 10) p.is.some) (p.first (omega arith)) in
-    let value : read_on 0 (ds ++ (48 + n % 10) ∷ []) ≡ n = read_on-append 0 ds ((48 + n % 10) ∷ []) ∙ ap (λ (k : ℕ). 10 * k + (48 + n % 10 - 48)) p.is.value ∙ omega arith in
+    let value : read_on 0 (ds ++ (48 + n % 10) ∷ []) ≡ n = read_on-append 0 ds ((48 + n % 10) ∷ []) ∙ ap (λ (k : ℕ). 10 * k + (48 + n % 10 - 48)) p.is.value
+    ∙ omega arith in
     record {
       is = record {
         digits = digits_push ds (48 + n % 10) p.is.digits (omega arith, omega arith);
@@ -77,7 +82,8 @@ numeral-on n (c ∷ cs) some all =
     let m = 10 * n + (c - 48) in
     let front : m / 10 ≡ n = omega (arith, all.0) in
     let last : 48 + m % 10 ≡ c = omega (arith, all.0) in
-    let step : numeral m ≡ numeral n ++ c ∷ [] = numeral-more m (omega arith) ∙ ap (λ (k : ℕ). numeral k ++ (48 + m % 10) ∷ []) front ∙ ap (λ (k : ℕ). numeral n ++ k ∷ []) last in
+    let step : numeral m ≡ numeral n ++ c ∷ [] = numeral-more m (omega arith) ∙ ap (λ (k : ℕ). numeral k ++ (48 + m % 10) ∷ []) front
+    ∙ ap (λ (k : ℕ). numeral n ++ k ∷ []) last in
     numeral-on m cs (omega arith) all.1 ∙ ap (λ (l : List ℕ). l ++ cs) step ∙ append_assoc (numeral n) (c ∷ []) cs
 
 -- a number has one numeral
@@ -129,7 +135,8 @@ first_digit n r = at (numeral n) (numeral_is n)
 
 -- a text splits in one way into a signed number and a rest that is empty or begins below '0'
 pub one_signed : (a b : ℤ) (r q : List ℕ) → Ends r → Ends q → signed_numeral a ++ r ≡ signed_numeral b ++ q → (a ≡ b) × (r ≡ q)
-one_signed (pos m) (pos n) r q er eq e = let f = one_field (numeral m) (numeral n) r q (numeral_is m).digits (numeral_is n).digits er eq e in (ap pos (numeral_one m n f.0), f.1)
+one_signed (pos m) (pos n) r q er eq e = let f = one_field (numeral m) (numeral n) r q (numeral_is m).digits (numeral_is n).digits er eq e in
+    (ap pos (numeral_one m n f.0), f.1)
 one_signed (pos m) (negsuc n) r q er eq e = absurd (omega (arith, first_digit m r, ap (λ (l : List ℕ). get_or l 0 0) e))
 one_signed (negsuc m) (pos n) r q er eq e = absurd (omega (arith, first_digit n q, ap (λ (l : List ℕ). get_or l 0 0) e))
 one_signed (negsuc m) (negsuc n) r q er eq e =

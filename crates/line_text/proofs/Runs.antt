@@ -1,10 +1,12 @@
 -- A reader that goes from stage to stage, line by line, against the form that it reads.
-use Rattle.std.proofs.Common.{⊎_elim, ◌≡◌, ℕ, ◌+◌, ◌≤◌, ◌<◌, Option, Some, None, List, [], ◌∷◌, ◌++◌, length, take, drop, refl, sym, ap, subst, ◌∙◌, arith, append_assoc, length-append, length-take, take-append-drop, drop-drop}
+use Rattle.std.proofs.Common.{⊎_elim, ◌≡◌, ℕ, ◌+◌, ◌≤◌, ◌<◌, Option, Some, None, List, [], ◌∷◌, ◌++◌, length, take, drop, refl, sym, ap, subst, ◌∙◌, arith}
+use Rattle.std.proofs.Common.{append_assoc, length-append, length-take, take-append-drop, drop-drop}
 use Rattle.std.proofs.lemmas.List.{append-nil, drop_all, take_all}
 use Rattle.std.specs.Option.{option_or}
 use Rattle.line_text.specs.LineText.{IsLine, text_of, first_excess, IsTextOf, FaultAt, Exceeds}
 use Rattle.line_text.specs.Reading.{Runs, SoFar, HaltsAt, ExceedsFirst}
-use Rattle.line_text.proofs.Lines.{AreLines, SameLines, text_of-append, first_excess-append, compare_lines, GoesOn, StopsWithin, text_of_same, one_line, no_feed}
+use Rattle.line_text.proofs.Lines.{AreLines, SameLines, text_of-append, first_excess-append, compare_lines, GoesOn, StopsWithin, text_of_same, one_line}
+use Rattle.line_text.proofs.Lines.{no_feed}
 
 module _ {S : Type 0} (Sound : S → Type 0) (Step : S → List ℕ → S → Type 0) where
   -- a line leads from a sound stage to one stage
@@ -35,7 +37,8 @@ module _ {S O : Type 0} (Step : S → List ℕ → S → Type 0) (excess : S →
   one_run Sound keeps one_step s t u sound (l ∷ ls) [] same a b = absurd same
   one_run Sound keeps one_step s t u sound (l ∷ ls) (m ∷ ms) same a b =
       let stages : a.0 ≡ b.0 = one_step s a.0 b.0 m.0 sound (subst (λ (x : List ℕ). Step s x a.0) same.0 a.2) b.2 in
-      let rest = one_run Sound keeps one_step a.0 t u (keeps s a.0 l.0 sound a.2) ls ms same.1 a.4 (subst (λ (r : S). Runs Step excess r ms u) (sym stages) b.4) in
+      let rest = one_run Sound keeps one_step a.0 t u (keeps s a.0 l.0 sound a.2) ls ms same.1 a.4
+      (subst (λ (r : S). Runs Step excess r ms u) (sym stages) b.4) in
       let beside : l.1 ≡ m.1 = a.3 ∙ ap excess stages ∙ sym b.3 in
       ((λ i. (same.0 i, beside i) ∷ rest.0 i), rest.1)
 
@@ -50,8 +53,11 @@ module _ {S O : Type 0} (Sound : S → Type 0) (Step : S → List ℕ → S → 
   runs_behind step (m ∷ ms) s t sound run =
       let first = step s run.0 m.0 sound run.2 in
       let rest = runs_behind step ms run.0 t first.0 run.4 in
-      let beside : (m.0, excess run.0) ≡ m = λ i. (m.0, sym run.3 i) in
-      (rest.0, rest.1 ∙ ap (λ (r : List (List ℕ × Option O)). r ++ ms) (first.1 ∙ ap (λ (x : List ℕ × Option O). behind s ++ x ∷ []) beside) ∙ append_assoc (behind s) (m ∷ []) ms)
+      let beside : (m.0, excess run.0) ≡ m = λ i. (m.0, sym run.3 i) in (
+        rest.0,
+        rest.1 ∙ ap (λ (r : List (List ℕ × Option O)). r ++ ms) (first.1 ∙ ap (λ (x : List ℕ × Option O). behind s ++ x ∷ []) beside)
+            ∙ append_assoc (behind s) (m ∷ []) ms,
+      )
 
 -- a value whose text begins with these lines
 pub record FrontOf {V O : Type 0} (IsValid : V → Type 0) (lines : V → List (List ℕ × Option O)) (before : List (List ℕ × Option O)) : Type 0 where
@@ -60,9 +66,12 @@ pub record FrontOf {V O : Type 0} (IsValid : V → Type 0) (lines : V → List (
   pub valid : IsValid value
   pub same : take count (lines value) ≡ before
 
-module _ {S V O : Type 0} (Sound : S → Type 0) (Step : S → List ℕ → S → Type 0) (excess : S → Option O) (behind : S → List (List ℕ × Option O)) (IsValid : V → Type 0) (lines : V → List (List ℕ × Option O)) (steps : StepsBehind Sound Step excess behind) (front_of : (s : S) → Sound s → FrontOf IsValid lines (behind s)) where
+module _ {S V O : Type 0} (Sound : S → Type 0) (Step : S → List ℕ → S → Type 0) (excess : S → Option O) (behind : S → List (List ℕ × Option O))
+    (IsValid : V → Type 0) (lines : V → List (List ℕ × Option O)) (steps : StepsBehind Sound Step excess behind)
+    (front_of : (s : S) → Sound s → FrontOf IsValid lines (behind s)) where
   -- where each sound stage has the front of a text behind it, the lines of a run are one
-  pub front_reached : (begin : S) → Sound begin → behind begin ≡ [] → (ms : List (List ℕ × Option O)) (s : S) → Runs Step excess begin ms s → (v : V) × (k : ℕ) × IsValid v × (take k (lines v) ≡ ms)
+  pub front_reached : (begin : S) → Sound begin → behind begin ≡ [] → (ms : List (List ℕ × Option O)) (s : S) → Runs Step excess begin ms s
+      → (v : V) × (k : ℕ) × IsValid v × (take k (lines v) ≡ ms)
   front_reached begin sound nothing ms s run =
       let is = runs_behind Sound Step excess behind steps ms begin s sound run in
       let front = front_of s is.0 in
@@ -70,7 +79,8 @@ module _ {S V O : Type 0} (Sound : S → Type 0) (Step : S → List ℕ → S �
 
 -- The reader reads this form: over the lines of a value it comes to the value's end, and where it has come from the
 -- beginning, the lines are the front of some text. From an end it goes no further.
-pub record Reads {S V O : Type 0} (Sound : S → Type 0) (Step : S → List ℕ → S → Type 0) (excess : S → Option O) (begin : S) (finish : V → S) (IsValid : V → Type 0) (lines : V → List (List ℕ × Option O)) : Type 0 where
+pub record Reads {S V O : Type 0} (Sound : S → Type 0) (Step : S → List ℕ → S → Type 0) (excess : S → Option O) (begin : S) (finish : V → S)
+    (IsValid : V → Type 0) (lines : V → List (List ℕ × Option O)) : Type 0 where
   pub complete : (v : V) → IsValid v → Runs Step excess begin (lines v) (finish v)
   pub sound : (ms : List (List ℕ × Option O)) (s : S) → Runs Step excess begin ms s → (v : V) × (k : ℕ) × IsValid v × (take k (lines v) ≡ ms)
   pub begins : Sound begin
@@ -79,7 +89,8 @@ pub record Reads {S V O : Type 0} (Sound : S → Type 0) (Step : S → List ℕ 
   pub closed : (v : V) (l : List ℕ) (t : S) → Step (finish v) l t → ⊥
   pub one_value : (v w : V) → finish v ≡ finish w → v ≡ w
 
-module _ {S V O : Type 0} (Sound : S → Type 0) (Step : S → List ℕ → S → Type 0) (excess : S → Option O) (begin : S) (finish : V → S) (IsValid : V → Type 0) (lines : V → List (List ℕ × Option O)) (reads : Reads Sound Step excess begin finish IsValid lines) where
+module _ {S V O : Type 0} (Sound : S → Type 0) (Step : S → List ℕ → S → Type 0) (excess : S → Option O) (begin : S) (finish : V → S) (IsValid : V → Type 0)
+    (lines : V → List (List ℕ × Option O)) (reads : Reads Sound Step excess begin finish IsValid lines) where
   -- over the front of a text the reader comes to some stage
   pub front_runs : (v : V) (k : ℕ) → IsValid v → (u : S) × Runs Step excess begin (take k (lines v)) u × Runs Step excess u (drop k (lines v)) (finish v)
   front_runs v k valid =
@@ -97,10 +108,12 @@ module _ {S V O : Type 0} (Sound : S → Type 0) (Step : S → List ℕ → S �
       let found = reads.sound ms (finish v) run in
       let w = found.0 in
       let parts = front_runs w found.1 found.2 in
-      let same : parts.0 ≡ finish v = (one_run Step excess Sound reads.keeps reads.one_step begin parts.0 (finish v) reads.begins (take found.1 (lines w)) ms (same_lines _ _ found.3) parts.1 run).1 in
+      let same : parts.0 ≡ finish v = (one_run Step excess Sound reads.keeps reads.one_step begin parts.0 (finish v) reads.begins (take found.1 (lines w)) ms
+      (same_lines _ _ found.3) parts.1 run).1 in
       let rest = no_more v (finish w) (drop found.1 (lines w)) (subst (λ (u : S). Runs Step excess u (drop found.1 (lines w)) (finish w)) same parts.2) in
       let value : w ≡ v = reads.one_value w v rest.1 in
-      let whole : lines w ≡ ms = sym (take-append-drop found.1 (lines w)) ∙ ap (λ (r : List (List ℕ × Option O)). take found.1 (lines w) ++ r) rest.0 ∙ append-nil (take found.1 (lines w)) ∙ found.3 in
+      let whole : lines w ≡ ms = sym (take-append-drop found.1 (lines w)) ∙ ap (λ (r : List (List ℕ × Option O)). take found.1 (lines w) ++ r) rest.0
+      ∙ append-nil (take found.1 (lines w)) ∙ found.3 in
       (subst IsValid value found.2, ap lines (sym value) ∙ whole)
     where
       same_lines : (xs ys : List (List ℕ × Option O)) → xs ≡ ys → SameLines xs ys
@@ -113,10 +126,12 @@ module _ {S V O : Type 0} (Sound : S → Type 0) (Step : S → List ℕ → S �
   -- the reader stands at a stage, behind these lines, and before these bytes
   module _ (bytes bad : List ℕ) (ms : List (List ℕ × Option O)) (s : S) (run : Runs Step excess begin ms s) (split : bytes ≡ text_of ms ++ bad) where
     -- a line with which it can't go on: no front of a text has it
-    not_on : (blocked : (l more : List ℕ) → IsLine l → bad ≡ l ++ 10 ∷ more → (t : S) → Step s l t → ⊥) (w : V) (k : ℕ) → IsValid w → GoesOn ms (take k (lines w)) bad → ⊥
+    not_on : (blocked : (l more : List ℕ) → IsLine l → bad ≡ l ++ 10 ∷ more → (t : S) → Step s l t → ⊥) (w : V) (k : ℕ) → IsValid w
+        → GoesOn ms (take k (lines w)) bad → ⊥
     not_on blocked w k valid on =
         let parts = front_runs w k valid in
-        let cut = runs_split Step excess begin parts.0 on.start (on.next ∷ on.after) (subst (λ (r : List (List ℕ × Option O)). Runs Step excess begin r parts.0) on.whole parts.1) in
+        let cut = runs_split Step excess begin parts.0 on.start (on.next ∷ on.after)
+        (subst (λ (r : List (List ℕ × Option O)). Runs Step excess begin r parts.0) on.whole parts.1) in
         let stages : s ≡ cut.0 = (one_run Step excess Sound reads.keeps reads.one_step begin s cut.0 reads.begins ms on.start on.same run cut.1).1 in
         let goes = cut.2 in
         blocked on.next.0 on.more goes.1 on.rest_is goes.0 (subst (λ (r : S). Step r on.next.0 goes.0) (sym stages) goes.2)
@@ -128,7 +143,13 @@ module _ {S V O : Type 0} (Sound : S → Type 0) (Step : S → List ℕ → S �
     fault_at place none here blocked open_end =
         let found = reads.sound ms s run in
         record {
-          front = record { value = found.0; count = found.1; valid = found.2; begins = (bad, split ∙ ap (λ (r : List (List ℕ × Option O)). text_of r ++ bad) (sym found.3)) };
+          front = record {
+            value = found.0;
+            count = found.1;
+            valid = found.2;
+            begins =
+                (bad, split ∙ ap (λ (r : List (List ℕ × Option O)). text_of r ++ bad) (sym found.3));
+          };
           within = ap first_excess found.3 ∙ none;
           here = ap (λ (r : List (List ℕ × Option O)). length (text_of r)) found.3 ∙ here;
           longest = λ other. longest other.value other.count other.valid other.begins.0 other.begins.1;
@@ -146,7 +167,9 @@ module _ {S V O : Type 0} (Sound : S → Type 0) (Step : S → List ℕ → S �
             let parts = front_runs w k valid in
             ⊎_elim
             (λ (st : StopsWithin ms (take k (lines w))).
-            let long : length (text_of ms) ≡ length (text_of st.start) + length (text_of st.after) = ap (λ (r : List (List ℕ × Option O)). length (text_of r)) st.whole ∙ ap length (text_of-append st.start st.after) ∙ length-append (text_of st.start) (text_of st.after) in
+            let long : length (text_of ms) ≡ length (text_of st.start) + length (text_of st.after) =
+            ap (λ (r : List (List ℕ × Option O)). length (text_of r)) st.whole ∙ ap length (text_of-append st.start st.after)
+            ∙ length-append (text_of st.start) (text_of st.after) in
             let same : length (text_of (take k (lines w))) ≡ length (text_of st.start) = ap length (text_of_same _ _ st.same) in
             omega (arith, long, same, here))
             (λ (on : GoesOn ms (take k (lines w)) bad). absurd (not_on blocked w k valid on))
@@ -164,15 +187,23 @@ module _ {S V O : Type 0} (Sound : S → Type 0) (Step : S → List ℕ → S �
             let long : length (text_of ms) + length bad ≡ length (text_of (lines v)) = sym (length-append (text_of ms) bad) ∙ ap length (sym split ∙ is) in
             let same : length (text_of ms) ≡ length (text_of (lines v)) = ap (λ (r : List (List ℕ × Option O)). length (text_of r)) whole in
             absurd (omega (arith, long, same, open_end v rest.1)))
-            (λ (on : GoesOn ms (lines v) bad). absurd (not_on blocked v (length (lines v)) valid (subst (λ (r : List (List ℕ × Option O)). GoesOn ms r bad) (sym (take_all (length (lines v)) (lines v) (omega arith))) on)))
-            (compare_lines ms (lines v) bad [] lines_here (runs_lines Step excess begin (finish v) (lines v) run_v) (sym split ∙ is ∙ sym (append-nil (text_of (lines v)))))
+            (λ (on : GoesOn ms (lines v) bad). absurd (not_on blocked v (length (lines v)) valid
+            (subst (λ (r : List (List ℕ × Option O)). GoesOn ms r bad) (sym (take_all (length (lines v)) (lines v) (omega arith))) on)))
+            (compare_lines ms (lines v) bad [] lines_here (runs_lines Step excess begin (finish v) (lines v) run_v)
+            (sym split ∙ is ∙ sym (append-nil (text_of (lines v)))))
 
     -- the first excess of the lines behind the reader is what the bytes exceed first
     pub exceeds : (o : O) → first_excess ms ≡ Some o → Exceeds IsValid lines bytes o
     exceeds o first =
         let found = reads.sound ms s run in
         record {
-          front = record { value = found.0; count = found.1; valid = found.2; begins = (bad, split ∙ ap (λ (r : List (List ℕ × Option O)). text_of r ++ bad) (sym found.3)) };
+          front = record {
+            value = found.0;
+            count = found.1;
+            valid = found.2;
+            begins =
+                (bad, split ∙ ap (λ (r : List (List ℕ × Option O)). text_of r ++ bad) (sym found.3));
+          };
           first = ap first_excess found.3 ∙ first;
         }
 
@@ -190,7 +221,8 @@ module _ {S V O : Type 0} (Sound : S → Type 0) (Step : S → List ℕ → S �
 pub start_so_far : {S O : Type 0} (Step : S → List ℕ → S → Type 0) (excess : S → Option O) (begin : S) (bytes : List ℕ) → SoFar Step excess begin bytes 0 begin
 start_so_far Step excess begin bytes = record { behind = []; run = refl; within = refl; split = refl; here = refl }
 
-module _ {S O : Type 0} (Step : S → List ℕ → S → Type 0) (excess : S → Option O) (begin : S) (bytes : List ℕ) (place : ℕ) (s : S) (so_far : SoFar Step excess begin bytes place s) where
+module _ {S O : Type 0} (Step : S → List ℕ → S → Type 0) (excess : S → Option O) (begin : S) (bytes : List ℕ) (place : ℕ) (s : S)
+    (so_far : SoFar Step excess begin bytes place s) where
   -- the next line, and where it leads
   module _ (n : ℕ) (is_line : IsLine (take n (drop place bytes))) (feed : drop n (drop place bytes) ≡ 10 ∷ drop (n + 1) (drop place bytes)) where
     rest_is : drop place bytes ≡ take n (drop place bytes) ++ 10 ∷ drop (n + 1) (drop place bytes)
@@ -198,7 +230,8 @@ module _ {S O : Type 0} (Step : S → List ℕ → S → Type 0) (excess : S →
 
     split_more : (mark : Option O) → bytes ≡ text_of (so_far.behind ++ (take n (drop place bytes), mark) ∷ []) ++ drop (n + 1) (drop place bytes)
     split_more mark =
-        so_far.split ∙ ap (λ (r : List ℕ). text_of so_far.behind ++ r) (rest_is ∙ sym (append_assoc (take n (drop place bytes)) (10 ∷ []) (drop (n + 1) (drop place bytes))))
+        so_far.split ∙ ap (λ (r : List ℕ). text_of so_far.behind ++ r) (rest_is ∙ sym
+        (append_assoc (take n (drop place bytes)) (10 ∷ []) (drop (n + 1) (drop place bytes))))
         ∙ sym (append_assoc (text_of so_far.behind) (take n (drop place bytes) ++ 10 ∷ []) (drop (n + 1) (drop place bytes)))
         ∙ ap (λ (r : List ℕ). r ++ drop (n + 1) (drop place bytes)) (sym (text_of-append so_far.behind ((take n (drop place bytes), mark) ∷ [])))
 
@@ -206,14 +239,16 @@ module _ {S O : Type 0} (Step : S → List ℕ → S → Type 0) (excess : S →
     run_more t step = runs_append Step excess begin s t so_far.behind ((take n (drop place bytes), excess t) ∷ []) so_far.run (t, is_line, step, refl, refl)
 
     marks_more : (mark : Option O) → first_excess (so_far.behind ++ (take n (drop place bytes), mark) ∷ []) ≡ mark
-    marks_more mark = first_excess-append so_far.behind ((take n (drop place bytes), mark) ∷ []) ∙ ap (λ (o : Option O). option_or o (first_excess ((take n (drop place bytes), mark) ∷ []))) so_far.within ∙ alone mark
+    marks_more mark = first_excess-append so_far.behind ((take n (drop place bytes), mark) ∷ []) ∙ ap
+        (λ (o : Option O). option_or o (first_excess ((take n (drop place bytes), mark) ∷ []))) so_far.within ∙ alone mark
       where
         alone : (o : Option O) → first_excess ((take n (drop place bytes), o) ∷ []) ≡ o
         alone None = refl
         alone (Some x) = refl
 
     -- by a line with a step to a stage that exceeds nothing, the reader comes behind its line feed
-    pub next_so_far : (t : S) → Step s (take n (drop place bytes)) t → excess t ≡ None → n < length (drop place bytes) → SoFar Step excess begin bytes (place + (n + 1)) t
+    pub next_so_far : (t : S) → Step s (take n (drop place bytes)) t → excess t ≡ None → n < length (drop place bytes)
+        → SoFar Step excess begin bytes (place + (n + 1)) t
     next_so_far t step none lt =
         let behind = so_far.behind ++ (take n (drop place bytes), excess t) ∷ [] in
         let long : length (text_of (so_far.behind ++ (take n (drop place bytes), excess t) ∷ [])) ≡ place + (n + 1) =
@@ -244,13 +279,15 @@ module _ {S O : Type 0} (Step : S → List ℕ → S → Type 0) (excess : S →
     next_halts ended refused = record {
       stage = s;
       so_far = so_far;
-      blocked = λ l more line is t step. let one = one_line l (take n (drop place bytes)) more (drop (n + 1) (drop place bytes)) line is_line (sym is ∙ rest_is) in
+      blocked = λ l more line is t step. let one = one_line l (take n (drop place bytes)) more (drop (n + 1) (drop place bytes)) line is_line
+          (sym is ∙ rest_is) in
           refused t (subst (λ (x : List ℕ). Step s x t) one.0 step);
       open_end = λ v end. omega (arith, ap length rest_is, length-append (take n (drop place bytes)) (10 ∷ drop (n + 1) (drop place bytes)));
     }
 
   -- where there is no further line, the reader halts
-  pub last_halts : {V : Type 0} (ended : V → S) → IsLine (drop place bytes) → ((v : V) → s ≡ ended v → 0 < length (drop place bytes)) → HaltsAt Step excess begin ended bytes place
+  pub last_halts : {V : Type 0} (ended : V → S) → IsLine (drop place bytes) → ((v : V) → s ≡ ended v → 0 < length (drop place bytes))
+      → HaltsAt Step excess begin ended bytes place
   last_halts ended no_line open_end = record {
     stage = s;
     so_far = so_far;
@@ -258,27 +295,32 @@ module _ {S O : Type 0} (Step : S → List ℕ → S → Type 0) (excess : S →
     open_end = open_end;
   }
 
-module _ {S V O : Type 0} {Sound : S → Type 0} {Step : S → List ℕ → S → Type 0} {excess : S → Option O} {begin : S} {finish : V → S} {IsValid : V → Type 0} {lines : V → List (List ℕ × Option O)} (reads : Reads Sound Step excess begin finish IsValid lines) (bytes : List ℕ) where
+module _ {S V O : Type 0} {Sound : S → Type 0} {Step : S → List ℕ → S → Type 0} {excess : S → Option O} {begin : S} {finish : V → S} {IsValid : V → Type 0}
+    {lines : V → List (List ℕ × Option O)} (reads : Reads Sound Step excess begin finish IsValid lines) (bytes : List ℕ) where
   -- bytes that are read up to the end of a value are its text
   pub text_read : (v : V) → SoFar Step excess begin bytes (length bytes) (finish v) → IsTextOf IsValid lines bytes v
-  text_read v end = is_text Sound Step excess begin finish IsValid lines reads bytes (drop (length bytes) bytes) end.behind (finish v) end.run end.split v refl (drop_all (length bytes) bytes (omega arith)) end.within
+  text_read v end = is_text Sound Step excess begin finish IsValid lines reads bytes (drop (length bytes) bytes) end.behind
+      (finish v) end.run end.split v refl (drop_all (length bytes) bytes (omega arith)) end.within
 
   -- where the reader halts, the first faulty line begins
   pub fault_read : (place : ℕ) → HaltsAt Step excess begin finish bytes place → FaultAt IsValid lines bytes place
-  fault_read place halts = fault_at Sound Step excess begin finish IsValid lines reads bytes (drop place bytes) halts.so_far.behind halts.stage halts.so_far.run halts.so_far.split place halts.so_far.within halts.so_far.here halts.blocked halts.open_end
+  fault_read place halts = fault_at Sound Step excess begin finish IsValid lines reads bytes (drop place bytes) halts.so_far.behind halts.stage
+      halts.so_far.run halts.so_far.split place halts.so_far.within halts.so_far.here halts.blocked halts.open_end
 
   -- what the reader exceeds first the bytes do
   pub excess_read : (o : O) → ExceedsFirst Step excess begin bytes o → Exceeds IsValid lines bytes o
   excess_read o over = exceeds Sound Step excess begin finish IsValid lines reads bytes over.rest over.behind over.stage over.run over.split o over.first
 
-module _ {S V O : Type 0} (Sound : S → Type 0) (Step : S → List ℕ → S → Type 0) (excess : S → Option O) (begin : S) (finish : V → S) (IsValid : V → Type 0) (lines : V → List (List ℕ × Option O)) (reads : Reads Sound Step excess begin finish IsValid lines) where
+module _ {S V O : Type 0} (Sound : S → Type 0) (Step : S → List ℕ → S → Type 0) (excess : S → Option O) (begin : S) (finish : V → S) (IsValid : V → Type 0)
+    (lines : V → List (List ℕ × Option O)) (reads : Reads Sound Step excess begin finish IsValid lines) where
   pub nothing_yet : (bytes : List ℕ) → SoFar Step excess begin bytes 0 begin
   nothing_yet bytes = start_so_far Step excess begin bytes
 
   -- the same for a reader that keeps its place by itself
   module _ (bytes : List ℕ) (place : ℕ) (s : S) (so_far : SoFar Step excess begin bytes place s) where
     module _ (n : ℕ) (is_line : IsLine (take n (drop place bytes))) (feed : drop n (drop place bytes) ≡ 10 ∷ drop (n + 1) (drop place bytes)) where
-      pub line_taken : (t : S) → Step s (take n (drop place bytes)) t → excess t ≡ None → n < length (drop place bytes) → SoFar Step excess begin bytes (place + (n + 1)) t
+      pub line_taken : (t : S) → Step s (take n (drop place bytes)) t → excess t ≡ None → n < length (drop place bytes)
+          → SoFar Step excess begin bytes (place + (n + 1)) t
       line_taken t step none lt = next_so_far Step excess begin bytes place s so_far n is_line feed t step none lt
 
       pub line_exceeds : (t : S) (o : O) → Step s (take n (drop place bytes)) t → excess t ≡ Some o → Exceeds IsValid lines bytes o
@@ -291,7 +333,8 @@ module _ {S V O : Type 0} (Sound : S → Type 0) (Step : S → List ℕ → S �
     line_missing no_line open_end = fault_read reads bytes place (last_halts Step excess begin bytes place s so_far finish no_line open_end)
 
     pub all_read : (v : V) → s ≡ finish v → length (drop place bytes) ≡ 0 → IsTextOf IsValid lines bytes v
-    all_read v end none = is_text Sound Step excess begin finish IsValid lines reads bytes (drop place bytes) so_far.behind s so_far.run so_far.split v end (empty (drop place bytes) none) so_far.within
+    all_read v end none = is_text Sound Step excess begin finish IsValid lines reads bytes (drop place bytes) so_far.behind s so_far.run so_far.split v end
+        (empty (drop place bytes) none) so_far.within
       where
         empty : (l : List ℕ) → length l ≡ 0 → l ≡ []
         empty [] is = refl

@@ -22,15 +22,23 @@ plain_field text n stop f = record { within = f.within; some = field_some text n
 pub minus_field : (rest : List ℕ) (n stop : ℕ) → IsField rest (suc n) stop → IsSignedField (45 ∷ rest) (negsuc n) (stop + 1)
 minus_field rest n stop f =
     let more : suc stop ≡ stop + 1 = omega arith in
-    subst (λ (s : ℕ). IsSignedField (45 ∷ rest) (negsuc n) s) more (record { within = omega (arith, f.within); some = omega arith; spelled = ap (λ (l : List ℕ). 45 ∷ l) f.spelled; ends = f.ends })
+    subst (λ (s : ℕ). IsSignedField (45 ∷ rest) (negsuc n) s) more (record {
+      within = omega (arith, f.within);
+      some = omega arith;
+      spelled =
+          ap (λ (l : List ℕ). 45 ∷ l) f.spelled;
+      ends = f.ends;
+    })
 
 -- a number without a minus
-pub no_minus_text : (text : List ℕ) → get_or text 0 0 ≢ 45 → ((n : ℕ) (rest : List ℕ) → FieldEnds rest → text ≡ numeral n ++ rest → ⊥) → (z : ℤ) (rest : List ℕ) → FieldEnds rest → text ≡ signed_numeral z ++ rest → ⊥
+pub no_minus_text : (text : List ℕ) → get_or text 0 0 ≢ 45 → ((n : ℕ) (rest : List ℕ) → FieldEnds rest → text ≡ numeral n ++ rest → ⊥)
+    → (z : ℤ) (rest : List ℕ) → FieldEnds rest → text ≡ signed_numeral z ++ rest → ⊥
 no_minus_text text plain none (pos n) rest ends e = none n rest ends e
 no_minus_text text plain none (negsuc n) rest ends e = plain (ap (λ (l : List ℕ). get_or l 0 0) e)
 
 -- behind a minus stands a number above 0
-pub minus_text : (rest : List ℕ) → ((n : ℕ) (r : List ℕ) → FieldEnds r → 0 < n → rest ≡ numeral n ++ r → ⊥) → (z : ℤ) (r : List ℕ) → FieldEnds r → 45 ∷ rest ≡ signed_numeral z ++ r → ⊥
+pub minus_text : (rest : List ℕ) → ((n : ℕ) (r : List ℕ) → FieldEnds r → 0 < n → rest ≡ numeral n ++ r → ⊥) → (z : ℤ) (r : List ℕ) → FieldEnds r
+    → 45 ∷ rest ≡ signed_numeral z ++ r → ⊥
 minus_text rest none (pos n) r ends e = omega (arith, first_digit n r, ap (λ (l : List ℕ). get_or l 0 0) e)
 minus_text rest none (negsuc n) r ends e = none (suc n) r ends (omega arith) cc
 

@@ -1,5 +1,6 @@
 -- Bytes always say something, where each line is known to lead on or not.
-use Rattle.std.proofs.Common.{inl, inr, ◌⊎◌, ◌≡◌, ℕ, zero, suc, ◌+◌, ◌≤◌, ◌<◌, Option, Some, None, List, [], ◌∷◌, length, take, drop, refl, ap, ◌∙◌, arith, length-drop}
+use Rattle.std.proofs.Common.{inl, inr, ◌⊎◌, ◌≡◌, ℕ, zero, suc, ◌+◌, ◌≤◌, ◌<◌, Option, Some, None, List, [], ◌∷◌, length, take, drop, refl, ap, ◌∙◌, arith}
+use Rattle.std.proofs.Common.{length-drop}
 use Rattle.std.proofs.lemmas.Bool.{cases_eq}
 use Rattle.line_text.specs.LineText.{IsLine, Said, stated, faulty, beyond, Says}
 use Rattle.line_text.specs.Reading.{SoFar}
@@ -23,7 +24,8 @@ first_feed (c ∷ bytes) = by (cases_eq c 10) (first_feed bytes)
         let up : suc (n + 1) ≡ suc n + 1 = omega arith in
         inr (suc n, record { line = (other, first.line); feed = first.feed ∙ ap (λ (k : ℕ). 10 ∷ drop k (c ∷ bytes)) up; within = omega (arith, first.within) })
 
-module _ {S V O : Type 0} (Sound : S → Type 0) (Step : S → List ℕ → S → Type 0) (excess : S → Option O) (begin : S) (finish : V → S) (IsValid : V → Type 0) (lines : V → List (List ℕ × Option O))
+module _ {S V O : Type 0} (Sound : S → Type 0) (Step : S → List ℕ → S → Type 0) (excess : S → Option O) (begin : S) (finish : V → S) (IsValid : V → Type 0)
+    (lines : V → List (List ℕ × Option O))
     (reads : Reads Sound Step excess begin finish IsValid lines)
     (leads : StepsDecided Sound Step) (ends : (s : S) → Decided ((v : V) × (s ≡ finish v))) (bytes : List ℕ) where
   abbrev SaysSome : Type 0
@@ -43,11 +45,19 @@ module _ {S V O : Type 0} (Sound : S → Type 0) (Step : S → List ℕ → S �
       go t step None none =
           on n t (reads.keeps s t (take n (drop place bytes)) sound step)
           (line_taken Sound Step excess begin finish IsValid lines reads bytes place s far n first.line first.feed t step none first.within) first.within
-      go t step (Some o) over = (beyond o, line_exceeds Sound Step excess begin finish IsValid lines reads bytes place s far n first.line first.feed t o step over)
+      go t step (Some o) over = (
+        beyond o,
+        line_exceeds Sound Step excess begin finish IsValid lines reads bytes place s far n first.line first.feed t o step
+            over,
+      )
 
       by : Decided ((t : S) × Step s (take n (drop place bytes)) t) → SaysSome
       by (inl (t, step)) = go t step (excess t) refl
-      by (inr never) = (faulty place, line_refused Sound Step excess begin finish IsValid lines reads bytes place s far n first.line first.feed (λ t step. never (t, step)))
+      by (inr never) = (
+        faulty place,
+        line_refused Sound Step excess begin finish IsValid lines reads bytes place s far n first.line first.feed
+            (λ t step. never (t, step)),
+      )
 
   at_end : (place : ℕ) (s : S) → Stands place s → IsLine (drop place bytes) → SaysSome
   at_end place s far line = by (length (drop place bytes)) refl (ends s)
@@ -75,4 +85,5 @@ module _ {S V O : Type 0} (Sound : S → Type 0) (Step : S → List ℕ → S �
 
   -- bytes say something: a value, the place of the first faulty line, or what is exceeded first
   pub some_answer : (said : Said V O) × Says IsValid lines bytes said
-  some_answer = from (length bytes) 0 begin reads.begins (nothing_yet Sound Step excess begin finish IsValid lines reads bytes) (omega (arith, length-drop 0 bytes))
+  some_answer = from (length bytes) 0 begin reads.begins (nothing_yet Sound Step excess begin finish IsValid lines reads bytes)
+      (omega (arith, length-drop 0 bytes))

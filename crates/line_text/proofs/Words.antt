@@ -16,4 +16,5 @@ word_rest (c ∷ word) rest = word_rest word rest
 
 -- behind a word stand one line's numbers
 pub one_behind : (word : List ℕ) (ns ms : List ℤ) → word ++ numbers_text ns ≡ word ++ numbers_text ms → ns ≡ ms
-one_behind word ns ms e = one_numbers ns ms (sym (word_rest word (numbers_text ns)) ∙ ap (λ (l : List ℕ). drop (length word) l) e ∙ word_rest word (numbers_text ms))
+one_behind word ns ms e = one_numbers ns ms (sym (word_rest word (numbers_text ns)) ∙ ap (λ (l : List ℕ). drop (length word) l) e
+    ∙ word_rest word (numbers_text ms))

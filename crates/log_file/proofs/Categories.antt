@@ -17,7 +17,8 @@ one-package terms fields (Submit k) states = tt
 one-package terms fields Close states = tt
 
 -- those of all records
-pub all-packages : (terms : Terms) (rows : List (List (List ℕ))) (events : List Event) → AllState terms rows events → AllByRecursion (HasCategories terms) events
+pub all-packages : (terms : Terms) (rows : List (List (List ℕ))) (events : List Event) → AllState terms rows events
+    → AllByRecursion (HasCategories terms) events
 all-packages terms [] [] all = tt
 all-packages terms [] (e ∷ events) all = absurd all
 all-packages terms (r ∷ rows) [] all = tt

@@ -21,7 +21,8 @@ pub record FirstCount (field more ns : List ℕ) : Type 0 where
   pub more_is : more ≡ decimals_text later
 
 -- of a text of counts the field before the first space is the first count, and the rest spells the others
-pub first_count : (categories : ℕ) (text field more ns : List ℕ) → 0 < categories → text ≡ field ++ more → NoSpace field → FieldEnds more → AreCounts categories ns → text ≡ counts_text ns → FirstCount field more ns
+pub first_count : (categories : ℕ) (text field more ns : List ℕ) → 0 < categories → text ≡ field ++ more → NoSpace field → FieldEnds more
+    → AreCounts categories ns → text ≡ counts_text ns → FirstCount field more ns
 first_count categories text field more [] some split own stops are is = absurd (omega (arith, some, are.0))
 first_count categories text field more (n ∷ ns) some split own stops are is =
     let parts = one_field field (decimal n) more (decimals_text ns) own (number_own n (omega (arith, are.1.0))) stops (decimals_stop ns) (sym split ∙ is) in
@@ -34,7 +35,8 @@ pub record Splits (text field more : List ℕ) : Type 0 where
   pub stops : FieldEnds more
 
 -- cut at its first space a text is a field without a space and what follows it
-pub splits : (text field more : List ℕ) (n : ℕ) → field ≡ take n text → more ≡ drop n text → NoSpace (take n text) → FieldEnds (drop n text) → Splits text field more
+pub splits : (text field more : List ℕ) (n : ℕ) → field ≡ take n text → more ≡ drop n text → NoSpace (take n text) → FieldEnds (drop n text)
+    → Splits text field more
 splits text field more n front back own stops = record {
   split = sym (take-append-drop n text) ∙ ap (λ (l : List ℕ). l ++ drop n text) (sym front) ∙ ap (λ (l : List ℕ). field ++ l) (sym back);
   own = subst NoSpace (sym front) own;
@@ -42,7 +44,8 @@ splits text field more n front back own stops = record {
 }
 
 -- a text of counts that falls apart at its first space has its first count before it
-pub first_of : (categories : ℕ) (text field more ns : List ℕ) → 0 < categories → Splits text field more → AreCounts categories ns → text ≡ counts_text ns → FirstCount field more ns
+pub first_of : (categories : ℕ) (text field more ns : List ℕ) → 0 < categories → Splits text field more → AreCounts categories ns → text ≡ counts_text ns
+    → FirstCount field more ns
 first_of categories text field more ns some at are is = first_count categories text field more ns some at.split at.own at.stops are is
 
 -- with nothing behind the first count it is the only one
@@ -61,9 +64,14 @@ other_counts categories field more ns first are long =
     let spaced = other more first.later long first.more_is in
     (omega (arith, count, spaced.0), (omega (arith, count), first.all_low), spaced.1)
   where
-    other : (more later : List ℕ) → 1 ≤ length more → more ≡ decimals_text later → (0 < length later) × (take (length more - 1) (drop 1 more) ≡ counts_text later)
+    other : (more later : List ℕ) → 1 ≤ length more → more ≡ decimals_text later → (0 < length later)
+        × (take (length more - 1) (drop 1 more) ≡ counts_text later)
     other more [] long is = absurd (omega (arith, long, ap length is))
-    other more (n ∷ later) long is = (omega arith, ap (λ (l : List ℕ). take (length l - 1) (drop 1 l)) is ∙ take_all (length (decimals_text (n ∷ later)) - 1) (counts_text (n ∷ later)) (omega arith))
+    other more (n ∷ later) long is = (
+      omega arith,
+      ap (λ (l : List ℕ). take (length l - 1) (drop 1 l)) is
+          ∙ take_all (length (decimals_text (n ∷ later)) - 1) (counts_text (n ∷ later)) (omega arith),
+    )
 
 -- counts behind a space are spelled as those behind the first count
 pub behind_space : (ns : List ℕ) → 0 < length ns → decimals_text ns ≡ 32 ∷ counts_text ns

@@ -16,7 +16,8 @@ use Rattle.award_file.specs.limits.specs.declared.TheConstants.{MOST_RECORDS}
 abbrev pub Rows : Type 0
 Rows = List (List (List ℕ))
 
-state_push : (terms : Terms) (rows : Rows) (events : List Event) (r : List (List ℕ)) (e : Event) → AllState terms rows events → States terms r e → AllState terms (rows ++ r ∷ []) (events ++ e ∷ [])
+state_push : (terms : Terms) (rows : Rows) (events : List Event) (r : List (List ℕ)) (e : Event) → AllState terms rows events → States terms r e
+    → AllState terms (rows ++ r ∷ []) (events ++ e ∷ [])
 state_push terms [] [] r e all is = (is, tt)
 state_push terms (x ∷ rows) (y ∷ events) r e all is = (all.0, state_push terms rows events r e all.1 is)
 state_push terms [] (y ∷ events) r e all is = absurd all
@@ -27,7 +28,8 @@ pub begin : (terms : Terms) (rows : Rows) → BeginWith terms rows [] rows
 begin terms rows = record { before = []; whole = refl; states = tt; few = omega arith }
 
 -- one record more
-pub begin_more : (terms : Terms) (rows : Rows) (events : List Event) (left : Rows) (r : List (List ℕ)) (later : Rows) (e : Event) → BeginWith terms rows events left → left ≡ r ∷ later → length events < MOST_RECORDS
+pub begin_more : (terms : Terms) (rows : Rows) (events : List Event) (left : Rows) (r : List (List ℕ)) (later : Rows) (e : Event)
+    → BeginWith terms rows events left → left ≡ r ∷ later → length events < MOST_RECORDS
     → States terms r e → BeginWith terms rows (events ++ e ∷ []) later
 begin_more terms rows events left r later e had is few states = record {
   before = had.before ++ r ∷ [];
@@ -43,16 +45,19 @@ log_ends terms rows events left had none =
     (subst (λ (l : Rows). AllState terms l events) (sym whole) had.states, had.few)
 
 -- what is left behind the events may be given by any equal records
-pub begin_at : (terms : Terms) (rows : Rows) (events : List Event) (left other : Rows) → BeginWith terms rows events left → left ≡ other → BeginWith terms rows events other
+pub begin_at : (terms : Terms) (rows : Rows) (events : List Event) (left other : Rows) → BeginWith terms rows events left → left ≡ other
+    → BeginWith terms rows events other
 begin_at terms rows events left other had is = subst (BeginWith terms rows events) is had
 
 -- a record that states nothing is the first fault
-pub first_fault : (terms : Terms) (rows : Rows) (events : List Event) (left : Rows) (r : List (List ℕ)) (later : Rows) → BeginWith terms rows events left → left ≡ r ∷ later → length events < MOST_RECORDS
+pub first_fault : (terms : Terms) (rows : Rows) (events : List Event) (left : Rows) (r : List (List ℕ)) (later : Rows) → BeginWith terms rows events left
+    → left ≡ r ∷ later → length events < MOST_RECORDS
     → StatesNone terms r → IsFirstFault terms rows (suc (length events))
 first_fault terms rows events left r later had is few none = (events, r, later, begin_at terms rows events left (r ∷ later) had is, none, few, refl)
 
 -- a record behind the greatest number of them
-pub too_many : (terms : Terms) (rows : Rows) (events : List Event) (left : Rows) (r : List (List ℕ)) (later : Rows) → BeginWith terms rows events left → left ≡ r ∷ later → length events ≡ MOST_RECORDS
+pub too_many : (terms : Terms) (rows : Rows) (events : List Event) (left : Rows) (r : List (List ℕ)) (later : Rows) → BeginWith terms rows events left
+    → left ≡ r ∷ later → length events ≡ MOST_RECORDS
     → AreTooMany terms rows
 too_many terms rows events left r later had is many = (events, r, later, begin_at terms rows events left (r ∷ later) had is, many)
 

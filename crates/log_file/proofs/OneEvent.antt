@@ -11,9 +11,11 @@ use Rattle.award_file.specs.Award.{number_of}
 use Rattle.log_file.specs.LogForm.{AreCounts, IsNameOf, States, counts_text, four}
 use Rattle.award_file.specs.bid_book.specs.line_text.proofs.DecimalFields.{one_field, decimals_stop, number_own}
 
-one_number : (m n : ℕ) (ms ns : List ℕ) → m ≤ 65535 → n ≤ 65535 → decimal m ++ decimals_text ms ≡ decimal n ++ decimals_text ns → (m ≡ n) × (decimals_text ms ≡ decimals_text ns)
+one_number : (m n : ℕ) (ms ns : List ℕ) → m ≤ 65535 → n ≤ 65535 → decimal m ++ decimals_text ms ≡ decimal n ++ decimals_text ns
+    → (m ≡ n) × (decimals_text ms ≡ decimals_text ns)
 one_number m n ms ns lm ln is =
-    let parts = one_field (decimal m) (decimal n) (decimals_text ms) (decimals_text ns) (number_own m (omega (arith, lm))) (number_own n (omega (arith, ln))) (decimals_stop ms) (decimals_stop ns) is in
+    let parts = one_field (decimal m) (decimal n) (decimals_text ms) (decimals_text ns) (number_own m (omega (arith, lm))) (number_own n (omega (arith, ln)))
+    (decimals_stop ms) (decimals_stop ns) is in
     (decimal_one m n (omega (arith, lm)) (omega (arith, ln)) parts.0, parts.1)
 
 numbers_one : (ms ns : List ℕ) → AllByRecursion (λ n. n ≤ 65535) ms → AllByRecursion (λ n. n ≤ 65535) ns → decimals_text ms ≡ decimals_text ns → ms ≡ ns

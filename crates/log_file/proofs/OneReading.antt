@@ -28,7 +28,8 @@ pub one_log : (terms : Terms) (rows : Rows) (es fs : List Event) → AreLog term
 one_log terms rows es fs s t = states_one terms rows es fs s.0 t.0
 
 -- where a record states nothing, no list of events is that of all records
-short : (terms : Terms) (before : Rows) (es : List Event) (r : List (List ℕ)) (later : Rows) (gs : List Event) → AllState terms before es → StatesNone terms r → AllState terms (before ++ r ∷ later) gs → ⊥
+short : (terms : Terms) (before : Rows) (es : List Event) (r : List (List ℕ)) (later : Rows) (gs : List Event) → AllState terms before es → StatesNone terms r
+    → AllState terms (before ++ r ∷ later) gs → ⊥
 short terms [] [] r later [] s none all = all
 short terms [] [] r later (g ∷ gs) s none all = none g all.0
 short terms [] (e ∷ es) r later gs s none all = s
@@ -38,21 +39,32 @@ short terms (x ∷ before) (e ∷ es) r later (g ∷ gs) s none all = short term
 
 -- records that are a log have no faulty record
 pub log_or_fault : (terms : Terms) (rows : Rows) (es : List Event) (n : ℕ) → AreLog terms rows es → IsFirstFault terms rows n → ⊥
-log_or_fault terms rows es n log (events, r, later, had, none, few, is) = short terms had.before events r later es had.states none (subst (λ (l : Rows). AllState terms l es) had.whole log.0)
+log_or_fault terms rows es n log (events, r, later, had, none, few, is) = short terms had.before events r later es had.states none
+    (subst (λ (l : Rows). AllState terms l es) had.whole log.0)
 
 -- records that are a log aren't too many
 pub log_or_many : (terms : Terms) (rows : Rows) (es : List Event) → AreLog terms rows es → AreTooMany terms rows → ⊥
 log_or_many terms rows es log (events, r, later, had, many) =
-    omega (arith, log.1, many, states_length terms rows es log.0, states_length terms had.before events had.states, ap length had.whole, length-append had.before (r ∷ later))
+    omega (
+      arith,
+      log.1,
+      many,
+      states_length terms rows es log.0,
+      states_length terms had.before events had.states,
+      ap length had.whole,
+      length-append had.before (r ∷ later),
+    )
 
 -- a record that states nothing isn't behind as many as state an event
-not_before : (terms : Terms) (before other : Rows) (es fs : List Event) (r : List (List ℕ)) (later left : Rows) → AllState terms before es → StatesNone terms r → AllState terms other fs
+not_before : (terms : Terms) (before other : Rows) (es fs : List Event) (r : List (List ℕ)) (later left : Rows) → AllState terms before es
+    → StatesNone terms r → AllState terms other fs
     → before ++ r ∷ later ≡ other ++ left → length es < length fs → ⊥
 not_before terms [] [] [] [] r later left s none t is less = omega (arith, less)
 not_before terms [] [] [] (f ∷ fs) r later left s none t is less = t
 not_before terms [] [] (e ∷ es) fs r later left s none t is less = s
 not_before terms [] (y ∷ other) [] [] r later left s none t is less = t
-not_before terms [] (y ∷ other) [] (f ∷ fs) r later left s none t is less = let same : y ≡ r = cc in none f (subst (λ (x : List (List ℕ)). States terms x f) same t.0)
+not_before terms [] (y ∷ other) [] (f ∷ fs) r later left s none t is less = let same : y ≡ r = cc in
+    none f (subst (λ (x : List (List ℕ)). States terms x f) same t.0)
 not_before terms [] (y ∷ other) (e ∷ es) fs r later left s none t is less = s
 not_before terms (x ∷ before) other [] fs r later left s none t is less = s
 not_before terms (x ∷ before) [] (e ∷ es) [] r later left s none t is less = omega (arith, less)
@@ -73,6 +85,8 @@ same_count m n up down = omega (arith, up, down)
 -- records have one first faulty record at most
 pub one_fault : (terms : Terms) (rows : Rows) (m n : ℕ) → IsFirstFault terms rows m → IsFirstFault terms rows n → m ≡ n
 one_fault terms rows m n (events, r, later, had, none, few, is) (others, x, left, too, nothing, low, also) =
-    let up : length events < length others → ⊥ = not_before terms had.before too.before events others r later (x ∷ left) had.states none too.states (sym had.whole ∙ too.whole) in
-    let down : length others < length events → ⊥ = not_before terms too.before had.before others events x left (r ∷ later) too.states nothing had.states (sym too.whole ∙ had.whole) in
+    let up : length events < length others → ⊥ = not_before terms had.before too.before events others r later (x ∷ left) had.states none too.states
+    (sym had.whole ∙ too.whole) in
+    let down : length others < length events → ⊥ = not_before terms too.before had.before others events x left (r ∷ later) too.states nothing had.states
+    (sym too.whole ∙ had.whole) in
     is ∙ same_count (length events) (length others) up down ∙ sym also

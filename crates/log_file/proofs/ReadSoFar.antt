@@ -29,7 +29,8 @@ read-none terms rows reader events none has = record { left = rows; has = has; b
 abbrev pub Took : Reader (Bor (List ℕ)) → Reader (Bor (List ℕ)) → Bool → List (List ℕ) → Type 0
 Took old new found fields = (rows : Rows) → Left old rows → Takes (λ (s : Bor (List ℕ)). Some s.now) new rows found fields
 
-module _ (terms : Terms) (rows : Rows) (old new : Reader (Bor (List ℕ))) (events : List Event) (found : Bool) (fields : List (List ℕ)) (took : Took old new found fields)
+module _ (terms : Terms) (rows : Rows) (old new : Reader (Bor (List ℕ))) (events : List Event) (found : Bool) (fields : List (List ℕ))
+    (took : Took old new found fields)
     (so_far : IsReadTo terms rows old events) where
   -- the record that was taken is the next one
   pub next-is : found ≡ true → (later : Rows) × BeginWith terms rows events (fields ∷ later)
@@ -38,7 +39,8 @@ module _ (terms : Terms) (rows : Rows) (old new : Reader (Bor (List ℕ))) (even
       (one.0, begin_at terms rows events so_far.left (fields ∷ one.0) so_far.begins one.1)
 
   -- one record more
-  pub read-more : (more : List Event) (e : Event) → found ≡ true → length events < MOST_RECORDS → States terms fields e → more ≡ events ++ e ∷ [] → IsReadTo terms rows new more
+  pub read-more : (more : List Event) (e : Event) → found ≡ true → length events < MOST_RECORDS → States terms fields e → more ≡ events ++ e ∷ []
+      → IsReadTo terms rows new more
   read-more more e is few states pushed =
       let one = found_one _ new so_far.left found fields is (took so_far.left so_far.has) in
       record {

@@ -1,5 +1,6 @@
 -- The records of a text, one at a time.
-use Rattle.std.proofs.Common.{◌≡◌, ℕ, suc, zero, ◌+◌, ◌<◌, ◌≤◌, List, [], ◌∷◌, ◌++◌, length, Bool, true, false, Option, Some, None, if◌then◌else◌, refl, sym, ◌∙◌, inl, inr, arith}
+use Rattle.std.proofs.Common.{◌≡◌, ℕ, suc, zero, ◌+◌, ◌<◌, ◌≤◌, List, [], ◌∷◌, ◌++◌, length, Bool, true, false, Option, Some, None, if◌then◌else◌, refl, sym}
+use Rattle.std.proofs.Common.{◌∙◌, inl, inr, arith}
 use Rattle.std.proofs.lemmas.Bool.{cases_Bool, false≢true}
 use Rattle.std.proofs.lemmas.Option.{same_Some}
 use Rattle.csv.specs.Machine.{Read, next_record, step, ends_at_end, is_end}
@@ -23,12 +24,14 @@ end_state st.InComment c h = grind arith
 end_state st.AfterCr c h = grind arith
 
 -- what is left after a read, at the end of a text and before
-at_end : (b : Bool) (fs : List (List ℕ)) (q : Read) → (if b then Some (fs, st.StartRecord, []) else None) ≡ Some q → (length q.2 ≤ 0) × (ends_at_end q.1 ≡ false)
+at_end : (b : Bool) (fs : List (List ℕ)) (q : Read) → (if b then Some (fs, st.StartRecord, []) else None) ≡ Some q
+    → (length q.2 ≤ 0) × (ends_at_end q.1 ≡ false)
 at_end true fs q h = let e : (fs, st.StartRecord, []) ≡ q = same_Some _ _ h in rw (← e) (omega arith, refl)
 at_end false fs q h = cc h
 
 -- a read of a record leaves no more bytes than there were, in a state in which a text may end
-pub next_at : (s : State) (fields : List (List ℕ)) (field xs : List ℕ) (q : Read) → next_record default_config s fields field xs ≡ Some q → (length q.2 ≤ length xs) × (ends_at_end q.1 ≡ false)
+pub next_at : (s : State) (fields : List (List ℕ)) (field xs : List ℕ) (q : Read) → next_record default_config s fields field xs ≡ Some q
+    → (length q.2 ≤ length xs) × (ends_at_end q.1 ≡ false)
 unfolding next_record
 next_at s fields field [] q h = at_end (ends_at_end s) (fields ++ (field ∷ [])) q h
 next_at s fields field (c ∷ rest) q h =
@@ -68,7 +71,8 @@ as_read : (o : Option Read) (p : Read) (f : List (List ℕ)) (s : State) (z : Li
 as_read o p f s z found first state rest = rw (first, ← state, ← rest) found
 
 -- what a read of a record says of the next record
-pub read-next : {R : Type 0} (rem : R → Option (List ℕ)) (a b : Reader R) (f : List (List ℕ)) (y : List ℕ) → a.config ≡ default_config → source_of rem a ≡ Some y → ReadRecord rem a b true f
+pub read-next : {R : Type 0} (rem : R → Option (List ℕ)) (a b : Reader R) (f : List (List ℕ)) (y : List ℕ) → a.config ≡ default_config
+    → source_of rem a ≡ Some y → ReadRecord rem a b true f
     → (z : List ℕ) × (source_of rem b ≡ Some z) × (next_record default_config a.state [] [] y ≡ Some (f, b.state, z))
 unfolding Reached
 read-next rem a b f y config source r =
@@ -76,7 +80,8 @@ read-next rem a b f y config source r =
     (z, left, as_read _ p f b.state z found first state rest)
 
 -- at the start of a text
-pub left-start : {R : Type 0} (rem : R → Option (List ℕ)) (a : Reader R) (y : List ℕ) → reader_trim a ≡ trim.None → Ready a → is_flexible a ≡ true → a.config ≡ default_config → source_of rem a ≡ Some y
+pub left-start : {R : Type 0} (rem : R → Option (List ℕ)) (a : Reader R) (y : List ℕ) → reader_trim a ≡ trim.None → Ready a → is_flexible a ≡ true
+    → a.config ≡ default_config → source_of rem a ≡ Some y
     → a.state ≡ st.StartRecord → HasLeft rem a (records default_config y)
 left-start rem a y no_trim ready flexible config source start = record {
   no_trim = no_trim;
@@ -92,7 +97,8 @@ left-start rem a y no_trim ready flexible config source start = record {
 }
 
 -- a read that finds a record takes the first, and one that finds none is at the end
-pub takes : {R : Type 0} (rem : R → Option (List ℕ)) (a b : Reader R) (found : Bool) (f : List (List ℕ)) (rows : List (List (List ℕ))) → HasLeft rem a rows → ReadRecord rem a b found f
+pub takes : {R : Type 0} (rem : R → Option (List ℕ)) (a b : Reader R) (found : Bool) (f : List (List ℕ)) (rows : List (List (List ℕ))) → HasLeft rem a rows
+    → ReadRecord rem a b found f
     → took_first b ≡ true → is_flexible b ≡ is_flexible a → Takes rem b rows found f
 takes rem a b true f rows left r first same =
     let (z, source, next) = read-next rem a b f left.bytes left.config left.source r in
@@ -116,12 +122,14 @@ takes rem a b false f rows left r first same =
     sym left.rows_are ∙ records-end left.fuel a.state left.bytes left.room (rows-end rem a b f default_config left.bytes left.config left.source r)
 
 -- a read that found a record has the fields of the first one left, and the others are left
-pub found_one : {R : Type 0} (known : R → Option (List ℕ)) (reader : Reader R) (rows : List (List (List ℕ))) (found : Bool) (fields : List (List ℕ)) → found ≡ true → Takes known reader rows found fields
+pub found_one : {R : Type 0} (known : R → Option (List ℕ)) (reader : Reader R) (rows : List (List (List ℕ))) (found : Bool) (fields : List (List ℕ))
+    → found ≡ true → Takes known reader rows found fields
     → (rest : List (List (List ℕ))) × (rows ≡ fields ∷ rest) × HasLeft known reader rest
 found_one known reader rows true fields is taken = taken
 found_one known reader rows false fields is taken = absurd (false≢true is)
 
 -- where a read found no record none was left
-pub found_none : {R : Type 0} (known : R → Option (List ℕ)) (reader : Reader R) (rows : List (List (List ℕ))) (found : Bool) (fields : List (List ℕ)) → found ≡ false → Takes known reader rows found fields → rows ≡ []
+pub found_none : {R : Type 0} (known : R → Option (List ℕ)) (reader : Reader R) (rows : List (List (List ℕ))) (found : Bool) (fields : List (List ℕ))
+    → found ≡ false → Takes known reader rows found fields → rows ≡ []
 found_none known reader rows true fields is taken = absurd (false≢true (sym is))
 found_none known reader rows false fields is taken = taken

@@ -35,7 +35,8 @@ stands-for : (terms : Terms) (log : List Event) (desk : DeskState) → desk ≡ 
 stands-for terms log desk is = is ∙ ap (λ (t : Terms). state_of t log) (sym (terms-in terms log desk is))
 
 -- a reply other than Memory is that of the rules
-pub answers : (old new : DeskState) (line : Event) (answer : Reply) → ((log : List Event) → old ≡ state_of old.terms log → StandsNext old log line answer new) → (answer ≡ reply.Memory → ⊥) → Answers old line answer new
+pub answers : (old new : DeskState) (line : Event) (answer : Reply) → ((log : List Event) → old ≡ state_of old.terms log → StandsNext old log line answer new)
+    → (answer ≡ reply.Memory → ⊥) → Answers old line answer new
 answers old new line answer stands not-memory terms log is = by (stands log (stands-for terms log old is))
   where
     by : StandsNext old log line answer new → IsAnswered terms log line answer new
@@ -99,7 +100,8 @@ book-open desk other terms log is =
     rw complete refl
 
 -- a course over one more line of the events, of which so many were taken
-pub takes-next : (terms : Terms) (events given : List Event) (i : ℕ) (line : Event) (old new : Course) → given ≡ events → i < length given → line ≡ get_or given i line
+pub takes-next : (terms : Terms) (events given : List Event) (i : ℕ) (line : Event) (old new : Course) → given ≡ events → i < length given
+    → line ≡ get_or given i line
     → IsCourse terms (reverse (take i events)) old → TakesLine old (i + 1) line new → IsCourse terms (reverse (take (i + 1) events)) new
 takes-next terms events given i line old new same lt is had takes =
     let inside : i < length events = omega (arith, lt, ap length same) in
@@ -116,7 +118,8 @@ takes-all terms events given i course same le had =
     subst (λ (es : List Event). IsCourse terms (reverse es) course) (take_all i events (omega (arith, le, ap length same))) had
 
 -- the line at a place has the award's number of categories
-pub line-at : (terms : Terms) (events given : List Event) (i : ℕ) (line : Event) (desk : DeskState) → given ≡ events → i < length given → line ≡ get_or given i line
+pub line-at : (terms : Terms) (events given : List Event) (i : ℕ) (line : Event) (desk : DeskState) → given ≡ events → i < length given
+    → line ≡ get_or given i line
     → desk ≡ state_of terms (reverse (take i events)) → AllByRecursion (HasCategories terms) events → HasCategories desk.terms line
 line-at terms events given i line desk same lt is stands all =
     subst (λ (t : Terms). HasCategories t line) (sym (terms-in terms (reverse (take i events)) desk stands))

@@ -28,13 +28,15 @@ states-small s h k =
     omega arith
 
 -- a product so far times the states of the rest is all states, also with one category more in the product
-pub states-step : (s : List ℕ) (i states : ℕ) → i < length s → states * states_of (drop i s) ≡ states_of s → states * (get_or s i 0 + 1) * states_of (drop (i + 1) s) ≡ states_of s
+pub states-step : (s : List ℕ) (i states : ℕ) → i < length s → states * states_of (drop i s) ≡ states_of s
+    → states * (get_or s i 0 + 1) * states_of (drop (i + 1) s) ≡ states_of s
 states-step s i states h e =
     let is : states * states_of (drop i s) ≡ states * states_of (get_or s i 0 ∷ drop (i + 1) s) = ap (λ l. states * states_of l) (drop-at s i h) in
     omega arith
 
 -- a product so far is no more than all states
-pub states-so_far : (s : List ℕ) (i states : ℕ) → i < length s → sum s ≤ 40 → length s ≤ 6 → states * states_of (drop i s) ≡ states_of s → states * (get_or s i 0 + 1) ≤ 41 ^ 6
+pub states-so_far : (s : List ℕ) (i states : ℕ) → i < length s → sum s ≤ 40 → length s ≤ 6 → states * states_of (drop i s) ≡ states_of s
+    → states * (get_or s i 0 + 1) ≤ 41 ^ 6
 states-so_far s i states h few short e =
     let whole = states-step s i states h e in
     let below = place-at_most (states * (get_or s i 0 + 1)) (states_of (drop (i + 1) s)) 0 (states_of s) (states-positive (drop (i + 1) s)) (omega arith) in
@@ -42,7 +44,8 @@ states-so_far s i states h few short e =
     omega arith
 
 -- of the categories from one on, a package is within a supply if it is there and in those behind
-pub within-step : (p s : List ℕ) (i : ℕ) → i < length p → length p ≡ length s → is_within (drop i p) (drop i s) ≡ leb (get_or p i 0) (get_or s i 0) && is_within (drop (i + 1) p) (drop (i + 1) s)
+pub within-step : (p s : List ℕ) (i : ℕ) → i < length p → length p ≡ length s → is_within (drop i p) (drop i s) ≡ leb (get_or p i 0)
+    (get_or s i 0) && is_within (drop (i + 1) p) (drop (i + 1) s)
 within-step p s i h e =
     let own : i < length s = omega arith in
     rw (drop-at p i h, drop-at s i own) refl
@@ -53,7 +56,8 @@ within-fails p s i h e low =
     within-step p s i h e ∙ and_left _ (is_within (drop (i + 1) p) (drop (i + 1) s)) (lt-leb (get_or p i 0) (get_or s i 0) low)
 
 -- where a count isn't above the supply's, the categories behind tell whether the package is within it
-pub within-goes_on : (p s : List ℕ) (i : ℕ) → i < length p → length p ≡ length s → get_or p i 0 ≤ get_or s i 0 → is_within (drop i p) (drop i s) ≡ is_within (drop (i + 1) p) (drop (i + 1) s)
+pub within-goes_on : (p s : List ℕ) (i : ℕ) → i < length p → length p ≡ length s → get_or p i 0 ≤ get_or s i 0
+    → is_within (drop i p) (drop i s) ≡ is_within (drop (i + 1) p) (drop (i + 1) s)
 within-goes_on p s i h e low =
     within-step p s i h e ∙ ap (λ b. b && is_within (drop (i + 1) p) (drop (i + 1) s)) (le-leb (get_or p i 0) (get_or s i 0) low)
 
@@ -63,7 +67,8 @@ none-within [] = refl
 none-within (a ∷ p) = ap (λ b. (a == 0) && b) (none-within p)
 
 -- a cost so far and the cost of the rest have the same sum with one category more in the cost so far
-pub cost-step : (prices counts : List ℕ) (i cost : ℕ) → i < length counts → length prices ≡ length counts → cost + cost_of (drop i prices) (drop i counts) ≡ (cost + get_or prices i 0 * get_or counts i 0) + cost_of (drop (i + 1) prices) (drop (i + 1) counts)
+pub cost-step : (prices counts : List ℕ) (i cost : ℕ) → i < length counts → length prices ≡ length counts
+    → cost + cost_of (drop i prices) (drop i counts) ≡ (cost + get_or prices i 0 * get_or counts i 0) + cost_of (drop (i + 1) prices) (drop (i + 1) counts)
 cost-step prices counts i cost h e =
     let own : i < length prices = omega arith in
     rw (drop-at counts i h, drop-at prices i own) (omega arith)

@@ -10,7 +10,8 @@ use Rattle.point_laws.proofs.Order.{mul_nonneg}
 use Rattle.point_laws.specs.Points.{MeetsRows}
 use Rattle.point_laws.specs.Multipliers.{AreFirst, AreSecond, SumsTo}
 use Rattle.point_laws.proofs.PointLaws.{times_zero}
-use Rattle.nearest_point.proofs.Parts.{dot-at_t, far_nonneg, plain, columns_first, spread_sum, FarSign, sign-at_t, spread_first, spread_second, spread_listed, spread_few}
+use Rattle.nearest_point.proofs.Parts.{dot-at_t, far_nonneg, plain, columns_first, spread_sum, FarSign, sign-at_t, spread_first, spread_second, spread_listed}
+use Rattle.nearest_point.proofs.Parts.{spread_few}
 
 -- the answer of `nearest`
 pub record Answer (m r : ℕ) (a : ℕ → ℕ → ℤ) (b target weight : ℕ → ℤ) (den : ℤ) (point first second : ℕ → ℤ) : Type 0 where
@@ -33,7 +34,8 @@ answer m r a b target weight wp entries single t tp rows den pf pn lf ln small_p
     let n : ℕ = length rows in
     let within : (i : ℕ) → i < n → place rows i < r = λ i lt. (h.above i (omega arith) lt).1 in
     let low : (j : ℕ) → j < m → pos 0 ≤ℤ pf j = λ j lt. by_single j lt (single j lt) in
-    let zero_far : (j : ℕ) → j < m → pf j ≡ pos 0 = plain m n (λ i. a (place rows i)) den pf lf weight wp p.far p.tight_far (λ i j. entries (place rows i) j) low in
+    let zero_far : (j : ℕ) → j < m → pf j ≡ pos 0 = plain m n (λ i. a (place rows i)) den pf lf weight wp p.far p.tight_far
+    (λ i j. entries (place rows i) j) low in
     let s : FarSign n lf ln = sign-at_t n t lf ln tp small_l (λ i lt. h.taken.sign i (omega arith) lt) in
     let listed_tight : (k : ℕ) → k < r → (i : ℕ) × (i < n) × (place rows i ≡ k) → dot m (a k) pn ≡ den *ℤ b k =
     λ k lk (i, li, e). subst (λ (q : ℕ). dot m (a q) pn ≡ den *ℤ b q) e (p.tight_near i li) in
@@ -51,7 +53,8 @@ answer m r a b target weight wp entries single t tp rows den pf pn lf ln small_p
         not_negative = λ k lt. spread_first n (place rows) lf ln k s;
         tight = λ k lt nz. listed_tight k lt (spread_listed n (place rows) lf k nz);
       };
-      sums = λ j lt. spread_sum r n (place rows) lf (λ k. a k j) within ∙ columns_first m n (λ i. a (place rows i)) den pf lf weight wp p.far j lt (zero_far j lt);
+      sums = λ j lt. spread_sum r n (place rows) lf (λ k. a k j) within ∙ columns_first m n (λ i. a (place rows i)) den pf lf weight wp p.far j lt
+          (zero_far j lt);
       seconds = record {
         sign = λ k lt e. spread_second n (place rows) lf ln k s e;
         tight = λ k lt nz. listed_tight k lt (spread_listed n (place rows) ln k nz);
@@ -91,7 +94,8 @@ answer_same m r a b target weight den point first second first' second' e d h = 
   seconds = record {
     sign = λ i lt z. subst (λ (w : ℤ). pos 0 ≤ℤ w) (sym (d i lt)) (h.seconds.sign i lt (sym (e i lt) ∙ z));
     tight = λ i lt nz. h.seconds.tight i lt (λ z. nz (d i lt ∙ z));
-    sums = λ j lt. ap (λ (w : ℤ). weight j *ℤ w) (total-same r (λ i. second' i *ℤ a i j) (λ i. second i *ℤ a i j) (λ i li. ap (λ (z : ℤ). z *ℤ a i j) (d i li))) ∙ h.seconds.sums j lt;
+    sums = λ j lt. ap (λ (w : ℤ). weight j *ℤ w) (total-same r (λ i. second' i *ℤ a i j) (λ i. second i *ℤ a i j)
+        (λ i li. ap (λ (z : ℤ). z *ℤ a i j) (d i li))) ∙ h.seconds.sums j lt;
   };
   few = rw (pairs_same r first second first' second' e d) h.few;
 }

@@ -90,7 +90,8 @@ dot_single (suc m) k y lt = elim (lt_or k m lt) [
   | inl below ↦ (let p = dot_single m k y below in
       let z : holds (2 ^ k) m ≡ pos 0 = (holds_power k m).0 (λ e. omega arith) in
       let e : holds (2 ^ k) m *ℤ y m ≡ pos 0 *ℤ y m = ap (λ (t : ℤ). t *ℤ y m) z in omega (arith, ints))
-  | inr same ↦ (let z : dot m (holds (2 ^ k)) y ≡ pos 0 = total-zero m (λ j. holds (2 ^ k) j *ℤ y j) (λ j lj. ap (λ (t : ℤ). t *ℤ y j) ((holds_power k j).0 (λ e. omega arith)) ∙ omega (arith, ints)) in
+  | inr same ↦ (let z : dot m (holds (2 ^ k)) y ≡ pos 0 = total-zero m (λ j. holds (2 ^ k) j *ℤ y j)
+      (λ j lj. ap (λ (t : ℤ). t *ℤ y j) ((holds_power k j).0 (λ e. omega arith)) ∙ omega (arith, ints)) in
       let o : holds (2 ^ k) m ≡ pos 1 = (holds_power k m).1 same in
       let e : holds (2 ^ k) m *ℤ y m ≡ pos 1 *ℤ y m = ap (λ (t : ℤ). t *ℤ y m) o in
       let f : y k ≡ y m = ap y same in omega (arith, ints))

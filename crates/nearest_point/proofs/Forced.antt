@@ -42,7 +42,8 @@ coincide m target weight wp rx ax dx x lx sx ry ay dy y ly sy hx hy j lt =
     (mul (var 0) (mul (sub (mul (var 1) (var 3)) (mul (var 2) (var 4))) (sub (mul (var 1) (var 3)) (mul (var 2) (var 4)))))
     (mul (sub (mul (var 1) (var 3)) (mul (var 2) (var 4))) (mul (var 0) (sub (mul (var 1) (var 3)) (mul (var 2) (var 4))))) refl
     ∙ ap (λ (k : ℤ). u j *ℤ k) (sym (by_weight j lj))
-    ∙ ring (dy ∷ dx ∷ cx j ∷ cy j ∷ z j ∷ []) (mul (sub (mul (var 0) (var 2)) (mul (var 1) (var 3))) (var 4)) (sub (mul (var 0) (mul (var 2) (var 4))) (mul (var 1) (mul (var 3) (var 4)))) refl)
+    ∙ ring (dy ∷ dx ∷ cx j ∷ cy j ∷ z j ∷ []) (mul (sub (mul (var 0) (var 2)) (mul (var 1) (var 3))) (var 4))
+    (sub (mul (var 0) (mul (var 2) (var 4))) (mul (var 1) (mul (var 3) (var 4)))) refl)
     ∙ total-sub m (λ j. dy *ℤ (cx j *ℤ z j)) (λ j. dx *ℤ (cy j *ℤ z j))
     ∙ (let p = total-scale m dy (λ j. cx j *ℤ z j) in let o = total-scale m dx (λ j. cy j *ℤ z j) in omega (arith, ints)) in
     let rows_x : total m (λ j. cx j *ℤ z j) ≡ total rx (λ i. lx i *ℤ dot m (ax i) z) = dual m rx ax lx z in
@@ -50,10 +51,12 @@ coincide m target weight wp rx ax dx x lx sx ry ay dy y ly sy hx hy j lt =
     let low : total rx (λ i. lx i *ℤ dot m (ax i) z) ≤ℤ total rx (λ i. pos 0) = total-le rx (λ i. lx i *ℤ dot m (ax i) z) (λ i. pos 0) hx in
     let none : total rx (λ i. pos 0) ≡ pos 0 = total-zero rx (λ i. pos 0) (λ i li. refl) in
     let high : pos 0 ≤ℤ total ry (λ i. ly i *ℤ dot m (ay i) z) = total-nonneg ry (λ i. ly i *ℤ dot m (ay i) z) hy in
-    let neg : pos 0 ≤ℤ (dy *ℤ (pos 0 -ℤ total m (λ j. cx j *ℤ z j))) = mul_nonneg dy (pos 0 -ℤ total m (λ j. cx j *ℤ z j)) (let b = sy.positive in omega (arith, ints)) (omega (arith, ints)) in
+    let neg : pos 0 ≤ℤ (dy *ℤ (pos 0 -ℤ total m (λ j. cx j *ℤ z j))) = mul_nonneg dy (pos 0 -ℤ total m (λ j. cx j *ℤ z j))
+    (let b = sy.positive in omega (arith, ints)) (omega (arith, ints)) in
     let neg' : dy *ℤ (pos 0 -ℤ total m (λ j. cx j *ℤ z j)) ≡ pos 0 -ℤ dy *ℤ total m (λ j. cx j *ℤ z j)
     = ring (dy ∷ total m (λ j. cx j *ℤ z j) ∷ []) (mul (var 0) (sub (con (pos 0)) (var 1))) (sub (con (pos 0)) (mul (var 0) (var 1))) refl in
-    let up : pos 0 ≤ℤ (dx *ℤ total m (λ j. cy j *ℤ z j)) = mul_nonneg dx (total m (λ j. cy j *ℤ z j)) (let b = sx.positive in omega (arith, ints)) (omega (arith, ints)) in
+    let up : pos 0 ≤ℤ (dx *ℤ total m (λ j. cy j *ℤ z j)) = mul_nonneg dx (total m (λ j. cy j *ℤ z j)) (let b = sx.positive in omega (arith, ints))
+    (omega (arith, ints)) in
     let squares : (j : ℕ) → j < m → pos 0 ≤ℤ q j = λ j lj. mul_nonneg (weight j) (u j *ℤ u j) (let b = wp j lj in omega (arith, ints)) (square_nonneg (u j)) in
     let one : q j ≤ℤ total m q = term-le m q squares j lt in
     let flat : u j ≡ pos 0 = nothing_left (weight j) (u j) (wp j lt) (omega (arith, ints)) in
@@ -64,14 +67,16 @@ at_tight_x : (m : ℕ) (a : ℕ → ℤ) (b dx dy : ℤ) (x y : ℕ → ℤ) →
 at_tight_x m a b dx dy x y t =
     dot-gap m a dy y dx x
     ∙ (let p = ap (λ (k : ℤ). dy *ℤ k) t in
-    let f : dy *ℤ (dx *ℤ b) -ℤ dx *ℤ dot m a y ≡ dx *ℤ (dy *ℤ b -ℤ dot m a y) = ring (dy ∷ dx ∷ b ∷ dot m a y ∷ []) (sub (mul (var 0) (mul (var 1) (var 2))) (mul (var 1) (var 3))) (mul (var 1) (sub (mul (var 0) (var 2)) (var 3))) refl in
+    let f : dy *ℤ (dx *ℤ b) -ℤ dx *ℤ dot m a y ≡ dx *ℤ (dy *ℤ b -ℤ dot m a y) = ring (dy ∷ dx ∷ b ∷ dot m a y ∷ [])
+    (sub (mul (var 0) (mul (var 1) (var 2))) (mul (var 1) (var 3))) (mul (var 1) (sub (mul (var 0) (var 2)) (var 3))) refl in
     omega (arith, ints))
 
 at_tight_y : (m : ℕ) (a : ℕ → ℤ) (b dx dy : ℤ) (x y : ℕ → ℤ) → dot m a y ≡ dy *ℤ b → dot m a (gap_of dy y dx x) ≡ dy *ℤ (dot m a x -ℤ dx *ℤ b)
 at_tight_y m a b dx dy x y t =
     dot-gap m a dy y dx x
     ∙ (let p = ap (λ (k : ℤ). dx *ℤ k) t in
-    let f : dy *ℤ dot m a x -ℤ dx *ℤ (dy *ℤ b) ≡ dy *ℤ (dot m a x -ℤ dx *ℤ b) = ring (dy ∷ dx ∷ b ∷ dot m a x ∷ []) (sub (mul (var 0) (var 3)) (mul (var 1) (mul (var 0) (var 2)))) (mul (var 0) (sub (var 3) (mul (var 1) (var 2)))) refl in
+    let f : dy *ℤ dot m a x -ℤ dx *ℤ (dy *ℤ b) ≡ dy *ℤ (dot m a x -ℤ dx *ℤ b) = ring (dy ∷ dx ∷ b ∷ dot m a x ∷ [])
+    (sub (mul (var 0) (var 3)) (mul (var 1) (mul (var 0) (var 2)))) (mul (var 0) (sub (var 3) (mul (var 1) (var 2)))) refl in
     omega (arith, ints))
 
 nonpos_product : (a b : ℤ) → pos 0 ≤ℤ a → b ≤ℤ pos 0 → (a *ℤ b) ≤ℤ pos 0
@@ -109,7 +114,8 @@ newly_forced m k target weight wp rx ax bx dx x lx sx tx ry ay by dy y ly sy ty 
     let up_k : pos 0 <ℤ dot m (ax k) z = (let b = mul_positive dx (dy *ℤ bx k -ℤ dot m (ax k) y) sx.positive (omega (arith, ints)) in omega (arith, ints)) in
     by_lt_z (pos 0) (lx k) (λ h. h) (λ (low : lx k ≤ℤ pos 0).
     let hx : (i : ℕ) → i < rx → (lx i *ℤ dot m (ax i) z) ≤ℤ pos 0 = λ i li. elim (cases_at i k) [
-      | inl b ↦ (let e : dot m (ax i) z ≡ pos 0 = at_tight_x m (ax i) (bx i) dx dy x y (tx.tight i li) ∙ times_zero dx (dy *ℤ bx i -ℤ dot m (ax i) y) (let f = fx i b in omega (arith, ints)) in
+      | inl b ↦ (let e : dot m (ax i) z ≡ pos 0 = at_tight_x m (ax i) (bx i) dx dy x y (tx.tight i li)
+          ∙ times_zero dx (dy *ℤ bx i -ℤ dot m (ax i) y) (let f = fx i b in omega (arith, ints)) in
           let f = times_zero (lx i) (dot m (ax i) z) e in omega (arith, ints))
       | inr c ↦ elim c [
         | inl e ↦ (let p : lx i *ℤ dot m (ax i) z ≡ lx k *ℤ dot m (ax k) z = ap (λ (n : ℕ). lx n *ℤ dot m (ax n) z) e in
@@ -121,7 +127,8 @@ newly_forced m k target weight wp rx ax bx dx x lx sx tx ry ay by dy y ly sy ty 
       ]
     ] in
     let hy : (i : ℕ) → i < ry → pos 0 ≤ℤ (ly i *ℤ dot m (ay i) z) = λ i li. elim (cases_at i k) [
-      | inl b ↦ (let e : dot m (ay i) z ≡ pos 0 = at_tight_y m (ay i) (by i) dx dy x y (ty.tight i li) ∙ times_zero dy (dot m (ay i) x -ℤ dx *ℤ by i) (let f = fy i b in omega (arith, ints)) in
+      | inl b ↦ (let e : dot m (ay i) z ≡ pos 0 = at_tight_y m (ay i) (by i) dx dy x y (ty.tight i li)
+          ∙ times_zero dy (dot m (ay i) x -ℤ dx *ℤ by i) (let f = fy i b in omega (arith, ints)) in
           let f = times_zero (ly i) (dot m (ay i) z) e in omega (arith, ints))
       | inr c ↦ (let ki : k ≤ i = elim c [ inl e ↦ omega arith | inr b ↦ omega arith ] in
           mul_nonneg (ly i) (dot m (ay i) z) (ty.sign i ki li)

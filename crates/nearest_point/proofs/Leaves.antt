@@ -1,5 +1,6 @@
 -- What the numbers of one row and one coordinate come to, and their sizes.
-use Rattle.std.proofs.Common.{◌≡◌, FitsSigned, subst, ℕ, zero, suc, ◌*◌, ◌^◌, ◌<◌, ◌≤◌, refl, sym, arith, ap, ◌∙◌, ◌⊎◌, inl, inr, to_z, of_z, unsigned_abs, List, [], ◌∷◌, length}
+use Rattle.std.proofs.Common.{◌≡◌, FitsSigned, subst, ℕ, zero, suc, ◌*◌, ◌^◌, ◌<◌, ◌≤◌, refl, sym, arith, ap, ◌∙◌, ◌⊎◌, inl, inr, to_z, of_z, unsigned_abs}
+use Rattle.std.proofs.Common.{List, [], ◌∷◌, length}
 use Rattle.std.specs.Prelude.{ℤ, pos, ◌+ℤ◌, ◌-ℤ◌, ◌*ℤ◌, ◌≤ℤ◌, ◌<ℤ◌, min}
 use Rattle.std.specs.Int.{bit_at, w128}
 use Rattle.std.specs.Int.Bits.{bit_and}
@@ -31,11 +32,13 @@ part_or s j x = elim (holds_or s j) [
 ]
 
 -- a sum of numbers below 0 by at most t
-pub sum_below : (t k s : ℕ) (l : ℕ → ℤ) → ((j : ℕ) → j < k → ((pos 0 -ℤ pos t) ≤ℤ l j) × (l j ≤ℤ pos 0)) → (dot k (holds s) l ≤ℤ pos 0) × ((pos 0 -ℤ pos (k * t)) ≤ℤ dot k (holds s) l)
+pub sum_below : (t k s : ℕ) (l : ℕ → ℤ) → ((j : ℕ) → j < k → ((pos 0 -ℤ pos t) ≤ℤ l j) × (l j ≤ℤ pos 0))
+    → (dot k (holds s) l ≤ℤ pos 0) × ((pos 0 -ℤ pos (k * t)) ≤ℤ dot k (holds s) l)
 sum_below t zero s l h = (omega (arith, ints), omega (arith, ints))
 sum_below t (suc k) s l h = more (sum_below t k s l (λ j lt. h j (omega arith))) (h k (omega arith)) (part_or s k (l k))
   where
-    more : (dot k (holds s) l ≤ℤ pos 0) × ((pos 0 -ℤ pos (k * t)) ≤ℤ dot k (holds s) l) → ((pos 0 -ℤ pos t) ≤ℤ l k) × (l k ≤ℤ pos 0) → (holds s k *ℤ l k ≡ pos 0) ⊎ (holds s k *ℤ l k ≡ l k)
+    more : (dot k (holds s) l ≤ℤ pos 0) × ((pos 0 -ℤ pos (k * t)) ≤ℤ dot k (holds s) l) → ((pos 0 -ℤ pos t) ≤ℤ l k) × (l k ≤ℤ pos 0)
+        → (holds s k *ℤ l k ≡ pos 0) ⊎ (holds s k *ℤ l k ≡ l k)
         → (dot (suc k) (holds s) l ≤ℤ pos 0) × ((pos 0 -ℤ pos (suc k * t)) ≤ℤ dot (suc k) (holds s) l)
     more p e (inl f) = let a = p.0 in let b = p.1 in let c = e.0 in let d = e.1 in (omega (arith, ints), omega (arith, ints))
     more p e (inr f) = let a = p.0 in let b = p.1 in let c = e.0 in let d = e.1 in (omega (arith, ints), omega (arith, ints))
@@ -78,7 +81,8 @@ common_is m a b l =
     let s : total m (λ j. c j +ℤ d j) ≡ total m c +ℤ total m d = total-add m c d in
     let z : total m (λ j. c j +ℤ d j) ≡ pos 0 = total-zero m (λ j. c j +ℤ d j) (λ j lt.
     ap (λ (w : ℤ). c j +ℤ w *ℤ l j) (holds_both a b j)
-    ∙ ring (holds a j ∷ holds b j ∷ l j ∷ []) (add (mul (var 0) (mul (sub (con (pos 0)) (var 2)) (var 1))) (mul (mul (var 0) (var 1)) (var 2))) (con (pos 0)) refl) in
+    ∙ ring (holds a j ∷ holds b j ∷ l j ∷ []) (add (mul (var 0) (mul (sub (con (pos 0)) (var 2)) (var 1))) (mul (mul (var 0) (var 1)) (var 2)))
+    (con (pos 0)) refl) in
     omega (arith, ints)
 
 product_small : (d a : ℤ) → pos 0 <ℤ d → d ≤ℤ pos (320 ^ 4) → unsigned_abs a ≤ 2 ^ 46 → unsigned_abs (d *ℤ a) ≤ 320 ^ 4 * 2 ^ 46

@@ -24,19 +24,22 @@ settled m n a b target weight den mult point s eqs i lt =
     let col : ℕ → ℤ = λ j. total n (λ k. mult k *ℤ a k j) in
     total-same m (λ j. a i j *ℤ point j) (λ j. den *ℤ (a i j *ℤ target j) +ℤ a i j *ℤ (weight j *ℤ col j))
     (λ j lj. ap (λ (z : ℤ). a i j *ℤ z) (s.at j lj)
-    ∙ ring (a i j ∷ den ∷ target j ∷ weight j ∷ col j ∷ []) (mul (var 0) (add (mul (var 1) (var 2)) (mul (var 3) (var 4)))) (add (mul (var 1) (mul (var 0) (var 2))) (mul (var 0) (mul (var 3) (var 4)))) refl)
+    ∙ ring (a i j ∷ den ∷ target j ∷ weight j ∷ col j ∷ []) (mul (var 0) (add (mul (var 1) (var 2)) (mul (var 3) (var 4))))
+    (add (mul (var 1) (mul (var 0) (var 2))) (mul (var 0) (mul (var 3) (var 4)))) refl)
     ∙ total-add m (λ j. den *ℤ (a i j *ℤ target j)) (λ j. a i j *ℤ (weight j *ℤ col j))
     ∙ (let p = total-scale m den (λ j. a i j *ℤ target j) in
     let g = gram_times m n a weight mult i in
     let e = eqs i lt in
-    let d : den *ℤ (b i -ℤ dot m (a i) target) ≡ den *ℤ b i -ℤ den *ℤ dot m (a i) target = ring (den ∷ b i ∷ dot m (a i) target ∷ []) (mul (var 0) (sub (var 1) (var 2))) (sub (mul (var 0) (var 1)) (mul (var 0) (var 2))) refl in
+    let d : den *ℤ (b i -ℤ dot m (a i) target) ≡ den *ℤ b i -ℤ den *ℤ dot m (a i) target = ring (den ∷ b i ∷ dot m (a i) target ∷ [])
+    (mul (var 0) (sub (var 1) (var 2))) (sub (mul (var 0) (var 1)) (mul (var 0) (var 2))) refl in
     omega (arith, ints))
 
 -- what a row has of numbers at t is t times what it has of the far parts plus that of the near parts
 pub dot-at_t : (m : ℕ) (a : ℕ → ℤ) (t : ℤ) (far near : ℕ → ℤ) → dot m a (at_t t far near) ≡ dot m a far *ℤ t +ℤ dot m a near
 dot-at_t m a t far near =
     total-same m (λ j. a j *ℤ at_t t far near j) (λ j. t *ℤ (a j *ℤ far j) +ℤ a j *ℤ near j)
-    (λ j lj. ring (a j ∷ far j ∷ t ∷ near j ∷ []) (mul (var 0) (add (mul (var 1) (var 2)) (var 3))) (add (mul (var 2) (mul (var 0) (var 1))) (mul (var 0) (var 3))) refl)
+    (λ j lj. ring (a j ∷ far j ∷ t ∷ near j ∷ []) (mul (var 0) (add (mul (var 1) (var 2)) (var 3)))
+    (add (mul (var 2) (mul (var 0) (var 1))) (mul (var 0) (var 3))) refl)
     ∙ total-add m (λ j. t *ℤ (a j *ℤ far j)) (λ j. a j *ℤ near j)
     ∙ (let p = total-scale m t (λ j. a j *ℤ far j) in let c = *ℤ_comm t (dot m a far) in omega (arith, ints))
 
@@ -48,7 +51,8 @@ solved-at_t m n a den t pf pn lf ln tf tn weight f g = record {
   at = λ j lj.
       (let c : total n (λ i. at_t t lf ln i *ℤ a i j) ≡ t *ℤ total n (λ i. lf i *ℤ a i j) +ℤ total n (λ i. ln i *ℤ a i j)
       = total-same n (λ i. at_t t lf ln i *ℤ a i j) (λ i. t *ℤ (lf i *ℤ a i j) +ℤ ln i *ℤ a i j)
-      (λ i li. ring (lf i ∷ t ∷ ln i ∷ a i j ∷ []) (mul (add (mul (var 0) (var 1)) (var 2)) (var 3)) (add (mul (var 1) (mul (var 0) (var 3))) (mul (var 2) (var 3))) refl)
+      (λ i li. ring (lf i ∷ t ∷ ln i ∷ a i j ∷ []) (mul (add (mul (var 0) (var 1)) (var 2)) (var 3))
+      (add (mul (var 1) (mul (var 0) (var 3))) (mul (var 2) (var 3))) refl)
       ∙ total-add n (λ i. t *ℤ (lf i *ℤ a i j)) (λ i. ln i *ℤ a i j)
       ∙ ap (λ (z : ℤ). z +ℤ total n (λ i. ln i *ℤ a i j)) (total-scale n t (λ i. lf i *ℤ a i j)) in
       ap (λ (z : ℤ). z *ℤ t +ℤ pn j) (f.at j lj) ∙ ap (λ (z : ℤ). (den *ℤ tf j +ℤ weight j *ℤ total n (λ i. lf i *ℤ a i j)) *ℤ t +ℤ z) (g.at j lj)
@@ -63,7 +67,8 @@ pub far_nonneg : (t far near : ℤ) → pos 0 <ℤ t → near <ℤ t → pos 0 �
 far_nonneg t far near tp h k = by_lt_z far (pos 0)
     (λ (low : far <ℤ pos 0).
     let p = mul_nonneg (negsuc 0 -ℤ far) t (omega (arith, ints)) (omega (arith, ints)) in
-    let e : (negsuc 0 -ℤ far) *ℤ t ≡ (pos 0 -ℤ t) -ℤ far *ℤ t = ring (far ∷ t ∷ []) (mul (sub (con (negsuc 0)) (var 0)) (var 1)) (sub (sub (con (pos 0)) (var 1)) (mul (var 0) (var 1))) refl in
+    let e : (negsuc 0 -ℤ far) *ℤ t ≡ (pos 0 -ℤ t) -ℤ far *ℤ t = ring (far ∷ t ∷ []) (mul (sub (con (negsuc 0)) (var 0)) (var 1))
+    (sub (sub (con (pos 0)) (var 1)) (mul (var 0) (var 1))) refl in
     absurd (omega (arith, ints)))
     (λ (high : pos 0 ≤ℤ far). high)
 
@@ -119,18 +124,22 @@ eqb_other k r h = grind (arith, nat_tests)
 pub pick : (r k : ℕ) (g : ℕ → ℤ) → k < r → total r (λ q. when (eqb k q) (g q)) ≡ g k
 pick zero k g lt = absurd (omega arith)
 pick (suc r) k g lt = elim (lt_or k r lt) [
-  | inl below ↦ (let p = pick r k g below in let e : when (eqb k r) (g r) ≡ pos 0 = ap (λ (b : Bool). when b (g r)) (eqb_other k r (λ e. omega arith)) in omega (arith, ints))
-  | inr same ↦ (let z : total r (λ q. when (eqb k q) (g q)) ≡ pos 0 = total-zero r (λ q. when (eqb k q) (g q)) (λ q lq. ap (λ (b : Bool). when b (g q)) (eqb_other k q (λ e. omega arith))) in
+  | inl below ↦ (let p = pick r k g below in let e : when (eqb k r) (g r) ≡ pos 0 = ap (λ (b : Bool). when b (g r)) (eqb_other k r (λ e. omega arith)) in
+      omega (arith, ints))
+  | inr same ↦ (let z : total r (λ q. when (eqb k q) (g q)) ≡ pos 0 = total-zero r (λ q. when (eqb k q) (g q))
+      (λ q lq. ap (λ (b : Bool). when b (g q)) (eqb_other k q (λ e. omega arith))) in
       let e : when (eqb k r) (g r) ≡ g r = ap (λ (b : Bool). when b (g r)) (ap (λ (t : ℕ). eqb k t) (sym same) ∙ eqb_same k) in
       let f : g k ≡ g r = ap g same in omega (arith, ints))
 ]
 
 -- a sum dot all rows is the sum dot the listed ones
-pub spread_sum : (r n : ℕ) (rows : ℕ → ℕ) (l g : ℕ → ℤ) → ((i : ℕ) → i < n → rows i < r) → total r (λ q. spread n rows l q *ℤ g q) ≡ total n (λ i. l i *ℤ g (rows i))
+pub spread_sum : (r n : ℕ) (rows : ℕ → ℕ) (l g : ℕ → ℤ) → ((i : ℕ) → i < n → rows i < r) → total r (λ q. spread n rows l q *ℤ g q) ≡ total n
+    (λ i. l i *ℤ g (rows i))
 spread_sum r n rows l g within =
     total-same r (λ q. spread n rows l q *ℤ g q) (λ q. total n (λ i. when (eqb (rows i) q) (l i *ℤ g q)))
     (λ q lq. *ℤ_comm (spread n rows l q) (g q) ∙ sym (total-scale n (g q) (λ i. when (eqb (rows i) q) (l i)))
-    ∙ total-same n (λ i. g q *ℤ when (eqb (rows i) q) (l i)) (λ i. when (eqb (rows i) q) (l i *ℤ g q)) (λ i li. *ℤ_comm (g q) (when (eqb (rows i) q) (l i)) ∙ when_times (eqb (rows i) q) (l i) (g q)))
+    ∙ total-same n (λ i. g q *ℤ when (eqb (rows i) q) (l i)) (λ i. when (eqb (rows i) q) (l i *ℤ g q))
+    (λ i li. *ℤ_comm (g q) (when (eqb (rows i) q) (l i)) ∙ when_times (eqb (rows i) q) (l i) (g q)))
     ∙ total-swap r n (λ q i. when (eqb (rows i) q) (l i *ℤ g q))
     ∙ total-same n (λ i. total r (λ q. when (eqb (rows i) q) (l i *ℤ g q))) (λ i. l i *ℤ g (rows i)) (λ i li. pick r (rows i) (λ q. l i *ℤ g q) (within i li))
 
@@ -145,7 +154,11 @@ pub record FarSign (n : ℕ) (lf ln : ℕ → ℤ) : Type 0 where
 
 -- near parts below t: numbers that aren't negative at t aren't negative in the order of Far
 pub sign-at_t : (n : ℕ) (t : ℤ) (lf ln : ℕ → ℤ) → pos 0 <ℤ t → ((i : ℕ) → i < n → ln i <ℤ t) → ((i : ℕ) → i < n → pos 0 ≤ℤ at_t t lf ln i) → FarSign n lf ln
-sign-at_t n t lf ln tp small h = record { far = λ i lt. far_nonneg t (lf i) (ln i) tp (small i lt) (h i lt); near = λ i lt e. near_nonneg t (lf i) (ln i) e (h i lt) }
+sign-at_t n t lf ln tp small h = record {
+  far = λ i lt. far_nonneg t (lf i) (ln i) tp (small i lt) (h i lt);
+  near =
+      λ i lt e. near_nonneg t (lf i) (ln i) e (h i lt);
+}
 
 -- of pairs that aren't negative in the order of Far, no row gets a negative first multiplier
 pub spread_first : (n : ℕ) (rows : ℕ → ℕ) (lf ln : ℕ → ℤ) (r : ℕ) → FarSign n lf ln → pos 0 ≤ℤ spread n rows lf r
@@ -160,7 +173,8 @@ pub spread_second : (n : ℕ) (rows : ℕ → ℕ) (lf ln : ℕ → ℤ) (r : �
 spread_second n rows lf ln r s e =
     let low : (i : ℕ) → i < n → pos 0 ≤ℤ when (eqb (rows i) r) (lf i) = λ i li. when_nonneg (eqb (rows i) r) (lf i) (s.far i li) in
     total-nonneg n (λ i. when (eqb (rows i) r) (ln i)) (λ i li.
-    when_sign (eqb (rows i) r) (lf i) (ln i) (let p = term-le n (λ i. when (eqb (rows i) r) (lf i)) low i li in let q = low i li in omega (arith, ints)) (s.near i li))
+    when_sign (eqb (rows i) r) (lf i) (ln i) (let p = term-le n (λ i. when (eqb (rows i) r) (lf i)) low i li in let q = low i li in omega (arith, ints))
+    (s.near i li))
 
 when_is : (b : Bool) (x : ℤ) → ¬ (when b x ≡ pos 0) → b ≡ true
 when_is true x h = refl
@@ -173,7 +187,8 @@ eqb_is k r e = grind (arith, nat_tests)
 pub spread_listed : (n : ℕ) (rows : ℕ → ℕ) (l : ℕ → ℤ) (r : ℕ) → ¬ (spread n rows l r ≡ pos 0) → (i : ℕ) × (i < n) × (rows i ≡ r)
 spread_listed n rows l r h = go (zeros_or n (λ i. when (eqb (rows i) r) (l i)))
   where
-    go : ((i : ℕ) → i < n → when (eqb (rows i) r) (l i) ≡ pos 0) ⊎ ((i : ℕ) × (i < n) × ¬ (when (eqb (rows i) r) (l i) ≡ pos 0)) → (i : ℕ) × (i < n) × (rows i ≡ r)
+    go : ((i : ℕ) → i < n → when (eqb (rows i) r) (l i) ≡ pos 0) ⊎ ((i : ℕ) × (i < n) × ¬ (when (eqb (rows i) r) (l i) ≡ pos 0))
+        → (i : ℕ) × (i < n) × (rows i ≡ r)
     go (inl z) = absurd (h (total-zero n (λ i. when (eqb (rows i) r) (l i)) z))
     go (inr (i, li, nz)) = (i, li, eqb_is (rows i) r (when_is (eqb (rows i) r) (l i) nz))
 
@@ -194,7 +209,8 @@ spread_few r n rows lf ln within =
       where
         cases : (spread n rows lf q ≡ pos 0) ⊎ ¬ (spread n rows lf q ≡ pos 0) → (spread n rows ln q ≡ pos 0) ⊎ ¬ (spread n rows ln q ≡ pos 0)
             → (1 - is_zero (spread n rows lf q) * is_zero (spread n rows ln q) ≡ 0) ⊎ ((i : ℕ) × (i < n) × (rows i ≡ q))
-        cases (inl e) (inl f) = inl (let p : is_zero (spread n rows lf q) ≡ 1 = ap is_zero e in let o : is_zero (spread n rows ln q) ≡ 1 = ap is_zero f in rw (p, o) refl)
+        cases (inl e) (inl f) = inl (let p : is_zero (spread n rows lf q) ≡ 1 = ap is_zero e in let o : is_zero (spread n rows ln q) ≡ 1 = ap is_zero f in
+            rw (p, o) refl)
         cases (inr h) f = inr (spread_listed n rows lf q h)
         cases (inl e) (inr h) = inr (spread_listed n rows ln q h)
 
@@ -204,7 +220,8 @@ spread_few r n rows lf ln within =
         low : (i : ℕ) → i < n → pos 0 ≤ℤ when (eqb (rows i) q) (pos 1)
         low i li = when_nonneg (eqb (rows i) q) (pos 1) (omega (arith, ints))
 
-        cases : (1 - is_zero (spread n rows lf q) * is_zero (spread n rows ln q) ≡ 0) ⊎ ((i : ℕ) × (i < n) × (rows i ≡ q)) → pos (1 - is_zero (spread n rows lf q) * is_zero (spread n rows ln q)) ≤ℤ (spread n rows (λ i. pos 1) q *ℤ pos 1)
+        cases : (1 - is_zero (spread n rows lf q) * is_zero (spread n rows ln q) ≡ 0) ⊎ ((i : ℕ) × (i < n) × (rows i ≡ q))
+            → pos (1 - is_zero (spread n rows lf q) * is_zero (spread n rows ln q)) ≤ℤ (spread n rows (λ i. pos 1) q *ℤ pos 1)
         cases (inl e) = let p = total-nonneg n (λ i. when (eqb (rows i) q) (pos 1)) low in omega (arith, ints)
         cases (inr (i, li, e)) =
             let p = term-le n (λ i. when (eqb (rows i) q) (pos 1)) low i li in

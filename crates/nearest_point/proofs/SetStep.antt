@@ -1,5 +1,6 @@
 -- One number of a list grows by the next multiplier.
-use Rattle.std.proofs.Common.{◌≡◌, ◌≢◌, ℕ, zero, suc, ◌+◌, ◌*◌, ◌^◌, ◌<◌, ◌≤◌, refl, arith, sym, ap, ◌∙◌, ◌⊎◌, inl, inr, Bool, true, false, List, [], ◌∷◌, length, eqb, unsigned_abs}
+use Rattle.std.proofs.Common.{◌≡◌, ◌≢◌, ℕ, zero, suc, ◌+◌, ◌*◌, ◌^◌, ◌<◌, ◌≤◌, refl, arith, sym, ap, ◌∙◌, ◌⊎◌, inl, inr, Bool, true, false, List, [], ◌∷◌}
+use Rattle.std.proofs.Common.{length, eqb, unsigned_abs}
 use Rattle.std.specs.Prelude.{ℤ, pos, ◌+ℤ◌, slice_set, slice_index_or}
 use Rattle.std.proofs.lemmas.Int.{ints}
 use Rattle.std.proofs.lemmas.List.{get_or-set_same, get_or-set_other, length-set}
@@ -15,7 +16,8 @@ numbers_step list count n r rows l v len e lt ve h q lq = go (eqb_tells r q) ∙
   where
     go : ((eqb r q ≡ true) × (r ≡ q)) ⊎ ((eqb r q ≡ false) × (r ≢ q)) → nth (slice_set list r v) q ≡ spread n rows l q +ℤ when (eqb (rows n) q) (l n)
     go (inl (t, d)) =
-        ap (nth (slice_set list r v)) (sym d) ∙ get_or-set_same list r v (pos 0) (omega arith) ∙ ve ∙ ap (λ (k : ℕ). nth list k +ℤ l n) d ∙ ap (λ (z : ℤ). z +ℤ l n) (h q lq)
+        ap (nth (slice_set list r v)) (sym d) ∙ get_or-set_same list r v (pos 0) (omega arith) ∙ ve ∙ ap (λ (k : ℕ). nth list k +ℤ l n) d
+        ∙ ap (λ (z : ℤ). z +ℤ l n) (h q lq)
         ∙ ap (λ (b : Bool). spread n rows l q +ℤ when b (l n)) (sym (ap (λ (k : ℕ). eqb k q) e ∙ t))
     go (inr (t, d)) =
         get_or-set_other list r q v (pos 0) (λ x. d (sym x)) ∙ h q lq

@@ -30,7 +30,8 @@ use Rattle.nearest_point.proofs.Vectors.{gram_times, never_dependent}
 pub gram_is : (m : ℕ) (a b : ℕ → ℤ) (weights : List ℕ) (lowered : List ℤ) → IsLowered weights lowered → length lowered ≡ m
     → common m a b (nth lowered) ≡ total m (λ j. a j *ℤ (weight_at weights j *ℤ b j))
 gram_is m a b weights lowered h len = total-same m (λ j. a j *ℤ ((pos 0 -ℤ nth lowered j) *ℤ b j)) (λ j. a j *ℤ (weight_at weights j *ℤ b j))
-    (λ j lt. ap (λ (z : ℤ). a j *ℤ (z *ℤ b j)) (let e = h.is j (omega arith) in let f : pos 0 -ℤ nth lowered j ≡ weight_at weights j = omega (arith, ints) in f))
+    (λ j lt. ap (λ (z : ℤ). a j *ℤ (z *ℤ b j)) (let e = h.is j (omega arith) in let f : pos 0 -ℤ nth lowered j ≡ weight_at weights j = omega (arith, ints) in
+    f))
 
 -- the matrix has a line for each forced row, and its entries are what common members weigh
 pub record IsGram (m n : ℕ) (a : ℕ → ℕ → ℤ) (weight : ℕ → ℤ) (matrix : List (List ℤ)) : Type 0 where
@@ -47,7 +48,8 @@ no_dependence m n a weight wp matrix v g ind d =
     d.place (let e = g.long in let b = d.below in omega arith))
 
 -- for independent rows the system is never answered with a dependence
-pub never : (m n : ℕ) (a : ℕ → ℕ → ℤ) (weight : ℕ → ℤ) → ((j : ℕ) → j < m → pos 0 <ℤ weight j) → (matrix : List (List ℤ)) (v : List ℤ) (fars nears : ℕ → ℤ) (s : Answer)
+pub never : (m n : ℕ) (a : ℕ → ℕ → ℤ) (weight : ℕ → ℤ) → ((j : ℕ) → j < m → pos 0 <ℤ weight j) → (matrix : List (List ℤ)) (v : List ℤ) (fars nears : ℕ → ℤ)
+    (s : Answer)
     → IsGram m n a weight matrix → Independent m n a → IsAnswer matrix fars nears s → s ≡ Dependent v → ⊥
 never m n a weight wp matrix v fars nears s g ind answer e = no_dependence m n a weight wp matrix v g ind (subst (IsAnswer matrix fars nears) e answer)
 
@@ -72,14 +74,16 @@ independent_by m n a weight matrix fars nears den values g one = record { only_z
         ∙ (let s = subst (λ (t : ℕ). dot t (row matrix k) x ≡ den *ℤ fars k) g.long (one.far.solves k lk) in
         let o = sent k (let e = g.long in omega arith) in omega (arith, ints))) in
         let same : den *ℤ (x i +ℤ c i) ≡ den *ℤ x i = one.far.only (λ q. x q +ℤ c q) den both i (let e = g.long in omega arith) in
-        let apart : den *ℤ (x i +ℤ c i) ≡ den *ℤ x i +ℤ den *ℤ c i = ring (den ∷ x i ∷ c i ∷ []) (mul (var 0) (add (var 1) (var 2))) (add (mul (var 0) (var 1)) (mul (var 0) (var 2))) refl in
+        let apart : den *ℤ (x i +ℤ c i) ≡ den *ℤ x i +ℤ den *ℤ c i = ring (den ∷ x i ∷ c i ∷ []) (mul (var 0) (add (var 1) (var 2)))
+        (add (mul (var 0) (var 1)) (mul (var 0) (var 2))) refl in
         let p = one.positive in
         mul-zero_cases den (c i) (omega (arith, ints)) (λ e. absurd (omega (arith, ints)))
 
 -- rows whose system is answered with one solution are independent
 pub independent_of : (m n : ℕ) (a : ℕ → ℕ → ℤ) (weight : ℕ → ℤ) (matrix : List (List ℤ)) (fars nears : ℕ → ℤ) (den : ℤ) (values : List Far) (s : Answer)
     → IsGram m n a weight matrix → IsAnswer matrix fars nears s → s ≡ One den values → Independent m n a
-independent_of m n a weight matrix fars nears den values s g answer e = independent_by m n a weight matrix fars nears den values g (subst (IsAnswer matrix fars nears) e answer)
+independent_of m n a weight matrix fars nears den values s g answer e = independent_by m n a weight matrix fars nears den values g
+    (subst (IsAnswer matrix fars nears) e answer)
 
 -- one part of the solution solves the system of the forced rows
 solves_part : (m n : ℕ) (a : ℕ → ℕ → ℤ) (weight : ℕ → ℤ) (matrix : List (List ℤ)) (den : ℤ) (x mult target bound right : ℕ → ℤ) → IsGram m n a weight matrix
@@ -236,7 +240,8 @@ module _ (target : List ℤ) (weights : List ℕ) (rows : List Row) (forced : Li
   }
 
 -- the denominator of a small solution comes back from its 128 bits
-pub den_back : (matrix : List (List ℤ)) (fars nears : ℕ → ℤ) (den : ℤ) (values : List Far) (s : Answer) → IsAnswer matrix fars nears s → IsSmallAnswer (320 ^ 4 + 1) (2 ^ 106) s → s ≡ One den values
+pub den_back : (matrix : List (List ℤ)) (fars nears : ℕ → ℤ) (den : ℤ) (values : List Far) (s : Answer) → IsAnswer matrix fars nears s
+    → IsSmallAnswer (320 ^ 4 + 1) (2 ^ 106) s → s ≡ One den values
     → to_z w128 (of_z w128 den) ≡ den
 den_back matrix fars nears den values s answer small e =
     let a : IsOneSolution matrix fars nears den values = subst (IsAnswer matrix fars nears) e answer in
@@ -246,10 +251,13 @@ den_back matrix fars nears den values s answer small e =
     omega (arith, ints)
 
 -- a part of a point stays one for an equal denominator, target and multipliers
-pub part_same : (rows : List Row) (forced : List ℕ) (w : ℕ → ℤ) (d d' : ℤ) (t t' m m' p : List ℤ) → d ≡ d' → t ≡ t' → m ≡ m' → IsPart rows forced w d t m p → IsPart rows forced w d' t' m' p
+pub part_same : (rows : List Row) (forced : List ℕ) (w : ℕ → ℤ) (d d' : ℤ) (t t' m m' p : List ℤ) → d ≡ d' → t ≡ t' → m ≡ m' → IsPart rows forced w d t m p
+    → IsPart rows forced w d' t' m' p
 part_same rows forced w d d' t t' m m' p e f g h =
-    subst (λ (x : ℤ). IsPart rows forced w x t' m' p) e (subst (λ (x : List ℤ). IsPart rows forced w d x m' p) f (subst (λ (x : List ℤ). IsPart rows forced w d t x p) g h))
+    subst (λ (x : ℤ). IsPart rows forced w x t' m' p) e (subst (λ (x : List ℤ). IsPart rows forced w d x m' p) f
+    (subst (λ (x : List ℤ). IsPart rows forced w d t x p) g h))
 
 -- the denominator of the multipliers of forced rows comes back from its 128 bits
-pub den_returns : (target : List ℤ) (weights : List ℕ) (rows : List Row) (forced : List ℕ) (f : Multipliers) → AreMultipliers target weights rows forced f → to_z w128 (of_z w128 f.den) ≡ f.den
+pub den_returns : (target : List ℤ) (weights : List ℕ) (rows : List Row) (forced : List ℕ) (f : Multipliers) → AreMultipliers target weights rows forced f
+    → to_z w128 (of_z w128 f.den) ≡ f.den
 den_returns target weights rows forced f h = let p = h.positive in let q = h.small_den in omega (arith, ints)

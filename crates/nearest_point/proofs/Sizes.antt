@@ -27,7 +27,8 @@ pub product_back : (d b : ℤ) → pos 0 <ℤ d → d ≤ℤ pos (320 ^ 4) → p
 product_back d b p q r s =
     let e : to_z w128 (of_z w128 d) ≡ d = omega (arith, ints) in
     let f : to_z w128 (of_z w128 b) ≡ b = omega (arith, ints) in
-    ap (λ (z : ℤ). to_z w128 (of_z w128 (z *ℤ to_z w128 (of_z w128 b)))) e ∙ ap (λ (z : ℤ). to_z w128 (of_z w128 (d *ℤ z))) f ∙ back (d *ℤ b) (product_within d b p q r s)
+    ap (λ (z : ℤ). to_z w128 (of_z w128 (z *ℤ to_z w128 (of_z w128 b)))) e ∙ ap (λ (z : ℤ). to_z w128 (of_z w128 (d *ℤ z))) f
+    ∙ back (d *ℤ b) (product_within d b p q r s)
 
 -- a number is below another where far and near parts equal to its own come to less at the large t
 pub less_is : (f n l x y p s : ℤ) → f ≡ x → n ≡ y → l ≡ p → s ≡ x *ℤ large +ℤ y → (f *ℤ large +ℤ n) <ℤ l → s <ℤ p

@@ -20,16 +20,20 @@ pub record AreSides (target : List ℤ) (rows : List Row) (lowered : List ℤ) (
   pub fars : (i : ℕ) → i < n → unsigned_abs (far_at right i) ≤ 120
   pub nears : (edge i : ℕ) → IsEdge edge target rows → i < n → unsigned_abs (near_at right i) ≤ edge
 
-below_by : (weights : List ℕ) (lowered : List ℤ) (top : ℕ) → IsLowered weights lowered → ((j : ℕ) → j < length lowered → slice_index_or weights j 0 ≤ top) → IsBelowBy top lowered
+below_by : (weights : List ℕ) (lowered : List ℤ) (top : ℕ) → IsLowered weights lowered → ((j : ℕ) → j < length lowered → slice_index_or weights j 0 ≤ top)
+    → IsBelowBy top lowered
 below_by weights lowered top l h j lt = let e = l.is j lt in let w = h j lt in (omega (arith, ints), omega (arith, ints))
 
 -- in a problem each number of the lowered target is below 0 by at most 20
-pub below_of : (target : List ℤ) (weights : List ℕ) (rows : List Row) (lowered : List ℤ) → IsProblem target weights rows → IsLowered weights lowered → IsBelowBy 20 lowered
-below_of target weights rows lowered problem low = below_by weights lowered 20 low (λ j lt. problem.weighed.most j (let e = low.long in let f = problem.weighed.long in omega arith))
+pub below_of : (target : List ℤ) (weights : List ℕ) (rows : List Row) (lowered : List ℤ) → IsProblem target weights rows → IsLowered weights lowered
+    → IsBelowBy 20 lowered
+below_of target weights rows lowered problem low = below_by weights lowered 20 low
+    (λ j lt. problem.weighed.most j (let e = low.long in let f = problem.weighed.long in omega arith))
 
 module _ (target : List ℤ) (weights : List ℕ) (rows : List Row) (lowered : List ℤ) (n : ℕ) (matrix : List (List ℤ)) (right : List Far)
     (problem : IsProblem target weights rows) (low : IsLowered weights lowered) (sides : AreSides target rows lowered n matrix right) where
-  small : (size top edge most : ℕ) → length target ≤ size → IsBelowBy top lowered → length target * top ≤ most → IsEdge edge target rows → 120 ≤ edge → IsSmallSystem size most edge matrix right
+  small : (size top edge most : ℕ) → length target ≤ size → IsBelowBy top lowered → length target * top ≤ most → IsEdge edge target rows → 120 ≤ edge
+      → IsSmallSystem size most edge matrix right
   small size top edge most few below product is_edge wide =
       let long = sides.long in
       let le = sides.few in
@@ -60,7 +64,8 @@ module _ (target : List ℤ) (weights : List ℕ) (rows : List Row) (lowered : L
   second_system : IsNarrow target rows → IsSmallSystem 4 80 (2 ^ 45) matrix right
   second_system narrow =
       let few = narrow.few in
-      small 4 20 (2 ^ 45) 80 few (below_of target weights rows lowered problem low) (omega arith) (record { sum = narrow.sum; small = narrow.small }) (omega arith)
+      small 4 20 (2 ^ 45) 80 few (below_of target weights rows lowered problem low) (omega arith) (record { sum = narrow.sum; small = narrow.small })
+      (omega arith)
 
   -- at most 6 lines with entries up to 6 and right sides up to 2^46, or 4 lines with up to 80 and 2^45
   pub either_system : IsSmallSystem 6 6 (2 ^ 46) matrix right ⊎ IsSmallSystem 4 80 (2 ^ 45) matrix right

@@ -112,8 +112,15 @@ near_force m r a b target weight wp forced k kr rows_y dy y ly hy violated rows_
     }
 
 -- what is owed for fewer rows taken
-pub owed_less : (m r : ℕ) (a : ℕ → ℕ → ℤ) (b : ℕ → ℤ) (forced : List ℕ) (from k : ℕ) (e : ℤ) (x : ℕ → ℤ) → from ≤ k → Owed m r a b forced from e x → Owed m r a b forced k e x
-owed_less m r a b forced from k e x le h = record { positive = h.positive; tight = h.tight; meets = λ q ge lt. h.meets q (omega arith) lt; independent = h.independent }
+pub owed_less : (m r : ℕ) (a : ℕ → ℕ → ℤ) (b : ℕ → ℤ) (forced : List ℕ) (from k : ℕ) (e : ℤ) (x : ℕ → ℤ) → from ≤ k → Owed m r a b forced from e x
+    → Owed m r a b forced k e x
+owed_less m r a b forced from k e x le h = record {
+  positive = h.positive;
+  tight = h.tight;
+  meets = λ q ge lt. h.meets q (omega arith) lt;
+  independent =
+      h.independent;
+}
 
 cross : (d e b q x : ℤ) → e *ℤ (d *ℤ b -ℤ q) +ℤ d *ℤ (x -ℤ e *ℤ b) ≡ d *ℤ x -ℤ e *ℤ q
 cross d e b q x = ring (d ∷ e ∷ b ∷ q ∷ x ∷ [])
@@ -121,7 +128,10 @@ cross d e b q x = ring (d ∷ e ∷ b ∷ q ∷ x ∷ [])
     (sub (mul (var 0) (var 4)) (mul (var 1) (var 3))) refl
 
 same_rows : (m n : ℕ) (a c : ℕ → ℕ → ℤ) → ((i : ℕ) → i < n → c i ≡ a i) → Independent m n a → Independent m n c
-same_rows m n a c e h = record { only_zero = λ w z. h.only_zero w (λ j lj. total-same n (λ i. w i *ℤ a i j) (λ i. w i *ℤ c i j) (λ i li. ap (λ (f : ℕ → ℤ). w i *ℤ f j) (sym (e i li))) ∙ z j lj) }
+same_rows m n a c e h = record {
+  only_zero = λ w z. h.only_zero w (λ j lj. total-same n (λ i. w i *ℤ a i j) (λ i. w i *ℤ c i j)
+      (λ i li. ap (λ (f : ℕ → ℤ). w i *ℤ f j) (sym (e i li))) ∙ z j lj);
+}
 
 -- what is owed once the violated row is forced: the point between, and the rows are still independent
 pub owed_force : (m r : ℕ) (a : ℕ → ℕ → ℤ) (b target weight : ℕ → ℤ) (forced : List ℕ) (k : ℕ) → k < r → (e : ℤ) (x : ℕ → ℤ) → Owed m r a b forced k e x
@@ -155,7 +165,8 @@ owed_force m r a b target weight forced k kr e x h rows d q mult hq violated =
     let f : e *ℤ s +ℤ d *ℤ u ≡ d *ℤ dot m (a k) x -ℤ e *ℤ dot m (a k) q = cross d e (b k) (dot m (a k) q) (dot m (a k) x) in
     absurd (omega (arith, ints))) in
     let apart : ¬ (dot m (a (place (forced ++ k ∷ []) n)) z ≡ pos 0) = subst (λ (t : ℕ). ¬ (dot m (a t) z ≡ pos 0)) (sym last) apart_k in
-    let ind : Independent m n (λ i. a (place (forced ++ k ∷ []) i)) = same_rows m n (λ i. a (place forced i)) (λ i. a (place (forced ++ k ∷ []) i)) (λ i lt. ap a (first i lt)) h.independent in
+    let ind : Independent m n (λ i. a (place (forced ++ k ∷ []) i)) = same_rows m n (λ i. a (place forced i)) (λ i. a (place (forced ++ k ∷ []) i))
+    (λ i lt. ap a (first i lt)) h.independent in
     let both : Independent m (suc n) (λ i. a (place (forced ++ k ∷ []) i)) = independent_more m n (λ i. a (place (forced ++ k ∷ []) i)) z ind flat apart in
     record {
       positive = (let p = mul_positive s e sp ep in let o = mul_nonneg u d up (omega (arith, ints)) in omega (arith, ints));

@@ -77,7 +77,8 @@ pub more_rows_depend : (m : ℕ) (a : ℕ → ℕ → ℤ) → Depends m (suc m)
 more_rows_depend zero a = ((λ i. pos 1), (λ j lt. absurd (omega arith)), (zero, omega arith, λ e. cc))
 more_rows_depend (suc m) a = by_last (λ b. more_rows_depend m b) (zeros_or (suc m) (a (suc m)))
   where
-    by_last : ((b : ℕ → ℕ → ℤ) → Depends m (suc m) b) → ((j : ℕ) → j < suc m → a (suc m) j ≡ pos 0) ⊎ ((q : ℕ) × (q < suc m) × ¬ (a (suc m) q ≡ pos 0)) → Depends (suc m) (suc (suc m)) a
+    by_last : ((b : ℕ → ℕ → ℤ) → Depends m (suc m) b) → ((j : ℕ) → j < suc m → a (suc m) j ≡ pos 0) ⊎ ((q : ℕ) × (q < suc m) × ¬ (a (suc m) q ≡ pos 0))
+        → Depends (suc m) (suc (suc m)) a
     by_last ih (inl z) = (
       cut (suc m) (λ i. pos 0) (pos 1),
       (λ j lt. sum-cut (suc m) (λ i. pos 0) (pos 1) (λ i. a i j)
@@ -93,12 +94,15 @@ more_rows_depend (suc m) a = by_last (λ b. more_rows_depend m b) (zeros_or (suc
             let c' : ℕ → ℤ = λ i. c i *ℤ v q in
             let k : ℤ = pos 0 -ℤ s in
             let both : (j : ℕ) → total (suc m) (λ i. c' i *ℤ a i j) +ℤ k *ℤ v j ≡ total (suc m) (λ i. c i *ℤ (v q *ℤ a i j -ℤ a i q *ℤ v j)) =
-            λ j. (let p : total (suc m) (λ i. c i *ℤ (v q *ℤ a i j -ℤ a i q *ℤ v j)) ≡ total (suc m) (λ i. c' i *ℤ a i j) -ℤ total (suc m) (λ i. v j *ℤ (c i *ℤ a i q)) =
+            λ j. (let p : total (suc m) (λ i. c i *ℤ (v q *ℤ a i j -ℤ a i q *ℤ v j)) ≡ total (suc m) (λ i. c' i *ℤ a i j) -ℤ total (suc m)
+            (λ i. v j *ℤ (c i *ℤ a i q)) =
             total-same (suc m) (λ i. c i *ℤ (v q *ℤ a i j -ℤ a i q *ℤ v j)) (λ i. c' i *ℤ a i j -ℤ v j *ℤ (c i *ℤ a i q))
-            (λ i li. ring (c i ∷ v q ∷ a i j ∷ a i q ∷ v j ∷ []) (mul (var 0) (sub (mul (var 1) (var 2)) (mul (var 3) (var 4)))) (sub (mul (mul (var 0) (var 1)) (var 2)) (mul (var 4) (mul (var 0) (var 3)))) refl)
+            (λ i li. ring (c i ∷ v q ∷ a i j ∷ a i q ∷ v j ∷ []) (mul (var 0) (sub (mul (var 1) (var 2)) (mul (var 3) (var 4))))
+            (sub (mul (mul (var 0) (var 1)) (var 2)) (mul (var 4) (mul (var 0) (var 3)))) refl)
             ∙ total-sub (suc m) (λ i. c' i *ℤ a i j) (λ i. v j *ℤ (c i *ℤ a i q)) in
             let o = total-scale (suc m) (v j) (λ i. c i *ℤ a i q) in
-            let r : k *ℤ v j ≡ pos 0 -ℤ v j *ℤ s = ring (s ∷ v j ∷ []) (mul (sub (con (pos 0)) (var 0)) (var 1)) (sub (con (pos 0)) (mul (var 1) (var 0))) refl in
+            let r : k *ℤ v j ≡ pos 0 -ℤ v j *ℤ s = ring (s ∷ v j ∷ []) (mul (sub (con (pos 0)) (var 0)) (var 1))
+            (sub (con (pos 0)) (mul (var 1) (var 0))) refl in
             omega (arith, ints)) in (
               cut (suc m) c' k,
               (λ j lt. sum-cut (suc m) c' k (λ i. a i j) ∙ both j
@@ -123,7 +127,8 @@ independent_fits m a h = go (more_rows_depend m a)
     go (c, z, (i, lt, nz)) = nz (h.only_zero c z i lt)
 
 -- rows that agree on a direction z but for the last one stay independent with it
-pub independent_more : (m n : ℕ) (a : ℕ → ℕ → ℤ) (z : ℕ → ℤ) → Independent m n a → ((i : ℕ) → i < n → dot m (a i) z ≡ pos 0) → ¬ (dot m (a n) z ≡ pos 0) → Independent m (suc n) a
+pub independent_more : (m n : ℕ) (a : ℕ → ℕ → ℤ) (z : ℕ → ℤ) → Independent m n a → ((i : ℕ) → i < n → dot m (a i) z ≡ pos 0) → ¬ (dot m (a n) z ≡ pos 0)
+    → Independent m (suc n) a
 independent_more m n a z h flat apart = record { only_zero = all }
   where
     all : (c : ℕ → ℤ) → ((j : ℕ) → j < m → total (suc n) (λ i. c i *ℤ a i j) ≡ pos 0) → (i : ℕ) → i < suc n → c i ≡ pos 0
@@ -134,7 +139,8 @@ independent_more m n a z h flat apart = record { only_zero = all }
         let f : total n (λ i. c i *ℤ dot m (a i) z) ≡ pos 0 = total-zero n (λ i. c i *ℤ dot m (a i) z) (λ i li. times_zero (c i) (dot m (a i) z) (flat i li)) in
         let g : dot m (a n) z *ℤ c n ≡ pos 0 = *ℤ_comm (dot m (a n) z) (c n) ∙ omega (arith, ints) in
         let last : c n ≡ pos 0 = mul-zero_cases (dot m (a n) z) (c n) g apart in
-        let rest : (i : ℕ) → i < n → c i ≡ pos 0 = h.only_zero c (λ j lj. let p = hc j lj in let q : c n *ℤ a n j ≡ pos 0 = ap (λ (t : ℤ). t *ℤ a n j) last ∙ omega (arith, ints) in omega (arith, ints)) in
+        let rest : (i : ℕ) → i < n → c i ≡ pos 0 = h.only_zero c (λ j lj. let p = hc j lj in let q : c n *ℤ a n j ≡ pos 0 =
+        ap (λ (t : ℤ). t *ℤ a n j) last ∙ omega (arith, ints) in omega (arith, ints)) in
         elim (lt_or i n lt) [ inl b ↦ rest i b | inr b ↦ ap c b ∙ last ]
 
 -- sum dot k of c k * gram i k is the sum dot j of a i j * (weight j * column j)
@@ -142,7 +148,8 @@ pub gram_times : (m n : ℕ) (a : ℕ → ℕ → ℤ) (weight c : ℕ → ℤ) 
     → total n (λ k. gram m a weight i k *ℤ c k) ≡ dot m (a i) (λ j. weight j *ℤ total n (λ k. c k *ℤ a k j))
 gram_times m n a weight c i =
     total-same n (λ k. gram m a weight i k *ℤ c k) (λ k. c k *ℤ total m (λ j. a k j *ℤ (a i j *ℤ weight j)))
-    (λ k lk. *ℤ_comm (gram m a weight i k) (c k) ∙ ap (λ (t : ℤ). c k *ℤ t) (total-same m (λ j. a i j *ℤ (weight j *ℤ a k j)) (λ j. a k j *ℤ (a i j *ℤ weight j))
+    (λ k lk. *ℤ_comm (gram m a weight i k) (c k) ∙ ap (λ (t : ℤ). c k *ℤ t) (total-same m (λ j. a i j *ℤ (weight j *ℤ a k j))
+    (λ j. a k j *ℤ (a i j *ℤ weight j))
     (λ j lj. ring (a i j ∷ weight j ∷ a k j ∷ []) (mul (var 0) (mul (var 1) (var 2))) (mul (var 2) (mul (var 0) (var 1))) refl)))
     ∙ sym (dual m n a c (λ j. a i j *ℤ weight j))
     ∙ total-same m (λ j. total n (λ k. c k *ℤ a k j) *ℤ (a i j *ℤ weight j)) (λ j. a i j *ℤ (weight j *ℤ total n (λ k. c k *ℤ a k j)))
@@ -155,9 +162,11 @@ never_dependent m n a weight c wp h z i lt =
     let y : ℕ → ℤ = λ j. total n (λ k. c k *ℤ a k j) in
     let q : ℕ → ℤ = λ j. weight j *ℤ (y j *ℤ y j) in
     let s : total m q ≡ pos 0 =
-    total-same m q (λ j. y j *ℤ (weight j *ℤ y j)) (λ j lj. ring (weight j ∷ y j ∷ []) (mul (var 0) (mul (var 1) (var 1))) (mul (var 1) (mul (var 0) (var 1))) refl)
+    total-same m q (λ j. y j *ℤ (weight j *ℤ y j)) (λ j lj. ring (weight j ∷ y j ∷ []) (mul (var 0) (mul (var 1) (var 1)))
+    (mul (var 1) (mul (var 0) (var 1))) refl)
     ∙ dual m n a c (λ j. weight j *ℤ y j)
-    ∙ total-zero n (λ i. c i *ℤ dot m (a i) (λ j. weight j *ℤ y j)) (λ i li. times_zero (c i) (dot m (a i) (λ j. weight j *ℤ y j)) (sym (gram_times m n a weight c i) ∙ z i li)) in
+    ∙ total-zero n (λ i. c i *ℤ dot m (a i) (λ j. weight j *ℤ y j)) (λ i li. times_zero (c i) (dot m (a i) (λ j. weight j *ℤ y j))
+    (sym (gram_times m n a weight c i) ∙ z i li)) in
     let squares : (j : ℕ) → j < m → pos 0 ≤ℤ q j = λ j lj. mul_nonneg (weight j) (y j *ℤ y j) (let b = wp j lj in omega (arith, ints)) (square_nonneg (y j)) in
     let flat : (j : ℕ) → j < m → y j ≡ pos 0 = λ j lj. nothing_left (weight j) (y j) (wp j lj) (let b = term-le m q squares j lj in omega (arith, ints)) in
     h.only_zero c flat i lt
@@ -171,7 +180,8 @@ pub dot-between : (m : ℕ) (a : ℕ → ℤ) (s : ℤ) (x : ℕ → ℤ) (u : �
 unfolding between
 dot-between m a s x u q =
     total-same m (λ j. a j *ℤ between s x u q j) (λ j. s *ℤ (a j *ℤ x j) +ℤ u *ℤ (a j *ℤ q j))
-    (λ j lj. ring (a j ∷ s ∷ x j ∷ u ∷ q j ∷ []) (mul (var 0) (add (mul (var 1) (var 2)) (mul (var 3) (var 4)))) (add (mul (var 1) (mul (var 0) (var 2))) (mul (var 3) (mul (var 0) (var 4)))) refl)
+    (λ j lj. ring (a j ∷ s ∷ x j ∷ u ∷ q j ∷ []) (mul (var 0) (add (mul (var 1) (var 2)) (mul (var 3) (var 4))))
+    (add (mul (var 1) (mul (var 0) (var 2))) (mul (var 3) (mul (var 0) (var 4)))) refl)
     ∙ total-add m (λ j. s *ℤ (a j *ℤ x j)) (λ j. u *ℤ (a j *ℤ q j))
     ∙ (let p = total-scale m s (λ j. a j *ℤ x j) in let o = total-scale m u (λ j. a j *ℤ q j) in omega (arith, ints))
 
@@ -180,17 +190,20 @@ pub between_equal : (m : ℕ) (a : ℕ → ℤ) (b s : ℤ) (x : ℕ → ℤ) (u
     → dot m a (between s x u q) ≡ (s *ℤ e +ℤ u *ℤ d) *ℤ b
 between_equal m a b s x u q d e hx hq =
     dot-between m a s x u q ∙ ap (λ (t : ℤ). s *ℤ t +ℤ u *ℤ dot m a q) hx ∙ ap (λ (t : ℤ). s *ℤ (e *ℤ b) +ℤ u *ℤ t) hq
-    ∙ ring (s ∷ e ∷ b ∷ u ∷ d ∷ []) (add (mul (var 0) (mul (var 1) (var 2))) (mul (var 3) (mul (var 4) (var 2)))) (mul (add (mul (var 0) (var 1)) (mul (var 3) (var 4))) (var 2)) refl
+    ∙ ring (s ∷ e ∷ b ∷ u ∷ d ∷ []) (add (mul (var 0) (mul (var 1) (var 2))) (mul (var 3) (mul (var 4) (var 2))))
+    (mul (add (mul (var 0) (var 1)) (mul (var 3) (var 4))) (var 2)) refl
 
 -- a row that both points meet is met by the point between, for factors that aren't negative
-pub between_above : (m : ℕ) (a : ℕ → ℤ) (b s : ℤ) (x : ℕ → ℤ) (u : ℤ) (q : ℕ → ℤ) (d e : ℤ) → pos 0 ≤ℤ s → pos 0 ≤ℤ u → (e *ℤ b) ≤ℤ dot m a x → (d *ℤ b) ≤ℤ dot m a q
+pub between_above : (m : ℕ) (a : ℕ → ℤ) (b s : ℤ) (x : ℕ → ℤ) (u : ℤ) (q : ℕ → ℤ) (d e : ℤ) → pos 0 ≤ℤ s → pos 0 ≤ℤ u → (e *ℤ b) ≤ℤ dot m a x
+    → (d *ℤ b) ≤ℤ dot m a q
     → ((s *ℤ e +ℤ u *ℤ d) *ℤ b) ≤ℤ dot m a (between s x u q)
 between_above m a b s x u q d e hs hu hx hq =
     let o = dot-between m a s x u q in
     let p = mul_nonneg s (dot m a x -ℤ e *ℤ b) hs (omega (arith, ints)) in
     let r = mul_nonneg u (dot m a q -ℤ d *ℤ b) hu (omega (arith, ints)) in
     let f : s *ℤ (dot m a x -ℤ e *ℤ b) +ℤ u *ℤ (dot m a q -ℤ d *ℤ b) ≡ (s *ℤ dot m a x +ℤ u *ℤ dot m a q) -ℤ (s *ℤ e +ℤ u *ℤ d) *ℤ b
-    = ring (s ∷ dot m a x ∷ e ∷ b ∷ u ∷ dot m a q ∷ d ∷ []) (add (mul (var 0) (sub (var 1) (mul (var 2) (var 3)))) (mul (var 4) (sub (var 5) (mul (var 6) (var 3)))))
+    = ring (s ∷ dot m a x ∷ e ∷ b ∷ u ∷ dot m a q ∷ d ∷ []) (add (mul (var 0) (sub (var 1) (mul (var 2) (var 3))))
+    (mul (var 4) (sub (var 5) (mul (var 6) (var 3)))))
     (sub (add (mul (var 0) (var 1)) (mul (var 4) (var 5))) (mul (add (mul (var 0) (var 2)) (mul (var 4) (var 6))) (var 3))) refl in
     omega (arith, ints)
 
@@ -211,7 +224,8 @@ cut-above (suc n) f k (suc i) le = cut-above n (λ i. f (suc i)) k i (omega arit
 sum_cut-long : (k d : ℕ) (c a : ℕ → ℤ) → total (d + k) (λ i. cut k c (pos 0) i *ℤ a i) ≡ total k (λ i. c i *ℤ a i)
 sum_cut-long k zero c a =
     let e : zero + k ≡ k = omega arith in
-    ap (λ (t : ℕ). total t (λ i. cut k c (pos 0) i *ℤ a i)) e ∙ total-same k (λ i. cut k c (pos 0) i *ℤ a i) (λ i. c i *ℤ a i) (λ i lt. ap (λ (z : ℤ). z *ℤ a i) (cut-below k c (pos 0) i lt))
+    ap (λ (t : ℕ). total t (λ i. cut k c (pos 0) i *ℤ a i)) e ∙ total-same k (λ i. cut k c (pos 0) i *ℤ a i) (λ i. c i *ℤ a i)
+    (λ i lt. ap (λ (z : ℤ). z *ℤ a i) (cut-below k c (pos 0) i lt))
 sum_cut-long k (suc d) c a =
     let e : suc d + k ≡ suc (d + k) = omega arith in
     ap (λ (t : ℕ). total t (λ i. cut k c (pos 0) i *ℤ a i)) e

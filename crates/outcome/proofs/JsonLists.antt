@@ -1,5 +1,6 @@
 -- The JSON values of winners and rounds, list by list, and that an outcome has no float.
-use Rattle.std.proofs.Common.{◌≡◌, ℕ, zero, suc, ◌+◌, ◌*◌, ◌^◌, ◌<◌, ◌≤◌, ◌≤ℤ◌, unsigned_abs, false, Option, Some, None, List, [], ◌∷◌, ◌++◌, append_assoc, length, get_or, drop, map, ℤ, pos, negsuc, ◌+ℤ◌, codes, refl, sym, ap, subst, ◌∙◌, arith}
+use Rattle.std.proofs.Common.{◌≡◌, ℕ, zero, suc, ◌+◌, ◌*◌, ◌^◌, ◌<◌, ◌≤◌, ◌≤ℤ◌, unsigned_abs, false, Option, Some, None, List, [], ◌∷◌, ◌++◌, append_assoc}
+use Rattle.std.proofs.Common.{length, get_or, drop, map, ℤ, pos, negsuc, ◌+ℤ◌, codes, refl, sym, ap, subst, ◌∙◌, arith}
 use Rattle.std.proofs.lemmas.Int.{ints}
 use Rattle.std.proofs.lemmas.List.{append-nil, drop_more}
 use Rattle.serde_json.specs.Data.{Data, Members, member, object, string}
@@ -28,14 +29,16 @@ use Rattle.outcome.proofs.TurnLaws.{nothing-left}
 
 -- ---- winners
 module _ (book : Book) (z : List ℕ) (v : ℕ → ℤ) (p : Point) where
-  own-data : (k i : ℕ) (w : WinnerPrice) → IsOwn book z p v k i w → winner_data book w ≡ winner_json (bidder_of book (suc k)).name (bid_of book (suc k) (suc i)) (v (suc k) +ℤ reserve_of book (suc k) (suc i)) (fraction_text w.pays)
+  own-data : (k i : ℕ) (w : WinnerPrice) → IsOwn book z p v k i w → winner_data book w ≡ winner_json (bidder_of book (suc k)).name
+      (bid_of book (suc k) (suc i)) (v (suc k) +ℤ reserve_of book (suc k) (suc i)) (fraction_text w.pays)
   own-data k i w own =
       ap (λ (j : ℕ). winner_json (bidder_of book j).name (bid_of book j w.bid) w.vickrey (fraction_text w.pays)) own.bidder
       ∙ ap (λ (b : ℕ). winner_json (bidder_of book (suc k)).name (bid_of book (suc k) b) w.vickrey (fraction_text w.pays)) own.bid
       ∙ ap (λ (x : ℤ). winner_json (bidder_of book (suc k)).name (bid_of book (suc k) (suc i)) x (fraction_text w.pays)) own.vickrey
 
   -- their objects are those of the winners
-  pub winners-are : (k : ℕ) (c : List ℕ) (ss : List Single) (ws : List WinnerPrice) → c ≡ drop k z → names ss ≡ winners_after k c → HavePrices v ss → AreWinnerPrices book z p ss ws → AreWinners book z v p k c (map (winner_data book) ws)
+  pub winners-are : (k : ℕ) (c : List ℕ) (ss : List Single) (ws : List WinnerPrice) → c ≡ drop k z → names ss ≡ winners_after k c → HavePrices v ss
+      → AreWinnerPrices book z p ss ws → AreWinners book z v p k c (map (winner_data book) ws)
   winners-are k [] [] ws at who have are = ap (map (winner_data book)) are
   winners-are k [] (s ∷ ss) ws at who have are = absurd (no-winner s ss who)
   winners-are k (zero ∷ c) ss ws at who have are = winners-are (suc k) c ss ws (head-of z k zero c at).1 who have are
@@ -46,15 +49,18 @@ module _ (book : Book) (z : List ℕ) (v : ℕ → ℤ) (p : Point) where
       let first = first-winner s ss (suc k) (winners_after (suc k) c) who in (
         fraction_text w.pays,
         map (winner_data book) ws,
-        subst (λ (j : ℕ). IsFractionText (gross_of book z p j) p.den (fraction_text w.pays)) first.0 (w.pays.whole, w.pays.rest, w.pays.parts, are.0.pays_is, refl),
+        subst (λ (j : ℕ). IsFractionText (gross_of book z p j) p.den (fraction_text w.pays)) first.0
+            (w.pays.whole, w.pays.rest, w.pays.parts, are.0.pays_is, refl),
         winners-are (suc k) c ss ws head.1 first.1 have.1 are.1,
         ap (λ (d : Data). d ∷ map (winner_data book) ws) (own-data k i w (own-price book z p v k i s w first.0 head.0 have.0 are.0)),
       )
 
 -- ---- rounds
-module _ (z : List ℕ) (turns : List Turn) (i : ℕ) (made : List Data) (so-far : (rest : List Data) → AreRounds z i (turns_of z (drop i turns)) rest → AreRounds z 0 (turns_of z turns) (made ++ rest)) where
+module _ (z : List ℕ) (turns : List Turn) (i : ℕ) (made : List Data) (so-far : (rest : List Data) → AreRounds z i (turns_of z (drop i turns)) rest
+    → AreRounds z 0 (turns_of z turns) (made ++ rest)) where
   -- one round more
-  pub next-round : (t : Turn) (new : List Data) (round : Data) → i < length turns → t ≡ get_or turns i t → IsRound z (i + 1) (turn_of z t) round → new ≡ made ++ round ∷ []
+  pub next-round : (t : Turn) (new : List Data) (round : Data) → i < length turns → t ≡ get_or turns i t → IsRound z (i + 1) (turn_of z t) round
+      → new ≡ made ++ round ∷ []
       → (rest : List Data) → AreRounds z (i + 1) (turns_of z (drop (i + 1) turns)) rest → AreRounds z 0 (turns_of z turns) (new ++ rest)
   next-round t new round inside item is grown rest are =
       let up : i + 1 ≡ suc i = omega arith in
@@ -70,7 +76,8 @@ module _ (z : List ℕ) (turns : List Turn) (i : ℕ) (made : List Data) (so-far
   -- no turn is left
   pub all-rounds : length turns ≤ i → AreRounds z 0 (turns_of z turns) made
   all-rounds past =
-      subst (AreRounds z 0 (turns_of z turns)) (append-nil made) (so-far [] (subst (λ (l : List Turn). AreRounds z i (turns_of z l) []) (sym (nothing-left i turns past)) refl))
+      subst (AreRounds z 0 (turns_of z turns)) (append-nil made) (so-far [] (subst (λ (l : List Turn). AreRounds z i (turns_of z l) [])
+      (sym (nothing-left i turns past)) refl))
 
 -- ---- no float
 counts-whole : (ns : List ℕ) → items_have_float (items_of (map count_json ns)) ≡ false
@@ -86,7 +93,10 @@ winner-whole name bid vickrey pays = rw (counts-whole bid.lots, amount-whole vic
 
 winners-whole : (book : Book) (ws : List WinnerPrice) → items_have_float (items_of (map (winner_data book) ws)) ≡ false
 winners-whole book [] = refl
-winners-whole book (w ∷ ws) = rw (winner-whole (bidder_of book w.bidder).name (bid_of book w.bidder w.bid) w.vickrey (fraction_text w.pays), winners-whole book ws)
+winners-whole book (w ∷ ws) = rw (
+  winner-whole (bidder_of book w.bidder).name (bid_of book w.bidder w.bid) w.vickrey (fraction_text w.pays),
+  winners-whole book ws,
+)
 
 rounds-whole : (z : List ℕ) (k : ℕ) (turns : List BidderTurn) (rounds : List Data) → AreRounds z k turns rounds → items_have_float (items_of rounds) ≡ false
 rounds-whole z k [] rounds are = ap (λ (l : List Data). items_have_float (items_of l)) are
@@ -95,10 +105,13 @@ rounds-whole z k (t ∷ turns) rounds are =
 
 -- ---- the whole
 -- what its members are has no float and makes an outcome
-pub whole-outcome : (book : Book) (z : List ℕ) (p : Point) (ss : List Single) (ws : List WinnerPrice) → names ss ≡ winners_after 0 z → AreWinnerPrices book z p ss ws
-    → (revenue : Fraction) → IsFractionOf (revenue_of book z p (market_of book).bidders) p.den revenue → (turns : Option (List BidderTurn)) (last : Members) → AreLastMembers z turns (map (winner_data book) ws) last
+pub whole-outcome : (book : Book) (z : List ℕ) (p : Point) (ss : List Single) (ws : List WinnerPrice) → names ss ≡ winners_after 0 z
+    → AreWinnerPrices book z p ss ws
+    → (revenue : Fraction) → IsFractionOf (revenue_of book z p (market_of book).bidders) p.den revenue → (turns : Option (List BidderTurn)) (last : Members)
+    → AreLastMembers z turns (map (winner_data book) ws) last
     → (net paid : Data) → net ≡ amount_json (value_of (market_of book) z) → paid ≡ string (fraction_text revenue)
-    → (d : Data) → d ≡ object (member (codes "net") net (member (codes "revenue") paid last)) → (has_float d ≡ false) × ((v : ℕ → ℤ) → HavePrices v ss → IsOutcome book z v p turns d)
+    → (d : Data) → d ≡ object (member (codes "net") net (member (codes "revenue") paid last)) → (has_float d ≡ false)
+    × ((v : ℕ → ℤ) → HavePrices v ss → IsOutcome book z v p turns d)
 whole-outcome book z p ss ws who are revenue is turns last are_last net paid net-is paid-is d made = (
   ap has_float whole ∙ rw (amount-whole (value_of (market_of book) z), last-whole turns last are_last),
   λ v have. record {

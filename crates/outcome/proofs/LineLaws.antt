@@ -2,5 +2,6 @@
 use Rattle.std.proofs.Common.{◌≡◌, ℕ, List, ◌++◌, append_assoc}
 
 -- the pieces of a line, put one by one behind a text, are the whole line behind it
-pub regroup : (t w n m b a k v p f e : List ℕ) → (((((((((t ++ w) ++ n) ++ m) ++ b) ++ a) ++ k) ++ v) ++ p) ++ f) ++ e ≡ t ++ (((((((((w ++ n) ++ m) ++ b) ++ a) ++ k) ++ v) ++ p) ++ f) ++ e)
+pub regroup : (t w n m b a k v p f e : List ℕ) → (((((((((t ++ w) ++ n) ++ m) ++ b) ++ a) ++ k) ++ v) ++ p) ++ f) ++ e ≡ t
+    ++ (((((((((w ++ n) ++ m) ++ b) ++ a) ++ k) ++ v) ++ p) ++ f) ++ e)
 regroup t w n m b a k v p f e = simp append_assoc

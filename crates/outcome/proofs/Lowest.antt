@@ -1,5 +1,6 @@
 -- A fraction by division and a greatest common divisor, and a fraction that is greater by a whole number.
-use Rattle.std.proofs.Common.{◌≡◌, ℕ, zero, suc, ◌+◌, ◌*◌, ◌/◌, ◌%◌, ◌<◌, ◌≤◌, ℤ, pos, ◌+ℤ◌, ◌*ℤ◌, ◌^◌, FitsSigned, unsigned_abs, to_z, of_z, refl, sym, ap, subst, ◌∙◌, arith}
+use Rattle.std.proofs.Common.{◌≡◌, ℕ, zero, suc, ◌+◌, ◌*◌, ◌/◌, ◌%◌, ◌<◌, ◌≤◌, ℤ, pos, ◌+ℤ◌, ◌*ℤ◌, ◌^◌, FitsSigned, unsigned_abs, to_z, of_z, refl, sym, ap}
+use Rattle.std.proofs.Common.{subst, ◌∙◌, arith}
 use Rattle.std.specs.Int.{IsGcd, ◌∣◌, w128}
 use Rattle.std.proofs.lemmas.Int.{to_z-of_z, to_z_pos}
 use Rattle.std.proofs.lemmas.Nat.Gcd.{le_of_dvd}
@@ -18,7 +19,8 @@ pub divisor-above : (r d g : ℕ) → 0 < d → IsGcd r d g → 0 < g
 divisor-above r d g some is = (some-divisor g d (d / g) some (sym (mul-div_cancel' g is.1))).0
 
 -- the divisor that the program finds
-pub gcd-of : (n d : ℕ) (z : ℤ) → 0 < d → d < 2 ^ 120 → FitsSigned w128 z → IsGcd (unsigned_abs (to_z w128 (n % d))) (unsigned_abs (to_z w128 d)) (unsigned_abs z)
+pub gcd-of : (n d : ℕ) (z : ℤ) → 0 < d → d < 2 ^ 120 → FitsSigned w128 z → IsGcd (unsigned_abs (to_z w128 (n % d))) (unsigned_abs (to_z w128 d))
+    (unsigned_abs z)
     → IsGcd (n % d) d (unsigned_abs (to_z w128 (of_z w128 z)))
 gcd-of n d z some small fits is =
     let rest : unsigned_abs (to_z w128 (n % d)) ≡ n % d = ap unsigned_abs (to_z_pos w128 (n % d) (omega (arith, mod-lt n some))) in
@@ -57,7 +59,8 @@ lowest-terms n d g some is =
       value = ap pos (whole-and_rest n d (n / d) (n % d) g (n % d / g) (d / g) (div-add-mod n d) rest whole);
       proper = smaller g (n % d / g) (d / g) (omega (arith, rest, whole, below));
       lowest = λ k a b e f.
-          let into-rest : (g * k) ∣ (n % d) = subst (λ (x : ℕ). (g * k) ∣ x) (grouped g k a ∙ ap (λ (x : ℕ). g * x) (sym e) ∙ sym rest) (dvd-mul_right (g * k) a) in
+          let into-rest : (g * k) ∣ (n % d) = subst (λ (x : ℕ). (g * k) ∣ x) (grouped g k a ∙ ap (λ (x : ℕ). g * x) (sym e) ∙ sym rest)
+          (dvd-mul_right (g * k) a) in
           let into-whole : (g * k) ∣ d = subst (λ (x : ℕ). (g * k) ∣ x) (grouped g k b ∙ ap (λ (x : ℕ). g * x) (sym f) ∙ sym whole) (dvd-mul_right (g * k) b) in
           only-one g k (d / g) b above.0 above.1 f (le_of_dvd above.0 (is.2 (g * k) into-rest into-whole));
     }
@@ -73,7 +76,16 @@ greater n d whole rest parts more f =
       value =
           *ℤ_comm (n +ℤ (d *ℤ pos more)) (pos parts)
           ∙ mul-add (pos parts) n (d *ℤ pos more)
-          ∙ omega (arith, lin, *ℤ_comm (pos parts) n, f.value, *ℤ_comm (pos parts) (d *ℤ pos more), mul_assoc d (pos more) (pos parts), ap (λ (x : ℤ). d *ℤ x) split, mul-add d (pos (whole * parts + rest)) (pos (more * parts)));
+          ∙ omega (
+            arith,
+            lin,
+            *ℤ_comm (pos parts) n,
+            f.value,
+            *ℤ_comm (pos parts) (d *ℤ pos more),
+            mul_assoc d (pos more) (pos parts),
+            ap (λ (x : ℤ). d *ℤ x) split,
+            mul-add d (pos (whole * parts + rest)) (pos (more * parts)),
+          );
       proper = f.proper;
       lowest = f.lowest;
     }

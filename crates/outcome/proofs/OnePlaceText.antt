@@ -22,7 +22,8 @@ module _ (one : OneFraction) (slots : SlotList) (v w : ℕ → ℤ) (p q : Point
 
   -- the line of a winner, behind which stand the same lines
   same-line : (k i : ℕ) (pays pays' rest rest' : List ℕ) → suc k ≤ length slots.bidders → pays ≡ pays' → rest ≡ rest'
-      → priced_line (bidder_of slots (suc k)).name (bid_of slots (suc k) (suc i)) (v (suc k)) pays ++ rest ≡ priced_line (bidder_of slots (suc k)).name (bid_of slots (suc k) (suc i)) (w (suc k)) pays' ++ rest'
+      → priced_line (bidder_of slots (suc k)).name (bid_of slots (suc k) (suc i)) (v (suc k)) pays ++ rest ≡ priced_line (bidder_of slots (suc k)).name
+      (bid_of slots (suc k) (suc i)) (w (suc k)) pays' ++ rest'
   same-line k i pays pays' rest rest' inside e f =
       ap (λ (x : ℤ). priced_line (bidder_of slots (suc k)).name (bid_of slots (suc k) (suc i)) x pays ++ rest) (agree (suc k) (omega arith) inside)
       ∙ ap (λ (l : List ℕ). priced_line (bidder_of slots (suc k)).name (bid_of slots (suc k) (suc i)) (w (suc k)) l ++ rest) e

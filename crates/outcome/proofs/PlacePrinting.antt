@@ -1,5 +1,6 @@
 -- The lines of a placement, put together piece by piece, and the certificates of which they can be printed.
-use Rattle.std.proofs.Common.{◌≡◌, ◌∙◌, ℕ, zero, suc, ◌+◌, ◌-◌, ◌<◌, ◌≤◌, Bool, true, cond, not, IsTrue, List, [], ◌∷◌, ◌++◌, length, drop, take, get_or, ℤ, pos, ◌≤ℤ◌, inl, inr, refl, sym, ap, subst, arith, append_assoc}
+use Rattle.std.proofs.Common.{◌≡◌, ◌∙◌, ℕ, zero, suc, ◌+◌, ◌-◌, ◌<◌, ◌≤◌, Bool, true, cond, not, IsTrue, List, [], ◌∷◌, ◌++◌, length, drop, take, get_or, ℤ}
+use Rattle.std.proofs.Common.{pos, ◌≤ℤ◌, inl, inr, refl, sym, ap, subst, arith, append_assoc}
 use Rattle.std.specs.Prelude.{◌&&◌, ◌==◌, slice_index}
 use Rattle.std.specs.List.{AllByRecursion}
 use Rattle.std.proofs.lemmas.Bool.{and_parts, cases_Bool, eqb-true}
@@ -50,14 +51,16 @@ can-print slots c shape holds =
 -- a sum of numbers that aren't below 0 isn't
 pub sum-low : (f : ℕ → ℤ) (n : ℕ) → ((j : ℕ) → 0 < j → j ≤ n → pos 0 ≤ℤ f j) → pos 0 ≤ℤ sum_over everyone f n
 sum-low f zero each = omega (arith, ints)
-sum-low f (suc n) each = let rest = sum-low f n (λ j some le. each j some (omega arith)) in let own = each (suc n) (omega arith) (omega arith) in omega (arith, ints, rest, own)
+sum-low f (suc n) each = let rest = sum-low f n (λ j some le. each j some (omega arith)) in let own = each (suc n) (omega arith) (omega arith) in
+    omega (arith, ints, rest, own)
 
 -- the rest of a slice
 pub rest-is : {A : Type 0} (x : A) (xs : List A) → take (length (x ∷ xs) - 1) (drop 1 (x ∷ xs)) ≡ xs
 rest-is x xs = take_all (length (x ∷ xs) - 1) xs (omega arith)
 
 -- the line of the next bidder, and those of the others behind it
-lines-on : (slots : SlotList) (v : ℕ → ℤ) (p : Point) (k n : ℕ) (rest line lines : List ℕ) → IsLineOf slots v p (suc k) n line → ArePricedLines slots v p (suc k) rest lines → ArePricedLines slots v p k (n ∷ rest) (line ++ lines)
+lines-on : (slots : SlotList) (v : ℕ → ℤ) (p : Point) (k n : ℕ) (rest line lines : List ℕ) → IsLineOf slots v p (suc k) n line
+    → ArePricedLines slots v p (suc k) rest lines → ArePricedLines slots v p k (n ∷ rest) (line ++ lines)
 lines-on slots v p k zero rest line lines is are = subst (λ (l : List ℕ). ArePricedLines slots v p (suc k) rest (l ++ lines)) (sym is) are
 lines-on slots v p k (suc i) rest line lines is are = (is.0, lines, is.1, are, ap (λ (l : List ℕ). l ++ lines) is.2)
 
@@ -90,12 +93,14 @@ pub price-of : (m : Market) (c : CertValue) (j : ℕ) → 0 < number_of c.choice
 price-of m c j some = ap (λ (b : Bool). cond b (vickrey_in m c j) (pos 0)) (used (number_of c.choice j) some)
 
 -- over a slice that has a first number: the numbers behind it
-pub slice-rest : (c numbers : List ℕ) (before : ℕ) → 1 ≤ length numbers → IsRestOf c before numbers → IsRestOf c (before + 1) (take (length numbers - 1) (drop 1 numbers))
+pub slice-rest : (c numbers : List ℕ) (before : ℕ) → 1 ≤ length numbers → IsRestOf c before numbers → IsRestOf c (before + 1)
+    (take (length numbers - 1) (drop 1 numbers))
 slice-rest c [] before some is = absurd (omega (arith, some))
 slice-rest c (n ∷ rest) before some is = subst (IsRestOf c (before + 1)) (sym (rest-is n rest)) (rest-on c before n rest is).1
 
 -- and the lines of all of them
-pub slice-lines : (slots : SlotList) (v : ℕ → ℤ) (p : Point) (c numbers : List ℕ) (before : ℕ) (text mid new line lines : List ℕ) → 1 ≤ length numbers → IsRestOf c before numbers
+pub slice-lines : (slots : SlotList) (v : ℕ → ℤ) (p : Point) (c numbers : List ℕ) (before : ℕ) (text mid new line lines : List ℕ) → 1 ≤ length numbers
+    → IsRestOf c before numbers
     → IsLineOf slots v p (before + 1) (number_of c (before + 1)) line → mid ≡ text ++ line
     → ArePricedLines slots v p (before + 1) (take (length numbers - 1) (drop 1 numbers)) lines → new ≡ mid ++ lines
     → (all : List ℕ) × ArePricedLines slots v p before numbers all × (new ≡ text ++ all)
@@ -104,5 +109,6 @@ slice-lines slots v p c (n ∷ rest) before text mid new line lines some is one 
     let next : before + 1 ≡ suc before = omega arith in
     let number = (rest-on c before n rest is).0 in
     let own = subst (λ (k : ℕ). IsLineOf slots v p k n line) next (subst (λ (i : ℕ). IsLineOf slots v p (before + 1) i line) number one) in
-    let others = subst (λ (k : ℕ). ArePricedLines slots v p k rest lines) next (subst (λ (l : List ℕ). ArePricedLines slots v p (before + 1) l lines) (rest-is n rest) are) in
+    let others = subst (λ (k : ℕ). ArePricedLines slots v p k rest lines) next (subst (λ (l : List ℕ). ArePricedLines slots v p (before + 1) l lines)
+    (rest-is n rest) are) in
     (line ++ lines, lines-on slots v p before n rest line lines own others, f ∙ ap (λ (l : List ℕ). l ++ lines) e ∙ append_assoc text line lines)

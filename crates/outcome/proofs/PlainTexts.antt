@@ -1,5 +1,6 @@
 -- Fractions and the lines of turns are of plain bytes, which are below 128.
-use Rattle.std.proofs.Common.{◌≡◌, ◌∙◌, ℕ, zero, suc, ◌+◌, ◌/◌, ◌%◌, ◌<◌, ◌≤◌, ◌==◌, Bool, true, false, cond, ◌&&◌, IsTrue, Option, Some, None, Result, Ok, Err, List, [], ◌∷◌, ◌++◌, ◌-◌, take, length, length-append, codes, ℤ, refl, sym, ap, subst, append_assoc, arith}
+use Rattle.std.proofs.Common.{◌≡◌, ◌∙◌, ℕ, zero, suc, ◌+◌, ◌/◌, ◌%◌, ◌<◌, ◌≤◌, ◌==◌, Bool, true, false, cond, ◌&&◌, IsTrue, Option, Some, None, Result, Ok}
+use Rattle.std.proofs.Common.{Err, List, [], ◌∷◌, ◌++◌, ◌-◌, take, length, length-append, codes, ℤ, refl, sym, ap, subst, append_assoc, arith}
 use Rattle.std.specs.Prelude.{nat_lt, MatchResult}
 use Rattle.std.specs.Result.{result_unwrap_or}
 use Rattle.std.specs.List.{AllByRecursion}
@@ -28,7 +29,8 @@ IsPlain text = IsTrue (is_plain text)
 
 plain-append : (a b : List ℕ) → IsPlain a → IsPlain b → IsPlain (a ++ b)
 plain-append [] b p q = q
-plain-append (x ∷ a) b p q = let parts = and_parts (nat_lt x 128) (is_plain a) p in and_from (nat_lt x 128) (is_plain (a ++ b)) parts.0 (plain-append a b parts.1 q)
+plain-append (x ∷ a) b p q = let parts = and_parts (nat_lt x 128) (is_plain a) p in and_from (nat_lt x 128) (is_plain (a ++ b)) parts.0
+    (plain-append a b parts.1 q)
 
 plain-front : (a b : List ℕ) → IsPlain (a ++ b) → IsPlain a
 plain-front [] b p = refl
@@ -60,7 +62,8 @@ digits-plain (suc k) n acc p = split (n / 10 == 0) (digits-plain k (n / 10) (dig
     one : IsPlain (digit_glyph false (n % 10) ∷ acc)
     one = and_from (nat_lt (digit_glyph false (n % 10)) 128) (is_plain acc) (lt-ltb (digit_glyph false (n % 10)) 128 (glyph-low n)) p
 
-    split : (b : Bool) → IsPlain (digits_onto k 10 false (n / 10) (digit_glyph false (n % 10) ∷ acc)) → IsPlain (cond b (digit_glyph false (n % 10) ∷ acc) (digits_onto k 10 false (n / 10) (digit_glyph false (n % 10) ∷ acc)))
+    split : (b : Bool) → IsPlain (digits_onto k 10 false (n / 10) (digit_glyph false (n % 10) ∷ acc))
+        → IsPlain (cond b (digit_glyph false (n % 10) ∷ acc) (digits_onto k 10 false (n / 10) (digit_glyph false (n % 10) ∷ acc)))
     split true more = one
     split false more = more
 
@@ -76,7 +79,8 @@ numbers-plain (n ∷ ns) = plain-append (decimal n) (decimals_text ns) (decimal-
 pub parts-plain : (whole rest parts : ℕ) → IsPlain (parts_text whole rest parts)
 parts-plain whole zero parts = decimal-plain whole
 parts-plain whole (suc rest) parts =
-    plain-append (decimal whole ++ 43 ∷ decimal (suc rest)) (47 ∷ decimal parts) (plain-append (decimal whole) (43 ∷ decimal (suc rest)) (decimal-plain whole) (decimal-plain (suc rest))) (decimal-plain parts)
+    plain-append (decimal whole ++ 43 ∷ decimal (suc rest)) (47 ∷ decimal parts)
+    (plain-append (decimal whole) (43 ∷ decimal (suc rest)) (decimal-plain whole) (decimal-plain (suc rest))) (decimal-plain parts)
 
 fraction-plain : (n d : ℤ) (text : List ℕ) → IsFractionText n d text → IsPlain text
 fraction-plain n d text is = subst IsPlain (sym is.4) (parts-plain is.0 is.1 is.2)
@@ -85,7 +89,8 @@ fraction-plain n d text is = subst IsPlain (sym is.4) (parts-plain is.0 is.1 is.
 points-plain : (p : Point) (k : ℕ) (c text : List ℕ) → ArePoints p k c text → IsPlain text
 points-plain p k [] text are = subst IsPlain (sym are) refl
 points-plain p k (zero ∷ c) text are = points-plain p (suc k) c text are
-points-plain p k (suc i ∷ c) text are = subst IsPlain (sym are.4) (plain-append are.0 are.1 (fraction-plain _ p.den are.0 are.2) (points-plain p (suc k) c are.1 are.3))
+points-plain p k (suc i ∷ c) text are = subst IsPlain (sym are.4) (plain-append are.0 are.1 (fraction-plain _ p.den are.0 are.2)
+    (points-plain p (suc k) c are.1 are.3))
 
 four-plain : (a b c d : List ℕ) → IsPlain a → IsPlain b → IsPlain c → IsPlain d → IsPlain (((a ++ b) ++ c) ++ d)
 four-plain a b c d p q r s = plain-append ((a ++ b) ++ c) d (plain-append (a ++ b) c (plain-append a b p q) r) s
@@ -103,7 +108,8 @@ end-plain bidders den (Some b) text is =
     let members = decimals_text (members_of b.row.members bidders) in (
       codes " row" ++ members ++ codes " choice" ++ decimals_text b.choice ++ codes " excess " ++ is.0,
       is.2,
-      six-plain (codes " row") members (codes " choice") (decimals_text b.choice) (codes " excess ") is.0 refl (numbers-plain (members_of b.row.members bidders)) refl (numbers-plain b.choice) refl (fraction-plain b.excess den is.0 is.1),
+      six-plain (codes " row") members (codes " choice") (decimals_text b.choice) (codes " excess ") is.0 refl
+          (numbers-plain (members_of b.row.members bidders)) refl (numbers-plain b.choice) refl (fraction-plain b.excess den is.0 is.1),
     )
 
 -- the line of a turn
@@ -123,7 +129,8 @@ turn-ends z number t line is =
 
 -- ---- texts of the program
 -- text that is read as UTF-8 is the text
-pub ok-text : {T E : Type 0} (r : Result T E) (x : T) (P : T → Type 0) (Q : E → Type 0) (d : T) → x ≡ result_unwrap_or r d → MatchResult r P Q → ((e : E) → Q e → ⊥) → P x
+pub ok-text : {T E : Type 0} (r : Result T E) (x : T) (P : T → Type 0) (Q : E → Type 0) (d : T) → x ≡ result_unwrap_or r d → MatchResult r P Q
+    → ((e : E) → Q e → ⊥) → P x
 ok-text (Ok y) x P Q d is match never = subst P (sym is) match
 ok-text (Err e) x P Q d is match never = absurd (never e match)
 

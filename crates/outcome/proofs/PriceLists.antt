@@ -1,5 +1,6 @@
 -- Lists of what is printed of the winners: how they grow, their lines, and the sum of their reserves.
-use Rattle.std.proofs.Common.{◌≡◌, ℕ, zero, suc, ◌+◌, ◌-◌, ◌<◌, ◌≤◌, List, [], ◌∷◌, ◌++◌, length, get_or, take, drop, map, IsTrue, ℤ, pos, ◌+ℤ◌, refl, sym, ap, subst, ◌∙◌, arith}
+use Rattle.std.proofs.Common.{◌≡◌, ℕ, zero, suc, ◌+◌, ◌-◌, ◌<◌, ◌≤◌, List, [], ◌∷◌, ◌++◌, length, get_or, take, drop, map, IsTrue, ℤ, pos, ◌+ℤ◌, refl, sym}
+use Rattle.std.proofs.Common.{ap, subst, ◌∙◌, arith}
 use Rattle.std.proofs.lemmas.Int.{ints}
 use Rattle.std.proofs.lemmas.List.{take_more, take_all}
 use Rattle.std.specs.List.{AllByRecursion}
@@ -57,7 +58,8 @@ free (r ∷ reserves) = refl
 
 module _ (book : Book) (z : List ℕ) (p : Point) where
   -- one winner more
-  pub prices-push : (ss : List Single) (ws : List WinnerPrice) (s : Single) (w : WinnerPrice) → AreWinnerPrices book z p ss ws → IsWinnerPrice book z p s w → AreWinnerPrices book z p (ss ++ s ∷ []) (ws ++ w ∷ [])
+  pub prices-push : (ss : List Single) (ws : List WinnerPrice) (s : Single) (w : WinnerPrice) → AreWinnerPrices book z p ss ws → IsWinnerPrice book z p s w
+      → AreWinnerPrices book z p (ss ++ s ∷ []) (ws ++ w ∷ [])
   prices-push [] [] s w are is = (is, refl)
   prices-push [] (x ∷ ws) s w are is = absurd (lie are)
     where
@@ -75,7 +77,8 @@ module _ (book : Book) (z : List ℕ) (p : Point) where
   -- the winners of a list so far, and one more
   module _ (all items : List Single) (same : items ≡ all) where
     -- one price more
-    pub next-price : (i : ℕ) (s : Single) → i < length items → s ≡ get_or items i s → (before prices : List WinnerPrice) (price : WinnerPrice) → AreWinnerPrices book z p (take i all) before
+    pub next-price : (i : ℕ) (s : Single) → i < length items → s ≡ get_or items i s → (before prices : List WinnerPrice) (price : WinnerPrice)
+        → AreWinnerPrices book z p (take i all) before
         → IsWinnerPrice book z p s price → prices ≡ before ++ price ∷ [] → AreWinnerPrices book z p (take (i + 1) all) prices
     next-price i s inside item before prices price so-far is made =
         let long : i < length all = omega (arith, inside, ap (λ (l : List Single). length l) same) in
@@ -85,12 +88,14 @@ module _ (book : Book) (z : List ℕ) (p : Point) where
         (subst (λ (ss : List Single). AreWinnerPrices book z p ss (before ++ price ∷ [])) (sym more) (prices-push (take i all) before s price so-far is))
 
     -- where no winner is left, the prices are those of all
-    pub all-prices : (i : ℕ) → length items ≤ i → (prices : List WinnerPrice) → AreWinnerPrices book z p (take i all) prices → AreWinnerPrices book z p all prices
+    pub all-prices : (i : ℕ) → length items ≤ i → (prices : List WinnerPrice) → AreWinnerPrices book z p (take i all) prices
+        → AreWinnerPrices book z p all prices
     all-prices i past prices are =
         subst (λ (ss : List Single). AreWinnerPrices book z p ss prices) (take_all i all (omega (arith, past, ap (λ (l : List Single). length l) same))) are
 
   -- each has a bid of the book
-  pub have-bids : IsTrue (is_known_after (menu_of book) 0 z) → (ss : List Single) (ws : List WinnerPrice) → AllByRecursion (λ s. Wins z s.winner) ss → AreWinnerPrices book z p ss ws → AllByRecursion (CanPrintPrice book) ws
+  pub have-bids : IsTrue (is_known_after (menu_of book) 0 z) → (ss : List Single) (ws : List WinnerPrice) → AllByRecursion (λ s. Wins z s.winner) ss
+      → AreWinnerPrices book z p ss ws → AllByRecursion (CanPrintPrice book) ws
   have-bids known [] ws win are = subst (AllByRecursion (CanPrintPrice book)) (sym are) tt
   have-bids known (s ∷ ss) [] win are = absurd are
   have-bids known (s ∷ ss) (w ∷ ws) win are =
@@ -98,8 +103,14 @@ module _ (book : Book) (z : List ℕ) (p : Point) where
       let bid : w.bid ≡ number_of z s.winner = are.0.bid_is in
       let in_book = winner-in book z known s.winner win.0.0 win.0.1 in
       let own = bid-in book z known s.winner win.0.0 win.0.1 win.0.2 in
-      let most : number_of z s.winner ≤ length (bids_of book w.bidder) = subst (λ (j : ℕ). number_of z s.winner ≤ length (bids_of book j)) (sym bidder) own.1 in (
-        record { bidder_in = (omega (arith, bidder, win.0.0), omega (arith, bidder, in_book)); bid_in = (omega (arith, bid, own.0), omega (arith, bid, most)); vickrey_small = are.0.vickrey_small },
+      let most : number_of z s.winner ≤ length (bids_of book w.bidder) = subst (λ (j : ℕ). number_of z s.winner ≤ length (bids_of book j))
+      (sym bidder) own.1 in (
+        record {
+          bidder_in = (omega (arith, bidder, win.0.0), omega (arith, bidder, in_book));
+          bid_in =
+              (omega (arith, bid, own.0), omega (arith, bid, most));
+          vickrey_small = are.0.vickrey_small;
+        },
         have-bids known ss ws win.1 are.1,
       )
 
@@ -108,7 +119,8 @@ module _ (book : Book) (z : List ℕ) (p : Point) where
   no-reserve j = ap pos (free book.reserves)
 
   -- the reserves of the choice sum to those of the winners' packages
-  pub reserves-are : (k : ℕ) (c : List ℕ) (ss : List Single) (ws : List WinnerPrice) → c ≡ drop k z → names ss ≡ winners_after k c → AreWinnerPrices book z p ss ws → sum_after (reserve_of book) k c ≡ pos (reserves_of ws)
+  pub reserves-are : (k : ℕ) (c : List ℕ) (ss : List Single) (ws : List WinnerPrice) → c ≡ drop k z → names ss ≡ winners_after k c
+      → AreWinnerPrices book z p ss ws → sum_after (reserve_of book) k c ≡ pos (reserves_of ws)
   reserves-are k [] [] ws at who are = ap (λ (l : List WinnerPrice). pos (reserves_of l)) (sym are)
   reserves-are k [] (s ∷ ss) ws at who are = absurd (no-winner s ss who)
   reserves-are k (zero ∷ c) ss ws at who are = omega (arith, ints, no-reserve (suc k), reserves-are (suc k) c ss ws (head-of z k zero c at).1 who are)
@@ -117,7 +129,8 @@ module _ (book : Book) (z : List ℕ) (p : Point) where
   reserves-are k (suc i ∷ c) (s ∷ ss) (w ∷ ws) at who are =
       let head = head-of z k (suc i) c at in
       let first = first-winner s ss (suc k) (winners_after (suc k) c) who in
-      let own : pos w.reserve ≡ reserve_of book (suc k) (suc i) = are.0.reserve_is ∙ ap (λ (j : ℕ). reserve_of book j (number_of z j)) first.0 ∙ ap (reserve_of book (suc k)) head.0 in
+      let own : pos w.reserve ≡ reserve_of book (suc k) (suc i) = are.0.reserve_is ∙ ap (λ (j : ℕ). reserve_of book j (number_of z j)) first.0
+      ∙ ap (reserve_of book (suc k)) head.0 in
       let rest : sum_after (reserve_of book) (suc k) c ≡ pos (reserves_of ws) = reserves-are (suc k) c ss ws head.1 first.1 are.1 in
       omega (arith, ints, own, rest)
 
@@ -133,7 +146,8 @@ module _ (book : Book) (z : List ℕ) (p : Point) where
       pub vickrey : w.vickrey ≡ v (suc k) +ℤ reserve_of book (suc k) (suc i)
 
     -- what is printed of the winner k + 1 with bid i + 1 has these numbers
-    pub own-price : (k i : ℕ) (s : Single) (w : WinnerPrice) → s.winner ≡ suc k → number_of z (suc k) ≡ suc i → s.price ≡ v s.winner → IsWinnerPrice book z p s w → IsOwn k i w
+    pub own-price : (k i : ℕ) (s : Single) (w : WinnerPrice) → s.winner ≡ suc k → number_of z (suc k) ≡ suc i → s.price ≡ v s.winner
+        → IsWinnerPrice book z p s w → IsOwn k i w
     own-price k i s w who number price is = record {
       bidder = is.bidder_is ∙ who;
       bid = is.bid_is ∙ ap (number_of z) who ∙ number;
@@ -141,14 +155,16 @@ module _ (book : Book) (z : List ℕ) (p : Point) where
           ∙ ap (λ (j : ℕ). v j +ℤ reserve_of book j (number_of z j)) who ∙ ap (λ (n : ℕ). v (suc k) +ℤ reserve_of book (suc k) n) number;
     }
 
-    own-line : (k i : ℕ) (w : WinnerPrice) → IsOwn k i w → line_of book w ≡ priced_line (bidder_of book (suc k)).name (bid_of book (suc k) (suc i)) (v (suc k) +ℤ reserve_of book (suc k) (suc i)) (fraction_text w.pays)
+    own-line : (k i : ℕ) (w : WinnerPrice) → IsOwn k i w → line_of book w ≡ priced_line (bidder_of book (suc k)).name (bid_of book (suc k) (suc i))
+        (v (suc k) +ℤ reserve_of book (suc k) (suc i)) (fraction_text w.pays)
     own-line k i w own =
         ap (λ (j : ℕ). priced_line (bidder_of book j).name (bid_of book j w.bid) w.vickrey (fraction_text w.pays)) own.bidder
         ∙ ap (λ (b : ℕ). priced_line (bidder_of book (suc k)).name (bid_of book (suc k) b) w.vickrey (fraction_text w.pays)) own.bid
         ∙ ap (λ (x : ℤ). priced_line (bidder_of book (suc k)).name (bid_of book (suc k) (suc i)) x (fraction_text w.pays)) own.vickrey
 
     -- their lines are those of the winners
-    pub lines-are : (k : ℕ) (c : List ℕ) (ss : List Single) (ws : List WinnerPrice) → c ≡ drop k z → names ss ≡ winners_after k c → HavePrices v ss → AreWinnerPrices book z p ss ws → ArePricedLines book z v p k c (lines_of book ws)
+    pub lines-are : (k : ℕ) (c : List ℕ) (ss : List Single) (ws : List WinnerPrice) → c ≡ drop k z → names ss ≡ winners_after k c → HavePrices v ss
+        → AreWinnerPrices book z p ss ws → ArePricedLines book z v p k c (lines_of book ws)
     lines-are k [] [] ws at who have are = ap (lines_of book) are
     lines-are k [] (s ∷ ss) ws at who have are = absurd (no-winner s ss who)
     lines-are k (zero ∷ c) ss ws at who have are = lines-are (suc k) c ss ws (head-of z k zero c at).1 who have are
@@ -159,7 +175,8 @@ module _ (book : Book) (z : List ℕ) (p : Point) where
         let first = first-winner s ss (suc k) (winners_after (suc k) c) who in (
           fraction_text w.pays,
           lines_of book ws,
-          subst (λ (j : ℕ). IsFractionText (gross_of book z p j) p.den (fraction_text w.pays)) first.0 (w.pays.whole, w.pays.rest, w.pays.parts, are.0.pays_is, refl),
+          subst (λ (j : ℕ). IsFractionText (gross_of book z p j) p.den (fraction_text w.pays)) first.0
+              (w.pays.whole, w.pays.rest, w.pays.parts, are.0.pays_is, refl),
           lines-are (suc k) c ss ws head.1 first.1 have.1 are.1,
           ap (λ (l : List ℕ). l ++ lines_of book ws) (own-line k i w (own-price k i s w first.0 head.0 have.0 are.0)),
         )

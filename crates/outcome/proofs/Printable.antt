@@ -1,5 +1,6 @@
 -- The facts of a certificate can be printed, and what is printed is of the certificate.
-use Rattle.std.proofs.Common.{◌≡◌, ℕ, zero, suc, ◌-◌, ◌<◌, ◌≤◌, ◌^◌, ◌==◌, Bool, not, true, false, IsTrue, List, length, ℤ, pos, ◌+ℤ◌, ◌*ℤ◌, ◌≤ℤ◌, ◌<ℤ◌, refl, sym, ap, subst, ◌∙◌, arith}
+use Rattle.std.proofs.Common.{◌≡◌, ℕ, zero, suc, ◌-◌, ◌<◌, ◌≤◌, ◌^◌, ◌==◌, Bool, not, true, false, IsTrue, List, length, ℤ, pos, ◌+ℤ◌, ◌*ℤ◌, ◌≤ℤ◌, ◌<ℤ◌, refl}
+use Rattle.std.proofs.Common.{sym, ap, subst, ◌∙◌, arith}
 use Rattle.std.proofs.Math.IntN.{*ℤ-zero}
 use Rattle.std.proofs.lemmas.Int.{ints}
 use Rattle.std.proofs.lemmas.Bool.{eqb-true}
@@ -64,11 +65,14 @@ small-sum : (book : Book) (c : CertValue) → HasFacts book c → total (length 
 small-sum book c has =
     let bidders = has.certificate.choice.0 in
     let worth : ℤ = total (length book.bidders) (λ k. net_of book (suc k) (number_of c.choice (suc k))) in
-    let value : worth ≡ c.value = ap (λ (n : ℕ). total n (λ k. net_of book (suc k) (number_of c.choice (suc k)))) (sym bidders) ∙ sym (choice-is (net_of book) c.choice) ∙ value-is book c has in
-    let most : total (length book.bidders) (nth c.pay) ≤ℤ (c.den *ℤ c.value) = subst (λ (x : ℤ). total (length book.bidders) (nth c.pay) ≤ℤ (c.den *ℤ x)) value (paid-most book c has.payments (length book.bidders) (omega arith)) in
+    let value : worth ≡ c.value = ap (λ (n : ℕ). total n (λ k. net_of book (suc k) (number_of c.choice (suc k)))) (sym bidders)
+    ∙ sym (choice-is (net_of book) c.choice) ∙ value-is book c has in
+    let most : total (length book.bidders) (nth c.pay) ≤ℤ (c.den *ℤ c.value) = subst (λ (x : ℤ). total (length book.bidders) (nth c.pay) ≤ℤ (c.den *ℤ x))
+    value (paid-most book c has.payments (length book.bidders) (omega arith)) in
     let size : (c.den *ℤ (c.value +ℤ pos 1)) <ℤ pos (2 ^ 120) = (has.sizes 3).size refl in
     let positive : pos 1 ≤ℤ c.den = (has.sizes 1).den refl in
-    subst (λ (n : ℕ). total n (nth c.pay) <ℤ pos (2 ^ 120)) (sym has.certificate.pay.0) (omega (arith, lin, most, size, positive, mul-add c.den c.value (pos 1), *ℤ-one c.den))
+    subst (λ (n : ℕ). total n (nth c.pay) <ℤ pos (2 ^ 120)) (sym has.certificate.pay.0)
+    (omega (arith, lin, most, size, positive, mul-add c.den c.value (pos 1), *ℤ-one c.den))
 
 module _ (book : Book) (c : CertValue) (facts : CertFacts) (are : AreFacts book c facts) where
   has : HasFacts book c
@@ -83,12 +87,14 @@ module _ (book : Book) (c : CertValue) (facts : CertFacts) (are : AreFacts book 
     prices_small = prices-small book c facts are kept;
     den = subst (λ (d : ℤ). (pos 1 ≤ℤ d) × InRange d) (sym are.den) ((has.sizes 1).den refl, has.certificate.den);
     payments = ap (λ (l : List ℤ). length l) are.pay ∙ has.certificate.pay.0 ∙ sym has.certificate.choice.0 ∙ sym (ap (λ (l : List ℕ). length l) are.choice);
-    not_negative = subst (λ (l : List ℤ). (i : ℕ) → i < length l → pos 0 ≤ℤ nth l i) (sym are.pay) (λ i lt. (paid-at book c has.payments i (omega (arith, lt, has.certificate.pay.0))).0);
+    not_negative = subst (λ (l : List ℤ). (i : ℕ) → i < length l → pos 0 ≤ℤ nth l i) (sym are.pay)
+        (λ i lt. (paid-at book c has.payments i (omega (arith, lt, has.certificate.pay.0))).0);
     small = subst (λ (l : List ℤ). total (length l) (nth l) <ℤ pos (2 ^ 120)) (sym are.pay) (small-sum book c has);
   }
 
   -- what holds of the choice, the prices and the point of the facts holds of those of the certificate
-  pub of-certificate : (T : List ℕ → (ℕ → ℤ) → Point → Type 0) → ((v : ℕ → ℤ) → HavePrices v facts.singles → T facts.choice v (point_of facts)) → T c.choice (cert_prices book c) (cert_point c)
+  pub of-certificate : (T : List ℕ → (ℕ → ℤ) → Point → Type 0) → ((v : ℕ → ℤ) → HavePrices v facts.singles → T facts.choice v (point_of facts))
+      → T c.choice (cert_prices book c) (cert_point c)
   of-certificate T all =
       let point : point_of facts ≡ cert_point c = λ k. record { den = are.den k; at = are.pay k } in
       subst (λ (z : List ℕ). T z (cert_prices book c) (cert_point c)) are.choice

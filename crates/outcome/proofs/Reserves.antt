@@ -12,6 +12,7 @@ use Rattle.print_form.specs.Prices.{reserve_of}
 pub reserve-most : (book : Book) (j i r : ℕ) → IsBidBook book → 0 < i → i ≤ length (bids_of book j) → pos r ≡ reserve_of book j i → r ≤ MOST_AMOUNT
 reserve-most book j zero r kept some known is = absurd (omega arith)
 reserve-most book j (suc i) r kept some known is =
-    let bidder = each_or (IsSoundBidder book.supply book.reserves) book.bidders (j - 1) no_bidder (sound book kept.rules) (record { few = omega arith; each = tt }) in
+    let bidder = each_or (IsSoundBidder book.supply book.reserves) book.bidders (j - 1) no_bidder (sound book kept.rules)
+    (record { few = omega arith; each = tt }) in
     let bid = each_at (IsSoundBid book.supply book.reserves) (bids_of book j) i no_bid bidder.each (omega arith) in
     omega (arith, ints, is, bid.reserve, bid.top)

@@ -32,7 +32,8 @@ winners-few k [] = omega arith
 winners-few k (zero ∷ z) = omega (arith, winners-few (suc k) z)
 winners-few k (suc i ∷ z) = omega (arith, winners-few (suc k) z)
 
-module _ (book : Book) (z : List ℕ) (p : Point) (ss : List Single) (ws : List WinnerPrice) (known : IsTrue (is_known_after (menu_of book) 0 z)) (as-many : length p.at ≡ length z) (who : names ss ≡ winners_after 0 z)
+module _ (book : Book) (z : List ℕ) (p : Point) (ss : List Single) (ws : List WinnerPrice) (known : IsTrue (is_known_after (menu_of book) 0 z))
+    (as-many : length p.at ≡ length z) (who : names ss ≡ winners_after 0 z)
     (are : AreWinnerPrices book z p ss ws) where
   long : length z ≡ length book.bidders
   long = omega (arith, known-length (menu_of book) 0 z known)

@@ -56,7 +56,8 @@ none_yet book now edits text line same is whole = record {
 }
 
 -- one edit more
-pub one_more : (book : Book) (edits : List Edit) (k : ℕ) (now next : Book) (text more line : List ℕ) (e : Edit) → k < length edits → e ≡ get_or edits k e → IsSoFar book edits k now text
+pub one_more : (book : Book) (edits : List Edit) (k : ℕ) (now next : Book) (text more line : List ℕ) (e : Edit) → k < length edits → e ≡ get_or edits k e
+    → IsSoFar book edits k now text
     → IsReplyLine (edit_reply now e) (k + 1) (behind now e) line → next ≡ behind now e → more ≡ text ++ line → IsSoFar book edits (k + 1) next more
 one_more book edits k now next text more line e inside is so_far reply_line next_is more_is =
     let here : drop k edits ≡ e ∷ drop (suc k) edits = drop-cons edits k e inside ∙ ap (λ (x : Edit). x ∷ drop (suc k) edits) (sym is) in
@@ -70,13 +71,15 @@ one_more book edits k now next text more line e inside is so_far reply_line next
       lines = so_far.lines ++ line;
       goes_on = λ rest are.
           subst (λ (l : List ℕ). AreEditLines 0 book edits l) (sym (append_assoc so_far.lines line rest))
-          (so_far.goes_on (line ++ rest) (subst (λ (es : List Edit). AreEditLines k now es (line ++ rest)) (sym here) (line, rest, subst (λ (n : ℕ). IsReplyLine (edit_reply now e) n (behind now e) line) (sym up) reply_line, are, refl)));
+          (so_far.goes_on (line ++ rest) (subst (λ (es : List Edit). AreEditLines k now es (line ++ rest)) (sym here)
+          (line, rest, subst (λ (n : ℕ). IsReplyLine (edit_reply now e) n (behind now e) line) (sym up) reply_line, are, refl)));
       last = ap (behind_all now) (sym here) ∙ so_far.last;
       whole = more_is ∙ ap (λ (l : List ℕ). l ++ line) so_far.whole ∙ append_assoc so_far.first so_far.lines line;
     }))
 
 -- behind the last edit
-pub all_done : (book now : Book) (edits : List Edit) (k : ℕ) (text more winners c : List ℕ) → length edits ≤ k → IsSoFar book edits k now text → IsWinning (market_of now) c → winners ≡ win_text now c → more ≡ text ++ winners
+pub all_done : (book now : Book) (edits : List Edit) (k : ℕ) (text more winners c : List ℕ) → length edits ≤ k → IsSoFar book edits k now text
+    → IsWinning (market_of now) c → winners ≡ win_text now c → more ≡ text ++ winners
     → IsReviewText book edits more
 all_done book now edits k text more winners c past so_far winning winners_are more_is =
     let none : drop k edits ≡ [] = drop_all k edits past in
@@ -85,8 +88,10 @@ all_done book now edits k text more winners c past so_far winning winners_are mo
       first = so_far.first;
       is_first = so_far.is_first;
       lines = so_far.lines;
-      are_lines = subst (λ (l : List ℕ). AreEditLines 0 book edits l) (append-nil so_far.lines) (so_far.goes_on [] (subst (λ (es : List Edit). AreEditLines k now es []) (sym none) refl));
+      are_lines = subst (λ (l : List ℕ). AreEditLines 0 book edits l) (append-nil so_far.lines)
+          (so_far.goes_on [] (subst (λ (es : List Edit). AreEditLines k now es []) (sym none) refl));
       winners = c;
       winning = subst (λ (b : Book). IsWinning (market_of b) c) here winning;
-      whole = more_is ∙ ap (λ (l : List ℕ). l ++ winners) so_far.whole ∙ ap (λ (l : List ℕ). so_far.first ++ so_far.lines ++ l) winners_are ∙ ap (λ (b : Book). so_far.first ++ so_far.lines ++ win_text b c) here;
+      whole = more_is ∙ ap (λ (l : List ℕ). l ++ winners) so_far.whole ∙ ap (λ (l : List ℕ). so_far.first ++ so_far.lines ++ l) winners_are
+          ∙ ap (λ (b : Book). so_far.first ++ so_far.lines ++ win_text b c) here;
     }

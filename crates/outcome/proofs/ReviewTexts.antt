@@ -22,15 +22,18 @@ use Rattle.outcome.specs.ReviewText.{AreEditLines, IsReplyLine, IsReviewText, Is
 use Rattle.outcome.proofs.ReviewLines.{behind_supply}
 
 -- an edit that is answered Ok keeps the rules of a book
-edited-within : (book : Book) (e : Edit) → IsBookWithinLimits book → length (edit_lots e) ≡ length book.supply → edit_reply book e ≡ reply.Ok → IsBookWithinLimits (edited book e)
+edited-within : (book : Book) (e : Edit) → IsBookWithinLimits book → length (edit_lots e) ≡ length book.supply → edit_reply book e ≡ reply.Ok
+    → IsBookWithinLimits (edited book e)
 edited-within book (Add j lots amount) is count ok = put-within book j (record { lots = lots; amount = amount }) is (add-can book j lots amount count ok)
-edited-within book (Raise j lots amount) is count ok = put-within book j (record { lots = lots; amount = amount }) is (raise-can book j lots amount (kept book is) count ok)
+edited-within book (Raise j lots amount) is count ok = put-within book j (record { lots = lots; amount = amount }) is
+    (raise-can book j lots amount (kept book is) count ok)
 edited-within book (Remove j lots) is count ok =
     let has = remove-has book j lots ok in
     let at = amount-bid (bids_of book j) lots has.1.0 has.1.1 in
     let down : at.place + 1 - 1 ≡ at.place = omega arith in
     let taken = rw down at (less-within book j (at.place + 1) is has.0.some has.0.known (omega arith) (let inside = at.inside in omega (arith, inside))) in
-    subst (λ bids. IsBookWithinLimits (with_bids book j bids)) (sym (without-removed (bids_of book j) lots at.place (book-order book j is has.0.some has.0.known) at.inside at.own)) taken
+    subst (λ bids. IsBookWithinLimits (with_bids book j bids)) (sym (without-removed (bids_of book j) lots at.place
+    (book-order book j is has.0.some has.0.known) at.inside at.own)) taken
 
 -- and so does each edit
 behind-within : (book : Book) (e : Edit) → IsBookWithinLimits book → length (edit_lots e) ≡ length book.supply → IsBookWithinLimits (behind book e)
@@ -54,14 +57,16 @@ abbrev pub AreCounted : Book → List Edit → Type 0
 AreCounted book edits = AllByRecursion (λ (e : Edit). length (edit_lots e) ≡ length book.supply) edits
 
 counted-behind : (book : Book) (e : Edit) (edits : List Edit) → AreCounted book edits → AreCounted (behind book e) edits
-counted-behind book e edits are = subst (λ (supply : List ℕ). AllByRecursion (λ (d : Edit). length (edit_lots d) ≡ length supply) edits) (sym (behind_supply book e)) are
+counted-behind book e edits are = subst (λ (supply : List ℕ). AllByRecursion (λ (d : Edit). length (edit_lots d) ≡ length supply) edits)
+    (sym (behind_supply book e)) are
 
 all-within : (book : Book) (edits : List Edit) → IsBookWithinLimits book → AreCounted book edits → IsBookWithinLimits (behind_all book edits)
 all-within book [] is are = is
 all-within book (e ∷ edits) is are = all-within (behind book e) edits (behind-within book e is are.0) (counted-behind book e edits are.1)
 
 module _ (choices : (m : Market) (c d : List ℕ) → IsMarket m → IsWinning m c → IsWinning m d → c ≡ d)
-    (markets : (book : Book) → length book.bidders < 2 ^ 16 → ((j i : ℕ) → i ≤ length (bids_of book j) → pos 0 ≤ℤ net_of book j i) → IsMarket (market_of book)) where
+    (markets : (book : Book) → length book.bidders < 2 ^ 16 → ((j i : ℕ) → i ≤ length (bids_of book j) → pos 0 ≤ℤ net_of book j i)
+    → IsMarket (market_of book)) where
   one-choice : (book : Book) (c d : List ℕ) → IsBookWithinLimits book → IsWinning (market_of book) c → IsWinning (market_of book) d → c ≡ d
   one-choice book c d is x y =
       let all = kept book is in
@@ -84,7 +89,8 @@ module _ (choices : (m : Market) (c d : List ℕ) → IsMarket m → IsWinning m
   one-reply (reply.Full count) n book a b is x y = x ∙ sym y
   one-reply reply.Memory n book a b is x y = x ∙ sym y
 
-  one-lines : (before : ℕ) (book : Book) (edits : List Edit) (a b : List ℕ) → IsBookWithinLimits book → AreCounted book edits → AreEditLines before book edits a → AreEditLines before book edits b → a ≡ b
+  one-lines : (before : ℕ) (book : Book) (edits : List Edit) (a b : List ℕ) → IsBookWithinLimits book → AreCounted book edits
+      → AreEditLines before book edits a → AreEditLines before book edits b → a ≡ b
   one-lines before book [] a b is are x y = x ∙ sym y
   one-lines before book (e ∷ edits) a b is are (p, q, x, xs, whole) (s, t, y, ys, other) =
       let next = behind-within book e is are.0 in
@@ -93,7 +99,8 @@ module _ (choices : (m : Market) (c d : List ℕ) → IsMarket m → IsWinning m
       whole ∙ (λ i. first i ++ rest i) ∙ sym other
 
   -- edits of a book within its limits have one text, where each has a count for each category
-  pub one-text : (book : Book) (edits : List Edit) (a b : List ℕ) → IsBookWithinLimits book → AreCounted book edits → IsReviewText book edits a → IsReviewText book edits b → a ≡ b
+  pub one-text : (book : Book) (edits : List Edit) (a b : List ℕ) → IsBookWithinLimits book → AreCounted book edits → IsReviewText book edits a
+      → IsReviewText book edits b → a ≡ b
   one-text book edits a b is are x y =
       let first = one-state 0 book x.first y.first is x.is_first y.is_first in
       let lines = one-lines 0 book edits x.lines y.lines is are x.are_lines y.are_lines in

@@ -16,7 +16,8 @@ total-up (suc n) k f le h =
       | inr past ↦ (let e : k ≡ suc n = omega arith in omega (arith, ints, ap (λ (x : ℕ). total x f) e))
     ]
 
-module _ (n k : ℕ) (f : ℕ → ℤ) (s : ℤ) (inside : k < n) (least : (i : ℕ) → i < n → pos 0 ≤ℤ f i) (small : total n f <ℤ pos (2 ^ 120)) (so-far : s ≡ total k f) where
+module _ (n k : ℕ) (f : ℕ → ℤ) (s : ℤ) (inside : k < n) (least : (i : ℕ) → i < n → pos 0 ≤ℤ f i) (small : total n f <ℤ pos (2 ^ 120))
+    (so-far : s ≡ total k f) where
   -- the next sum fits, too
   pub next-fits : FitsSigned w128 (s +ℤ to_z w128 (of_z w128 (f k)))
   next-fits =

@@ -1,5 +1,6 @@
 -- The lines of turns, piece by piece.
-use Rattle.std.proofs.Common.{◌≡◌, ℕ, zero, suc, ◌+◌, ◌-◌, ◌<◌, ◌≤◌, List, [], ◌∷◌, ◌++◌, append_assoc, codes, length, get_or, drop, ℤ, pos, refl, sym, ap, subst, ◌∙◌, arith}
+use Rattle.std.proofs.Common.{◌≡◌, ℕ, zero, suc, ◌+◌, ◌-◌, ◌<◌, ◌≤◌, List, [], ◌∷◌, ◌++◌, append_assoc, codes, length, get_or, drop, ℤ, pos, refl, sym, ap}
+use Rattle.std.proofs.Common.{subst, ◌∙◌, arith}
 use Rattle.std.specs.Fmt.{decimal}
 use Rattle.std.proofs.lemmas.List.{append-nil, drop_more}
 use Rattle.core_price.specs.auction_model.specs.Lowered.{of_bidder}
@@ -19,7 +20,8 @@ nothing-left (suc i) [] le = refl
 nothing-left (suc i) (x ∷ l) le = nothing-left i l (omega arith)
 
 -- ---- payments
-module _ (den : ℤ) (at : List ℤ) (i : ℕ) (start text : List ℕ) (so-far : (rest : List ℕ) → AreFractions den (drop i at) rest → Grows start (text ++ rest) (AreFractions den at)) where
+module _ (den : ℤ) (at : List ℤ) (i : ℕ) (start text : List ℕ) (so-far : (rest : List ℕ) → AreFractions den (drop i at) rest
+    → Grows start (text ++ rest) (AreFractions den at)) where
   -- one payment more
   pub next-payment : (new price : List ℕ) (n : ℤ) → i < length at → n ≡ get_or at i (pos 0) → new ≡ (text ++ 32 ∷ []) ++ price → IsFractionText n den price
       → (rest : List ℕ) → AreFractions den (drop (i + 1) at) rest → Grows start (new ++ rest) (AreFractions den at)
@@ -50,7 +52,8 @@ parts-of (y ∷ l) zero x c e = (cc, cc)
 parts-of (y ∷ l) (suc k) x c e = parts-of l k x c e
 
 -- the payments of the winners are those that a point of bidders has
-points-are : (p : Point) (k : ℕ) (c : List ℕ) (at : List ℤ) (text : List ℕ) → for_bidders c at ≡ drop k p.at → length at ≡ winners_in c → AreFractions p.den at text → ArePoints p k c text
+points-are : (p : Point) (k : ℕ) (c : List ℕ) (at : List ℤ) (text : List ℕ) → for_bidders c at ≡ drop k p.at → length at ≡ winners_in c
+    → AreFractions p.den at text → ArePoints p k c text
 points-are p k [] [] text from long are = are
 points-are p k [] (x ∷ at) text from long are = absurd (omega arith)
 points-are p k (zero ∷ c) at text from long are = points-are p (suc k) c at text (parts-of p.at k (pos 0) (for_bidders c at) from).1 long are
@@ -80,7 +83,8 @@ pub block-line : (t r m c n e f l : List ℕ) → ((((((t ++ r) ++ m) ++ c) ++ n
 block-line t r m c n e f l = simp append_assoc
 
 -- ---- all turns
-module _ (z : List ℕ) (turns : List Turn) (i : ℕ) (text : List ℕ) (so-far : (rest : List ℕ) → AreTurnLines z i (turns_of z (drop i turns)) rest → AreTurnLines z 0 (turns_of z turns) (text ++ rest)) where
+module _ (z : List ℕ) (turns : List Turn) (i : ℕ) (text : List ℕ) (so-far : (rest : List ℕ) → AreTurnLines z i (turns_of z (drop i turns)) rest
+    → AreTurnLines z 0 (turns_of z turns) (text ++ rest)) where
   -- one turn more
   pub next-turn : (t : Turn) (new : List ℕ) → i < length turns → t ≡ get_or turns i t → Grows text new (IsTurnLine z (i + 1) (turn_of z t))
       → (rest : List ℕ) → AreTurnLines z (i + 1) (turns_of z (drop (i + 1) turns)) rest → AreTurnLines z 0 (turns_of z turns) (new ++ rest)
@@ -88,11 +92,14 @@ module _ (z : List ℕ) (turns : List Turn) (i : ℕ) (text : List ℕ) (so-far 
       let up : i + 1 ≡ suc i = omega arith in
       let split : drop i turns ≡ t ∷ drop (i + 1) turns = drop_more turns i t inside ∙ ap (λ (x : Turn). x ∷ drop (i + 1) turns) (sym item) in
       let own : IsTurnLine z (suc i) (turn_of z t) grown.0 = subst (λ (n : ℕ). IsTurnLine z n (turn_of z t) grown.0) up grown.1 in
-      let tail : AreTurnLines z (suc i) (turns_of z (drop (i + 1) turns)) rest = subst (λ (n : ℕ). AreTurnLines z n (turns_of z (drop (i + 1) turns)) rest) up are in
-      let all = so-far (grown.0 ++ rest) (subst (λ (l : List Turn). AreTurnLines z i (turns_of z l) (grown.0 ++ rest)) (sym split) (grown.0, rest, own, tail, refl)) in
+      let tail : AreTurnLines z (suc i) (turns_of z (drop (i + 1) turns)) rest = subst (λ (n : ℕ). AreTurnLines z n (turns_of z (drop (i + 1) turns)) rest) up
+      are in
+      let all = so-far (grown.0 ++ rest) (subst (λ (l : List Turn). AreTurnLines z i (turns_of z l) (grown.0 ++ rest)) (sym split)
+      (grown.0, rest, own, tail, refl)) in
       subst (AreTurnLines z 0 (turns_of z turns)) (sym (append_assoc text grown.0 rest) ∙ ap (λ (l : List ℕ). l ++ rest) (sym grown.2)) all
 
   -- where no turn is left, the text has the lines of all
   pub all-turns : length turns ≤ i → AreTurnLines z 0 (turns_of z turns) text
   all-turns past =
-      subst (AreTurnLines z 0 (turns_of z turns)) (append-nil text) (so-far [] (subst (λ (l : List Turn). AreTurnLines z i (turns_of z l) []) (sym (nothing-left i turns past)) refl))
+      subst (AreTurnLines z 0 (turns_of z turns)) (append-nil text) (so-far [] (subst (λ (l : List Turn). AreTurnLines z i (turns_of z l) [])
+      (sym (nothing-left i turns past)) refl))

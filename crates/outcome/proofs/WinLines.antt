@@ -12,7 +12,8 @@ here c k h = let same : k + 1 - 1 ≡ k = omega arith in rw same (drop_more c k 
 one-loses : (book : Book) (k i : ℕ) (c : List ℕ) → i ≡ 0 → winner_lines book k (i ∷ c) ≡ winner_lines book (suc k) c
 one-loses book k i c none = rw none refl
 
-one-wins : (book : Book) (k i : ℕ) (c : List ℕ) → i ≢ 0 → winner_lines book k (i ∷ c) ≡ winner_line (bidder_of book (suc k)).name (bid_of book (suc k) i) ++ winner_lines book (suc k) c
+one-wins : (book : Book) (k i : ℕ) (c : List ℕ) → i ≢ 0 → winner_lines book k (i ∷ c) ≡ winner_line (bidder_of book (suc k)).name (bid_of book (suc k) i)
+    ++ winner_lines book (suc k) c
 one-wins book k zero c some = absurd (some refl)
 one-wins book k (suc i) c some = refl
 
@@ -21,7 +22,8 @@ pub loses : (book : Book) (c : List ℕ) (k : ℕ) (text all : List ℕ) → k <
     → text ++ winner_lines book k (drop k c) ≡ all → text ++ winner_lines book (k + 1) (drop (k + 1) c) ≡ all
 loses book c k text all h none was =
     let up : k + 1 ≡ suc k = omega arith in
-    let same : winner_lines book k (drop k c) ≡ winner_lines book (suc k) (drop (k + 1) c) = ap (winner_lines book k) (here c k h) ∙ one-loses book k (number_of c (k + 1)) (drop (k + 1) c) none in
+    let same : winner_lines book k (drop k c) ≡ winner_lines book (suc k) (drop (k + 1) c) = ap (winner_lines book k) (here c k h)
+    ∙ one-loses book k (number_of c (k + 1)) (drop (k + 1) c) none in
     let next : text ++ winner_lines book (suc k) (drop (k + 1) c) ≡ all = ap (λ (l : List ℕ). text ++ l) (sym same) ∙ was in
     ap (λ (n : ℕ). text ++ winner_lines book n (drop (k + 1) c)) up ∙ next
 
@@ -35,7 +37,8 @@ wins book c k text new all bid h some lots amount is was =
     let i = number_of c (k + 1) in
     let rest = winner_lines book (suc k) (drop (k + 1) c) in
     let own : bid ≡ bid_of book (k + 1) i = λ t. record { lots = lots t; amount = amount t } in
-    let split : winner_lines book k (drop k c) ≡ winner_line (bidder_of book (suc k)).name (bid_of book (suc k) i) ++ rest = ap (winner_lines book k) (here c k h) ∙ one-wins book k i (drop (k + 1) c) some in
+    let split : winner_lines book k (drop k c) ≡ winner_line (bidder_of book (suc k)).name (bid_of book (suc k) i) ++ rest =
+    ap (winner_lines book k) (here c k h) ∙ one-wins book k i (drop (k + 1) c) some in
     let line : winner_line (bidder_of book (k + 1)).name bid ≡ winner_line (bidder_of book (suc k)).name (bid_of book (suc k) i) =
     ap (winner_line (bidder_of book (k + 1)).name) own ∙ ap (λ (n : ℕ). winner_line (bidder_of book n).name (bid_of book n i)) up in
     ap (λ (n : ℕ). new ++ winner_lines book n (drop (k + 1) c)) up

@@ -1,5 +1,6 @@
 -- A winner of the facts: its bid is one of the book, and what is printed of it stays within the range.
-use Rattle.std.proofs.Common.{◌≡◌, ℕ, zero, suc, ◌+◌, ◌-◌, ◌<◌, ◌≤◌, ◌^◌, ◌==◌, not, true, IsTrue, List, length, get_or, map, ℤ, pos, ◌+ℤ◌, ◌*ℤ◌, to_z, of_z, unsigned_abs, sym, ap, subst, ◌∙◌, arith}
+use Rattle.std.proofs.Common.{◌≡◌, ℕ, zero, suc, ◌+◌, ◌-◌, ◌<◌, ◌≤◌, ◌^◌, ◌==◌, not, true, IsTrue, List, length, get_or, map, ℤ, pos, ◌+ℤ◌, ◌*ℤ◌, to_z, of_z}
+use Rattle.std.proofs.Common.{unsigned_abs, sym, ap, subst, ◌∙◌, arith}
 use Rattle.std.specs.Int.{w128}
 use Rattle.std.specs.List.{AllByRecursion}
 use Rattle.std.proofs.lemmas.Int.{ints, to_z_pos}
@@ -44,15 +45,18 @@ pub singles-win : (z : List ℕ) (ss : List Single) → map (λ s. s.winner) ss 
 singles-win z ss who = each-of_map (Wins z) (λ (s : Single). s.winner) ss (subst (AllByRecursion (Wins z)) (sym who) (all-win z))
 
 -- and so is the one at a place
-pub is-winner : (book : Book) (facts : CertFacts) → IsPrintable book facts → (items : List Single) → items ≡ facts.singles → (i : ℕ) (s : Single) → i < length items → s ≡ get_or items i s → IsWinnerOf facts s
+pub is-winner : (book : Book) (facts : CertFacts) → IsPrintable book facts → (items : List Single) → items ≡ facts.singles → (i : ℕ) (s : Single)
+    → i < length items → s ≡ get_or items i s → IsWinnerOf facts s
 is-winner book facts is items same i s inside item =
     let at : get_or facts.singles i s ≡ s = ap (λ (l : List Single). get_or l i s) (sym same) ∙ sym item in
     let long : i < length facts.singles = omega (arith, inside, ap (λ (l : List Single). length l) same) in
-    let wins : Wins facts.choice s.winner = subst (λ (x : Single). Wins facts.choice x.winner) at (each_at (λ x. Wins facts.choice x.winner) facts.singles i s (singles-win facts.choice facts.singles is.winners) long) in
+    let wins : Wins facts.choice s.winner = subst (λ (x : Single). Wins facts.choice x.winner)
+    at (each_at (λ x. Wins facts.choice x.winner) facts.singles i s (singles-win facts.choice facts.singles is.winners) long) in
     record {
       bidder = (wins.0, wins.1);
       wins = wins.2;
-      price_small = subst (λ (x : Single). unsigned_abs x.price ≤ 2 ^ 47) at (each_at (λ x. unsigned_abs x.price ≤ 2 ^ 47) facts.singles i s is.prices_small long);
+      price_small = subst (λ (x : Single). unsigned_abs x.price ≤ 2 ^ 47) at (each_at (λ x. unsigned_abs x.price ≤ 2 ^ 47) facts.singles i s is.prices_small
+          long);
     }
 
 -- a reserve is added to a small price
@@ -63,8 +67,10 @@ gross-small : (x v : ℤ) (r : ℕ) → x ≡ v +ℤ pos r → unsigned_abs v �
 gross-small x v r e small low = omega (arith, ints, e, small, low)
 
 -- what is printed of the winner
-module _ (book : Book) (facts : CertFacts) (s : Single) (small : unsigned_abs s.price ≤ 2 ^ 47) (price : WinnerPrice) (paid : ℤ) (bidder : price.bidder ≡ s.winner) (number : price.bid ≡ number_of facts.choice s.winner)
-    (reserve : pos price.reserve ≡ reserve_of book s.winner price.bid) (gross : price.vickrey ≡ s.price +ℤ pos price.reserve) (low : price.reserve ≤ MOST_AMOUNT) (own-paid : paid ≡ of_bidder facts.pay s.winner)
+module _ (book : Book) (facts : CertFacts) (s : Single) (small : unsigned_abs s.price ≤ 2 ^ 47) (price : WinnerPrice) (paid : ℤ)
+    (bidder : price.bidder ≡ s.winner) (number : price.bid ≡ number_of facts.choice s.winner)
+    (reserve : pos price.reserve ≡ reserve_of book s.winner price.bid) (gross : price.vickrey ≡ s.price +ℤ pos price.reserve)
+    (low : price.reserve ≤ MOST_AMOUNT) (own-paid : paid ≡ of_bidder facts.pay s.winner)
     (pays : IsFractionOf (paid +ℤ (facts.den *ℤ pos price.reserve)) facts.den price.pays) where
   own-reserve : pos price.reserve ≡ reserve_of book s.winner (number_of facts.choice s.winner)
   own-reserve = reserve ∙ ap (reserve_of book s.winner) number
@@ -77,5 +83,6 @@ module _ (book : Book) (facts : CertFacts) (s : Single) (small : unsigned_abs s.
     reserve_is = own-reserve;
     vickrey_is = gross ∙ ap (λ (x : ℤ). s.price +ℤ x) own-reserve;
     vickrey_small = gross-small price.vickrey s.price price.reserve gross small low;
-    pays_is = subst (λ (x : ℤ). IsFractionOf x facts.den price.pays) (ap (λ (x : ℤ). x +ℤ (facts.den *ℤ pos price.reserve)) own-paid ∙ ap (λ (x : ℤ). of_bidder facts.pay s.winner +ℤ (facts.den *ℤ x)) own-reserve) pays;
+    pays_is = subst (λ (x : ℤ). IsFractionOf x facts.den price.pays) (ap (λ (x : ℤ). x +ℤ (facts.den *ℤ pos price.reserve)) own-paid
+        ∙ ap (λ (x : ℤ). of_bidder facts.pay s.winner +ℤ (facts.den *ℤ x)) own-reserve) pays;
   }

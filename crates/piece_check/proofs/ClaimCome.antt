@@ -14,7 +14,8 @@ use Rattle.cert_check.specs.declared.failure.Failure.{Failure}
 use Rattle.cert_check.specs.Partway.{HoldsTo, IsJudged}
 use Rattle.cert_check.proofs.HeadLaws.{head-shown}
 use Rattle.cert_pieces.specs.declared.due.Due.{Due}
-use Rattle.cert_pieces.specs.declared.due.Due.TheVariants.{Version, Limits, Den, Value, Choice, Title, Entries, Without, PartChoice, Payments, Rows, Members, Multipliers, RowChoice, End, Nothing}
+use Rattle.cert_pieces.specs.declared.due.Due.TheVariants.{Version, Limits, Den, Value, Choice, Title, Entries, Without, PartChoice, Payments, Rows, Members}
+use Rattle.cert_pieces.specs.declared.due.Due.TheVariants.{Multipliers, RowChoice, End, Nothing}
 use Rattle.cert_pieces.specs.declared.due.Table.TheVariants.{Head, Part, Lowered}
 use Rattle.cert_pieces.specs.Rooms.{segment}
 use Rattle.piece_check.specs.declared.moment.Moment.{Moment}
@@ -98,7 +99,8 @@ module _ (at : Moment) (c : CertValue) (is : IsAt at c) (line : IsRowsEnd at.due
   pay-known = is.known.in_room.pay (ends-behind (bidders_of at.book.now) at.due line).paid
 
   -- the room has the choice without each winner
-  pub part-known : (j : ℕ) → 0 < j → j ≤ bidders_of at.book.now → IsTrue (uses c.choice j) → segment (bidders_of at.book.now) (states at.book.now) (PartChoice j) at.room.now ≡ as_numbers (part_of c.withouts j).choice
+  pub part-known : (j : ℕ) → 0 < j → j ≤ bidders_of at.book.now → IsTrue (uses c.choice j) → segment (bidders_of at.book.now) (states at.book.now)
+      (PartChoice j) at.room.now ≡ as_numbers (part_of c.withouts j).choice
   part-known j some inside wins = is.known.in_room.parts j some inside (omega (arith, inside, (ends-behind (bidders_of at.book.now) at.due line).come)) wins
 
 module _ (at : Moment) (c : CertValue) (is : IsAt at c) (due : IsClaimed at.due) where
@@ -119,25 +121,33 @@ module _ (at : Moment) (c : CertValue) (is : IsAt at c) (due : IsClaimed at.due)
 
   -- the first three tests hold
   pub head-holds : HeadHolds at.book.now c
-  head-holds = record { sizes = λ place. (held 1 place (omega arith)).0 refl; choice = λ place. (held 2 place (omega arith)).1 refl; table = λ place. (held 3 place (omega arith)).2 refl }
+  head-holds = record {
+    sizes = λ place. (held 1 place (omega arith)).0 refl;
+    choice = λ place. (held 2 place (omega arith)).1 refl;
+    table =
+        λ place. (held 3 place (omega arith)).2 refl;
+  }
 
   -- and the fourth
   pub parts-hold : (place : ℕ) → C4 at.book.now c place
   parts-hold place = (held 4 place (omega arith)).3 refl
 
   -- so these numbers are those of a claim
-  pub claimed : (den value : ℤ) (choice : List ℕ) → IsBidBook at.book.now → c.den ≡ den → c.value ≡ value → c.choice ≡ choice → IsHead at.book.now den value choice
+  pub claimed : (den value : ℤ) (choice : List ℕ) → IsBidBook at.book.now → c.den ≡ den → c.value ≡ value → c.choice ≡ choice
+      → IsHead at.book.now den value choice
   claimed den value choice kept den_is value_is choice_is =
       subst (λ (z : ℤ). IsHead at.book.now z value choice) den_is
       (subst (λ (z : ℤ). IsHead at.book.now c.den z choice) value_is
       (subst (λ (l : List ℕ). IsHead at.book.now c.den c.value l) choice_is (head-shown at.book.now c kept is.kept.choice.0 head-holds)))
 
 -- each winner has a part
-pub part-whole : (at : Moment) (c : CertValue) (is : IsAt at c) (j : ℕ) → 0 < j → j ≤ bidders_of at.book.now → IsTrue (uses c.choice j) → IsChoice (bidders_of at.book.now) (part_of c.withouts j).choice
+pub part-whole : (at : Moment) (c : CertValue) (is : IsAt at c) (j : ℕ) → 0 < j → j ≤ bidders_of at.book.now → IsTrue (uses c.choice j)
+    → IsChoice (bidders_of at.book.now) (part_of c.withouts j).choice
 part-whole at c is = part-choice (bidders_of at.book.now) (states at.book.now) c is.kept
 
 -- in the words of the claim
-pub parts_of-claim : (at : Moment) (c : CertValue) (is : IsAt at c) (due : IsClaimed at.due) (a : Claim) → IsClaimOf at a → (j : ℕ) → 0 < j → j ≤ bidders_of a.book.now → IsTrue (uses a.choice.now j) → IsPart a.book.now j (part_of c.withouts j)
+pub parts_of-claim : (at : Moment) (c : CertValue) (is : IsAt at c) (due : IsClaimed at.due) (a : Claim) → IsClaimOf at a → (j : ℕ) → 0 < j
+    → j ≤ bidders_of a.book.now → IsTrue (uses a.choice.now j) → IsPart a.book.now j (part_of c.withouts j)
 parts_of-claim at c is due a claim =
     subst (λ (b : Book). (j : ℕ) → 0 < j → j ≤ bidders_of b → IsTrue (uses a.choice.now j) → IsPart b j (part_of c.withouts j)) (sym claim.book)
     (λ j some inside wins. (parts-hold at c is due j).part some inside (subst (λ (l : List ℕ). IsTrue (uses l j)) (sym (claim.each c is).choice_is) wins))
@@ -152,7 +162,8 @@ module _ (at : Moment) (c : CertValue) (is : IsAt at c) (due : at.due ≡ Paymen
   pay-holds = (at-due at c Payments due is).known.tested.holds
 
   -- what fails first of the first five tests is what is found when the next line is due
-  pub pay-shows : (next : Due) (failed : Option Failure) → IsNext at.book.now c at.due next → IsJudged at.book.now (weight_of at.weights.now) c 6 0 failed → IsFound at.book.now (weight_of at.weights.now) c next failed None
+  pub pay-shows : (next : Due) (failed : Option Failure) → IsNext at.book.now c at.due next → IsJudged at.book.now (weight_of at.weights.now) c 6 0 failed
+      → IsFound at.book.now (weight_of at.weights.now) c next failed None
   pay-shows next failed follows judged =
       found-next at.book.now (weight_of at.weights.now) c Rows next failed None (next-due at c Payments next due follows)
       (found-by at.book.now (weight_of at.weights.now) c 6 0 Rows failed None judged (λ holds. record { holds = holds; early = refl; part = tt }))

@@ -19,7 +19,8 @@ module _ (book : Book) (c : CertValue) where
   singles_behind k (suc n ∷ ns) = single_at book c (suc k) ∷ singles_behind (suc k) ns
 
   -- they are those of the parts, in order
-  singles-are : (b s k : ℕ) (ns : List ℕ) (ws : List WithoutValue) → AreWithouts b s (suc k) ns ws → ((j : ℕ) → k < j → part_of ws j ≡ part_of c.withouts j) → singles_behind k ns ≡ map (single_of book c) ws
+  singles-are : (b s k : ℕ) (ns : List ℕ) (ws : List WithoutValue) → AreWithouts b s (suc k) ns ws → ((j : ℕ) → k < j → part_of ws j ≡ part_of c.withouts j)
+      → singles_behind k ns ≡ map (single_of book c) ws
   singles-are b s k [] [] are same = refl
   singles-are b s k [] (w ∷ ws) are same = absurd are
   singles-are b s k (zero ∷ ns) ws are same = singles-are b s (suc k) ns ws are (λ j lt. same j (omega (arith, lt)))
@@ -46,7 +47,8 @@ module _ (book : Book) (c : CertValue) where
     further = ap (λ (n : ℕ). singles_behind n (drop (k + 1) choice)) {x = suc k} {y = k + 1} (omega arith)
 
   -- no number is left
-  pub singles-done : (b s : ℕ) → IsCertificate b s c → (choice : List ℕ) → c.choice ≡ choice → (done : List Single) (k : ℕ) → length choice ≤ k → done ++ singles_behind k (drop k choice) ≡ singles_behind 0 choice → done ≡ map (single_of book c) c.withouts
+  pub singles-done : (b s : ℕ) → IsCertificate b s c → (choice : List ℕ) → c.choice ≡ choice → (done : List Single) (k : ℕ) → length choice ≤ k
+      → done ++ singles_behind k (drop k choice) ≡ singles_behind 0 choice → done ≡ map (single_of book c) c.withouts
   singles-done b s kept choice is done k past all =
       sym (append-nil done)
       ∙ ap (λ (l : List ℕ). done ++ singles_behind k l) (sym (drop_all k choice past))

@@ -35,7 +35,8 @@ module _ (at : Moment) (c : CertValue) (is : IsAt at c) where
     value-holds = (at-due at c Value due is).known.tested.holds
 
     -- what fails first in the first test is what is found when the next line is due
-    pub value-shows : (next : Due) (failed : Option Failure) → IsNext at.book.now c at.due next → IsJudged at.book.now (weight_of at.weights.now) c 2 0 failed → IsFound at.book.now (weight_of at.weights.now) c next failed None
+    pub value-shows : (next : Due) (failed : Option Failure) → IsNext at.book.now c at.due next → IsJudged at.book.now (weight_of at.weights.now) c 2 0 failed
+        → IsFound at.book.now (weight_of at.weights.now) c next failed None
     value-shows next failed follows judged =
         found-next at.book.now (weight_of at.weights.now) c Choice next failed None (next-due at c Value next due follows)
         (found-by at.book.now (weight_of at.weights.now) c 2 0 Choice failed None judged (λ holds. record { holds = holds; early = refl; part = tt }))
@@ -54,7 +55,9 @@ module _ (at : Moment) (c : CertValue) (is : IsAt at c) where
     choice-holds = (at-due at c Choice due is).known.tested.holds
 
     -- what fails first of the first two tests is what is found when the next line is due
-    pub choice-shows : (next : Due) (failed : Option Failure) → IsNext at.book.now c at.due next → IsJudged at.book.now (weight_of at.weights.now) c 3 0 failed → IsFound at.book.now (weight_of at.weights.now) c next failed None
+    pub choice-shows : (next : Due) (failed : Option Failure) → IsNext at.book.now c at.due next → IsJudged at.book.now
+        (weight_of at.weights.now) c 3 0 failed → IsFound at.book.now (weight_of at.weights.now) c next failed None
     choice-shows next failed follows judged =
         found-next at.book.now (weight_of at.weights.now) c (Title Head) next failed None (next-due at c Choice next due follows)
-        (found-by at.book.now (weight_of at.weights.now) c 3 0 (Title Head) failed None judged (λ holds. record { holds = subst (HoldsTo at.book.now (weight_of at.weights.now) c 3) {x = 0} (omega arith) holds; early = refl; part = tt }))
+        (found-by at.book.now (weight_of at.weights.now) c 3 0 (Title Head) failed None judged
+        (λ holds. record { holds = subst (HoldsTo at.book.now (weight_of at.weights.now) c 3) {x = 0} (omega arith) holds; early = refl; part = tt }))

@@ -20,19 +20,22 @@ use Rattle.piece_check.specs.Moments.{IsAt}
 use Rattle.piece_check.proofs.NextLaws.{at-due}
 
 -- line 0
-pub keeps-top : (book : Book) (w : ℕ → ℕ) (c : CertValue) (k : ℕ) (number most : ℤ) (b : Bool) → k ≡ 0 → number ≡ entry_at c.table 0 (full book) → most ≡ c.value → (IsTrue b ↔ (number ≤ℤ most)) → IsTrue b ↔ Asks book w c 3 ((bidders_of book + 1) * states book + k)
+pub keeps-top : (book : Book) (w : ℕ → ℕ) (c : CertValue) (k : ℕ) (number most : ℤ) (b : Bool) → k ≡ 0 → number ≡ entry_at c.table 0 (full book)
+    → most ≡ c.value → (IsTrue b ↔ (number ≤ℤ most)) → IsTrue b ↔ Asks book w c 3 ((bidders_of book + 1) * states book + k)
 keeps-top book w c k number most b first is most_is test =
     subst (λ (n : ℕ). IsTrue b ↔ Asks book w c 3 ((bidders_of book + 1) * states book + n)) (sym first)
     (let low = subst (λ (z : ℤ). IsTrue b ↔ (z ≤ℤ c.value)) is (subst (λ (z : ℤ). IsTrue b ↔ (number ≤ℤ z)) most_is test) in
     (λ t. (top-C3 book w c).0 (low.0 t), λ asks. low.1 ((top-C3 book w c).1 asks)))
 
 -- another line
-pub keeps-none : (book : Book) (w : ℕ → ℕ) (c : CertValue) (k : ℕ) (b : Bool) → 0 < k → k ≤ bidders_of book → (IsTrue b ↔ NoneEarlier book c k) → IsTrue b ↔ Asks book w c 3 ((bidders_of book + 1) * states book + k)
+pub keeps-none : (book : Book) (w : ℕ → ℕ) (c : CertValue) (k : ℕ) (b : Bool) → 0 < k → k ≤ bidders_of book → (IsTrue b ↔ NoneEarlier book c k)
+    → IsTrue b ↔ Asks book w c 3 ((bidders_of book + 1) * states book + k)
 keeps-none book w c zero b some inside test = absurd (omega (arith, some))
 keeps-none book w c (suc k) b some inside test =
     let low : k < bidders_of book = omega (arith, inside) in (
       λ t. (first-C3 book w c k low).0 (test.0 t k low refl),
-      λ asks. test.1 (λ l lt e. let same : k ≡ l = omega (arith, e) in (first-C3 book w c l lt).1 (subst (λ (n : ℕ). Asks book w c 3 ((bidders_of book + 1) * states book + suc n)) same asks)),
+      λ asks. test.1 (λ l lt e. let same : k ≡ l = omega (arith, e) in (first-C3 book w c l lt).1
+          (subst (λ (n : ℕ). Asks book w c 3 ((bidders_of book + 1) * states book + suc n)) same asks)),
     )
 
 module _ (at : Moment) (c : CertValue) (is : IsAt at c) (k : ℕ) (due : at.due ≡ Entries Head k) where

@@ -31,24 +31,30 @@ module _ (at : Moment) (c : CertValue) (is : IsAt at c) (k : ℕ) (due : at.due 
   line-there = (at-due at c (Entries Lowered k) due is).own.whole tt
 
   -- the worths are those of the lowered table
-  pub worths-are : (a : Claim) (den : ℤ) (pay gains : List ℤ) → IsClaimOf at a → den ≡ a.den → pay ≡ c.pay → ((j : ℕ) → 0 < j → j ≤ bidders_of a.book.now → of_bidder gains j ≡ gain_of a.book.now a.den a.choice.now pay j)
+  pub worths-are : (a : Claim) (den : ℤ) (pay gains : List ℤ) → IsClaimOf at a → den ≡ a.den → pay ≡ c.pay
+      → ((j : ℕ) → 0 < j → j ≤ bidders_of a.book.now → of_bidder gains j ≡ gain_of a.book.now a.den a.choice.now pay j)
       → (j i : ℕ) → 0 < j → j ≤ bidders_of at.book.now → worth_with at.book.now den gains j i ≡ lowered_net at.book.now c j i
   worths-are a den pay gains claim den_is pay_is are j i some inside =
       let of = claim.each c is in
       let own : (j : ℕ) → 0 < j → j ≤ bidders_of at.book.now → of_bidder gains j ≡ gain_of at.book.now c.den c.choice c.pay j =
-      rw (of.den_is, of.choice_is, sym pay_is) (subst (λ (b : Book). (j : ℕ) → 0 < j → j ≤ bidders_of b → of_bidder gains j ≡ gain_of b a.den a.choice.now pay j) claim.book are) in
+      rw (of.den_is, of.choice_is, sym pay_is) (subst (λ (b : Book). (j : ℕ) → 0 < j → j ≤ bidders_of b
+      → of_bidder gains j ≡ gain_of b a.den a.choice.now pay j) claim.book are) in
       ap (λ (z : ℤ). worth_with at.book.now z gains j i) (den_is ∙ sym of.den_is) ∙ lowered-worth at.book.now c gains own j i some inside
 
   -- behind line 0 nothing more is found early
   pub late-one : (k ≡ 0 → ⊥) → IsLate at.book.now (weight_of at.weights.now) c 9 ((bidders_of at.book.now + 1) * states at.book.now) 1 at.late
   late-one some = one k some (lowered-late at c is k due)
     where
-      one : (k : ℕ) → (k ≡ 0 → ⊥) → IsLate at.book.now (weight_of at.weights.now) c 9 ((bidders_of at.book.now + 1) * states at.book.now) (one_of k) at.late → IsLate at.book.now (weight_of at.weights.now) c 9 ((bidders_of at.book.now + 1) * states at.book.now) 1 at.late
+      one : (k : ℕ) → (k ≡ 0 → ⊥) → IsLate at.book.now (weight_of at.weights.now) c 9 ((bidders_of at.book.now + 1) * states at.book.now) (one_of k) at.late
+          → IsLate at.book.now (weight_of at.weights.now) c 9 ((bidders_of at.book.now + 1) * states at.book.now) 1 at.late
       one zero some late = absurd (some refl)
       one (suc k) some late = late
 
 -- line 0 against the sum of the payments
-pub keeps-sum : (book : Book) (w : ℕ → ℕ) (c : CertValue) (number most : ℤ) (b : Bool) → number ≡ entry_at c.lowered 0 (full book) → most ≡ sum_over everyone (of_bidder c.pay) (bidders_of book) → (IsTrue b ↔ (number ≤ℤ most)) → IsTrue b ↔ Asks book w c 9 ((bidders_of book + 1) * states book + 0)
+pub keeps-sum : (book : Book) (w : ℕ → ℕ) (c : CertValue) (number most : ℤ) (b : Bool) → number ≡ entry_at c.lowered 0 (full book)
+    → most ≡ sum_over everyone (of_bidder c.pay) (bidders_of book) → (IsTrue b ↔ (number ≤ℤ most)) → IsTrue b ↔ Asks book w c 9
+    ((bidders_of book + 1) * states book + 0)
 keeps-sum book w c number most b is most_is test =
-    let low = subst (λ (z : ℤ). IsTrue b ↔ (z ≤ℤ sum_over everyone (of_bidder c.pay) (bidders_of book))) is (subst (λ (z : ℤ). IsTrue b ↔ (number ≤ℤ z)) most_is test) in
+    let low = subst (λ (z : ℤ). IsTrue b ↔ (z ≤ℤ sum_over everyone (of_bidder c.pay) (bidders_of book))) is
+    (subst (λ (z : ℤ). IsTrue b ↔ (number ≤ℤ z)) most_is test) in
     (λ t. (top-C9 book w c).0 (low.0 t), λ asks. low.1 ((top-C9 book w c).1 asks))

@@ -1,5 +1,6 @@
 -- The members of a row, as numbers.
-use Rattle.std.proofs.Common.{◌≡◌, ℕ, zero, suc, ◌-◌, ◌<◌, ◌≤◌, List, [], ◌∷◌, ◌++◌, length, take, drop, inl, inr, refl, sym, ap, subst, ◌∙◌, arith, length-take}
+use Rattle.std.proofs.Common.{◌≡◌, ℕ, zero, suc, ◌-◌, ◌<◌, ◌≤◌, List, [], ◌∷◌, ◌++◌, length, take, drop, inl, inr, refl, sym, ap, subst, ◌∙◌, arith}
+use Rattle.std.proofs.Common.{length-take}
 use Rattle.std.specs.Prelude.{ℤ, ◌⊎◌}
 use Rattle.std.proofs.lemmas.Bool.{cases_lt}
 use Rattle.cert_check.specs.auction_model.specs.Book.{Book}
@@ -8,7 +9,8 @@ use Rattle.cert_facts.specs.cert_form.specs.CertText.{AreMembers, AtMost, IsRow,
 use Rattle.cert_check.specs.cert_text.specs.line_text.proofs.Words.{word_front}
 use Rattle.cert_facts.specs.cert_laws.specs.Tests.{bidders_of, states}
 use Rattle.cert_pieces.specs.declared.due.Due.{Due}
-use Rattle.cert_pieces.specs.declared.due.Due.TheVariants.{Version, Limits, Den, Value, Choice, Title, Entries, Without, PartChoice, Payments, Rows, Members, Multipliers, RowChoice, End, Nothing}
+use Rattle.cert_pieces.specs.declared.due.Due.TheVariants.{Version, Limits, Den, Value, Choice, Title, Entries, Without, PartChoice, Payments, Rows, Members}
+use Rattle.cert_pieces.specs.declared.due.Due.TheVariants.{Multipliers, RowChoice, End, Nothing}
 use Rattle.cert_pieces.specs.declared.due.Table.TheVariants.{Head, Part, Lowered}
 use Rattle.cert_pieces.specs.Order.{IsPartNext, IsRowNext}
 use Rattle.cert_pieces.specs.LinesLeft.{row_at}
@@ -28,12 +30,14 @@ members-most b before (j ∷ js) few are = (omega (arith, few, are.1), members-m
 
 -- the row that is read, at its multipliers or at its choice
 module _ (at : Moment) (c : CertValue) (is : IsAt at c) (r : ℕ) where
-  row-due : (at.due ≡ Multipliers r) ⊎ (at.due ≡ RowChoice r) → (0 < r) × (r ≤ length c.rows) × (take at.members (segment (bidders_of at.book.now) (states at.book.now) (Members r) at.room.now) ≡ as_numbers (row_at c r).members)
+  row-due : (at.due ≡ Multipliers r) ⊎ (at.due ≡ RowChoice r) → (0 < r) × (r ≤ length c.rows)
+      × (take at.members (segment (bidders_of at.book.now) (states at.book.now) (Members r) at.room.now) ≡ as_numbers (row_at c r).members)
   row-due (inl due) = (let here = at-due at c (Multipliers r) due is in (here.known.named.0, here.known.has, here.known.in_room.members_are))
   row-due (inr due) = (let here = at-due at c (RowChoice r) due is in (here.known.named.0, here.known.has, here.known.in_room.members_are))
 
   -- the room has the members of the row
-  pub members-there : (at.due ≡ Multipliers r) ⊎ (at.due ≡ RowChoice r) → take at.members (segment (bidders_of at.book.now) (states at.book.now) (Members r) at.room.now) ≡ as_numbers (row_at c r).members
+  pub members-there : (at.due ≡ Multipliers r) ⊎ (at.due ≡ RowChoice r) → take at.members
+      (segment (bidders_of at.book.now) (states at.book.now) (Members r) at.room.now) ≡ as_numbers (row_at c r).members
   members-there due = (row-due due).2
 
   -- the row is one for the book's bidders
@@ -84,7 +88,8 @@ row-members b s n zero c next room is = subst (λ (d : Due). HasMembers b s c d 
 row-members b s n (suc m) c next room is = subst (λ (d : Due). HasMembers b s c d n room) (sym is) tt
 
 -- another line leaves the count of members as it is
-pub members-next : (book : Book) (c : CertValue) (due next : Due) (n : ℕ) (room : List ℤ) → (IsMembers due → ⊥) → length c.rows ≤ 10 → IsNext book c due next → HasMembers (bidders_of book) (states book) c due n room → HasMembers (bidders_of book) (states book) c next n room
+pub members-next : (book : Book) (c : CertValue) (due next : Due) (n : ℕ) (room : List ℤ) → (IsMembers due → ⊥) → length c.rows ≤ 10 → IsNext book c due next
+    → HasMembers (bidders_of book) (states book) c due n room → HasMembers (bidders_of book) (states book) c next n room
 members-next book c Version next n room other few is has = elim is [
   | inl e ↦ subst (λ (d : Due). HasMembers (bidders_of book) (states book) c d n room) (sym e) tt
   | inr e ↦ subst (λ (d : Due). HasMembers (bidders_of book) (states book) c d n room) (sym e) tt
@@ -117,9 +122,11 @@ members-next book c End next n room other few is has = subst (λ (d : Due). HasM
 members-next book c Nothing next n room other few is has = subst (λ (d : Due). HasMembers (bidders_of book) (states book) c d n room) (sym is) tt
 
 -- behind the members they are as many as their line has
-pub members-come : (at : Moment) (c : CertValue) (is : IsAt at c) (r : ℕ) (next : Due) → at.due ≡ Members r → IsNext at.book.now c at.due next → HasMembers (bidders_of at.book.now) (states at.book.now) c next at.count at.room.now
+pub members-come : (at : Moment) (c : CertValue) (is : IsAt at c) (r : ℕ) (next : Due) → at.due ≡ Members r → IsNext at.book.now c at.due next
+    → HasMembers (bidders_of at.book.now) (states at.book.now) c next at.count at.room.now
 members-come at c is r next due follows =
-    subst (λ (d : Due). HasMembers (bidders_of at.book.now) (states at.book.now) c d at.count at.room.now) (sym (next-due at c (Members r) next due follows)) ((at-due at c (Members r) due is).own.first)
+    subst (λ (d : Due). HasMembers (bidders_of at.book.now) (states at.book.now) c d at.count at.room.now) (sym (next-due at c (Members r) next due follows))
+    ((at-due at c (Members r) due is).own.first)
 
 -- no more than there are bidders
 pub segment-few : (b s r : ℕ) (room : List ℤ) → length (segment b s (Members r) room) ≤ b

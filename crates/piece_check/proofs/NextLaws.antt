@@ -14,7 +14,8 @@ use Rattle.cert_check.specs.Partway.{HoldsTo, IsJudged}
 use Rattle.cert_check.proofs.PartLaws.{loses-zero, wins-some}
 use Rattle.cert_check.proofs.PartwayLaws.{holds-further, holds-whole}
 use Rattle.cert_pieces.specs.declared.due.Due.{Due}
-use Rattle.cert_pieces.specs.declared.due.Due.TheVariants.{Version, Limits, Den, Value, Choice, Title, Entries, Without, PartChoice, Payments, Rows, Members, Multipliers, RowChoice, End, Nothing}
+use Rattle.cert_pieces.specs.declared.due.Due.TheVariants.{Version, Limits, Den, Value, Choice, Title, Entries, Without, PartChoice, Payments, Rows, Members}
+use Rattle.cert_pieces.specs.declared.due.Due.TheVariants.{Multipliers, RowChoice, End, Nothing}
 use Rattle.cert_pieces.specs.declared.due.Table.TheVariants.{Head, Part, Lowered}
 use Rattle.cert_pieces.specs.Order.{IsPartNext, NoneFrom}
 use Rattle.cert_pieces.proofs.Comings.{finds, number_at}
@@ -24,7 +25,8 @@ use Rattle.piece_check.specs.Moments.{IsAt}
 use Rattle.piece_check.specs.Tests.{IsFound, IsTestedTo, IsPlain}
 
 -- at the line that it is
-pub at-due : (at : Moment) (c : CertValue) (due : Due) → at.due ≡ due → IsAt at c → IsAtLine at.book.now (weight_of at.weights.now) c due at.count at.late at.members at.totals.now at.room.now
+pub at-due : (at : Moment) (c : CertValue) (due : Due) → at.due ≡ due → IsAt at c → IsAtLine at.book.now
+    (weight_of at.weights.now) c due at.count at.late at.members at.totals.now at.room.now
 at-due at c due is a = subst (λ (d : Due). IsAtLine at.book.now (weight_of at.weights.now) c d at.count at.late at.members at.totals.now at.room.now) is a
 
 -- what comes next comes next behind that line
@@ -32,12 +34,14 @@ pub next-due : (at : Moment) (c : CertValue) (due next : Due) → at.due ≡ due
 next-due at c due next is n = subst (λ (d : Due). IsNext at.book.now c d next) is n
 
 -- what fails first is found whatever comes next
-pub found-by : (book : Book) (w : ℕ → ℕ) (c : CertValue) (test place : ℕ) (next : Due) (failed : Option Failure) (late : Option ℕ) → IsJudged book w c test place failed → (HoldsTo book w c test place → IsTestedTo book w c next late) → IsFound book w c next failed late
+pub found-by : (book : Book) (w : ℕ → ℕ) (c : CertValue) (test place : ℕ) (next : Due) (failed : Option Failure) (late : Option ℕ)
+    → IsJudged book w c test place failed → (HoldsTo book w c test place → IsTestedTo book w c next late) → IsFound book w c next failed late
 found-by book w c test place next (Some f) late judged more = judged
 found-by book w c test place next None late judged more = more judged
 
 -- for the line that is next
-pub found-next : (book : Book) (w : ℕ → ℕ) (c : CertValue) (due next : Due) (failed : Option Failure) (late : Option ℕ) → next ≡ due → IsFound book w c due failed late → IsFound book w c next failed late
+pub found-next : (book : Book) (w : ℕ → ℕ) (c : CertValue) (due next : Due) (failed : Option Failure) (late : Option ℕ) → next ≡ due
+    → IsFound book w c due failed late → IsFound book w c next failed late
 found-next book w c due next failed late is found = subst (λ (d : Due). IsFound book w c d failed late) (sym is) found
 
 -- a bidder whose number is 0 loses
@@ -52,9 +56,11 @@ wins : (choice : List ℕ) (j : ℕ) → get_or (as_numbers choice) (j - 1) (pos
 wins choice j some = wins-some choice j (number_of choice j) refl (λ e. some (number_at choice (j - 1) ∙ ap pos e))
 
 -- the part of each winner is for as many bidders as the certificate
-pub part-choice : (b s : ℕ) (c : CertValue) → IsCertificate b s c → (j : ℕ) → 0 < j → j ≤ b → IsTrue (uses c.choice j) → IsChoice b (part_of c.withouts j).choice
+pub part-choice : (b s : ℕ) (c : CertValue) → IsCertificate b s c → (j : ℕ) → 0 < j → j ≤ b → IsTrue (uses c.choice j)
+    → IsChoice b (part_of c.withouts j).choice
 part-choice b s c kept j some inside wins =
-    let found = finds b s c kept (as_numbers c.choice) refl (j - 1) (omega (arith, some, inside, long_numbers c.choice, kept.choice.0)) (λ none. loses c.choice j none wins) in
+    let found = finds b s c kept (as_numbers c.choice) refl (j - 1) (omega (arith, some, inside, long_numbers c.choice, kept.choice.0))
+    (λ none. loses c.choice j none wins) in
     subst (λ (n : ℕ). IsChoice b (part_of c.withouts n).choice) {x = j - 1 + 1} {y = j} (omega (arith, some)) found.1.choice
 
 module _ (book : Book) (w : ℕ → ℕ) (c : CertValue) where
@@ -74,14 +80,18 @@ module _ (book : Book) (w : ℕ → ℕ) (c : CertValue) where
 
   -- of bidders who lose nothing is asked
   asks-none : (from to place : ℕ) → NoneFrom (as_numbers c.choice) from to → from < place → place ≤ to → Asks book w c 4 place
-  asks-none from to place none low high = asks-C4 place (record { part = λ some inside used. absurd (loses c.choice place (none (place - 1) (omega (arith, low)) (omega (arith, low, high))) used) })
+  asks-none from to place none low high = asks-C4 place (record {
+    part = λ some inside used. absurd
+        (loses c.choice place (none (place - 1) (omega (arith, low)) (omega (arith, low, high))) used);
+  })
 
   -- nor of bidder 0
   pub asks-nobody : HoldsTo book w c 4 0 → HoldsTo book w c 4 1
   asks-nobody before = holds-further book w c 4 0 1 before (λ i lt. asks-C4 (0 + i) (record { part = λ some inside used. absurd (omega (arith, lt, some)) }))
 
   -- all parts up to a bidder are tested: so are those up to the next one, or all
-  pub behind-part : (j : ℕ) (next : Due) → IsPartNext (bidders_of book) (as_numbers c.choice) j next → HoldsTo book w c 4 (suc j) → IsTestedTo book w c next None
+  pub behind-part : (j : ℕ) (next : Due) → IsPartNext (bidders_of book) (as_numbers c.choice) j next → HoldsTo book w c 4 (suc j)
+      → IsTestedTo book w c next None
   behind-part j Version is before = absurd is
   behind-part j Limits is before = absurd is
   behind-part j Den is before = absurd is
@@ -90,7 +100,8 @@ module _ (book : Book) (w : ℕ → ℕ) (c : CertValue) where
   behind-part j (Title table) is before = absurd is
   behind-part j (Entries table k) is before = absurd is
   behind-part j (Without i) is before = record {
-    holds = subst (HoldsTo book w c 4) {x = suc j + (i - suc j)} (omega (arith, is.0)) (holds-further book w c 4 (suc j) (i - suc j) before (λ n lt. asks-none j (i - 1) (suc j + n) is.2 (omega arith) (omega (arith, lt))));
+    holds = subst (HoldsTo book w c 4) {x = suc j + (i - suc j)} (omega (arith, is.0))
+        (holds-further book w c 4 (suc j) (i - suc j) before (λ n lt. asks-none j (i - 1) (suc j + n) is.2 (omega arith) (omega (arith, lt))));
     early = refl;
     part = wins c.choice i is.1;
   }
@@ -120,9 +131,11 @@ module _ (book : Book) (w : ℕ → ℕ) (c : CertValue) where
   plain Den next late p is t = subst (λ (d : Due). IsTestedTo book w c d None) (sym is) (record { holds = t.holds; early = refl; part = tt })
   plain Value next late p is t = absurd p
   plain Choice next late p is t = absurd p
-  plain (Title Head) next late p is t = subst (λ (d : Due). IsTestedTo book w c d None) (sym is) (record { holds = t.holds; early = λ i lt. absurd (omega (arith, lt)); part = tt })
+  plain (Title Head) next late p is t = subst (λ (d : Due). IsTestedTo book w c d None) (sym is)
+      (record { holds = t.holds; early = λ i lt. absurd (omega (arith, lt)); part = tt })
   plain (Title (Part j)) next late p is t = subst (λ (d : Due). IsTestedTo book w c d None) (sym is) (record { holds = t.holds; early = refl; part = t.part })
-  plain (Title Lowered) next late p is t = subst (λ (d : Due). IsTestedTo book w c d None) (sym is) (record { holds = t.holds; early = λ i lt. absurd (omega (arith, lt)); part = tt })
+  plain (Title Lowered) next late p is t = subst (λ (d : Due). IsTestedTo book w c d None) (sym is)
+      (record { holds = t.holds; early = λ i lt. absurd (omega (arith, lt)); part = tt })
   plain (Entries table k) next late p is t = absurd p
   plain (Without j) next late p is t = subst (λ (d : Due). IsTestedTo book w c d None) (sym is) (record { holds = t.holds; early = refl; part = t.part })
   plain (PartChoice j) next late p is t = absurd p

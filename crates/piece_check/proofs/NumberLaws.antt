@@ -1,5 +1,6 @@
 -- Numbers of a choice, as numbers of a line.
-use Rattle.std.proofs.Common.{◌≡◌, ◌≢◌, ℕ, zero, suc, ◌+◌, ◌<◌, ◌≤◌, List, [], ◌∷◌, length, get_or, set, get_or-set_other, get_or-set_same, below_more, refl, sym, ap, ◌∙◌, arith}
+use Rattle.std.proofs.Common.{◌≡◌, ◌≢◌, ℕ, zero, suc, ◌+◌, ◌<◌, ◌≤◌, List, [], ◌∷◌, length, get_or, set, get_or-set_other, get_or-set_same, below_more, refl}
+use Rattle.std.proofs.Common.{sym, ap, ◌∙◌, arith}
 use Rattle.std.specs.Prelude.{ℤ, pos}
 use Rattle.cert_facts.specs.cert_form.specs.CertText.{AtMost, as_numbers}
 use Rattle.cert_pieces.proofs.Comings.{number_at}
@@ -18,10 +19,12 @@ one x y m e le = let same : x ≡ y = cc in omega (arith, same, le)
 
 -- which is small
 pub most-at : (from : List ℤ) (ms ns : List ℕ) (k : ℕ) → from ≡ as_numbers ms → from ≡ as_numbers ns → AtMost 65535 ms → get_or ns k 0 ≤ 65535
-most-at from ms ns k first second all = one (get_or ms k 0) (get_or ns k 0) 65535 (sym (number-at from ms k first) ∙ number-at from ns k second) (most 65535 ms k all)
+most-at from ms ns k first second all = one (get_or ms k 0) (get_or ns k 0) 65535 (sym (number-at from ms k first) ∙ number-at from ns k second)
+    (most 65535 ms k all)
 
 -- one more is written
-pub put-more : (to ns : List ℕ) (k v : ℕ) → k < length to → ((q : ℕ) → q < k → get_or to q 0 ≡ get_or ns q 0) → v ≡ get_or ns k 0 → (q : ℕ) → q < k + 1 → get_or (set to k v) q 0 ≡ get_or ns q 0
+pub put-more : (to ns : List ℕ) (k v : ℕ) → k < length to → ((q : ℕ) → q < k → get_or to q 0 ≡ get_or ns q 0) → v ≡ get_or ns k 0 → (q : ℕ) → q < k + 1
+    → get_or (set to k v) q 0 ≡ get_or ns q 0
 put-more to ns k v inside done is = below_more (λ q. get_or (set to k v) q 0 ≡ get_or ns q 0) k
     (λ q h. let other : q ≢ k = omega arith in rw get_or-set_other (done q h))
     (rw get_or-set_same is)

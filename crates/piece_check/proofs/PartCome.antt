@@ -31,7 +31,8 @@ use Rattle.piece_check.proofs.RuleLaws.{tested-inside, tested-all}
 use Rattle.piece_check.proofs.TableCome.{two-lines}
 
 -- a part that shows nothing is what fails first
-pub part-failed : (book : Book) (w : ℕ → ℕ) (c : CertValue) (j : ℕ) (next : Due) (failed : Option Failure) (late : Option ℕ) (f : Failure) → failed ≡ Some f → f.test ≡ 4 → f.place ≡ j → 0 < j → j ≤ bidders_of book → IsTrue (uses c.choice j)
+pub part-failed : (book : Book) (w : ℕ → ℕ) (c : CertValue) (j : ℕ) (next : Due) (failed : Option Failure) (late : Option ℕ) (f : Failure) → failed ≡ Some f
+    → f.test ≡ 4 → f.place ≡ j → 0 < j → j ≤ bidders_of book → IsTrue (uses c.choice j)
     → HoldsTo book w c 4 j → (IsPart book j (part_of c.withouts j) → ⊥) → IsFound book w c next failed late
 part-failed book w c j next failed late f is test place some inside wins before fails =
     subst (λ (o : Option Failure). IsFound book w c next o late) (sym is)
@@ -56,8 +57,10 @@ module _ (at : Moment) (c : CertValue) (is : IsAt at c) (j : ℕ) (due : at.due 
   part-named = own.known.named
 
   -- what is found of its choice
-  pub choice-shows : (next : Due) (failed : Option Failure) (late : Option ℕ) (b : Bool) → IsNext at.book.now c at.due next → (IsTrue b ↔ (IsTrue ((market_of at.book.now).allowed (part_of c.withouts j).choice) × (number_of (part_of c.withouts j).choice j ≡ 0)))
-      → (IsTrue b → (failed ≡ None) × (late ≡ None)) → ((IsTrue b → ⊥) → (f : Failure) × (failed ≡ Some f) × (f.test ≡ 4) × (f.place ≡ j)) → IsFound at.book.now (weight_of at.weights.now) c next failed late
+  pub choice-shows : (next : Due) (failed : Option Failure) (late : Option ℕ) (b : Bool) → IsNext at.book.now c at.due next
+      → (IsTrue b ↔ (IsTrue ((market_of at.book.now).allowed (part_of c.withouts j).choice) × (number_of (part_of c.withouts j).choice j ≡ 0)))
+      → (IsTrue b → (failed ≡ None) × (late ≡ None)) → ((IsTrue b → ⊥) → (f : Failure) × (failed ≡ Some f) × (f.test ≡ 4) × (f.place ≡ j))
+      → IsFound at.book.now (weight_of at.weights.now) c next failed late
   choice-shows next failed late true follows test holds fails =
       let two = test.0 refl in
       let none = holds refl in
@@ -79,7 +82,8 @@ module _ (at : Moment) (c : CertValue) (is : IsAt at c) (j : ℕ) (due : at.due 
       })))
   choice-shows next failed late false follows test holds fails =
       let (f, some_is, test_is, place_is) = fails (λ t. absurd (false≢true t)) in
-      part-failed at.book.now (weight_of at.weights.now) c j next failed late f some_is test_is place_is part-named.0 part-named.1 own.known.tested.part own.known.tested.holds (λ part. false≢true (test.1 (part.allowed, part.unused)))
+      part-failed at.book.now (weight_of at.weights.now) c j next failed late f some_is test_is place_is part-named.0 part-named.1 own.known.tested.part
+      own.known.tested.holds (λ part. false≢true (test.1 (part.allowed, part.unused)))
 
 module _ (at : Moment) (c : CertValue) (is : IsAt at c) (j k : ℕ) (due : at.due ≡ Entries (Part j) k) where
   line : IsAtLine at.book.now (weight_of at.weights.now) c (Entries (Part j) k) at.count at.late at.members at.totals.now at.room.now
@@ -114,21 +118,29 @@ module _ (at : Moment) (c : CertValue) (is : IsAt at c) (j k : ℕ) (due : at.du
   lines-kept = line.known.has.choice
 
   -- a broken rule, or a line 0 that has too much
-  pub line-fails : (next : Due) (failed : Option Failure) (late : Option ℕ) (f : Failure) → failed ≡ Some f → f.test ≡ 4 → f.place ≡ j → (IsPart at.book.now j (part_of c.withouts j) → ⊥) → IsFound at.book.now (weight_of at.weights.now) c next failed late
+  pub line-fails : (next : Due) (failed : Option Failure) (late : Option ℕ) (f : Failure) → failed ≡ Some f → f.test ≡ 4 → f.place ≡ j
+      → (IsPart at.book.now j (part_of c.withouts j) → ⊥) → IsFound at.book.now (weight_of at.weights.now) c next failed late
   line-fails next failed late f some_is test_is place_is fails =
-      part-failed at.book.now (weight_of at.weights.now) c j next failed late f some_is test_is place_is lines-named.0 lines-named.1 line.known.tested.part.0 line.known.tested.holds fails
+      part-failed at.book.now (weight_of at.weights.now) c j next failed late f some_is test_is place_is lines-named.0 lines-named.1 line.known.tested.part.0
+      line.known.tested.holds fails
 
-  module _ (o : Offers) (same : o.book.now ≡ at.book.now) (skip : o.skip ≡ j) (net : (i n : ℕ) → 0 < i → i ≤ bidders_of o.book.now → worth_of o i n ≡ net_of o.book.now i n) where
+  module _ (o : Offers) (same : o.book.now ≡ at.book.now) (skip : o.skip ≡ j) (net : (i n : ℕ) → 0 < i → i ≤ bidders_of o.book.now
+      → worth_of o i n ≡ net_of o.book.now i n) where
     -- a fault among the rules
-    pub rule-fails : (p : ℕ) → IsFirstBetween (RulesAt o (part_of c.withouts j).table) ((k - 1) * states o.book.now) (lines_tested (bidders_of o.book.now) k * states o.book.now) (Some p) → IsPart at.book.now j (part_of c.withouts j) → ⊥
+    pub rule-fails : (p : ℕ) → IsFirstBetween (RulesAt o (part_of c.withouts j).table) ((k - 1) * states o.book.now)
+        (lines_tested (bidders_of o.book.now) k * states o.book.now) (Some p) → IsPart at.book.now j (part_of c.withouts j) → ⊥
     rule-fails p f part = f.2 (part-rules o j (part_of c.withouts j) skip net p (subst (λ (b : Book). IsPart b j (part_of c.withouts j)) (sym same) part))
 
     -- the rules of the lines that are tested now
-    rules-kept : IsFirstBetween (RulesAt o (part_of c.withouts j).table) ((k - 1) * states o.book.now) (lines_tested (bidders_of o.book.now) k * states o.book.now) None
-        → (l s : ℕ) → k ≤ suc l → l < lines_tested (bidders_of at.book.now) k → l ≤ bidders_of at.book.now → s < states at.book.now → ObeysAt (without (menu_of at.book.now) j) (net_of at.book.now) at.book.now.supply (part_of c.withouts j).table l s
+    rules-kept : IsFirstBetween (RulesAt o (part_of c.withouts j).table) ((k - 1) * states o.book.now)
+        (lines_tested (bidders_of o.book.now) k * states o.book.now) None
+        → (l s : ℕ) → k ≤ suc l → l < lines_tested (bidders_of at.book.now) k → l ≤ bidders_of at.book.now → s < states at.book.now
+        → ObeysAt (without (menu_of at.book.now) j) (net_of at.book.now) at.book.now.supply (part_of c.withouts j).table l s
     rules-kept f l s from to le lt =
-        subst (λ (b : Book). l < lines_tested (bidders_of b) k → l ≤ bidders_of b → s < states b → ObeysAt (without (menu_of b) j) (net_of b) b.supply (part_of c.withouts j).table l s) same
-        (λ to le lt. rules-part o j (part_of c.withouts j) skip net l s le lt (f (l * states o.book.now + s) (low (states o.book.now)) (high (states o.book.now) (lines_tested (bidders_of o.book.now) k) to lt))) to le lt
+        subst (λ (b : Book). l < lines_tested (bidders_of b) k → l ≤ bidders_of b → s < states b → ObeysAt (without (menu_of b) j) (net_of b) b.supply
+        (part_of c.withouts j).table l s) same
+        (λ to le lt. rules-part o j (part_of c.withouts j) skip net l s le lt (f (l * states o.book.now + s) (low (states o.book.now))
+        (high (states o.book.now) (lines_tested (bidders_of o.book.now) k) to lt))) to le lt
       where
         low : (size : ℕ) → (k - 1) * size ≤ l * size + s
         low size = let up : k - 1 ≤ l = omega (arith, from) in omega (arith, mul-le-mul_left size up)
@@ -138,7 +150,8 @@ module _ (at : Moment) (c : CertValue) (is : IsAt at c) (j k : ℕ) (due : at.du
 
     -- the line keeps all that is asked of it
     pub line-shows : (next : Due) (failed : Option Failure) (late : Option ℕ) → IsNext at.book.now c at.due next → failed ≡ None → late ≡ None
-        → IsFirstBetween (RulesAt o (part_of c.withouts j).table) ((k - 1) * states o.book.now) (lines_tested (bidders_of o.book.now) k * states o.book.now) None
+        → IsFirstBetween (RulesAt o (part_of c.withouts j).table) ((k - 1) * states o.book.now) (lines_tested (bidders_of o.book.now) k * states o.book.now)
+        None
         → (k ≡ 0 → entry_at (part_of c.withouts j).table 0 (full at.book.now) ≤ℤ value_of (market_of at.book.now) (part_of c.withouts j).choice)
         → IsFound at.book.now (weight_of at.weights.now) c next failed late
     line-shows next failed late follows none no_late f top =
@@ -155,25 +168,33 @@ module _ (at : Moment) (c : CertValue) (is : IsAt at c) (j k : ℕ) (due : at.du
                   record {
                     allowed = lines-part.allowed;
                     unused = lines-part.unused;
-                    rules = λ l s low in_line. rule l s (omega (arith, low)) (omega (arith, low, lt)) in_line (λ from. rules-kept f l s from (subst (λ (n : ℕ). l < n) (sym (tested-inside (bidders_of at.book.now) k lt)) (omega (arith, low))) (omega (arith, low, lt)) in_line);
+                    rules = λ l s low in_line. rule l s (omega (arith, low)) (omega (arith, low, lt)) in_line
+                        (λ from. rules-kept f l s from (subst (λ (n : ℕ). l < n) (sym (tested-inside (bidders_of at.book.now) k lt)) (omega (arith, low)))
+                        (omega (arith, low, lt)) in_line);
                     top = λ some. first;
                   },
                 );
               })
           | inr past ↦
-              behind-part at.book.now (weight_of at.weights.now) c j next (order.1 past) (subst (HoldsTo at.book.now (weight_of at.weights.now) c 4) {x = j + 1} {y = suc j} (omega arith) (holds-further at.book.now (weight_of at.weights.now) c 4 j 1 line.known.tested.holds (λ i low. let here : j ≡ j + i = omega (arith, low) in subst (λ (n : ℕ). Asks at.book.now (weight_of at.weights.now) c 4 n) here
+              behind-part at.book.now (weight_of at.weights.now) c j next (order.1 past)
+              (subst (HoldsTo at.book.now (weight_of at.weights.now) c 4) {x = j + 1} {y = suc j} (omega arith)
+              (holds-further at.book.now (weight_of at.weights.now) c 4 j 1 line.known.tested.holds
+              (λ i low. let here : j ≡ j + i = omega (arith, low) in subst (λ (n : ℕ). Asks at.book.now (weight_of at.weights.now) c 4 n) here
               (asks-C4 at.book.now (weight_of at.weights.now) c j (record {
                 part = λ some inside wins. record {
                   allowed = lines-part.allowed;
                   unused = lines-part.unused;
-                  rules = λ l s le in_line. rule l s (omega (arith, le, past)) le in_line (λ from. rules-kept f l s from (subst (λ (n : ℕ). l < n) (sym (tested-all (bidders_of at.book.now) k past)) (omega (arith, le))) le in_line);
+                  rules = λ l s le in_line. rule l s (omega (arith, le, past)) le in_line
+                      (λ from. rules-kept f l s from (subst (λ (n : ℕ). l < n) (sym (tested-all (bidders_of at.book.now) k past)) (omega (arith, le))) le
+                      in_line);
                   top = first;
                 };
               })))))
         ]))
       where
         -- a line was tested before, or is now
-        rule : (l s : ℕ) → l ≤ k → l ≤ bidders_of at.book.now → s < states at.book.now → (k ≤ suc l → ObeysAt (without (menu_of at.book.now) j) (net_of at.book.now) at.book.now.supply (part_of c.withouts j).table l s)
+        rule : (l s : ℕ) → l ≤ k → l ≤ bidders_of at.book.now → s < states at.book.now
+            → (k ≤ suc l → ObeysAt (without (menu_of at.book.now) j) (net_of at.book.now) at.book.now.supply (part_of c.withouts j).table l s)
             → ObeysAt (without (menu_of at.book.now) j) (net_of at.book.now) at.book.now.supply (part_of c.withouts j).table l s
         rule l s most le in_line now = elim (cases_lt (suc l) k) [
           | inl lt ↦ lines-part.rules l s lt in_line
@@ -191,7 +212,8 @@ module _ (at : Moment) (c : CertValue) (is : IsAt at c) (j k : ℕ) (due : at.du
     pub line-decides : (next : Due) (failed : Option Failure) (late : Option ℕ) (b : Bool) → IsNext at.book.now c at.due next
         → (IsTrue b ↔ (k ≡ 0 → entry_at (part_of c.withouts j).table 0 (full at.book.now) ≤ℤ value_of (market_of at.book.now) (part_of c.withouts j).choice))
         → (IsTrue b → (failed ≡ None) × (late ≡ None)) → ((IsTrue b → ⊥) → (f : Failure) × (failed ≡ Some f) × (f.test ≡ 4) × (f.place ≡ j))
-        → IsFirstBetween (RulesAt o (part_of c.withouts j).table) ((k - 1) * states o.book.now) (lines_tested (bidders_of o.book.now) k * states o.book.now) None → IsFound at.book.now (weight_of at.weights.now) c next failed late
+        → IsFirstBetween (RulesAt o (part_of c.withouts j).table) ((k - 1) * states o.book.now) (lines_tested (bidders_of o.book.now) k * states o.book.now)
+        None → IsFound at.book.now (weight_of at.weights.now) c next failed late
     line-decides next failed late true follows test holds fails f = (let none = holds refl in line-shows next failed late follows none.0 none.1 f (test.0 refl))
     line-decides next failed late false follows test holds fails f =
         let (g, some_is, test_is, place_is) = fails (λ t. absurd (false≢true t)) in
@@ -208,7 +230,8 @@ none-fault None e = refl
 none-fault (Some p) e = absurd (false≢true (sym e))
 
 -- a test of numbers that are these
-pub tops : (number most entry value : ℤ) (b : Bool) (k : ℕ) → k ≡ 0 → number ≡ entry → most ≡ value → (IsTrue b ↔ (number ≤ℤ most)) → IsTrue b ↔ (k ≡ 0 → entry ≤ℤ value)
+pub tops : (number most entry value : ℤ) (b : Bool) (k : ℕ) → k ≡ 0 → number ≡ entry → most ≡ value → (IsTrue b ↔ (number ≤ℤ most))
+    → IsTrue b ↔ (k ≡ 0 → entry ≤ℤ value)
 tops number most entry value b k first is most_is test =
     let low = subst (λ (z : ℤ). IsTrue b ↔ (z ≤ℤ value)) is (subst (λ (z : ℤ). IsTrue b ↔ (number ≤ℤ z)) most_is test) in
     (λ t e. low.0 t, λ h. low.1 (h first))

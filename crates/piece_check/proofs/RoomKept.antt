@@ -4,7 +4,8 @@ use Rattle.std.specs.Prelude.{ℤ}
 use Rattle.cert_facts.specs.cert_form.specs.Certificate.{CertValue}
 use Rattle.cert_facts.specs.cert_form.specs.CertText.{as_numbers}
 use Rattle.cert_pieces.specs.declared.due.Due.{Due}
-use Rattle.cert_pieces.specs.declared.due.Due.TheVariants.{Version, Limits, Den, Value, Choice, Title, Entries, Without, PartChoice, Payments, Rows, Members, Multipliers, RowChoice, End, Nothing}
+use Rattle.cert_pieces.specs.declared.due.Due.TheVariants.{Version, Limits, Den, Value, Choice, Title, Entries, Without, PartChoice, Payments, Rows, Members}
+use Rattle.cert_pieces.specs.declared.due.Due.TheVariants.{Multipliers, RowChoice, End, Nothing}
 use Rattle.cert_pieces.specs.Dues.{IsDue}
 use Rattle.cert_pieces.specs.LinesLeft.{row_at}
 use Rattle.cert_pieces.specs.Rooms.{segment, KeepsOthers}
@@ -92,7 +93,8 @@ module _ (b s : ℕ) (c : CertValue) (due : Due) (named : IsDue b due) (members 
   choice_stays : (j : ℕ) → 0 < j → j ≤ b → j < parts_come b due → segment b s (PartChoice j) new ≡ segment b s (PartChoice j) old
   choice_stays j some inside come = by_due due named others come
     where
-      other : (due : Due) → IsDue b due → KeepsOthers b s due old new → (part_due (PartChoice j) ≡ part_due due → ⊥) → segment b s (PartChoice j) new ≡ segment b s (PartChoice j) old
+      other : (due : Due) → IsDue b due → KeepsOthers b s due old new → (part_due (PartChoice j) ≡ part_due due → ⊥)
+          → segment b s (PartChoice j) new ≡ segment b s (PartChoice j) old
       other due named others apart = other_line_kept b s due named old new others (PartChoice j) (some, inside) apart
 
       by_due : (due : Due) → IsDue b due → KeepsOthers b s due old new → j < parts_come b due → segment b s (PartChoice j) new ≡ segment b s (PartChoice j) old
@@ -143,7 +145,9 @@ module _ (b s : ℕ) (c : CertValue) (due : Due) (named : IsDue b due) (members 
   members_stay : HasMembers b s c due members old → HasMembers b s c due members new
   members_stay has = by_due due named others has
     where
-      same : (due : Due) (r : ℕ) → IsDue b due → KeepsOthers b s due old new → IsDue b (Members r) → (6 ≡ part_due due → ⊥) → take members (segment b s (Members r) old) ≡ as_numbers (row_at c r).members → take members (segment b s (Members r) new) ≡ as_numbers (row_at c r).members
+      same : (due : Due) (r : ℕ) → IsDue b due → KeepsOthers b s due old new → IsDue b (Members r) → (6 ≡ part_due due → ⊥)
+          → take members (segment b s (Members r) old) ≡ as_numbers (row_at c r).members → take members (segment b s (Members r) new) ≡ as_numbers
+          (row_at c r).members
       same due r named others own apart has = ap (λ (l : List ℤ). take members l) (other_line_kept b s due named old new others (Members r) own apart) ∙ has
 
       by_due : (due : Due) → IsDue b due → KeepsOthers b s due old new → HasMembers b s c due members old → HasMembers b s c due members new

@@ -8,7 +8,8 @@ use Rattle.cert_facts.specs.cert_form.specs.Certificate.{CertValue, RowValue, ro
 use Rattle.cert_facts.specs.cert_form.specs.CertText.{AreRows, IsRow, as_numbers}
 use Rattle.cert_facts.specs.cert_laws.specs.Tests.{bidders_of}
 use Rattle.cert_pieces.specs.declared.due.Due.{Due}
-use Rattle.cert_pieces.specs.declared.due.Due.TheVariants.{Version, Limits, Den, Value, Choice, Title, Entries, Without, PartChoice, Payments, Rows, Members, Multipliers, RowChoice, End, Nothing}
+use Rattle.cert_pieces.specs.declared.due.Due.TheVariants.{Version, Limits, Den, Value, Choice, Title, Entries, Without, PartChoice, Payments, Rows, Members}
+use Rattle.cert_pieces.specs.declared.due.Due.TheVariants.{Multipliers, RowChoice, End, Nothing}
 use Rattle.cert_pieces.specs.declared.due.Table.TheVariants.{Head, Part, Lowered}
 use Rattle.cert_pieces.specs.LinesLeft.{row_at}
 use Rattle.cert_pieces.specs.Order.{IsPartNext, IsRowNext}
@@ -21,7 +22,8 @@ use Rattle.piece_check.proofs.NextLaws.{at-due}
 
 -- the row of which r are to come with it, counted from 1
 pub row-is : (c : CertValue) (r : ℕ) → row_at c r ≡ row_of c.rows (suc (length c.rows - r))
-row-is c r = let back : length c.rows - r ≡ suc (length c.rows - r) - 1 = omega arith in ap (λ (n : ℕ). slice_index_or c.rows n (record { members = []; first = pos 0; second = pos 0; choice = [] })) back
+row-is c r = let back : length c.rows - r ≡ suc (length c.rows - r) - 1 = omega arith in
+    ap (λ (n : ℕ). slice_index_or c.rows n (record { members = []; first = pos 0; second = pos 0; choice = [] })) back
 
 -- what a row keeps
 row-kept : (b : ℕ) (rows : List RowValue) (k : ℕ) (d : RowValue) → AreRows b rows → k < length rows → IsRow b (slice_index_or rows k d)
@@ -31,7 +33,8 @@ row-kept b (r ∷ rows) (suc k) d are lt = row-kept b rows k d are.1 (omega (ari
 
 -- the row of which r are to come with it is one for these bidders
 pub row_at-kept : (b : ℕ) (c : CertValue) (r : ℕ) → AreRows b c.rows → 0 < r → r ≤ length c.rows → IsRow b (row_at c r)
-row_at-kept b c r are some le = row-kept b c.rows (length c.rows - r) (record { members = []; first = pos 0; second = pos 0; choice = [] }) are (omega (arith, some, le))
+row_at-kept b c r are some le = row-kept b c.rows (length c.rows - r) (record { members = []; first = pos 0; second = pos 0; choice = [] }) are
+    (omega (arith, some, le))
 
 -- totals of as many rows
 as-many : (c : CertValue) (m n : ℕ) (t : RowTotals) → m ≡ n → AreTotals c m t → AreTotals c n t
@@ -67,7 +70,8 @@ IsPair (Multipliers r) = Unit {0}
 IsPair due = ⊥
 
 -- another line leaves the totals as they are
-pub totals-next : (book : Book) (c : CertValue) (due next : Due) (t : RowTotals) → (IsPair due → ⊥) → ((r : ℕ) → due ≡ RowChoice r → (0 < r) × (r ≤ length c.rows)) → length c.rows ≤ 10 → IsNext book c due next → HasTotals c due t → HasTotals c next t
+pub totals-next : (book : Book) (c : CertValue) (due next : Due) (t : RowTotals) → (IsPair due → ⊥) →
+    ((r : ℕ) → due ≡ RowChoice r → (0 < r) × (r ≤ length c.rows)) → length c.rows ≤ 10 → IsNext book c due next → HasTotals c due t → HasTotals c next t
 totals-next book c Version next t other rows few is has = elim is [
   | inl e ↦ subst (λ (d : Due). HasTotals c d t) (sym e) has
   | inr e ↦ subst (λ (d : Due). HasTotals c d t) (sym e) has
@@ -94,22 +98,26 @@ totals-next book c (Entries Lowered k) next t other rows few is has = elim (case
 totals-next book c (Without j) next t other rows few is has = subst (λ (d : Due). HasTotals c d t) (sym is) has
 totals-next book c (PartChoice j) next t other rows few is has = subst (λ (d : Due). HasTotals c d t) (sym is) has
 totals-next book c Payments next t other rows few is has = subst (λ (d : Due). HasTotals c d t) (sym is) has
-totals-next book c Rows next t other rows few is has = row-totals c (length c.rows) next t (is (length c.rows) refl few) (as-many c 0 (length c.rows - length c.rows) t (omega arith) has)
+totals-next book c Rows next t other rows few is has = row-totals c (length c.rows) next t (is (length c.rows) refl few)
+    (as-many c 0 (length c.rows - length c.rows) t (omega arith) has)
 totals-next book c (Members r) next t other rows few is has = subst (λ (d : Due). HasTotals c d t) (sym is) has
 totals-next book c (Multipliers r) next t other rows few is has = absurd (other tt)
-totals-next book c (RowChoice r) next t other rows few is has = (let in_rows = rows r refl in row-totals c (r - 1) next t is (as-many c (suc (length c.rows - r)) (length c.rows - (r - 1)) t (omega (arith, in_rows.0, in_rows.1)) has))
+totals-next book c (RowChoice r) next t other rows few is has = (let in_rows = rows r refl in row-totals c (r - 1) next t is
+    (as-many c (suc (length c.rows - r)) (length c.rows - (r - 1)) t (omega (arith, in_rows.0, in_rows.1)) has))
 totals-next book c End next t other rows few is has = subst (λ (d : Due). HasTotals c d t) (sym is) tt
 totals-next book c Nothing next t other rows few is has = subst (λ (d : Due). HasTotals c d t) (sym is) tt
 
 -- behind the multipliers the row's are among them
-pub pair-next : (book : Book) (c : CertValue) (r : ℕ) (next : Due) (t : RowTotals) → IsNext book c (Multipliers r) next → AreTotals c (suc (length c.rows - r)) t → HasTotals c next t
+pub pair-next : (book : Book) (c : CertValue) (r : ℕ) (next : Due) (t : RowTotals) → IsNext book c (Multipliers r) next
+    → AreTotals c (suc (length c.rows - r)) t → HasTotals c next t
 pair-next book c r next t is are = subst (λ (d : Due). HasTotals c d t) (sym is) are
 
 -- the members of a row, in as many numbers as there are
 pub take-few : (n : ℕ) (xs : List ℤ) → take (min n (length xs)) xs ≡ take n xs
 take-few n xs =
     elim (cases_lt (length xs) n) [
-      | inl lt ↦ ap (λ (m : ℕ). take m xs) {x = min n (length xs)} {y = length xs} (omega (arith, lt)) ∙ take_all (length xs) xs (omega arith) ∙ sym (take_all n xs (omega (arith, lt)))
+      | inl lt ↦ ap (λ (m : ℕ). take m xs) {x = min n (length xs)} {y = length xs} (omega (arith, lt)) ∙ take_all (length xs) xs (omega arith)
+          ∙ sym (take_all n xs (omega (arith, lt)))
       | inr le ↦ ap (λ (m : ℕ). take m xs) {x = min n (length xs)} {y = n} (omega (arith, le))
     ]
 

@@ -52,7 +52,9 @@ module _ (book : Book) (w : ℕ → ℕ) (c : CertValue) where
       subst (λ (n : ℕ). Asks book w c 6 n) here (asks-C6 (suc (length c.rows - r)) (record { row = λ some le. subst (IsTightRow book c) (row-is c r) tight })))
 
   -- a row that isn't met
-  pub row-fails : (r place : ℕ) (next : Due) (late : Option ℕ) (f : Failure) → 0 < r → r ≤ length c.rows → f.test ≡ 6 → f.place ≡ place → place ≡ suc (length c.rows - r) → HoldsTo book w c 6 (suc (length c.rows - r)) → (IsTightRow book c (row_at c r) → ⊥) → IsFound book w c next (Some f) late
+  pub row-fails : (r place : ℕ) (next : Due) (late : Option ℕ) (f : Failure) → 0 < r → r ≤ length c.rows → f.test ≡ 6 → f.place ≡ place
+      → place ≡ suc (length c.rows - r) → HoldsTo book w c 6 (suc (length c.rows - r)) → (IsTightRow book c (row_at c r) → ⊥)
+      → IsFound book w c next (Some f) late
   row-fails r place next late f some le test is place_is before fails =
       subst (λ (t : ℕ). FailsFirst book w c t f.place) (sym test)
       (subst (λ (p : ℕ). FailsFirst book w c 6 p) (sym (is ∙ place_is))
@@ -68,7 +70,9 @@ module _ (book : Book) (w : ℕ → ℕ) (c : CertValue) where
 
   -- none is to come
   pub rows-done : (n : ℕ) (next : Due) (failed : Option Failure) → IsRowNext n next → n ≡ 0 → IsJudged book w c 9 0 failed → IsFound book w c next failed None
-  rows-done zero next failed is none judged = found-next book w c (Title Lowered) next failed None is (found-by book w c 9 0 (Title Lowered) failed None judged (λ holds. record { holds = subst (HoldsTo book w c 9) {x = 0} (omega arith) holds; early = refl; part = tt }))
+  rows-done zero next failed is none judged = found-next book w c (Title Lowered) next failed None is
+      (found-by book w c 9 0 (Title Lowered) failed None judged (λ holds. record
+      { holds = subst (HoldsTo book w c 9) {x = 0} (omega arith) holds; early = refl; part = tt }))
   rows-done (suc n) next failed is none judged = absurd (omega (arith, none))
 
 -- a count of 0
@@ -95,7 +99,8 @@ module _ (at : Moment) (c : CertValue) (is : IsAt at c) (due : at.due ≡ Rows) 
   pub some-shows : (next : Due) → IsNext at.book.now c at.due next → (length c.rows ≡ 0 → ⊥) → IsFound at.book.now (weight_of at.weights.now) c next None None
   some-shows next follows some =
       rows-next at.book.now (weight_of at.weights.now) c (length c.rows) next (count-next next follows) (positive (length c.rows) some)
-      (subst (λ (n : ℕ). HoldsTo at.book.now (weight_of at.weights.now) c 6 n) (omega arith) (no-row at.book.now (weight_of at.weights.now) c own.known.tested.holds))
+      (subst (λ (n : ℕ). HoldsTo at.book.now (weight_of at.weights.now) c 6 n) (omega arith)
+      (no-row at.book.now (weight_of at.weights.now) c own.known.tested.holds))
     where
       positive : (n : ℕ) → (n ≡ 0 → ⊥) → 0 < n
       positive zero some = absurd (some refl)
@@ -103,7 +108,8 @@ module _ (at : Moment) (c : CertValue) (is : IsAt at c) (due : at.due ≡ Rows) 
 
   -- where there are no rows, the first six tests hold
   pub none-holds : length c.rows ≡ 0 → HoldsTo at.book.now (weight_of at.weights.now) c 7 0
-  none-holds none = all-rows at.book.now (weight_of at.weights.now) c 1 (omega (arith, none)) (no-row at.book.now (weight_of at.weights.now) c own.known.tested.holds)
+  none-holds none = all-rows at.book.now (weight_of at.weights.now) c 1 (omega (arith, none))
+      (no-row at.book.now (weight_of at.weights.now) c own.known.tested.holds)
 
 module _ (at : Moment) (c : CertValue) (is : IsAt at c) (r : ℕ) (due : at.due ≡ RowChoice r) where
   row-line : IsAtLine at.book.now (weight_of at.weights.now) c (RowChoice r) at.count at.late at.members at.totals.now at.room.now
@@ -138,10 +144,12 @@ module _ (at : Moment) (c : CertValue) (is : IsAt at c) (r : ℕ) (due : at.due 
   row-order next follows = next-due at c (RowChoice r) next due follows
 
   -- where a row that isn't the last is tight, nothing fails up to the next one
-  pub more-shows : (next : Due) → IsNext at.book.now c at.due next → (r ≡ 1 → ⊥) → IsTightRow at.book.now c (row_at c r) → IsFound at.book.now (weight_of at.weights.now) c next None None
+  pub more-shows : (next : Due) → IsNext at.book.now c at.due next → (r ≡ 1 → ⊥) → IsTightRow at.book.now c (row_at c r)
+      → IsFound at.book.now (weight_of at.weights.now) c next None None
   more-shows next follows other tight =
       rows-next at.book.now (weight_of at.weights.now) c (r - 1) next (row-order next follows) (above r row-some other)
-      (subst (λ (n : ℕ). HoldsTo at.book.now (weight_of at.weights.now) c 6 n) (omega (arith, row-some, row-inside)) (row-more at.book.now (weight_of at.weights.now) c r row-before tight))
+      (subst (λ (n : ℕ). HoldsTo at.book.now (weight_of at.weights.now) c 6 n) (omega (arith, row-some, row-inside))
+      (row-more at.book.now (weight_of at.weights.now) c r row-before tight))
     where
       above : (r : ℕ) → 0 < r → (r ≡ 1 → ⊥) → 0 < r - 1
       above zero some other = absurd (omega (arith, some))
@@ -150,7 +158,8 @@ module _ (at : Moment) (c : CertValue) (is : IsAt at c) (r : ℕ) (due : at.due 
 
   -- where the last row is tight, the first six tests hold
   pub last-holds : r ≡ 1 → IsTightRow at.book.now c (row_at c r) → HoldsTo at.book.now (weight_of at.weights.now) c 7 0
-  last-holds one tight = all-rows at.book.now (weight_of at.weights.now) c (suc (length c.rows - r) + 1) (omega (arith, one, row-inside)) (row-more at.book.now (weight_of at.weights.now) c r row-before tight)
+  last-holds one tight = all-rows at.book.now (weight_of at.weights.now) c (suc (length c.rows - r) + 1) (omega (arith, one, row-inside))
+      (row-more at.book.now (weight_of at.weights.now) c r row-before tight)
 
   -- at the last row the totals are those of all rows
   pub last-totals : r ≡ 1 → AreTotals c (length c.rows) at.totals.now

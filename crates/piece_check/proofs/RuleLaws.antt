@@ -12,7 +12,8 @@ use Rattle.cert_check.specs.Partway.{failure_at, HoldsTo, IsJudged}
 use Rattle.piece_check.specs.Rules.{IsFirstBetween, lines_tested}
 
 -- all places hold up to the end of those that were tested
-between-holds : (book : Book) (w : ℕ → ℕ) (c : CertValue) (test from to : ℕ) → from ≤ to → HoldsTo book w c test from → IsFirstBetween (Asks book w c test) from to None → HoldsTo book w c test to
+between-holds : (book : Book) (w : ℕ → ℕ) (c : CertValue) (test from to : ℕ) → from ≤ to → HoldsTo book w c test from
+    → IsFirstBetween (Asks book w c test) from to None → HoldsTo book w c test to
 between-holds book w c test from to le before more u q (inl less) = before u q (inl less)
 between-holds book w c test from to le before more u q (inr (same, low)) =
     elim (cases_lt q from) [
@@ -21,24 +22,28 @@ between-holds book w c test from to le before more u q (inr (same, low)) =
     ]
 
 -- the first one that doesn't is what fails first
-between-fails : (book : Book) (w : ℕ → ℕ) (c : CertValue) (test from to p : ℕ) → HoldsTo book w c test from → IsFirstBetween (Asks book w c test) from to (Some p) → FailsFirst book w c test p
+between-fails : (book : Book) (w : ℕ → ℕ) (c : CertValue) (test from to p : ℕ) → HoldsTo book w c test from
+    → IsFirstBetween (Asks book w c test) from to (Some p) → FailsFirst book w c test p
 between-fails book w c test from to p before f = record {
   fails = f.2;
   before = between-holds book w c test from p f.0 before f.3;
 }
 
 -- what fails first behind rules that a test asks at the same numbers
-pub between-judged : (book : Book) (w : ℕ → ℕ) (c : CertValue) (test from to : ℕ) (found : Option ℕ) → from ≤ to → HoldsTo book w c test from → IsFirstBetween (Asks book w c test) from to found → IsJudged book w c test to (failure_at test found)
+pub between-judged : (book : Book) (w : ℕ → ℕ) (c : CertValue) (test from to : ℕ) (found : Option ℕ) → from ≤ to → HoldsTo book w c test from
+    → IsFirstBetween (Asks book w c test) from to found → IsJudged book w c test to (failure_at test found)
 between-judged book w c test from to None le before f = between-holds book w c test from to le before f
 between-judged book w c test from to (Some place) le before f = between-fails book w c test from to place before f
 
 -- tests that ask the same between these numbers have the same first fault
-pub between-same : (P Q : ℕ → Type 0) (from to : ℕ) (r : Option ℕ) → ((q : ℕ) → q < to → P q → Q q) → ((q : ℕ) → Q q → P q) → IsFirstBetween P from to r → IsFirstBetween Q from to r
+pub between-same : (P Q : ℕ → Type 0) (from to : ℕ) (r : Option ℕ) → ((q : ℕ) → q < to → P q → Q q) → ((q : ℕ) → Q q → P q) → IsFirstBetween P from to r
+    → IsFirstBetween Q from to r
 between-same P Q from to None there back f = λ q low high. there q high (f q low high)
 between-same P Q from to (Some p) there back f = (f.0, f.1, λ own. f.2 (back p own), λ q low lt. there q (omega (arith, lt, f.1)) (f.3 q low lt))
 
 -- one behind the other
-pub between-both : (P : ℕ → Type 0) (from mid to : ℕ) (r : Option ℕ) → from ≤ mid → mid ≤ to → IsFirstBetween P from mid None → IsFirstBetween P mid to r → IsFirstBetween P from to r
+pub between-both : (P : ℕ → Type 0) (from mid to : ℕ) (r : Option ℕ) → from ≤ mid → mid ≤ to → IsFirstBetween P from mid None → IsFirstBetween P mid to r
+    → IsFirstBetween P from to r
 between-both P from mid to None le more first rest = λ q low high.
     elim (cases_lt q mid) [
       | inl lt ↦ first q low lt
@@ -63,7 +68,8 @@ pub between-none : (P : ℕ → Type 0) (from to : ℕ) → to ≤ from → IsFi
 between-none P from to le q low high = absurd (omega (arith, le, low, high))
 
 -- the first fault of a line as that of its numbers
-pub line-between : (P : ℕ → Type 0) (k size fault : ℕ) (r : Option ℕ) → FirstFault (λ s. P (k * size + s)) size fault → (fault < size → r ≡ Some (k * size + fault)) → (size ≤ fault → r ≡ None)
+pub line-between : (P : ℕ → Type 0) (k size fault : ℕ) (r : Option ℕ) → FirstFault (λ s. P (k * size + s)) size fault
+    → (fault < size → r ≡ Some (k * size + fault)) → (size ≤ fault → r ≡ None)
     → IsFirstBetween P (k * size) (suc k * size) r
 line-between P k size fault r f some none =
     elim (cases_lt fault size) [
@@ -73,7 +79,8 @@ line-between P k size fault r f some none =
         f.fails low,
         λ q from lt. at q from (f.before (q - k * size) (omega (arith, from, lt))),
       )
-      | inr past ↦ subst (IsFirstBetween P (k * size) (suc k * size)) (sym (none past)) (λ q from lt. at q from (f.before (q - k * size) (omega (arith, from, lt, past))))
+      | inr past ↦ subst (IsFirstBetween P (k * size) (suc k * size)) (sym (none past))
+          (λ q from lt. at q from (f.before (q - k * size) (omega (arith, from, lt, past))))
     ]
   where
     at : (q : ℕ) → k * size ≤ q → P (k * size + (q - k * size)) → P q

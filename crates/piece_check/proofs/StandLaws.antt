@@ -1,5 +1,6 @@
 -- A checker that stands for a text, and one more line.
-use Rattle.std.proofs.Common.{◌≡◌, ℕ, zero, suc, ◌≤◌, false, List, [], ◌∷◌, ◌++◌, length, take, drop, get_or, append_assoc, inl, inr, refl, sym, ap, subst, ◌∙◌, arith}
+use Rattle.std.proofs.Common.{◌≡◌, ℕ, zero, suc, ◌≤◌, false, List, [], ◌∷◌, ◌++◌, length, take, drop, get_or, append_assoc, inl, inr, refl, sym, ap, subst}
+use Rattle.std.proofs.Common.{◌∙◌, arith}
 use Rattle.std.proofs.lemmas.List.{append-nil}
 use Rattle.std.specs.Prelude.{ℤ, pos, Option, Some, None, codes}
 use Rattle.cert_check.specs.cert_text.specs.line_text.specs.LineText.{IsTextOf, stated}
@@ -12,7 +13,8 @@ use Rattle.cert_facts.specs.cert_laws.specs.Tests.{bidders_of, states}
 use Rattle.cert_check.specs.declared.failure.Failure.{Failure}
 use Rattle.cert_check.specs.Partway.{HoldsTo, IsJudged}
 use Rattle.cert_pieces.specs.declared.due.Due.{Due}
-use Rattle.cert_pieces.specs.declared.due.Due.TheVariants.{Version, Limits, Den, Value, Choice, Title, Entries, Without, PartChoice, Payments, Rows, Members, Multipliers, RowChoice, End, Nothing}
+use Rattle.cert_pieces.specs.declared.due.Due.TheVariants.{Version, Limits, Den, Value, Choice, Title, Entries, Without, PartChoice, Payments, Rows, Members}
+use Rattle.cert_pieces.specs.declared.due.Due.TheVariants.{Multipliers, RowChoice, End, Nothing}
 use Rattle.cert_pieces.specs.declared.line.LinePart.{LinePart}
 use Rattle.cert_pieces.specs.Dues.{IsDue, line_with}
 use Rattle.cert_pieces.specs.LinesLeft.{lines_left, line_due, ComesNext, Tells, LeadsInRoom}
@@ -37,11 +39,22 @@ use Rattle.piece_check.proofs.RoomNext.{room-next}
 module _ (book : Book) (w : ℕ → ℕ) where
   -- at first nothing is asked
   nothing-asked : (c : CertValue) → HoldsTo book w c 1 0
-  nothing-asked c u q (inl low) = (λ e. absurd (omega (arith, e, low)), λ e. absurd (omega (arith, e, low)), λ e. absurd (omega (arith, e, low)), λ e. absurd (omega (arith, e, low)), λ e. absurd (omega (arith, e, low)), λ e. absurd (omega (arith, e, low)), λ e. absurd (omega (arith, e, low)), λ e. absurd (omega (arith, e, low)), λ e. absurd (omega (arith, e, low)))
+  nothing-asked c u q (inl low) = (
+    λ e. absurd (omega (arith, e, low)),
+    λ e. absurd (omega (arith, e, low)),
+    λ e. absurd (omega (arith, e, low)),
+    λ e. absurd (omega (arith, e, low)),
+    λ e. absurd (omega (arith, e, low)),
+    λ e. absurd (omega (arith, e, low)),
+    λ e. absurd (omega (arith, e, low)),
+    λ e. absurd (omega (arith, e, low)),
+    λ e. absurd (omega (arith, e, low)),
+  )
   nothing-asked c u q (inr (same, lt)) = absurd (omega (arith, lt))
 
   -- a checker to which nothing was fed
-  pub known-first : (due : Due) (totals : RowTotals) (room : List ℤ) → due ≡ Version → ((c : CertValue) → AreTotals c 0 totals) → IsKnown book w due None None 0 totals room []
+  pub known-first : (due : Due) (totals : RowTotals) (room : List ℤ) → due ≡ Version → ((c : CertValue) → AreTotals c 0 totals)
+      → IsKnown book w due None None 0 totals room []
   known-first due totals room first none c kept rest e =
       subst (λ (d : Due). IsLeft book w c rest d None 0 totals room) (sym first) (record {
         left = sym e ∙ all_left (bidders_of book) (states book) c kept;
@@ -63,7 +76,8 @@ module _ (book : Book) (w : ℕ → ℕ) where
       })
 
   -- the room has other numbers only in the line that is read
-  pub known-stays : (due : Due) (failed : Option Failure) (late : Option ℕ) (members : ℕ) (totals : RowTotals) (old new : List ℤ) (items : List Line) → IsDue (bidders_of book) due → KeepsOthers (bidders_of book) (states book) due old new
+  pub known-stays : (due : Due) (failed : Option Failure) (late : Option ℕ) (members : ℕ) (totals : RowTotals) (old new : List ℤ) (items : List Line)
+      → IsDue (bidders_of book) due → KeepsOthers (bidders_of book) (states book) due old new
       → IsKnown book w due failed late members totals old items → IsKnown book w due failed late members totals new items
   known-stays due failed late members totals old new items named others known c kept rest e = by failed (known c kept rest e)
     where
@@ -81,7 +95,8 @@ module _ (book : Book) (w : ℕ → ℕ) where
       }
 
   -- what is known of the certificate at the end
-  judged-last : (c : CertValue) (failed : Option Failure) (late : Option ℕ) (members : ℕ) (totals : RowTotals) (room : List ℤ) → HasCome book w c [] Nothing failed late members totals room → IsJudged book w c 10 0 failed
+  judged-last : (c : CertValue) (failed : Option Failure) (late : Option ℕ) (members : ℕ) (totals : RowTotals) (room : List ℤ)
+      → HasCome book w c [] Nothing failed late members totals room → IsJudged book w c 10 0 failed
   judged-last c (Some f) late members totals room has = has
   judged-last c None late members totals room has = has.known.tested.holds
 
@@ -99,12 +114,16 @@ module _ (book : Book) (w : ℕ → ℕ) where
     pub judged : IsJudged book w cert 10 0 failed
 
   -- where no line is due, the text states such a certificate
-  pub at-end : (due : Due) (part : LinePart) (place read : ℕ) (room : List ℤ) (text : List ℕ) (items : List Line) (failed : Option Failure) (late : Option ℕ) (members : ℕ) (totals : RowTotals) → due ≡ Nothing
-      → IsReading (bidders_of book) (states book) due part place read room text items → IsKnown book w due failed late members totals room items → IsDone text failed late members totals room
+  pub at-end : (due : Due) (part : LinePart) (place read : ℕ) (room : List ℤ) (text : List ℕ) (items : List Line) (failed : Option Failure) (late : Option ℕ)
+      (members : ℕ) (totals : RowTotals) → due ≡ Nothing
+      → IsReading (bidders_of book) (states book) due part place read room text items → IsKnown book w due failed late members totals room items
+      → IsDone text failed late members totals room
   at-end due part place read room text items failed late members totals done reading known =
-      let own : IsTextOf (IsCertText (bidders_of book) (states book)) lines text items = whole_text (bidders_of book) (states book) due part place read room text items reading done in
+      let own : IsTextOf (IsCertText (bidders_of book) (states book)) lines text items = whole_text (bidders_of book)
+      (states book) due part place read room text items reading done in
       let c = cert_of (bidders_of book) (states book) items own.valid (none_out 0 items own.within) in
-      let last : HasCome book w c.cert [] Nothing failed late members totals room = subst (λ (d : Due). HasCome book w c.cert [] d failed late members totals room) done (known c.cert c.kept [] (c.whole ∙ sym (append-nil items))) in
+      let last : HasCome book w c.cert [] Nothing failed late members totals room =
+      subst (λ (d : Due). HasCome book w c.cert [] d failed late members totals room) done (known c.cert c.kept [] (c.whole ∙ sym (append-nil items))) in
       record {
         cert = c.cert;
         kept = c.kept;
@@ -114,11 +133,13 @@ module _ (book : Book) (w : ℕ → ℕ) where
       }
 
   -- what had failed goes on failing
-  pub known-failed : (due next : Due) (failed : Option Failure) (f : Failure) (late late2 : Option ℕ) (members members2 : ℕ) (totals totals2 : RowTotals) (room : List ℤ) (items : List Line) (own : Line) → failed ≡ Some f
+  pub known-failed : (due next : Due) (failed : Option Failure) (f : Failure) (late late2 : Option ℕ) (members members2 : ℕ) (totals totals2 : RowTotals)
+      (room : List ℤ) (items : List Line) (own : Line) → failed ≡ Some f
       → IsKnown book w due failed late members totals room items → IsKnown book w next failed late2 members2 totals2 room (items ++ own ∷ [])
   known-failed due next failed f late late2 members members2 totals totals2 room items own is known c kept rest e =
       subst (λ (o : Option Failure). HasCome book w c rest next o late2 members2 totals2 room) (sym is)
-      (subst (λ (o : Option Failure). HasCome book w c (own ∷ rest) due o late members totals room) is (known c kept (own ∷ rest) (e ∙ append_assoc items (own ∷ []) rest)))
+      (subst (λ (o : Option Failure). HasCome book w c (own ∷ rest) due o late members totals room) is
+      (known c kept (own ∷ rest) (e ∙ append_assoc items (own ∷ []) rest)))
 
 -- two lists of a line and more
 first-is : (x y : Line) (xs ys : List Line) → x ∷ xs ≡ y ∷ ys → x ≡ y
@@ -135,7 +156,8 @@ one-number (suc n) [] z e = cc
 one-number (suc n) (x ∷ room) z e = one-number n room z e
 
 -- what the room tells of the next line, where the numbers of the line stand in it
-told : (b s : ℕ) (c : CertValue) (due : Due) (members : ℕ) (room numbers : List ℤ) (rest : List Line) → line_with due numbers ∷ rest ≡ lines_left b s c due → HasRoom b s c due members room → (due ≡ Rows → segment b s due room ≡ numbers)
+told : (b s : ℕ) (c : CertValue) (due : Due) (members : ℕ) (room numbers : List ℤ) (rest : List Line) → line_with due numbers ∷ rest ≡ lines_left b s c due
+    → HasRoom b s c due members room → (due ≡ Rows → segment b s due room ≡ numbers)
     → Tells c due (take b room) (get_or room (start_due b s due) (pos 0))
 told b s c Version members room numbers rest left has own = tt
 told b s c Limits members room numbers rest left has own = tt
@@ -150,7 +172,8 @@ told b s c (Without j) members room numbers rest left has own = tt
 told b s c (PartChoice j) members room numbers rest left has own = tt
 told b s c Payments members room numbers rest left has own = tt
 told b s c Rows members room numbers rest left has own =
-    let same : numbers ≡ pos (length c.rows) ∷ [] = ap (λ (l : Line). l.numbers) (first-is (line_with Rows numbers) (line (codes "rows") (pos (length c.rows) ∷ [])) rest _ left) in
+    let same : numbers ≡ pos (length c.rows) ∷ [] = ap (λ (l : Line). l.numbers)
+    (first-is (line_with Rows numbers) (line (codes "rows") (pos (length c.rows) ∷ [])) rest _ left) in
     one-number b room (pos (length c.rows)) (own refl ∙ same)
 told b s c (Members r) members room numbers rest left has own = tt
 told b s c (Multipliers r) members room numbers rest left has own = tt
@@ -159,7 +182,8 @@ told b s c End members room numbers rest left has own = tt
 told b s c Nothing members room numbers rest left has own = tt
 
 -- the order of lines, for the choice and the count that the room tells
-order : (b : ℕ) (c : CertValue) (choice : List ℤ) (first : ℤ) (due next : Due) → Tells c due choice first → ComesBehind b choice first due next → ComesBehind b (as_numbers c.choice) (pos (length c.rows)) due next
+order : (b : ℕ) (c : CertValue) (choice : List ℤ) (first : ℤ) (due next : Due) → Tells c due choice first → ComesBehind b choice first due next
+    → ComesBehind b (as_numbers c.choice) (pos (length c.rows)) due next
 order b c choice first Version next tells is = is
 order b c choice first Limits next tells is = is
 order b c choice first Den next tells is = is
@@ -178,13 +202,15 @@ order b c choice first End next tells is = is
 order b c choice first Nothing next tells is = is
 
 -- The line has come, and the certificate has it there.
-module _ (book : Book) (w : ℕ → ℕ) (c : CertValue) (kept : IsCertificate (bidders_of book) (states book) c) (due next : Due) (part : LinePart) (place read : ℕ) (room : List ℤ) (text : List ℕ) (items rest : List Line) (late : Option ℕ) (members : ℕ) (totals : RowTotals)
+module _ (book : Book) (w : ℕ → ℕ) (c : CertValue) (kept : IsCertificate (bidders_of book) (states book) c) (due next : Due) (part : LinePart)
+    (place read : ℕ) (room : List ℤ) (text : List ℕ) (items rest : List Line) (late : Option ℕ) (members : ℕ) (totals : RowTotals)
     (ends : IsEnding (bidders_of book) (states book) due part place read room text items) (within : part.beyond ≡ false)
     (has : IsLeft book w c (line_with due ends.whole.numbers ∷ rest) due late members totals room)
     (leads : LeadsInRoom (bidders_of book) (states book) due room next)
     (behind : ComesBehind (bidders_of book) (take (bidders_of book) room) (get_or room (start_due (bidders_of book) (states book) due) (pos 0)) due next) where
   tells : Tells c due (take (bidders_of book) room) (get_or room (start_due (bidders_of book) (states book) due) (pos 0))
-  tells = told (bidders_of book) (states book) c due members room ends.whole.numbers rest has.left has.known.in_room (λ e. came_whole (bidders_of book) (states book) due _ _ part room ends.whole (fixed due e) within)
+  tells = told (bidders_of book) (states book) c due members room ends.whole.numbers rest has.left has.known.in_room
+      (λ e. came_whole (bidders_of book) (states book) due _ _ part room ends.whole (fixed due e) within)
     where
       fixed : (due : Due) → due ≡ Rows → IsFixed (form_due (bidders_of book) (states book) due)
       fixed due e = subst (λ (d : Due). IsFixed (form_due (bidders_of book) (states book) d)) (sym e) tt
@@ -200,7 +226,8 @@ module _ (book : Book) (w : ℕ → ℕ) (c : CertValue) (kept : IsCertificate (
   both = has.left ∙ comes.left
 
   numbers-are : ends.whole.numbers ≡ (line_due (bidders_of book) (states book) c due).numbers
-  numbers-are = ap (λ (l : Line). l.numbers) (first-is (line_with due ends.whole.numbers) (line_due (bidders_of book) (states book) c due) rest (lines_left (bidders_of book) (states book) c next) both)
+  numbers-are = ap (λ (l : Line). l.numbers) (first-is (line_with due ends.whole.numbers) (line_due (bidders_of book) (states book) c due) rest
+      (lines_left (bidders_of book) (states book) c next) both)
 
   -- the line that was due is that of the certificate
   pub at-line : IsAtLine book w c due part.count late members totals room
@@ -214,49 +241,66 @@ module _ (book : Book) (w : ℕ → ℕ) (c : CertValue) (kept : IsCertificate (
   }
 
   -- what is known behind it
-  pub come-next : (failed2 : Option Failure) (late2 : Option ℕ) (members2 : ℕ) (totals2 : RowTotals) → IsDue (bidders_of book) next → IsFound book w c next failed2 late2
-      → HasMembers (bidders_of book) (states book) c next members2 room → HasTotals c next totals2 → HasCome book w c rest next failed2 late2 members2 totals2 room
+  pub come-next : (failed2 : Option Failure) (late2 : Option ℕ) (members2 : ℕ) (totals2 : RowTotals) → IsDue (bidders_of book) next
+      → IsFound book w c next failed2 late2
+      → HasMembers (bidders_of book) (states book) c next members2 room → HasTotals c next totals2 → HasCome book w c rest next failed2 late2 members2 totals2
+      room
   come-next (Some f) late2 members2 totals2 named found members_are totals_are = found
   come-next None late2 members2 totals2 named found members_are totals_are = record {
-    left = rest-is (line_with due ends.whole.numbers) (line_due (bidders_of book) (states book) c due) rest (lines_left (bidders_of book) (states book) c next) both;
+    left = rest-is (line_with due ends.whole.numbers) (line_due (bidders_of book) (states book) c due) rest
+        (lines_left (bidders_of book) (states book) c next) both;
     known = record {
       has = comes.has;
       named = named;
       tested = found;
-      in_room = room-next (bidders_of book) (states book) c room due next part.count members members2 has.known.has is-next kept.few has.known.in_room at-line.own members_are;
+      in_room = room-next (bidders_of book) (states book) c room due next part.count members members2 has.known.has is-next kept.few has.known.in_room
+          at-line.own members_are;
       in_totals = totals_are;
     };
   }
 
 -- The same for the numbers of bidders and states that the reader has, which are those of the book.
-pub record IsStep (book : Book) (w : ℕ → ℕ) (due next : Due) (count : ℕ) (late : Option ℕ) (members : ℕ) (totals : RowTotals) (room : List ℤ) (more : List Line) : Type 0 where
+pub record IsStep (book : Book) (w : ℕ → ℕ) (due next : Due) (count : ℕ) (late : Option ℕ) (members : ℕ) (totals : RowTotals) (room : List ℤ)
+    (more : List Line) : Type 0 where
   -- some certificate has the line there
   pub possible : (c : CertValue) × IsAtLine book w c due count late members totals room
   -- what the tests show of each certificate that has it there is known behind it
   pub known : (failed2 : Option Failure) (late2 : Option ℕ) (members2 : ℕ) (totals2 : RowTotals)
-      → ((c : CertValue) → IsAtLine book w c due count late members totals room → IsNext book c due next → IsFound book w c next failed2 late2 × HasMembers (bidders_of book) (states book) c next members2 room × HasTotals c next totals2)
+      → ((c : CertValue) → IsAtLine book w c due count late members totals room → IsNext book c due next
+      → IsFound book w c next failed2 late2 × HasMembers (bidders_of book) (states book) c next members2 room × HasTotals c next totals2)
       → IsKnown book w next failed2 late2 members2 totals2 room more
 
-module _ (book : Book) (w : ℕ → ℕ) (due next : Due) (part part2 : LinePart) (place read place2 read2 : ℕ) (room : List ℤ) (text text2 : List ℕ) (items : List Line) (late : Option ℕ) (members : ℕ) (totals : RowTotals)
+module _ (book : Book) (w : ℕ → ℕ) (due next : Due) (part part2 : LinePart) (place read place2 read2 : ℕ) (room : List ℤ) (text text2 : List ℕ)
+    (items : List Line) (late : Option ℕ) (members : ℕ) (totals : RowTotals)
     (few : bidders_of book ≤ 65535) (within : part.beyond ≡ false) (known : IsKnown book w due None late members totals room items) where
   -- what the reader says, for so many bidders and states
   abbrev Says : ℕ → ℕ → Type 0
-  Says b s = (ends : IsEnding b s due part place read room text items) → LeadsInRoom b s due room next → ComesBehind b (take b room) (get_or room (start_due b s due) (pos 0)) due next
-      → IsReading b s next part2 place2 read2 room text2 (items ++ line_with due ends.whole.numbers ∷ []) → IsStep book w due next part.count late members totals room (items ++ line_with due ends.whole.numbers ∷ [])
+  Says b s = (ends : IsEnding b s due part place read room text items) → LeadsInRoom b s due room next
+      → ComesBehind b (take b room) (get_or room (start_due b s due) (pos 0)) due next
+      → IsReading b s next part2 place2 read2 room text2 (items ++ line_with due ends.whole.numbers ∷ [])
+      → IsStep book w due next part.count late members totals room (items ++ line_with due ends.whole.numbers ∷ [])
 
   step-own : Says (bidders_of book) (states book)
   step-own ends leads behind reading =
       let own = line_with due ends.whole.numbers in
-      let front = reading_cert (bidders_of book) (states book) next part2 place2 read2 room text2 (items ++ line_with due ends.whole.numbers ∷ []) few reading in
-      let left : (c : CertValue) → IsCertificate (bidders_of book) (states book) c → (rest : List Line) → cert_lines c ≡ (items ++ line_with due ends.whole.numbers ∷ []) ++ rest → IsLeft book w c (line_with due ends.whole.numbers ∷ rest) due late members totals room =
+      let front = reading_cert (bidders_of book) (states book) next part2 place2 read2 room text2 (items ++ line_with due ends.whole.numbers ∷ []) few
+      reading in
+      let left : (c : CertValue) → IsCertificate (bidders_of book) (states book) c → (rest : List Line)
+      → cert_lines c ≡ (items ++ line_with due ends.whole.numbers ∷ []) ++ rest → IsLeft book w c
+      (line_with due ends.whole.numbers ∷ rest) due late members totals room =
       λ c kept rest e. known c kept (line_with due ends.whole.numbers ∷ rest) (e ∙ append_assoc items (line_with due ends.whole.numbers ∷ []) rest) in
       record {
-        possible = (front.0, at-line book w front.0 front.2 due next part place read room text items front.1 late members totals ends within (left front.0 front.2 front.1 front.3) leads behind);
+        possible = (
+          front.0,
+          at-line book w front.0 front.2 due next part place read room text items front.1 late members totals ends within
+              (left front.0 front.2 front.1 front.3) leads behind,
+        );
         known = λ failed2 late2 members2 totals2 each c kept rest e.
             let has = left c kept rest e in
             let here = at-line book w c kept due next part place read room text items rest late members totals ends within has leads behind in
             let all = each c here (is-next book w c kept due next part place read room text items rest late members totals ends within has leads behind) in
-            come-next book w c kept due next part place read room text items rest late members totals ends within has leads behind failed2 late2 members2 totals2 reading.named all.0 all.1 all.2;
+            come-next book w c kept due next part place read room text items rest late members totals ends within has leads behind failed2 late2 members2
+            totals2 reading.named all.0 all.1 all.2;
       }
 
   -- so the line makes a step, by the numbers of the reader

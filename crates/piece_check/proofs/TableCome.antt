@@ -33,12 +33,15 @@ use Rattle.piece_check.proofs.RuleLaws.{between-same, tested-inside, tested-all}
 tested-most : (b k s : ℕ) → k ≤ b → lines_tested b k * s ≤ (b + 1) * s
 tested-most b k s le =
     elim (cases_lt k b) [
-      | inl lt ↦ subst (λ (n : ℕ). n * s ≤ (b + 1) * s) (sym (tested-inside b k lt)) (let up : k ≤ b + 1 = omega (arith, lt) in omega (arith, mul-le-mul_left s up))
-      | inr past ↦ subst (λ (n : ℕ). n * s ≤ (b + 1) * s) (sym (tested-all b k past)) (let up : suc b ≤ b + 1 = omega arith in omega (arith, mul-le-mul_left s up))
+      | inl lt ↦ subst (λ (n : ℕ). n * s ≤ (b + 1) * s) (sym (tested-inside b k lt))
+          (let up : k ≤ b + 1 = omega (arith, lt) in omega (arith, mul-le-mul_left s up))
+      | inr past ↦ subst (λ (n : ℕ). n * s ≤ (b + 1) * s) (sym (tested-all b k past))
+          (let up : suc b ≤ b + 1 = omega arith in omega (arith, mul-le-mul_left s up))
     ]
 
 -- a place found early is small
-pub late-small : (book : Book) (w : ℕ → ℕ) (c : CertValue) (test base n : ℕ) (late : Option ℕ) → n < 2 ^ 62 → IsLate book w c test base n late → IsSmallPlace late
+pub late-small : (book : Book) (w : ℕ → ℕ) (c : CertValue) (test base n : ℕ) (late : Option ℕ) → n < 2 ^ 62 → IsLate book w c test base n late
+    → IsSmallPlace late
 late-small book w c test base n None few is = tt
 late-small book w c test base n (Some p) few is = omega (arith, few, is.0)
 
@@ -54,11 +57,13 @@ module _ (at : Moment) (c : CertValue) (is : IsAt at c) (table : Table) (k : ℕ
   pub two-lines : IsTable (bidders_of at.book.now) (states at.book.now) (table_in c table) → HasTwoLines at.book.now table k at.room.now (table_in c table)
   two-lines whole = record { whole = whole; line = here.own.whole tt; before = before k here.known.in_room.before }
     where
-      before : (k : ℕ) → HasLineBefore (bidders_of at.book.now) (states at.book.now) c (Entries table k) at.room.now → 0 < k → segment (bidders_of at.book.now) (states at.book.now) (Entries table (k - 1)) at.room.now ≡ slice_index_or (table_in c table) (k - 1) []
+      before : (k : ℕ) → HasLineBefore (bidders_of at.book.now) (states at.book.now) c (Entries table k) at.room.now → 0 < k
+          → segment (bidders_of at.book.now) (states at.book.now) (Entries table (k - 1)) at.room.now ≡ slice_index_or (table_in c table) (k - 1) []
       before zero has some = absurd (omega (arith, some))
       before (suc k) has some =
           let back : k ≡ suc k - 1 = omega arith in
-          subst (λ (n : ℕ). segment (bidders_of at.book.now) (states at.book.now) (Entries table n) at.room.now ≡ slice_index_or (table_in c table) n []) back has
+          subst (λ (n : ℕ). segment (bidders_of at.book.now) (states at.book.now) (Entries table n) at.room.now ≡ slice_index_or (table_in c table) n []) back
+          has
 
 module _ (at : Moment) (c : CertValue) (is : IsAt at c) (k : ℕ) (due : at.due ≡ Entries Head k) where
   -- the room has line k of the head's table, and the one before it
@@ -74,13 +79,17 @@ module _ (at : Moment) (c : CertValue) (is : IsAt at c) (k : ℕ) (due : at.due 
   head-late = (here at c is Head k due).known.tested.early
 
   -- the rules that were tested are those of the third test
-  pub head-rules : (o : Offers) (r : Option ℕ) → o.book.now ≡ at.book.now → o.skip ≡ 0 → ((j i : ℕ) → 0 < j → j ≤ bidders_of o.book.now → worth_of o j i ≡ net_of o.book.now j i)
+  pub head-rules : (o : Offers) (r : Option ℕ) → o.book.now ≡ at.book.now → o.skip ≡ 0
+      → ((j i : ℕ) → 0 < j → j ≤ bidders_of o.book.now → worth_of o j i ≡ net_of o.book.now j i)
       → IsFirstBetween (RulesAt o c.table) ((k - 1) * states o.book.now) (lines_tested (bidders_of o.book.now) k * states o.book.now) r
-      → IsFirstBetween (Asks at.book.now (weight_of at.weights.now) c 3) ((k - 1) * states at.book.now) (lines_tested (bidders_of at.book.now) k * states at.book.now) r
+      → IsFirstBetween (Asks at.book.now (weight_of at.weights.now) c 3) ((k - 1) * states at.book.now)
+      (lines_tested (bidders_of at.book.now) k * states at.book.now) r
   head-rules o r same nobody net f =
       subst (λ (b : Book). IsFirstBetween (Asks b (weight_of at.weights.now) c 3) ((k - 1) * states b) (lines_tested (bidders_of b) k * states b) r) same
-      (between-same (RulesAt o c.table) (Asks o.book.now (weight_of at.weights.now) c 3) ((k - 1) * states o.book.now) (lines_tested (bidders_of o.book.now) k * states o.book.now) r
-      (λ q low rules. rules-C3 o (weight_of at.weights.now) c nobody net q (omega (arith, low, tested-most (bidders_of o.book.now) k (states o.book.now) inside)) rules)
+      (between-same (RulesAt o c.table) (Asks o.book.now (weight_of at.weights.now) c 3) ((k - 1) * states o.book.now)
+      (lines_tested (bidders_of o.book.now) k * states o.book.now) r
+      (λ q low rules. rules-C3 o (weight_of at.weights.now) c nobody net q (omega
+      (arith, low, tested-most (bidders_of o.book.now) k (states o.book.now) inside)) rules)
       (λ q asks. C3-rules o (weight_of at.weights.now) c nobody net q asks) f)
     where
       inside : k ≤ bidders_of o.book.now
@@ -91,7 +100,8 @@ module _ (at : Moment) (c : CertValue) (is : IsAt at c) (k : ℕ) (due : at.due 
       → IsJudged at.book.now (weight_of at.weights.now) c 3 (lines_tested (bidders_of at.book.now) k * states at.book.now) failed
       → IsLate at.book.now (weight_of at.weights.now) c 3 ((bidders_of at.book.now + 1) * states at.book.now) (k + 1) late
       → (k < bidders_of at.book.now → (failed2 ≡ failed) × (late2 ≡ late))
-      → (k ≡ bidders_of at.book.now → IsJudged at.book.now (weight_of at.weights.now) c 3 ((bidders_of at.book.now + 1) * states at.book.now) failed → IsJudged at.book.now (weight_of at.weights.now) c 4 0 failed2)
+      → (k ≡ bidders_of at.book.now → IsJudged at.book.now (weight_of at.weights.now) c 3 ((bidders_of at.book.now + 1) * states at.book.now) failed
+      → IsJudged at.book.now (weight_of at.weights.now) c 4 0 failed2)
       → (k ≡ bidders_of at.book.now → late2 ≡ None) → IsFound at.book.now (weight_of at.weights.now) c next failed2 late2
   head-shows next failed failed2 late late2 follows judged early inside whole none =
       let b = bidders_of at.book.now in
@@ -103,9 +113,11 @@ module _ (at : Moment) (c : CertValue) (is : IsAt at c) (k : ℕ) (due : at.due 
             (subst (λ (f : Option Failure). IsFound at.book.now (weight_of at.weights.now) c (Entries Head (k + 1)) f late2) (sym (inside lt).0)
             (subst (λ (l : Option ℕ). IsFound at.book.now (weight_of at.weights.now) c (Entries Head (k + 1)) failed l) (sym (inside lt).1)
             (found-by at.book.now (weight_of at.weights.now) c 3 (k * states at.book.now) (Entries Head (k + 1)) failed late
-            (subst (λ (n : ℕ). IsJudged at.book.now (weight_of at.weights.now) c 3 (n * states at.book.now) failed) (tested-inside (bidders_of at.book.now) k lt) judged)
+            (subst (λ (n : ℕ). IsJudged at.book.now (weight_of at.weights.now) c 3 (n * states at.book.now) failed)
+            (tested-inside (bidders_of at.book.now) k lt) judged)
             (λ holds. record {
-              holds = (let up : k ≡ k + 1 - 1 = omega arith in subst (λ (n : ℕ). HoldsTo at.book.now (weight_of at.weights.now) c 3 (n * states at.book.now)) up holds);
+              holds = (let up : k ≡ k + 1 - 1 = omega arith in subst (λ (n : ℕ). HoldsTo at.book.now (weight_of at.weights.now) c 3 (n * states at.book.now))
+                  up holds);
               early = early;
               part = tt;
             }))))
@@ -132,13 +144,17 @@ module _ (at : Moment) (c : CertValue) (is : IsAt at c) (k : ℕ) (due : at.due 
   lowered-late = (here at c is Lowered k due).known.tested.early
 
   -- the rules that were tested are those of the ninth test
-  pub lowered-rules : (o : Offers) (r : Option ℕ) → o.book.now ≡ at.book.now → o.skip ≡ 0 → ((j i : ℕ) → 0 < j → j ≤ bidders_of o.book.now → worth_of o j i ≡ lowered_net o.book.now c j i)
+  pub lowered-rules : (o : Offers) (r : Option ℕ) → o.book.now ≡ at.book.now → o.skip ≡ 0
+      → ((j i : ℕ) → 0 < j → j ≤ bidders_of o.book.now → worth_of o j i ≡ lowered_net o.book.now c j i)
       → IsFirstBetween (RulesAt o c.lowered) ((k - 1) * states o.book.now) (lines_tested (bidders_of o.book.now) k * states o.book.now) r
-      → IsFirstBetween (Asks at.book.now (weight_of at.weights.now) c 9) ((k - 1) * states at.book.now) (lines_tested (bidders_of at.book.now) k * states at.book.now) r
+      → IsFirstBetween (Asks at.book.now (weight_of at.weights.now) c 9) ((k - 1) * states at.book.now)
+      (lines_tested (bidders_of at.book.now) k * states at.book.now) r
   lowered-rules o r same nobody net f =
       subst (λ (b : Book). IsFirstBetween (Asks b (weight_of at.weights.now) c 9) ((k - 1) * states b) (lines_tested (bidders_of b) k * states b) r) same
-      (between-same (RulesAt o c.lowered) (Asks o.book.now (weight_of at.weights.now) c 9) ((k - 1) * states o.book.now) (lines_tested (bidders_of o.book.now) k * states o.book.now) r
-      (λ q low rules. rules-C9 o (weight_of at.weights.now) c nobody net q (omega (arith, low, tested-most (bidders_of o.book.now) k (states o.book.now) inside)) rules)
+      (between-same (RulesAt o c.lowered) (Asks o.book.now (weight_of at.weights.now) c 9) ((k - 1) * states o.book.now)
+      (lines_tested (bidders_of o.book.now) k * states o.book.now) r
+      (λ q low rules. rules-C9 o (weight_of at.weights.now) c nobody net q (omega
+      (arith, low, tested-most (bidders_of o.book.now) k (states o.book.now) inside)) rules)
       (λ q asks. C9-rules o (weight_of at.weights.now) c nobody net q asks) f)
     where
       inside : k ≤ bidders_of o.book.now
@@ -149,7 +165,8 @@ module _ (at : Moment) (c : CertValue) (is : IsAt at c) (k : ℕ) (due : at.due 
       → IsJudged at.book.now (weight_of at.weights.now) c 9 (lines_tested (bidders_of at.book.now) k * states at.book.now) failed
       → IsLate at.book.now (weight_of at.weights.now) c 9 ((bidders_of at.book.now + 1) * states at.book.now) 1 late
       → (k < bidders_of at.book.now → (failed2 ≡ failed) × (late2 ≡ late))
-      → (k ≡ bidders_of at.book.now → IsJudged at.book.now (weight_of at.weights.now) c 9 ((bidders_of at.book.now + 1) * states at.book.now) failed → IsJudged at.book.now (weight_of at.weights.now) c 10 0 failed2)
+      → (k ≡ bidders_of at.book.now → IsJudged at.book.now (weight_of at.weights.now) c 9 ((bidders_of at.book.now + 1) * states at.book.now) failed
+      → IsJudged at.book.now (weight_of at.weights.now) c 10 0 failed2)
       → (k ≡ bidders_of at.book.now → late2 ≡ None) → IsFound at.book.now (weight_of at.weights.now) c next failed2 late2
   lowered-shows next failed failed2 late late2 follows judged early inside whole none =
       let order = next-due at c (Entries Lowered k) next due follows in
@@ -159,10 +176,13 @@ module _ (at : Moment) (c : CertValue) (is : IsAt at c) (k : ℕ) (due : at.due 
             (subst (λ (f : Option Failure). IsFound at.book.now (weight_of at.weights.now) c (Entries Lowered (k + 1)) f late2) (sym (inside lt).0)
             (subst (λ (l : Option ℕ). IsFound at.book.now (weight_of at.weights.now) c (Entries Lowered (k + 1)) failed l) (sym (inside lt).1)
             (found-by at.book.now (weight_of at.weights.now) c 9 (k * states at.book.now) (Entries Lowered (k + 1)) failed late
-            (subst (λ (n : ℕ). IsJudged at.book.now (weight_of at.weights.now) c 9 (n * states at.book.now) failed) (tested-inside (bidders_of at.book.now) k lt) judged)
+            (subst (λ (n : ℕ). IsJudged at.book.now (weight_of at.weights.now) c 9 (n * states at.book.now) failed)
+            (tested-inside (bidders_of at.book.now) k lt) judged)
             (λ holds. record {
-              holds = (let up : k ≡ k + 1 - 1 = omega arith in subst (λ (n : ℕ). HoldsTo at.book.now (weight_of at.weights.now) c 9 (n * states at.book.now)) up holds);
-              early = (let up : suc k ≡ k + 1 = omega arith in subst (λ (n : ℕ). IsLate at.book.now (weight_of at.weights.now) c 9 ((bidders_of at.book.now + 1) * states at.book.now) (one_of n) late) up early);
+              holds = (let up : k ≡ k + 1 - 1 = omega arith in subst (λ (n : ℕ). HoldsTo at.book.now (weight_of at.weights.now) c 9 (n * states at.book.now))
+                  up holds);
+              early = (let up : suc k ≡ k + 1 = omega arith in subst (λ (n : ℕ). IsLate at.book.now (weight_of at.weights.now) c 9
+                  ((bidders_of at.book.now + 1) * states at.book.now) (one_of n) late) up early);
               part = tt;
             }))))
         | inr past ↦

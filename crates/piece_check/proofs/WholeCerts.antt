@@ -13,7 +13,8 @@ use Rattle.cert_check.specs.declared.failure.Failure.{Failure}
 use Rattle.cert_check.specs.Partway.{IsJudged}
 use Rattle.cert_check.proofs.PartwayLaws.{all-hold}
 use Rattle.cert_pieces.specs.declared.due.Due.{Due}
-use Rattle.cert_pieces.specs.declared.due.Due.TheVariants.{Version, Limits, Den, Value, Choice, Title, Entries, Without, PartChoice, Payments, Rows, Members, Multipliers, RowChoice, End, Nothing}
+use Rattle.cert_pieces.specs.declared.due.Due.TheVariants.{Version, Limits, Den, Value, Choice, Title, Entries, Without, PartChoice, Payments, Rows, Members}
+use Rattle.cert_pieces.specs.declared.due.Due.TheVariants.{Multipliers, RowChoice, End, Nothing}
 use Rattle.cert_pieces.specs.declared.stop.TextStop.{TextStop}
 use Rattle.cert_pieces.specs.declared.stop.TextStop.TheVariants.{Form, Range}
 use Rattle.cert_pieces.specs.Stops.{SaysStop}
@@ -55,10 +56,12 @@ all-come End not = absurd (not (λ e. cc e))
 all-come Nothing not = refl
 
 -- the room has what the facts are told from
-has-all : (book : Book) (w : ℕ → ℕ) (c : CertValue) (failed : Option Failure) (late : Option ℕ) (members : ℕ) (totals : RowTotals) (room : List ℤ) → failed ≡ None → IsCertificate (bidders_of book) (states book) c → HasCome book w c [] Nothing failed late members totals room
+has-all : (book : Book) (w : ℕ → ℕ) (c : CertValue) (failed : Option Failure) (late : Option ℕ) (members : ℕ) (totals : RowTotals) (room : List ℤ)
+    → failed ≡ None → IsCertificate (bidders_of book) (states book) c → HasCome book w c [] Nothing failed late members totals room
     → HasAll book c room
 has-all book w c failed late members totals room none kept come =
-    let left : IsLeft book w c [] Nothing late members totals room = subst (λ (o : Option Failure). HasCome book w c [] Nothing o late members totals room) none come in
+    let left : IsLeft book w c [] Nothing late members totals room = subst (λ (o : Option Failure). HasCome book w c [] Nothing o late members totals room)
+    none come in
     let holds = all-hold book w c left.known.tested.holds in
     record {
       of = record { certificate = kept; sizes = holds.c1; choice = holds.c2; parts = holds.c4; payments = holds.c5 };
@@ -80,33 +83,46 @@ pub record IsRead (k : StreamCheck) (room : List ℤ) (text : List ℕ) : Type 0
 
 module _ (k : StreamCheck) (room : List ℤ) (text : List ℕ) where
   -- what it has read, while it reads on and no line is to come
-  ended : k.reader.stop ≡ None → k.reader.due ≡ Nothing → (set : IsSetUp k) (items : List Line) → StandsWith k room text items k.reader.stop → IsDone k.book.now (weight_of k.weights.now) text k.failed k.late k.members k.totals room
+  ended : k.reader.stop ≡ None → k.reader.due ≡ Nothing → (set : IsSetUp k) (items : List Line) → StandsWith k room text items k.reader.stop
+      → IsDone k.book.now (weight_of k.weights.now) text k.failed k.late k.members k.totals room
   ended on done set items is =
       let now = subst (StandsWith k room text items) on is in
-      at-end k.book.now (weight_of k.weights.now) k.reader.due k.reader.part k.reader.place k.reader.read room text items k.failed k.late k.members k.totals done (reads-book k set room text items now.0) now.1
+      at-end k.book.now (weight_of k.weights.now) k.reader.due k.reader.part k.reader.place k.reader.read room text items k.failed k.late k.members k.totals
+      done (reads-book k set room text items now.0) now.1
 
   -- a checker that has ended has read a certificate, of which the room has what the facts are told from
   pub read-whole : HasEnded k → StandsFor k room text → IsRead k room text
   read-whole has (set, (items, is)) =
       let d = ended has.on has.done set items is in
-      record { cert = d.cert; says_it = d.says; all = has-all k.book.now (weight_of k.weights.now) d.cert k.failed k.late k.members k.totals room has.none d.kept d.come }
+      record {
+        cert = d.cert;
+        says_it = d.says;
+        all = has-all k.book.now (weight_of k.weights.now) d.cert k.failed k.late k.members k.totals room has.none
+            d.kept d.come;
+      }
 
   -- the text states a certificate whose tests hold
   module _ (one : (bidders states : ℕ) (bytes : List ℕ) (x y : Said CertValue ℕ) → CertSays bidders states bytes x → CertSays bidders states bytes y → x ≡ y)
       (not_both : (book : Book) (w : ℕ → ℕ) (c : CertValue) (t p : ℕ) → Holds book w c → FailsFirst book w c t p → ⊥)
-      (c : CertValue) (states_it : CertSays (bidders_of k.book.now) (states k.book.now) text (stated c)) (holds : Holds k.book.now (weight_of k.weights.now) c) where
+      (c : CertValue) (states_it : CertSays (bidders_of k.book.now) (states k.book.now) text (stated c))
+      (holds : Holds k.book.now (weight_of k.weights.now) c) where
     not-stopped : (stop : TextStop) → SaysStop (bidders_of k.book.now) (states k.book.now) text stop → ⊥
-    not-stopped (Form place) stops = let e : stated c ≡ faulty place = one (bidders_of k.book.now) (states k.book.now) text (stated c) (faulty place) states_it stops in cc e
-    not-stopped (Range place) stops = let e : stated c ≡ beyond place = one (bidders_of k.book.now) (states k.book.now) text (stated c) (beyond place) states_it stops in cc e
+    not-stopped (Form place) stops = let e : stated c ≡ faulty place = one (bidders_of k.book.now) (states k.book.now) text (stated c)
+        (faulty place) states_it stops in cc e
+    not-stopped (Range place) stops = let e : stated c ≡ beyond place = one (bidders_of k.book.now) (states k.book.now) text (stated c)
+        (beyond place) states_it stops in cc e
 
     reads : (set : IsSetUp k) (items : List Line) (o : Option TextStop) → StandsWith k room text items o → o ≡ None
     reads set items (Some stop) is = absurd (not-stopped stop (says-stop k set text stop (says k.reader.shape.bidders k.reader.shape.states text stop is)))
     reads set items None is = refl
 
     comes : (set : IsSetUp k) (items : List Line) → StandsWith k room text items None → k.reader.due ≡ Nothing
-    comes set items is = all-come k.reader.due (λ due. not-stopped (Form k.reader.place) (not_yet (bidders_of k.book.now) (states k.book.now) k.reader.due k.reader.part k.reader.place k.reader.read room text items (reads-book k set room text items is.0) due))
+    comes set items is = all-come k.reader.due (λ due. not-stopped (Form k.reader.place)
+        (not_yet (bidders_of k.book.now) (states k.book.now) k.reader.due k.reader.part k.reader.place k.reader.read room text items
+        (reads-book k set room text items is.0) due))
 
-    passes : (d : CertValue) → CertSays (bidders_of k.book.now) (states k.book.now) text (stated d) → (o : Option Failure) → IsJudged k.book.now (weight_of k.weights.now) d 10 0 o → o ≡ None
+    passes : (d : CertValue) → CertSays (bidders_of k.book.now) (states k.book.now) text (stated d) → (o : Option Failure)
+        → IsJudged k.book.now (weight_of k.weights.now) d 10 0 o → o ≡ None
     passes d says_it None judged = refl
     passes d says_it (Some f) judged =
         let e : stated c ≡ stated d = one (bidders_of k.book.now) (states k.book.now) text (stated c) (stated d) states_it says_it in

@@ -3,18 +3,21 @@ use Rattle.std.proofs.Common.{ℕ, suc, zero, ◌<◌, ◌^◌, List, [], ◌∷
 use Rattle.std.specs.Prelude.{ℤ, pos, codes}
 use Rattle.cert_text.specs.cert_form.specs.Certificate.{WithoutValue, RowValue}
 use Rattle.cert_text.specs.cert_form.specs.Plan.{Follows}
-use Rattle.cert_text.specs.cert_form.specs.Lines.{Line, Kind, kind, these, signed, ordered_count, Fits, after, set_table_plan, ordered_part_plan, ordered_parts_plan, ordered_rows_plan, IsPlacesText}
+use Rattle.cert_text.specs.cert_form.specs.Lines.{Line, Kind, kind, these, signed, ordered_count, Fits, after, set_table_plan, ordered_part_plan}
+use Rattle.cert_text.specs.cert_form.specs.Lines.{ordered_parts_plan, ordered_rows_plan, IsPlacesText}
 use Rattle.cert_text.specs.cert_form.specs.CertText.{line, as_numbers, choice_line, table_lines}
 use Rattle.cert_text.specs.cert_form.proofs.PlanReads.{follows_both}
 use Rattle.cert_text.specs.cert_form.proofs.Written.{long_numbers, choice_fits, table_follows, rise, some_member}
 use Rattle.cert_text.specs.cert_form.specs.PlaceCert.{PlaceCertValue}
-use Rattle.place_cert.specs.PlaceText.{HasSets, IsPlaceCertificate, AreOrderedRows, AreOrderedWithouts, order_line, ordered_part_lines, ordered_row_lines, place_lines}
+use Rattle.place_cert.specs.PlaceText.{HasSets, IsPlaceCertificate, AreOrderedRows, AreOrderedWithouts, order_line, ordered_part_lines, ordered_row_lines}
+use Rattle.place_cert.specs.PlaceText.{place_lines}
 
 -- the lines of a table over sets
 sets_follow : (b : ℕ) (table : List (List ℤ)) → HasSets b table → Follows Fits after (set_table_plan b) (table_lines table)
 sets_follow b table h = table_follows 1 (2 ^ b) table h.0 h.1
 
-parts_follow : (b j : ℕ) (choice : List ℕ) (ws : List WithoutValue) (orders : List (List ℕ)) → AreOrderedWithouts b j choice ws orders → Follows Fits after (ordered_parts_plan b j (as_numbers choice)) (ordered_part_lines ws orders)
+parts_follow : (b j : ℕ) (choice : List ℕ) (ws : List WithoutValue) (orders : List (List ℕ)) → AreOrderedWithouts b j choice ws orders
+    → Follows Fits after (ordered_parts_plan b j (as_numbers choice)) (ordered_part_lines ws orders)
 parts_follow b j [] [] [] h = tt
 parts_follow b j [] [] (order ∷ orders) h = absurd h
 parts_follow b j [] (w ∷ ws) orders h = absurd h
@@ -23,7 +26,8 @@ parts_follow b j (suc n ∷ ns) [] orders h = absurd h
 parts_follow b j (suc n ∷ ns) (w ∷ ws) [] h = absurd h
 parts_follow b j (suc n ∷ ns) (w ∷ ws) (order ∷ orders) h =
     follows_both Fits after (ordered_part_plan b j) (ordered_parts_plan b (suc j) (as_numbers ns))
-    (line (codes "without") (pos w.winner ∷ []) ∷ order_line order ∷ choice_line w.choice ∷ line (codes "table") [] ∷ table_lines w.table) (ordered_part_lines ws orders) (
+    (line (codes "without") (pos w.winner ∷ []) ∷ order_line order ∷ choice_line w.choice ∷ line (codes "table") [] ∷ table_lines w.table)
+    (ordered_part_lines ws orders) (
       record { word = refl; numbers = ap (λ (x : ℕ). pos x ∷ []) h.0.winner },
       (
         record { word = refl; numbers = choice_fits b order h.0.order },
@@ -32,7 +36,8 @@ parts_follow b j (suc n ∷ ns) (w ∷ ws) (order ∷ orders) h =
     )
     (parts_follow b (suc j) ns ws orders h.1)
 
-rows_follow : (b : ℕ) (rows : List RowValue) (orders : List (List ℕ)) → AreOrderedRows b rows orders → Follows Fits after (ordered_rows_plan b (length rows)) (ordered_row_lines rows orders)
+rows_follow : (b : ℕ) (rows : List RowValue) (orders : List (List ℕ)) → AreOrderedRows b rows orders
+    → Follows Fits after (ordered_rows_plan b (length rows)) (ordered_row_lines rows orders)
 rows_follow b [] [] h = tt
 rows_follow b [] (order ∷ orders) h = absurd h
 rows_follow b (r ∷ rows) [] h = absurd h
@@ -40,7 +45,13 @@ rows_follow b (r ∷ rows) (order ∷ orders) h = (
   record { word = refl; numbers = (omega (arith, h.0.some, long_numbers r.members), rise b 0 r.members h.0.members) },
   (
     record { word = refl; numbers = refl },
-    (record { word = refl; numbers = choice_fits b order h.1 }, (record { word = refl; numbers = choice_fits b r.choice h.0.choice }, rows_follow b rows orders h.2)),
+    (
+      record { word = refl; numbers = choice_fits b order h.1 },
+      (
+        record { word = refl; numbers = choice_fits b r.choice h.0.choice },
+        rows_follow b rows orders h.2,
+      ),
+    ),
   ),
 )
 
@@ -60,7 +71,8 @@ module _ (b : ℕ) (c : PlaceCertValue) (h : IsPlaceCertificate b c) where
   last_follows : Follows Fits after last_kinds last_lines
   last_follows = (
     record { word = refl; numbers = refl },
-    follows_both Fits after (set_table_plan b) (kind (codes "end") (these []) ∷ []) (table_lines c.cert.lowered) (line (codes "end") [] ∷ []) (sets_follow b c.cert.lowered h.lowered) (record { word = refl; numbers = refl }, tt),
+    follows_both Fits after (set_table_plan b) (kind (codes "end") (these []) ∷ []) (table_lines c.cert.lowered) (line (codes "end") [] ∷ [])
+        (sets_follow b c.cert.lowered h.lowered) (record { word = refl; numbers = refl }, tt),
   )
 
   abbrev pay_kinds : List Kind
@@ -74,7 +86,8 @@ module _ (b : ℕ) (c : PlaceCertValue) (h : IsPlaceCertificate b c) where
     record { word = refl; numbers = h.pay.0 },
     (
       record { word = refl; numbers = (length c.cert.rows, refl, h.few, some_bidder b c.cert.rows c.row_orders h.rows) },
-      follows_both Fits after (ordered_rows_plan b (length c.cert.rows)) last_kinds (ordered_row_lines c.cert.rows c.row_orders) last_lines (rows_follow b c.cert.rows c.row_orders h.rows) last_follows,
+      follows_both Fits after (ordered_rows_plan b (length c.cert.rows)) last_kinds (ordered_row_lines c.cert.rows c.row_orders) last_lines
+          (rows_follow b c.cert.rows c.row_orders h.rows) last_follows,
     ),
   )
 
@@ -90,8 +103,11 @@ module _ (b : ℕ) (c : PlaceCertValue) (h : IsPlaceCertificate b c) where
   -- a placement certificate's lines are those of the plan
   pub places_follow : IsPlacesText b (place_lines c)
   places_follow =
-      let tables = follows_both Fits after table_kinds parts_kinds named_lines (ordered_part_lines c.cert.withouts c.part_orders) (record { word = refl; numbers = refl }, sets_follow b c.cert.table h.table) (parts_follow b 1 c.cert.choice c.cert.withouts c.part_orders h.withouts) in
-      let behind = follows_both Fits after (table_kinds ++ parts_kinds) pay_kinds (named_lines ++ ordered_part_lines c.cert.withouts c.part_orders) pay_lines tables pay_follows in (
+      let tables = follows_both Fits after table_kinds parts_kinds named_lines (ordered_part_lines c.cert.withouts c.part_orders)
+      (record { word = refl; numbers = refl }, sets_follow b c.cert.table h.table)
+      (parts_follow b 1 c.cert.choice c.cert.withouts c.part_orders h.withouts) in
+      let behind = follows_both Fits after (table_kinds ++ parts_kinds) pay_kinds (named_lines ++ ordered_part_lines c.cert.withouts c.part_orders) pay_lines
+      tables pay_follows in (
         record { word = refl; numbers = refl },
         (
           record { word = refl; numbers = refl },

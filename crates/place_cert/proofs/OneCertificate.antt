@@ -25,7 +25,8 @@ choice_same : (a b : List ℕ) → choice_line a ≡ choice_line b → a ≡ b
 choice_same a b e = numbers_same a b (numbers_of (choice_line a) (choice_line b) e)
 
 module _ (b : ℕ) where
-  parts_same : (j : ℕ) (choice : List ℕ) (ws us : List WithoutValue) (os ps : List (List ℕ)) → AreOrderedWithouts b j choice ws os → AreOrderedWithouts b j choice us ps → ordered_part_lines ws os ≡ ordered_part_lines us ps → SameParts ws us os ps
+  parts_same : (j : ℕ) (choice : List ℕ) (ws us : List WithoutValue) (os ps : List (List ℕ)) → AreOrderedWithouts b j choice ws os
+      → AreOrderedWithouts b j choice us ps → ordered_part_lines ws os ≡ ordered_part_lines us ps → SameParts ws us os ps
   parts_same j [] [] [] [] [] g h e = (refl, refl)
   parts_same j [] [] [] [] (p ∷ ps) g h e = absurd h
   parts_same j [] [] (u ∷ us) [] ps g h e = absurd h
@@ -48,7 +49,8 @@ module _ (b : ℕ) where
       let own : w ≡ u = same_without w u winner (choice_same w.choice u.choice choices) table in
       let listed : o ≡ p = order_same o p orders in (cc (own, rest.0), cc (listed, rest.1))
 
-  parts_long : (j : ℕ) (choice : List ℕ) (ws us : List WithoutValue) (os ps : List (List ℕ)) → AreOrderedWithouts b j choice ws os → AreOrderedWithouts b j choice us ps → length (ordered_part_lines ws os) ≡ length (ordered_part_lines us ps)
+  parts_long : (j : ℕ) (choice : List ℕ) (ws us : List WithoutValue) (os ps : List (List ℕ)) → AreOrderedWithouts b j choice ws os
+      → AreOrderedWithouts b j choice us ps → length (ordered_part_lines ws os) ≡ length (ordered_part_lines us ps)
   parts_long j [] [] [] [] [] g h = refl
   parts_long j [] [] [] [] (p ∷ ps) g h = absurd h
   parts_long j [] [] (u ∷ us) [] ps g h = absurd h
@@ -65,7 +67,8 @@ module _ (b : ℕ) where
       let r = parts_long (suc j) ns ws us os ps g.1 h.1 in
       omega (arith, a, c, r, table_long w.table, table_long u.table, g.0.table.0, h.0.table.0)
 
-  rows_same : (rows rest : List RowValue) (os ps : List (List ℕ)) → AreOrderedRows b rows os → AreOrderedRows b rest ps → ordered_row_lines rows os ≡ ordered_row_lines rest ps → SameRows rows rest os ps
+  rows_same : (rows rest : List RowValue) (os ps : List (List ℕ)) → AreOrderedRows b rows os → AreOrderedRows b rest ps
+      → ordered_row_lines rows os ≡ ordered_row_lines rest ps → SameRows rows rest os ps
   rows_same [] [] [] [] g h e = (refl, refl)
   rows_same [] [] [] (p ∷ ps) g h e = absurd h
   rows_same [] [] (o ∷ os) ps g h e = absurd g
@@ -96,7 +99,8 @@ module _ (b : ℕ) where
 
   -- the lines behind the parts
   abbrev last : PlaceCertValue → List Line
-  last c = line (codes "pay") c.cert.pay ∷ line (codes "rows") (pos (length c.cert.rows) ∷ []) ∷ (ordered_row_lines c.cert.rows c.row_orders ++ line (codes "lowered") [] ∷ (table_lines c.cert.lowered ++ line (codes "end") [] ∷ []))
+  last c = line (codes "pay") c.cert.pay ∷ line (codes "rows") (pos (length c.cert.rows) ∷ []) ∷
+      (ordered_row_lines c.cert.rows c.row_orders ++ line (codes "lowered") [] ∷ (table_lines c.cert.lowered ++ line (codes "end") [] ∷ []))
 
   -- what stands in them
   record SameLast (c d : PlaceCertValue) : Type 0 where
@@ -108,13 +112,21 @@ module _ (b : ℕ) where
   last_same c d g h e =
       let pays : line (codes "pay") c.cert.pay ≡ line (codes "pay") d.cert.pay = cc in
       let counts : line (codes "rows") (pos (length c.cert.rows) ∷ []) ≡ line (codes "rows") (pos (length d.cert.rows) ∷ []) = cc in
-      let behind : ordered_row_lines c.cert.rows c.row_orders ++ line (codes "lowered") [] ∷ (table_lines c.cert.lowered ++ line (codes "end") [] ∷ []) ≡ ordered_row_lines d.cert.rows d.row_orders ++ line (codes "lowered") [] ∷ (table_lines d.cert.lowered ++ line (codes "end") [] ∷ []) = cc in
+      let behind : ordered_row_lines c.cert.rows c.row_orders ++ line (codes "lowered") [] ∷ (table_lines c.cert.lowered ++ line (codes "end") [] ∷ []) ≡
+      ordered_row_lines d.cert.rows d.row_orders ++ line (codes "lowered") [] ∷ (table_lines d.cert.lowered ++ line (codes "end") [] ∷ []) = cc in
       let count_list : pos (length c.cert.rows) ∷ [] ≡ pos (length d.cert.rows) ∷ [] = numbers_of _ _ counts in
       let count : length c.cert.rows ≡ length d.cert.rows = cc in
-      let rows = cut (ordered_row_lines c.cert.rows c.row_orders) (ordered_row_lines d.cert.rows d.row_orders) _ _ (omega (arith, rows_long c.cert.rows c.row_orders g.rows, rows_long d.cert.rows d.row_orders h.rows, count)) behind in
+      let rows = cut (ordered_row_lines c.cert.rows c.row_orders) (ordered_row_lines d.cert.rows d.row_orders) _ _
+      (omega (arith, rows_long c.cert.rows c.row_orders g.rows, rows_long d.cert.rows d.row_orders h.rows, count)) behind in
       let tables : table_lines c.cert.lowered ++ line (codes "end") [] ∷ [] ≡ table_lines d.cert.lowered ++ line (codes "end") [] ∷ [] = cc (rows.1) in
-      let lowered = cut (table_lines c.cert.lowered) (table_lines d.cert.lowered) _ _ (omega (arith, table_long c.cert.lowered, table_long d.cert.lowered, g.lowered.0, h.lowered.0)) tables in
-      record { pay = numbers_of _ _ pays; rows = rows_same c.cert.rows d.cert.rows c.row_orders d.row_orders g.rows h.rows rows.0; lowered = table_same c.cert.lowered d.cert.lowered lowered.0 }
+      let lowered = cut (table_lines c.cert.lowered) (table_lines d.cert.lowered) _ _
+      (omega (arith, table_long c.cert.lowered, table_long d.cert.lowered, g.lowered.0, h.lowered.0)) tables in
+      record {
+        pay = numbers_of _ _ pays;
+        rows = rows_same c.cert.rows d.cert.rows c.row_orders d.row_orders g.rows h.rows rows.0;
+        lowered =
+            table_same c.cert.lowered d.cert.lowered lowered.0;
+      }
 
   -- the line `table` and a table
   abbrev named : List (List ℤ) → List Line
@@ -127,17 +139,28 @@ module _ (b : ℕ) where
     behind : last c ≡ last d
 
   middle_same : (c d : PlaceCertValue) → IsPlaceCertificate b c → IsPlaceCertificate b d → c.cert.choice ≡ d.cert.choice
-      → (named c.cert.table ++ ordered_part_lines c.cert.withouts c.part_orders) ++ last c ≡ (named d.cert.table ++ ordered_part_lines d.cert.withouts d.part_orders) ++ last d → SameMiddle c d
+      → (named c.cert.table ++ ordered_part_lines c.cert.withouts c.part_orders)
+      ++ last c ≡ (named d.cert.table ++ ordered_part_lines d.cert.withouts d.part_orders) ++ last d → SameMiddle c d
   middle_same c d g h choice e =
-      let others : AreOrderedWithouts b 1 c.cert.choice d.cert.withouts d.part_orders = subst (λ (x : List ℕ). AreOrderedWithouts b 1 x d.cert.withouts d.part_orders) (sym choice) h.withouts in
-      let tables_long : length (named c.cert.table) ≡ length (named d.cert.table) = omega (arith, table_long c.cert.table, table_long d.cert.table, g.table.0, h.table.0) in
+      let others : AreOrderedWithouts b 1 c.cert.choice d.cert.withouts d.part_orders =
+      subst (λ (x : List ℕ). AreOrderedWithouts b 1 x d.cert.withouts d.part_orders) (sym choice) h.withouts in
+      let tables_long : length (named c.cert.table) ≡ length (named d.cert.table) =
+      omega (arith, table_long c.cert.table, table_long d.cert.table, g.table.0, h.table.0) in
       let parts = parts_long 1 c.cert.choice c.cert.withouts d.cert.withouts c.part_orders d.part_orders g.withouts others in
-      let long : length (named c.cert.table ++ ordered_part_lines c.cert.withouts c.part_orders) ≡ length (named d.cert.table ++ ordered_part_lines d.cert.withouts d.part_orders) =
-      length-append (named c.cert.table) (ordered_part_lines c.cert.withouts c.part_orders) ∙ omega (arith, tables_long, parts) ∙ sym (length-append (named d.cert.table) (ordered_part_lines d.cert.withouts d.part_orders)) in
+      let long : length (named c.cert.table ++ ordered_part_lines c.cert.withouts c.part_orders) ≡ length
+      (named d.cert.table ++ ordered_part_lines d.cert.withouts d.part_orders) =
+      length-append (named c.cert.table) (ordered_part_lines c.cert.withouts c.part_orders) ∙ omega (arith, tables_long, parts)
+      ∙ sym (length-append (named d.cert.table) (ordered_part_lines d.cert.withouts d.part_orders)) in
       let head = cut _ _ (last c) (last d) long e in
-      let front = cut (named c.cert.table) (named d.cert.table) (ordered_part_lines c.cert.withouts c.part_orders) (ordered_part_lines d.cert.withouts d.part_orders) tables_long head.0 in
+      let front = cut (named c.cert.table) (named d.cert.table) (ordered_part_lines c.cert.withouts c.part_orders)
+      (ordered_part_lines d.cert.withouts d.part_orders) tables_long head.0 in
       let table_rest : table_lines c.cert.table ≡ table_lines d.cert.table = cc (front.0) in
-      record { table = table_same c.cert.table d.cert.table table_rest; parts = parts_same 1 c.cert.choice c.cert.withouts d.cert.withouts c.part_orders d.part_orders g.withouts others front.1; behind = head.1 }
+      record {
+        table = table_same c.cert.table d.cert.table table_rest;
+        parts = parts_same 1 c.cert.choice c.cert.withouts d.cert.withouts c.part_orders
+            d.part_orders g.withouts others front.1;
+        behind = head.1;
+      }
 
   -- two placement certificates for as many bidders with the same lines are the same
   pub one_place_certificate : (c d : PlaceCertValue) → IsPlaceCertificate b c → IsPlaceCertificate b d → place_lines c ≡ place_lines d → c ≡ d
@@ -146,7 +169,8 @@ module _ (b : ℕ) where
       let values : line (codes "value") (c.cert.value ∷ []) ≡ line (codes "value") (d.cert.value ∷ []) = cc in
       let orders : order_line c.order ≡ order_line d.order = cc in
       let choices : choice_line c.cert.choice ≡ choice_line d.cert.choice = cc in
-      let behind : (named c.cert.table ++ ordered_part_lines c.cert.withouts c.part_orders) ++ last c ≡ (named d.cert.table ++ ordered_part_lines d.cert.withouts d.part_orders) ++ last d = cc in
+      let behind : (named c.cert.table ++ ordered_part_lines c.cert.withouts c.part_orders) ++ last c ≡
+      (named d.cert.table ++ ordered_part_lines d.cert.withouts d.part_orders) ++ last d = cc in
       let den_list : c.cert.den ∷ [] ≡ d.cert.den ∷ [] = numbers_of _ _ dens in
       let value_list : c.cert.value ∷ [] ≡ d.cert.value ∷ [] = numbers_of _ _ values in
       let den : c.cert.den ≡ d.cert.den = cc in
@@ -154,7 +178,8 @@ module _ (b : ℕ) where
       let choice : c.cert.choice ≡ d.cert.choice = choice_same c.cert.choice d.cert.choice choices in
       let middle = middle_same c d g h choice behind in
       let end = last_same c d g h middle.behind in
-      same (same_cert c.cert d.cert den value choice middle.table middle.parts.0 end.pay end.rows.0 end.lowered) (order_same c.order d.order orders) middle.parts.1 end.rows.1
+      same (same_cert c.cert d.cert den value choice middle.table middle.parts.0 end.pay end.rows.0 end.lowered)
+      (order_same c.order d.order orders) middle.parts.1 end.rows.1
     where
       same : c.cert ≡ d.cert → c.order ≡ d.order → c.part_orders ≡ d.part_orders → c.row_orders ≡ d.row_orders → c ≡ d
       same cert order parts rows =

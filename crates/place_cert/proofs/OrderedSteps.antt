@@ -1,13 +1,15 @@
 -- An order and a choice, and what comes behind a choice of the head.
 use Rattle.std.specs.Prelude.{◌≡◌, ℕ, List, [], ◌∷◌, ◌++◌, codes, length, pos, ℤ}
 use Rattle.std.proofs.Common.{sym, subst}
-use Rattle.cert_text.specs.cert_form.specs.Lines.{Line, Kind, kind, these, signed, chosen, counted, ordered_head, ordered_count, set_table_plan, ordered_parts_plan, ordered_rows_plan, after_numbers}
+use Rattle.cert_text.specs.cert_form.specs.Lines.{Line, Kind, kind, these, signed, chosen, counted, ordered_head, ordered_count, set_table_plan}
+use Rattle.cert_text.specs.cert_form.specs.Lines.{ordered_parts_plan, ordered_rows_plan, after_numbers}
 use Rattle.cert_text.specs.cert_form.specs.CertText.{line, as_numbers, choice_line, table_lines}
 use Rattle.cert_text.specs.Readers.{AreChosen, AreLike, Leads, Halts, LeadsChosen, HaltsChosen, LeadsCounted, HaltsCounted, LeadsLike, HaltsLike}
 use Rattle.cert_text.specs.declared.stop.CertStop.{CertStop}
 use Rattle.cert_text.proofs.PlanSteps.{leads_on, leads_before, leads_then, halts_before, halts_later, halts_then, same_kind}
 use Rattle.place_cert.specs.PlaceText.{order_line}
-use Rattle.place_cert.specs.PlaceReads.{LeadsOrdered, HaltsOrdered, ordered_kinds, ordered_lines, part_lines, placing_lines, placing_plan, payment_lines, payment_plan, row_lines}
+use Rattle.place_cert.specs.PlaceReads.{LeadsOrdered, HaltsOrdered, ordered_kinds, ordered_lines, part_lines, placing_lines, placing_plan, payment_lines}
+use Rattle.place_cert.specs.PlaceReads.{payment_plan, row_lines}
 use Rattle.place_cert.specs.declared.certificate.PlaceRow.{PlaceRow}
 use Rattle.place_cert.specs.declared.certificate.PlaceWithout.{PlaceWithout}
 
@@ -34,18 +36,22 @@ module _ (bytes : List ℕ) (place bidders : ℕ) where
 
   -- a stop at the order is the stop at an order with a choice
   pub ordered_first : (stop : CertStop) → HaltsLike bytes place (codes "order") (chosen bidders) stop → HaltsOrdered bytes place bidders stop
-  ordered_first stop h = λ n like. halts_before bytes place (order_kind bidders ∷ []) stop (kind (codes "choice") n ∷ []) (h (chosen bidders) (same_kind (chosen bidders)))
+  ordered_first stop h = λ n like. halts_before bytes place (order_kind bidders ∷ []) stop (kind (codes "choice") n ∷ [])
+      (h (chosen bidders) (same_kind (chosen bidders)))
 
   module _ (n1 : ℕ) (order : List ℕ) (a : OrderLeads n1 order) where
     -- behind the order, a stop at the choice is the stop at both
     pub ordered_second : (stop : CertStop) → HaltsChosen bytes n1 bidders stop → HaltsOrdered bytes place bidders stop
-    ordered_second stop h = λ n like. halts_then bytes place (order_kind bidders ∷ []) n1 (order_line order ∷ []) (kind (codes "choice") n ∷ []) stop (a (chosen bidders) (same_kind (chosen bidders))) (h n like)
+    ordered_second stop h = λ n like. halts_then bytes place (order_kind bidders ∷ []) n1 (order_line order ∷ []) (kind (codes "choice") n ∷ []) stop
+        (a (chosen bidders) (same_kind (chosen bidders))) (h n like)
 
     -- an order and the choice behind it are read as both
     pub ordered_done : (choice : List ℕ) (n2 : ℕ) → LeadsChosen bytes n1 bidders n2 choice → LeadsOrdered bytes place bidders n2 order choice
     ordered_done choice n2 b = λ n like.
-        leads_on bytes place (ordered_kinds bidders n) n1 (kind (codes "choice") n ∷ []) (order_line order ∷ []) n2 (after_numbers n (as_numbers choice)) (choice_line choice ∷ [])
-        (leads_before bytes place (order_kind bidders ∷ []) n1 [] (order_line order ∷ []) (kind (codes "choice") n ∷ []) (a (chosen bidders) (same_kind (chosen bidders))))
+        leads_on bytes place (ordered_kinds bidders n) n1 (kind (codes "choice") n ∷ []) (order_line order ∷ []) n2 (after_numbers n (as_numbers choice))
+        (choice_line choice ∷ [])
+        (leads_before bytes place (order_kind bidders ∷ []) n1 [] (order_line order ∷ []) (kind (codes "choice") n ∷ [])
+        (a (chosen bidders) (same_kind (chosen bidders))))
         (b n like)
 
   -- the head's order and choice, its table, and the parts
@@ -64,16 +70,20 @@ module _ (bytes : List ℕ) (place bidders : ℕ) where
 
     -- behind the choice, a stop at the table is the stop at the whole head
     pub placing_second : (stop : CertStop) → Halts bytes n1 (table_plan bidders) stop → Halts bytes place (placing_plan bidders) stop
-    placing_second stop h = halts_later bytes place (placing_plan bidders) n1 left (ordered_lines order choice) stop head (halts_before bytes n1 (table_plan bidders) stop parts_plan h)
+    placing_second stop h = halts_later bytes place (placing_plan bidders) n1 left (ordered_lines order choice) stop head
+        (halts_before bytes n1 (table_plan bidders) stop parts_plan h)
 
     module _ (table : List (List ℤ)) (n2 : ℕ) (b : Leads bytes n1 (table_plan bidders) n2 [] (named_lines table)) where
       -- behind the table, a stop at the parts is the stop at the whole head
       pub placing_third : (stop : CertStop) → Halts bytes n2 parts_plan stop → Halts bytes place (placing_plan bidders) stop
-      placing_third stop h = halts_later bytes place (placing_plan bidders) n1 left (ordered_lines order choice) stop head (halts_then bytes n1 (table_plan bidders) n2 (named_lines table) parts_plan stop b h)
+      placing_third stop h = halts_later bytes place (placing_plan bidders) n1 left (ordered_lines order choice) stop head
+          (halts_then bytes n1 (table_plan bidders) n2 (named_lines table) parts_plan stop b h)
 
       -- with the parts behind its table the whole head is read
-      pub placing_done : (parts : List PlaceWithout) (n3 : ℕ) → Leads bytes n2 parts_plan n3 [] (part_lines parts) → Leads bytes place (placing_plan bidders) n3 [] (placing_lines order choice table parts)
-      placing_done parts n3 c = leads_on bytes place (placing_plan bidders) n1 left (ordered_lines order choice) n3 [] (named_lines table ++ part_lines parts) head
+      pub placing_done : (parts : List PlaceWithout) (n3 : ℕ) → Leads bytes n2 parts_plan n3 [] (part_lines parts)
+          → Leads bytes place (placing_plan bidders) n3 [] (placing_lines order choice table parts)
+      placing_done parts n3 c = leads_on bytes place (placing_plan bidders) n1 left (ordered_lines order choice) n3 []
+          (named_lines table ++ part_lines parts) head
           (leads_then bytes n1 (table_plan bidders) n2 (named_lines table) parts_plan n3 (part_lines parts) b c)
 
   abbrev pay_kind : Kind
@@ -106,7 +116,9 @@ module _ (bytes : List ℕ) (place bidders : ℕ) where
       payment_third stop h = from_count stop (halts_later bytes n1 (count_kind ∷ []) n2 (ordered_rows_plan bidders count) (count_line count ∷ []) stop counts h)
 
       -- with as many rows as the count says all these lines are read
-      pub payment_done : (rows : List PlaceRow) (n3 : ℕ) → length rows ≡ count → Leads bytes n2 (ordered_rows_plan bidders count) n3 [] (row_lines rows) → Leads bytes place (payment_plan bidders) n3 [] (payment_lines pay rows)
-      payment_done rows n3 many c = subst (λ (n : ℕ). Leads bytes place (payment_plan bidders) n3 [] (line (codes "pay") pay ∷ count_line n ∷ row_lines rows)) (sym many)
+      pub payment_done : (rows : List PlaceRow) (n3 : ℕ) → length rows ≡ count → Leads bytes n2 (ordered_rows_plan bidders count) n3 [] (row_lines rows)
+          → Leads bytes place (payment_plan bidders) n3 [] (payment_lines pay rows)
+      payment_done rows n3 many c = subst (λ (n : ℕ). Leads bytes place (payment_plan bidders) n3 [] (line (codes "pay") pay ∷ count_line n ∷ row_lines rows))
+          (sym many)
           (leads_then bytes place (pay_kind ∷ []) n1 (line (codes "pay") pay ∷ []) (count_kind ∷ []) n3 (count_line count ∷ row_lines rows) a
           (leads_on bytes n1 (count_kind ∷ []) n2 (ordered_rows_plan bidders count) (count_line count ∷ []) n3 [] (row_lines rows) counts c))

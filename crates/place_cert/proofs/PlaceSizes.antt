@@ -6,10 +6,12 @@ use Rattle.cert_text.specs.cert_form.specs.Certificate.{RowValue, WithoutValue}
 use Rattle.cert_text.specs.cert_form.specs.CertText.{line, as_numbers, choice_line, table_lines, IsChoice}
 use Rattle.cert_text.specs.cert_form.specs.Lines.{Line}
 use Rattle.cert_text.specs.cert_form.specs.PlaceCert.{PlaceCertValue}
-use Rattle.cert_text.specs.cert_form.proofs.LineSizes.{size, size-append, text-size, times-le, line-size, each-size, choice-size, row-size, table-size, range-short, pay-size}
+use Rattle.cert_text.specs.cert_form.proofs.LineSizes.{size, size-append, text-size, times-le, line-size, each-size, choice-size, row-size, table-size}
+use Rattle.cert_text.specs.cert_form.proofs.LineSizes.{range-short, pay-size}
 use Rattle.cert_text.specs.line_text.proofs.Lengths.{times}
 use Rattle.place_cert.specs.PlaceSays.{place_text}
-use Rattle.place_cert.specs.PlaceText.{order_line, ordered_part_lines, ordered_row_lines, place_lines, HasSets, IsOrderedWithout, AreOrderedWithouts, AreOrderedRows, IsPlaceCertificate}
+use Rattle.place_cert.specs.PlaceText.{order_line, ordered_part_lines, ordered_row_lines, place_lines, HasSets, IsOrderedWithout, AreOrderedWithouts}
+use Rattle.place_cert.specs.PlaceText.{AreOrderedRows, IsPlaceCertificate}
 
 module _ (b : ℕ) (few : b ≤ 6) where
   -- an order and a choice

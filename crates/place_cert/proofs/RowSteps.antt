@@ -22,7 +22,8 @@ lines_more [] r = refl
 lines_more (o ∷ rows) r = ap (λ (l : List Line). own_row o ++ l) (lines_more rows r)
 
 -- one row more
-are_more : (bidders : ℕ) (rows : List PlaceRow) (r : PlaceRow) → AreRows bidders rows → IsRow bidders (row_value r) → IsChoice bidders (row_order r) → AreRows bidders (rows ++ r ∷ [])
+are_more : (bidders : ℕ) (rows : List PlaceRow) (r : PlaceRow) → AreRows bidders rows → IsRow bidders (row_value r) → IsChoice bidders (row_order r)
+    → AreRows bidders (rows ++ r ∷ [])
 are_more bidders [] r are is order = (is, order, tt)
 are_more bidders (o ∷ rows) r are is order = (are.0, are.1, are_more bidders rows r are.2 is order)
 
@@ -34,7 +35,8 @@ module _ (bytes : List ℕ) (place bidders count : ℕ) where
   pub rows_start : place ≤ length bytes → RowsSoFar bytes place bidders count 0 place []
   rows_start within = record {
     many = refl;
-    leads = subst (λ (n : ℕ). Leads bytes place whole place (ordered_rows_plan bidders n) []) {x = count} {y = count - 0} (omega arith) (leads_none bytes place whole);
+    leads = subst (λ (n : ℕ). Leads bytes place whole place (ordered_rows_plan bidders n) []) {x = count} {y = count - 0} (omega arith)
+        (leads_none bytes place whole);
     are = tt;
     within = within;
   }
@@ -42,11 +44,14 @@ module _ (bytes : List ℕ) (place bidders count : ℕ) where
   abbrev left_behind : ℕ → List Kind
   left_behind done = ordered_rows_plan bidders (count - (done + 1))
 
-  here : (done next : ℕ) (rows : List PlaceRow) → done < count → RowsSoFar bytes place bidders count done next rows → Leads bytes place whole next (row_plan bidders ++ left_behind done) (row_lines rows)
-  here done next rows lt h = subst (λ (n : ℕ). Leads bytes place whole next (ordered_rows_plan bidders n) (row_lines rows)) {x = count - done} {y = suc (count - (done + 1))} (omega (arith, lt)) h.leads
+  here : (done next : ℕ) (rows : List PlaceRow) → done < count → RowsSoFar bytes place bidders count done next rows
+      → Leads bytes place whole next (row_plan bidders ++ left_behind done) (row_lines rows)
+  here done next rows lt h = subst (λ (n : ℕ). Leads bytes place whole next (ordered_rows_plan bidders n) (row_lines rows)) {x = count - done}
+      {y = suc (count - (done + 1))} (omega (arith, lt)) h.leads
 
   -- one row more is read
-  pub rows_more : (done next : ℕ) (rows : List PlaceRow) (r : PlaceRow) (last : ℕ) → done < count → RowsSoFar bytes place bidders count done next rows → Leads bytes next (row_plan bidders) last [] (own_row r) → IsRow bidders (row_value r) → IsChoice bidders (row_order r)
+  pub rows_more : (done next : ℕ) (rows : List PlaceRow) (r : PlaceRow) (last : ℕ) → done < count → RowsSoFar bytes place bidders count done next rows
+      → Leads bytes next (row_plan bidders) last [] (own_row r) → IsRow bidders (row_value r) → IsChoice bidders (row_order r)
       → last ≤ length bytes → RowsSoFar bytes place bidders count (done + 1) last (rows ++ r ∷ [])
   rows_more done next rows r last lt h read is order within = record {
     many = length-append rows (r ∷ []) ∙ ap (λ (n : ℕ). n + 1) h.many;
@@ -58,12 +63,15 @@ module _ (bytes : List ℕ) (place bidders count : ℕ) where
   }
 
   -- the next row isn't there
-  pub rows_halts : (done next : ℕ) (rows : List PlaceRow) (stop : CertStop) → done < count → RowsSoFar bytes place bidders count done next rows → Halts bytes next (row_plan bidders) stop → Halts bytes place whole stop
+  pub rows_halts : (done next : ℕ) (rows : List PlaceRow) (stop : CertStop) → done < count → RowsSoFar bytes place bidders count done next rows
+      → Halts bytes next (row_plan bidders) stop → Halts bytes place whole stop
   rows_halts done next rows stop lt h halt =
-      halts_later bytes place whole next (row_plan bidders ++ left_behind done) (row_lines rows) stop (here done next rows lt h) (halts_before bytes next (row_plan bidders) stop (left_behind done) halt)
+      halts_later bytes place whole next (row_plan bidders ++ left_behind done) (row_lines rows) stop (here done next rows lt h)
+      (halts_before bytes next (row_plan bidders) stop (left_behind done) halt)
 
   -- all rows are read
-  pub rows_done : (done next : ℕ) (rows : List PlaceRow) → done ≡ count → RowsSoFar bytes place bidders count done next rows → Leads bytes place whole next [] (row_lines rows) × (length rows ≡ count)
+  pub rows_done : (done next : ℕ) (rows : List PlaceRow) → done ≡ count → RowsSoFar bytes place bidders count done next rows
+      → Leads bytes place whole next [] (row_lines rows) × (length rows ≡ count)
   rows_done done next rows e h = (
     subst (λ (n : ℕ). Leads bytes place whole next (ordered_rows_plan bidders n) (row_lines rows)) {x = count - done} {y = 0} (omega (arith, e)) h.leads,
     h.many ∙ e,

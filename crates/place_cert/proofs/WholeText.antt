@@ -72,9 +72,11 @@ module _ (b : ℕ) (bytes : List ℕ) where
       pub placing_stops : (stop : CertStop) → Halts bytes n1 (placing_plan b) stop → PlaceStopsAt b bytes stop
       placing_stops stop h = stops_opened stop (halts_before bytes n1 (placing_plan b) stop (payment_plan b ++ last_plan) h)
 
-      module _ (order choice : List ℕ) (table : List (List ℤ)) (withouts : List PlaceWithout) (n2 : ℕ) (two : Leads bytes n1 (placing_plan b) n2 [] (placing_lines order choice table withouts)) where
+      module _ (order choice : List ℕ) (table : List (List ℤ)) (withouts : List PlaceWithout) (n2 : ℕ)
+          (two : Leads bytes n1 (placing_plan b) n2 [] (placing_lines order choice table withouts)) where
         stops_placed : (stop : CertStop) → Halts bytes n2 (payment_plan b ++ last_plan) stop → PlaceStopsAt b bytes stop
-        stops_placed stop h = stops_opened stop (halts_then bytes n1 (placing_plan b) n2 (placing_lines order choice table withouts) (payment_plan b ++ last_plan) stop two h)
+        stops_placed stop h = stops_opened stop (halts_then bytes n1 (placing_plan b) n2 (placing_lines order choice table withouts)
+            (payment_plan b ++ last_plan) stop two h)
 
         -- a stop at the payments or the rows is the stop at the whole text
         pub payment_stops : (stop : CertStop) → Halts bytes n2 (payment_plan b) stop → PlaceStopsAt b bytes stop
@@ -91,18 +93,25 @@ module _ (b : ℕ) (bytes : List ℕ) where
 
             -- the lines that were read, up to the count of rows as the list of the program has it
             abbrev lines_read : List Line
-            lines_read = version_line ++ (opening_lines den value ++ (placing_lines order choice table withouts ++ (payment_lines pay rows ++ closing_lines lowered)))
+            lines_read = version_line ++ (opening_lines den value ++ (placing_lines order choice table withouts
+                ++ (payment_lines pay rows ++ closing_lines lowered)))
 
             same_lines : lines_read ≡ place_lines value_read
-            same_lines = ap (λ (n : ℕ). version_line ++ (opening_lines den value ++ (placing_lines order choice table withouts ++ ((line (codes "pay") pay ∷ line (codes "rows") (pos n ∷ []) ∷ ordered_row_lines (map row_value rows) (map row_order rows)) ++ closing_lines lowered)))) (sym (length-map rows row_value))
+            same_lines = ap (λ (n : ℕ). version_line ++ (opening_lines den value
+                ++ (placing_lines order choice table withouts ++ ((line (codes "pay") pay ∷ line (codes "rows") (pos n ∷ []) ∷ ordered_row_lines
+                (map row_value rows) (map row_order rows)) ++ closing_lines lowered)))) (sym (length-map rows row_value))
 
-            body : Leads bytes n0 body_plan n4 [] (opening_lines den value ++ (placing_lines order choice table withouts ++ (payment_lines pay rows ++ closing_lines lowered)))
-            body = leads_then bytes n0 opening_plan n1 (opening_lines den value) from_placing n4 (placing_lines order choice table withouts ++ (payment_lines pay rows ++ closing_lines lowered)) one
-                (leads_then bytes n1 (placing_plan b) n2 (placing_lines order choice table withouts) (payment_plan b ++ last_plan) n4 (payment_lines pay rows ++ closing_lines lowered) two
+            body : Leads bytes n0 body_plan n4 [] (opening_lines den value ++ (placing_lines order choice table withouts
+                ++ (payment_lines pay rows ++ closing_lines lowered)))
+            body = leads_then bytes n0 opening_plan n1 (opening_lines den value) from_placing n4
+                (placing_lines order choice table withouts ++ (payment_lines pay rows ++ closing_lines lowered)) one
+                (leads_then bytes n1 (placing_plan b) n2 (placing_lines order choice table withouts) (payment_plan b ++ last_plan) n4
+                (payment_lines pay rows ++ closing_lines lowered) two
                 (leads_then bytes n2 (payment_plan b) n3 (payment_lines pay rows) last_plan n4 (closing_lines lowered) three four))
 
             whole : Leads bytes 0 (places_plan b) n4 [] lines_read
-            whole = leads_then bytes 0 version_plan n0 version_line body_plan n4 (opening_lines den value ++ (placing_lines order choice table withouts ++ (payment_lines pay rows ++ closing_lines lowered))) zeroth body
+            whole = leads_then bytes 0 version_plan n0 version_line body_plan n4
+                (opening_lines den value ++ (placing_lines order choice table withouts ++ (payment_lines pay rows ++ closing_lines lowered))) zeroth body
 
             reached : ReachedBy (places_plan b) bytes n4 [] (place_lines value_read)
             reached = subst (λ (ls : List Line). ReachedBy (places_plan b) bytes n4 [] ls) same_lines (whole.leads (places_plan b) [] [] start)
@@ -116,8 +125,10 @@ module _ (b : ℕ) (bytes : List ℕ) where
             text_read none = reached-end bytes n4 (place_lines value_read) reached none
 
 -- what was read of each stage makes a placement certificate
-pub made : (b : ℕ) (den value : ℤ) (choice order : List ℕ) (table : List (List ℤ)) (withouts : List PlaceWithout) (pay : List ℤ) (rows : List PlaceRow) (lowered : List (List ℤ)) → InRange den × InRange value → IsChoice b choice → IsChoice b order → HasSets b table
-    → AreParts b 1 choice withouts → (length pay ≡ b) × AllInRange pay → length rows ≤ 10 → AreRows b rows → HasSets b lowered → IsPlaceCertificate b (place_cert_from den value choice order table withouts pay rows lowered)
+pub made : (b : ℕ) (den value : ℤ) (choice order : List ℕ) (table : List (List ℤ)) (withouts : List PlaceWithout) (pay : List ℤ) (rows : List PlaceRow)
+    (lowered : List (List ℤ)) → InRange den × InRange value → IsChoice b choice → IsChoice b order → HasSets b table
+    → AreParts b 1 choice withouts → (length pay ≡ b) × AllInRange pay → length rows ≤ 10 → AreRows b rows → HasSets b lowered
+    → IsPlaceCertificate b (place_cert_from den value choice order table withouts pay rows lowered)
 made b den value choice order table withouts pay rows lowered range c o t w p few r l = record {
   den = range.0;
   value = range.1;

@@ -36,7 +36,8 @@ second_wins = record {
   row_orders = (1 ∷ 2 ∷ []) ∷ [];
 }
 
-second_text : place_text second_wins ≡ codes "pcert 1\nden 2\nvalue 10\norder 2 1\nchoice 0 3\ntable\nt 10 10 0 0\nwithout 2\norder 1 2\nchoice 1 0\ntable\nt 7 0 0 0\n"
+second_text : place_text second_wins ≡ codes
+    "pcert 1\nden 2\nvalue 10\norder 2 1\nchoice 0 3\ntable\nt 10 10 0 0\nwithout 2\norder 1 2\nchoice 1 0\ntable\nt 7 0 0 0\n"
     ++ codes "pay 0 14\nrows 1\nrow 2\nmult 2 -105\norder 1 2\nchoice 1 0\nlowered\nt 14 14 0 0\nend\n"
 unfolding numeral digits_of
 second_text = refl

@@ -17,7 +17,8 @@ use Rattle.place_cert.specs.declared.certificate.PlaceRow.{PlaceRow}
 use Rattle.place_cert.specs.declared.certificate.PlaceWithout.{PlaceWithout}
 
 -- the next part
-pub next_part : (parts : List PlaceWithout) (i : ℕ) (part : PlaceWithout) (whole before behind : List ℕ) → i < length parts → part ≡ get_or parts i part → before ++ bytes_of (part_lines (drop i parts)) ≡ whole
+pub next_part : (parts : List PlaceWithout) (i : ℕ) (part : PlaceWithout) (whole before behind : List ℕ) → i < length parts → part ≡ get_or parts i part
+    → before ++ bytes_of (part_lines (drop i parts)) ≡ whole
     → Adds before behind (own_part part) → behind ++ bytes_of (part_lines (drop (i + 1) parts)) ≡ whole
 next_part parts i part whole before behind inside item so_far step =
     let others = drop (i + 1) parts in
@@ -26,7 +27,8 @@ next_part parts i part whole before behind inside item so_far step =
     one_more (λ (l : List PlaceWithout). bytes_of (part_lines l)) parts i part whole before behind (bytes_of (own_part part)) inside split so_far step
 
 -- the next row
-pub next_row : (rows : List PlaceRow) (i : ℕ) (row : PlaceRow) (whole before behind : List ℕ) → i < length rows → row ≡ get_or rows i row → before ++ bytes_of (row_lines (drop i rows)) ≡ whole
+pub next_row : (rows : List PlaceRow) (i : ℕ) (row : PlaceRow) (whole before behind : List ℕ) → i < length rows → row ≡ get_or rows i row
+    → before ++ bytes_of (row_lines (drop i rows)) ≡ whole
     → Adds before behind (own_row row) → behind ++ bytes_of (row_lines (drop (i + 1) rows)) ≡ whole
 next_row rows i row whole before behind inside item so_far step =
     let others = drop (i + 1) rows in
@@ -69,8 +71,10 @@ module _ (b : ℕ) where
     all_rows_range = rows_range c.rows is.rows
 
 -- the parts of a placement certificate's text, one behind the other
-pub whole_places : (c : PlaceCertificate) (a d e g h i : List ℕ) → Adds [] a (lines_of_head c) → Adds a d (lines_of_table (codes "table") c.table) → Adds d e (part_lines c.withouts)
-    → Adds e g (payment_lines c.pay c.rows) → Adds g h (lines_of_table (codes "lowered") c.lowered) → Adds h i (line (codes "end") [] ∷ []) → i ≡ place_text (place_cert_value c)
+pub whole_places : (c : PlaceCertificate) (a d e g h i : List ℕ) → Adds [] a (lines_of_head c) → Adds a d (lines_of_table (codes "table") c.table)
+    → Adds d e (part_lines c.withouts)
+    → Adds e g (payment_lines c.pay c.rows) → Adds g h (lines_of_table (codes "lowered") c.lowered) → Adds h i (line (codes "end") [] ∷ [])
+    → i ≡ place_text (place_cert_value c)
 whole_places c a d e g h i head table parts payments lowered end =
     let tables = lines_of_table (codes "table") c.table ++ part_lines c.withouts in
     let last = lines_of_table (codes "lowered") c.lowered ++ line (codes "end") [] ∷ [] in
@@ -79,5 +83,6 @@ whole_places c a d e g h i head table parts payments lowered end =
     let to_tail : Adds e i tail = adds_both e g i (payment_lines c.pay c.rows) last payments to_last in
     let to_tables : Adds a e tables = adds_both a d e (lines_of_table (codes "table") c.table) (part_lines c.withouts) table parts in
     adds_both [] a i (lines_of_head c) (tables ++ tail) head (adds_both a e i tables tail to_tables to_tail)
-    ∙ ap (λ (n : ℕ). bytes_of (lines_of_head c ++ (tables ++ line (codes "pay") c.pay ∷ line (codes "rows") (pos n ∷ []) ∷ (ordered_row_lines (map row_value c.rows) (map row_order c.rows) ++ last)))) (sym (length-map c.rows row_value))
+    ∙ ap (λ (n : ℕ). bytes_of (lines_of_head c ++ (tables ++ line (codes "pay") c.pay ∷ line (codes "rows") (pos n ∷ []) ∷
+    (ordered_row_lines (map row_value c.rows) (map row_order c.rows) ++ last)))) (sym (length-map c.rows row_value))
     ∙ sym (bytes_are 0 (place_lines (place_cert_value c)))

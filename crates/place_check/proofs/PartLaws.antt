@@ -23,7 +23,8 @@ pub record HasForm (b : ℕ) (part : PlaceWithout) : Type 0 where
   pub choice : length part.choice ≡ b
   pub table : HasSets b part.table
 
-parts-form : (b j : ℕ) (numbers : List ℕ) (parts : List PlaceWithout) → AreParts b j numbers parts → (i : ℕ) (other : PlaceWithout) → i < length parts → HasForm b (get_or parts i other)
+parts-form : (b j : ℕ) (numbers : List ℕ) (parts : List PlaceWithout) → AreParts b j numbers parts → (i : ℕ) (other : PlaceWithout) → i < length parts
+    → HasForm b (get_or parts i other)
 parts-form b j numbers [] are i other lt = absurd (omega arith)
 parts-form b j [] (w ∷ parts) are i other lt = absurd are
 parts-form b j (zero ∷ numbers) (w ∷ parts) are i other lt = parts-form b (suc j) numbers (w ∷ parts) are i other lt
@@ -31,11 +32,13 @@ parts-form b j (suc n ∷ numbers) (w ∷ parts) are zero other lt = record { ch
 parts-form b j (suc n ∷ numbers) (w ∷ parts) are (suc i) other lt = parts-form b (suc j) numbers parts are.1 i other (omega arith)
 
 -- each part of a certificate has a choice and a table of the right form
-pub part-form : (slots : SlotList) (cert : PlaceCertificate) → IsFor slots cert → (items : List PlaceWithout) (i : ℕ) (part : PlaceWithout) → items ≡ cert.withouts → i < length items → part ≡ get_or items i part
+pub part-form : (slots : SlotList) (cert : PlaceCertificate) → IsFor slots cert → (items : List PlaceWithout) (i : ℕ) (part : PlaceWithout)
+    → items ≡ cert.withouts → i < length items → part ≡ get_or items i part
     → HasForm (length slots.bidders) part
 part-form slots cert shape items i part same lt is =
     subst (HasForm (length slots.bidders)) (sym is)
-    (parts-form (length slots.bidders) 1 cert.choice items (subst (λ (ws : List PlaceWithout). AreParts (length slots.bidders) 1 cert.choice ws) (sym same) (cert-kept slots cert shape).withouts) i part lt)
+    (parts-form (length slots.bidders) 1 cert.choice items (subst (λ (ws : List PlaceWithout). AreParts (length slots.bidders) 1 cert.choice ws) (sym same)
+    (cert-kept slots cert shape).withouts) i part lt)
 
 -- the part and the order without a bidder are those of the parts from i on
 pub record IsFrom (parts : List PlaceWithout) (i j : ℕ) : Type 0 where
@@ -52,7 +55,8 @@ module _ (parts : List PlaceWithout) (i j : ℕ) (part : PlaceWithout) (lt : i <
   part-here : part_of (map part_value parts) j ≡ part_of (map part_value (part ∷ drop (suc i) parts)) j
   part-here = from.part ∙ ap (λ (ps : List PlaceWithout). part_of (map part_value ps) j) (split-at parts i part lt is)
 
-  order-here : order_without (map part_value parts) (map part_order parts) j ≡ order_without (map part_value (part ∷ drop (suc i) parts)) (map part_order (part ∷ drop (suc i) parts)) j
+  order-here : order_without (map part_value parts) (map part_order parts) j ≡ order_without (map part_value (part ∷ drop (suc i) parts))
+      (map part_order (part ∷ drop (suc i) parts)) j
   order-here = from.order ∙ ap (λ (ps : List PlaceWithout). order_without (map part_value ps) (map part_order ps) j) (split-at parts i part lt is)
 
   -- where no earlier part is the winner's and the part at hand is, it is the part without the winner
@@ -61,7 +65,8 @@ module _ (parts : List PlaceWithout) (i j : ℕ) (part : PlaceWithout) (lt : i <
 
   -- its order is the order without the winner
   pub found-order : part.winner ≡ j → order_without (map part_value parts) (map part_order parts) j ≡ part_order part
-  found-order own = order-here ∙ cond-true (part.winner == j) (part_order part) (order_without (map part_value (drop (suc i) parts)) (map part_order (drop (suc i) parts)) j) (eq-eqb part.winner j own)
+  found-order own = order-here ∙ cond-true (part.winner == j) (part_order part) (order_without (map part_value (drop (suc i) parts))
+      (map part_order (drop (suc i) parts)) j) (eq-eqb part.winner j own)
 
   -- where the part at hand is another winner's, the part and the order are those of the parts behind it
   pub from-next : (part.winner ≡ j → ⊥) → IsFrom parts (i + 1) j
@@ -70,7 +75,8 @@ module _ (parts : List PlaceWithout) (i j : ℕ) (part : PlaceWithout) (lt : i <
       let no = ne_eqb part.winner j other in
       subst (λ (n : ℕ). IsFrom parts n j) up (record {
         part = part-here ∙ cond-false (part.winner == j) (part_value part) (part_of (map part_value (drop (suc i) parts)) j) no;
-        order = order-here ∙ cond-false (part.winner == j) (part_order part) (order_without (map part_value (drop (suc i) parts)) (map part_order (drop (suc i) parts)) j) no;
+        order = order-here ∙ cond-false (part.winner == j) (part_order part) (order_without (map part_value (drop (suc i) parts))
+            (map part_order (drop (suc i) parts)) j) no;
       })
 
 -- from the first part on, the part and the order are those of all parts
@@ -81,7 +87,8 @@ from-start parts j = record { part = refl; order = refl }
 pub no-part : (slots : SlotList) (parts : List PlaceWithout) (i j : ℕ) → 0 < j → j ≤ length slots.bidders → drop i parts ≡ [] → IsFrom parts i j
     → IsPlacedPart slots j (part_of (map part_value parts) j) (order_without (map part_value parts) (map part_order parts) j) → ⊥
 no-part slots parts i j some low none from is =
-    let order : order_without (map part_value parts) (map part_order parts) j ≡ [] = from.order ∙ ap (λ (ps : List PlaceWithout). order_without (map part_value ps) (map part_order ps) j) none in
+    let order : order_without (map part_value parts) (map part_order parts) j ≡ [] = from.order ∙ ap
+    (λ (ps : List PlaceWithout). order_without (map part_value ps) (map part_order ps) j) none in
     let chosen = (part_of (map part_value parts) j).choice in
     let t : IsTrue (allows slots [] chosen) = subst (λ (l : List ℕ). IsTrue (allows slots l chosen)) order is.allowed in
     let count : 0 ≡ length slots.bidders = eqb-true 0 (length slots.bidders) (nested (0 == length slots.bidders) _ _ t) in
@@ -91,6 +98,7 @@ no-part slots parts i j some low none from is =
     nested x y z t = (and_parts x y (and_parts (x && y) z t).0).0
 
 -- the part and the order that are tested
-pub part-by : (slots : SlotList) (j : ℕ) (b : Bool) (w v : WithoutValue) (o l : List ℕ) → w ≡ v → o ≡ l → (IsTrue b ↔ IsPlacedPart slots j v l) → IsTrue b ↔ IsPlacedPart slots j w o
+pub part-by : (slots : SlotList) (j : ℕ) (b : Bool) (w v : WithoutValue) (o l : List ℕ) → w ≡ v → o ≡ l → (IsTrue b ↔ IsPlacedPart slots j v l)
+    → IsTrue b ↔ IsPlacedPart slots j w o
 part-by slots j b w v o l e f h =
     subst (λ (x : WithoutValue). IsTrue b ↔ IsPlacedPart slots j x o) (sym e) (subst (λ (y : List ℕ). IsTrue b ↔ IsPlacedPart slots j v y) (sym f) h)

@@ -26,22 +26,35 @@ module _ (m : Market) (c : CertValue) where
   pays-past place past = record { winner = λ some low wins. absurd (past (some, low)); loser = λ some low loses. absurd (past (some, low)) }
 
   -- P5 asks of a winner that it pays at least 0 and at most its bid
-  pub pays-winner : (j : ℕ) (paid most : ℤ) (b : Bool) → 0 < j → j ≤ m.bidders → IsTrue (uses c.choice j) → paid ≡ of_bidder c.pay j → most ≡ c.den *ℤ won_in m c j
+  pub pays-winner : (j : ℕ) (paid most : ℤ) (b : Bool) → 0 < j → j ≤ m.bidders → IsTrue (uses c.choice j) → paid ≡ of_bidder c.pay j
+      → most ≡ c.den *ℤ won_in m c j
       → (IsTrue b ↔ ((pos 0 ≤ℤ paid) × (paid ≤ℤ most))) → IsTrue b ↔ PaysWithinBids m c j
   pays-winner j paid most b some le wins paid_is most_is test = (
     λ t. record {
-      winner = λ s l w. (subst (λ (z : ℤ). pos 0 ≤ℤ z) paid_is (test.0 t).0, subst (λ (z : ℤ). of_bidder c.pay j ≤ℤ z) most_is (subst (λ (z : ℤ). z ≤ℤ most) paid_is (test.0 t).1));
+      winner = λ s l w. (
+        subst (λ (z : ℤ). pos 0 ≤ℤ z) paid_is (test.0 t).0,
+        subst (λ (z : ℤ). of_bidder c.pay j ≤ℤ z) most_is
+            (subst (λ (z : ℤ). z ≤ℤ most) paid_is (test.0 t).1),
+      );
       loser = λ s l loses. absurd (both_ways (uses c.choice j) loses wins);
     },
-    λ h. let two = h.winner some le wins in test.1 (subst (λ (z : ℤ). pos 0 ≤ℤ z) (sym paid_is) two.0, subst (λ (z : ℤ). paid ≤ℤ z) (sym most_is) (subst (λ (z : ℤ). z ≤ℤ (c.den *ℤ won_in m c j)) (sym paid_is) two.1)),
+    λ h. let two = h.winner some le wins in test.1 (
+      subst (λ (z : ℤ). pos 0 ≤ℤ z) (sym paid_is) two.0,
+      subst (λ (z : ℤ). paid ≤ℤ z) (sym most_is) (subst (λ (z : ℤ). z ≤ℤ (c.den *ℤ won_in m c j)) (sym paid_is) two.1),
+    ),
   )
 
   -- P7 asks nothing at a place that is no row's and no bidder's
   pub first-past : (place : ℕ) → IsPast (length c.rows + m.bidders) place → ShowsLeastSum m c place
-  first-past place past = record { sign = λ some le. absurd (past (some, omega (arith, le))); columns = λ j some le e wins. absurd (past (omega (arith, e, some), omega (arith, e, le))) }
+  first-past place past = record {
+    sign = λ some le. absurd (past (some, omega (arith, le)));
+    columns =
+        λ j some le e wins. absurd (past (omega (arith, e, some), omega (arith, e, le)));
+  }
 
   -- P7 asks of a row that its first multiplier isn't below 0
-  pub first-sign : (place : ℕ) (row : RowValue) (b : Bool) → 0 < place → place ≤ length c.rows → row_of c.rows place ≡ row → (IsTrue b ↔ (pos 0 ≤ℤ row.first)) → IsTrue b ↔ ShowsLeastSum m c place
+  pub first-sign : (place : ℕ) (row : RowValue) (b : Bool) → 0 < place → place ≤ length c.rows → row_of c.rows place ≡ row → (IsTrue b ↔ (pos 0 ≤ℤ row.first))
+      → IsTrue b ↔ ShowsLeastSum m c place
   first-sign place row b some le same test = (
     λ t. record {
       sign = λ s l. subst (λ (r : RowValue). pos 0 ≤ℤ r.first) (sym same) (test.0 t);
@@ -64,7 +77,8 @@ module _ (m : Market) (c : CertValue) where
   )
 
   -- P8 asks of a row that its first multiplier is above 0 or its second isn't below 0
-  pub second-sign : (w : ℕ → ℕ) (place : ℕ) (row : RowValue) (b : Bool) → 0 < place → place ≤ length c.rows → row_of c.rows place ≡ row → (IsTrue b ↔ ((pos 0 <ℤ row.first) ⊎ (pos 0 ≤ℤ row.second))) → IsTrue b ↔ ShowsNearest m w c place
+  pub second-sign : (w : ℕ → ℕ) (place : ℕ) (row : RowValue) (b : Bool) → 0 < place → place ≤ length c.rows → row_of c.rows place ≡ row
+      → (IsTrue b ↔ ((pos 0 <ℤ row.first) ⊎ (pos 0 ≤ℤ row.second))) → IsTrue b ↔ ShowsNearest m w c place
   second-sign w place row b some le same test = (
     λ t. record {
       sign = λ s l. subst (λ (r : RowValue). (pos 0 <ℤ r.first) ⊎ (pos 0 ≤ℤ r.second)) (sym same) (test.0 t);
@@ -75,20 +89,23 @@ module _ (m : Market) (c : CertValue) where
 
   -- P8 asks of a winner that it pays above its Vickrey price the second multipliers of its rows, times its weight
   pub second-sum : (w : ℕ → ℕ) (place j : ℕ) (b : Bool) → place ≡ length c.rows + j → 0 < j → j ≤ m.bidders
-      → (IsTrue b ↔ (IsTrue (uses c.choice j) → (of_bidder c.pay j -ℤ (c.den *ℤ vickrey_in m c j)) ≡ pos (w j) *ℤ sum_holding c.rows j (λ row. row.second) (length c.rows))) → IsTrue b ↔ ShowsNearest m w c place
+      → (IsTrue b ↔ (IsTrue (uses c.choice j) → (of_bidder c.pay j -ℤ (c.den *ℤ vickrey_in m c j)) ≡ pos (w j) *ℤ sum_holding c.rows j (λ row. row.second)
+      (length c.rows))) → IsTrue b ↔ ShowsNearest m w c place
   second-sum w place j b here some le test = (
     λ t. record {
       sign = λ s l. absurd (omega (arith, here, some, l));
       columns = λ i si li e.
           let same : j ≡ i = omega (arith, here, e) in
-          subst (λ (n : ℕ). IsTrue (uses c.choice n) → (of_bidder c.pay n -ℤ (c.den *ℤ vickrey_in m c n)) ≡ pos (w n) *ℤ sum_holding c.rows n (λ row. row.second) (length c.rows)) same (test.0 t);
+          subst (λ (n : ℕ). IsTrue (uses c.choice n) → (of_bidder c.pay n -ℤ (c.den *ℤ vickrey_in m c n)) ≡ pos (w n) *ℤ sum_holding c.rows n
+          (λ row. row.second) (length c.rows)) same (test.0 t);
     },
     λ h. test.1 (h.columns j some le here),
   )
 
 module _ (slots : SlotList) (p : PlaceCertValue) where
   -- P2 asks of a bidder that its number is 0 or that of one of its bids
-  pub choice-known : (place : ℕ) (b : Bool) → 0 < place → place ≤ length slots.bidders → (IsTrue b ↔ (number_of p.cert.choice place ≤ length (bids_of slots place))) → IsTrue b ↔ P2 slots p place
+  pub choice-known : (place : ℕ) (b : Bool) → 0 < place → place ≤ length slots.bidders
+      → (IsTrue b ↔ (number_of p.cert.choice place ≤ length (bids_of slots place))) → IsTrue b ↔ P2 slots p place
   choice-known place b some low test = (
     λ t. record { known = λ s l. test.0 t; allowed = λ e. absurd (omega (arith, e, low)); value = λ e. absurd (omega (arith, e, low)) },
     λ h. test.1 (h.known some low),
@@ -122,7 +139,8 @@ module _ (slots : SlotList) (p : PlaceCertValue) where
   row-past place past = record { row = record { row = λ some low. absurd (past (some, low)) }; order = λ some low. absurd (past (some, low)) }
 
   -- P6 asks of a row that it is tight and that its order allows its choice
-  pub row-tight : (place : ℕ) (row : RowValue) (order : List ℕ) (b : Bool) → 0 < place → place ≤ length p.cert.rows → row_of p.cert.rows place ≡ row → order_in_row p.row_orders place ≡ order
+  pub row-tight : (place : ℕ) (row : RowValue) (order : List ℕ) (b : Bool) → 0 < place → place ≤ length p.cert.rows → row_of p.cert.rows place ≡ row
+      → order_in_row p.row_orders place ≡ order
       → (IsTrue b ↔ IsTightPlaced slots p.cert row order) → IsTrue b ↔ P6 slots p place
   row-tight place row order b some low row_is order_is test = (
     λ t. record {
@@ -146,7 +164,8 @@ above-price b paid sum product test = (
 
 -- a row whose members, order and sum are tested
 pub tight-by : (slots : SlotList) (c : CertValue) (row : RowValue) (order members listed : List ℕ) (b : Bool) → members ≡ row.members → listed ≡ order
-    → ((j : ℕ) → IsTrue (is_member members j) → IsTrue (uses c.choice j)) → ((j : ℕ) → IsTrue (is_member members j) → number_of row.choice j ≡ 0) → IsTrue (allows slots listed row.choice)
+    → ((j : ℕ) → IsTrue (is_member members j) → IsTrue (uses c.choice j)) → ((j : ℕ) → IsTrue (is_member members j) → number_of row.choice j ≡ 0)
+    → IsTrue (allows slots listed row.choice)
     → (IsTrue b ↔ (sum_over (is_member row.members) (of_bidder c.pay) (length slots.bidders)
     ≡ c.den *ℤ (value_of (market_of slots) row.choice -ℤ sum_over (λ j. not (is_member row.members j)) (won_in (market_of slots) c) (length slots.bidders))))
     → IsTrue b ↔ IsTightPlaced slots c row order

@@ -1,5 +1,6 @@
 -- The rows of a certificate by their places, and the sizes of their multipliers.
-use Rattle.std.specs.Prelude.{◌≡◌, ℕ, zero, suc, ◌+◌, ◌-◌, ◌^◌, ◌≤◌, ◌<◌, if◌then◌else◌, List, [], ◌∷◌, length, map, replicate, get_or, ℤ, pos, ◌+ℤ◌, unsigned_abs}
+use Rattle.std.specs.Prelude.{◌≡◌, ℕ, zero, suc, ◌+◌, ◌-◌, ◌^◌, ◌≤◌, ◌<◌, if◌then◌else◌, List, [], ◌∷◌, length, map, replicate, get_or, ℤ, pos, ◌+ℤ◌}
+use Rattle.std.specs.Prelude.{unsigned_abs}
 use Rattle.std.proofs.Common.{inl, inr, sym, ◌∙◌, ap, subst, arith}
 use Rattle.std.proofs.lemmas.Bool.{cases_lt}
 use Rattle.std.proofs.lemmas.Int.{ints}
@@ -20,11 +21,13 @@ rows-at bidders (r ∷ rows) zero d h lt = h.0
 rows-at bidders (r ∷ rows) (suc k) d h lt = rows-at bidders rows k d h.2 (omega arith)
 
 -- each row of a certificate has the form of a row for so many bidders
-pub each-row : (bidders : ℕ) (rows : List PlaceRow) (k : ℕ) (row : PlaceRow) → AreRows bidders rows → k < length rows → row ≡ get_or rows k row → IsRow bidders (row_value row)
+pub each-row : (bidders : ℕ) (rows : List PlaceRow) (k : ℕ) (row : PlaceRow) → AreRows bidders rows → k < length rows → row ≡ get_or rows k row
+    → IsRow bidders (row_value row)
 each-row bidders rows k row are lt is = subst (λ (r : PlaceRow). IsRow bidders (row_value r)) (sym is) (rows-at bidders rows k row are lt)
 
 -- the row that stands at a place, counted from 1
-pub row-place : (rows : List PlaceRow) (place : ℕ) (row : PlaceRow) → 0 < place → place ≤ length rows → row ≡ get_or rows (place - 1) row → row_of (map row_value rows) place ≡ row_value row
+pub row-place : (rows : List PlaceRow) (place : ℕ) (row : PlaceRow) → 0 < place → place ≤ length rows → row ≡ get_or rows (place - 1) row
+    → row_of (map row_value rows) place ≡ row_value row
 row-place rows place row some low is =
     let none : RowValue = record { members = []; first = pos 0; second = pos 0; choice = [] } in
     get_or-map row_value rows (place - 1) row none (omega (arith, some, low)) ∙ ap row_value (sym is)
@@ -53,7 +56,8 @@ sums-none number rows = record { each = λ j some low. none (j - 1); small = λ 
     ]
 
 -- one row more is counted at each of its members
-pub sums-more : (number : RowValue → ℤ) (rows : List PlaceRow) (k : ℕ) (row : PlaceRow) (members : List ℕ) (old new : List ℤ) (multiplier : ℤ) → k < length rows → row ≡ get_or rows k row
+pub sums-more : (number : RowValue → ℤ) (rows : List PlaceRow) (k : ℕ) (row : PlaceRow) (members : List ℕ) (old new : List ℤ) (multiplier : ℤ)
+    → k < length rows → row ≡ get_or rows k row
     → members ≡ row.members → multiplier ≡ number (row_value row) → unsigned_abs multiplier ≤ 2 ^ 120 → length new ≡ 6
     → ((j : ℕ) → 0 < j → j ≤ 6 → of_bidder new j ≡ of_bidder old j +ℤ (if is_member members j then multiplier else pos 0))
     → AreSumsOf number (map row_value rows) k old → AreSumsOf number (map row_value rows) (k + 1) new
@@ -68,7 +72,8 @@ sums-more number rows k row members old new multiplier lt is same own small long
     | inl inside ↦
         let back : i ≡ i + 1 - 1 = omega arith in
         let counted : ℤ = if is_member members (i + 1) then multiplier else pos 0 in
-        let sum : nth new i ≡ nth old i +ℤ counted = ap (nth new) back ∙ add (i + 1) (omega arith) (omega (arith, inside)) ∙ ap (λ (n : ℕ). nth old n +ℤ counted) (sym back) in
+        let sum : nth new i ≡ nth old i +ℤ counted = ap (nth new) back ∙ add (i + 1) (omega arith) (omega (arith, inside))
+        ∙ ap (λ (n : ℕ). nth old n +ℤ counted) (sym back) in
         omega (arith, ints, sum, sums.small i, counted-size (is_member members (i + 1)) multiplier (2 ^ 120) small)
     | inr past ↦ let none : nth new i ≡ pos 0 = get_or_past new i (pos 0) (omega (arith, past, long)) in omega (arith, ints, none)
   ];
@@ -79,7 +84,8 @@ pub count-rows : (rows others : List PlaceRow) → others ≡ rows → length ot
 count-rows rows others e = ap (λ (l : List PlaceRow). length l) e ∙ sym (length-map rows row_value)
 
 -- equal rows give the same sum over those that hold a bidder
-pub holding-same : (rows others : List PlaceRow) (j : ℕ) (number : RowValue → ℤ) → others ≡ rows → sum_holding (map row_value others) j number (length others) ≡ sum_holding (map row_value rows) j number (length (map row_value rows))
+pub holding-same : (rows others : List PlaceRow) (j : ℕ) (number : RowValue → ℤ) → others ≡ rows → sum_holding (map row_value others) j number
+    (length others) ≡ sum_holding (map row_value rows) j number (length (map row_value rows))
 holding-same rows others j number e =
     ap (λ (l : List PlaceRow). sum_holding (map row_value l) j number (length l)) e
     ∙ ap (λ (n : ℕ). sum_holding (map row_value rows) j number n) (sym (length-map rows row_value))

@@ -59,7 +59,8 @@ module _ (b : Board) (worth : ℕ → ℕ → ℤ) (table : List (List ℤ)) (bi
       ]
 
   -- an entry that keeps the rules of a bidder's bids, and is no less than that with the bidder, keeps its rules
-  pub bids-all : (j k some : ℕ) → some < k → entry_at table 0 (bits + 2 ^ (j - 1)) ≤ℤ entry_at table 0 bits → KeepsBids j k → KeepsBidder b worth table bits j some
+  pub bids-all : (j k some : ℕ) → some < k → entry_at table 0 (bits + 2 ^ (j - 1)) ≤ℤ entry_at table 0 bits → KeepsBids j k
+      → KeepsBidder b worth table bits j some
   bids-all j k some past least to = record { none = λ new. least; bid = λ new i positive known. to i positive (omega (arith, known, past)) }
 
   -- a bidder inside the set asks nothing of its entry
@@ -74,7 +75,8 @@ abbrev pub ObeysTo : Board → (ℕ → ℕ → ℤ) → List (List ℤ) → ℕ
 ObeysTo b worth table k = (bits : ℕ) → bits < k → ObeysSet b worth table bits
 
 -- one set more that obeys the rules
-pub sets-next : (b : Board) (worth : ℕ → ℕ → ℤ) (table : List (List ℤ)) (k : ℕ) → ObeysTo b worth table k → ObeysSet b worth table k → ObeysTo b worth table (k + 1)
+pub sets-next : (b : Board) (worth : ℕ → ℕ → ℤ) (table : List (List ℤ)) (k : ℕ) → ObeysTo b worth table k → ObeysSet b worth table k
+    → ObeysTo b worth table (k + 1)
 sets-next b worth table k to own h low =
     elim (cases_lt h k) [
       | inl less ↦ to h less
@@ -91,7 +93,8 @@ module _ (b : Board) (worth : ℕ → ℕ → ℤ) (table : List (List ℤ)) (mo
   )
 
 -- equal worths ask the same
-pub set-same : (b : Board) (f g : ℕ → ℕ → ℤ) (table : List (List ℤ)) (bits : ℕ) → ((j i : ℕ) → 0 < j → j ≤ b.bidders → f j i ≡ g j i) → ObeysSet b f table bits → ObeysSet b g table bits
+pub set-same : (b : Board) (f g : ℕ → ℕ → ℤ) (table : List (List ℤ)) (bits : ℕ) → ((j i : ℕ) → 0 < j → j ≤ b.bidders → f j i ≡ g j i)
+    → ObeysSet b f table bits → ObeysSet b g table bits
 set-same b f g table bits same o = record {
   last = o.last;
   none = o.none;

@@ -42,7 +42,8 @@ nonneg-product (pos d) (pos a) some least = omega (arith, ints)
 nonneg-product (pos d) (negsuc a) some least = absurd (omega (arith, ints, least))
 nonneg-product (negsuc d) a some least = absurd (omega (arith, ints, some))
 
-module _ (slots : SlotList) (p : PlaceCertValue) (numbers : length p.cert.choice ≡ length slots.bidders) (p1 : (place : ℕ) → P1 p place) (p2 : (place : ℕ) → P2 slots p place) where
+module _ (slots : SlotList) (p : PlaceCertValue) (numbers : length p.cert.choice ≡ length slots.bidders) (p1 : (place : ℕ) → P1 p place)
+    (p2 : (place : ℕ) → P2 slots p place) where
   won-most : (j : ℕ) → 0 < j → j ≤ length slots.bidders → worth_in (market_of slots) p.cert.choice j ≤ℤ p.cert.value
   won-most j some low =
       let one = one-bid slots 0 p.cert.choice (j - 1) j (omega (arith, some)) (omega (arith, numbers, some, low)) in
@@ -93,10 +94,12 @@ module _ (slots : SlotList) (p : PlaceCertValue) (can : CanLower slots p) where
   lowered-worth gains same j i some low = ap (λ (z : ℤ). (p.cert.den *ℤ amount_of slots j i) -ℤ z) (same j some low)
 
   -- with what the bidders gain at the payments, no worth of a bid leaves the range
-  pub lowered-small : (gains : List ℤ) → length slots.bidders ≤ length gains → ((j : ℕ) → 0 < j → j ≤ length slots.bidders → of_bidder gains j ≡ gain_in slots p j) → HasSmallWorths slots 0 p.cert.den gains
+  pub lowered-small : (gains : List ℤ) → length slots.bidders ≤ length gains → ((j : ℕ) → 0 < j → j ≤ length slots.bidders
+      → of_bidder gains j ≡ gain_in slots p j) → HasSmallWorths slots 0 p.cert.den gains
   lowered-small gains many same = record {
     count = many;
-    bids = λ bits j i below some low new positive known may. can.bids bits j i below some low new positive (let e = bids-same slots j some in omega (arith, e, known)) may;
+    bids = λ bits j i below some low new positive known may. can.bids bits j i below some low new positive
+        (let e = bids-same slots j some in omega (arith, e, known)) may;
     gained = λ j some low. subst (λ (z : ℤ). unsigned_abs z < 2 ^ 120) (sym (same j some low)) (gain-small j some low);
   }
 

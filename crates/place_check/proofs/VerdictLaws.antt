@@ -59,4 +59,14 @@ module _ (slots : SlotList) (p : PlaceCertValue) (t : ℕ) (before : HoldsUpTo s
 
 -- there is no test 0
 pub asks-none : (slots : SlotList) (p : PlaceCertValue) (t place : ℕ) → t < 1 → Asks slots p t place
-asks-none slots p t place low = (λ e. absurd (omega (arith, low, e)), λ e. absurd (omega (arith, low, e)), λ e. absurd (omega (arith, low, e)), λ e. absurd (omega (arith, low, e)), λ e. absurd (omega (arith, low, e)), λ e. absurd (omega (arith, low, e)), λ e. absurd (omega (arith, low, e)), λ e. absurd (omega (arith, low, e)), λ e. absurd (omega (arith, low, e)))
+asks-none slots p t place low = (
+  λ e. absurd (omega (arith, low, e)),
+  λ e. absurd (omega (arith, low, e)),
+  λ e. absurd (omega (arith, low, e)),
+  λ e. absurd (omega (arith, low, e)),
+  λ e. absurd (omega (arith, low, e)),
+  λ e. absurd (omega (arith, low, e)),
+  λ e. absurd (omega (arith, low, e)),
+  λ e. absurd (omega (arith, low, e)),
+  λ e. absurd (omega (arith, low, e)),
+)

@@ -15,16 +15,21 @@ use Rattle.place_laws.proofs.MarketGains.{none-counted, bid-counted}
 use Rattle.place_laws.proofs.SetExact.{set-obeys, sets-same}
 
 -- the exact table of the amounts obeys the rules
-pub plain-obeys : (slots : SlotList) (table : List (List ℤ)) → IsSetTable (board_of slots) (amount_of slots) table → ObeysSets (board_of slots) (amount_of slots) table
+pub plain-obeys : (slots : SlotList) (table : List (List ℤ)) → IsSetTable (board_of slots) (amount_of slots) table
+    → ObeysSets (board_of slots) (amount_of slots) table
 plain-obeys slots table exact = set-obeys (board_of slots) (slots-ask slots 0) (slots-idle slots) (amount_of slots) table exact (λ j some low. refl)
 
 -- the exact table without a bidder's bids obeys the rules without them
-pub without-obeys : (slots : SlotList) (j : ℕ) (table : List (List ℤ)) → IsSetTable (board_without slots j) (amount_of slots) table → ObeysSets (board_without slots j) (amount_of slots) table
-without-obeys slots j table exact = set-obeys (board_without slots j) (slots-ask slots j) (idle-always slots j) (amount_of slots) table exact (λ h some low. refl)
+pub without-obeys : (slots : SlotList) (j : ℕ) (table : List (List ℤ)) → IsSetTable (board_without slots j) (amount_of slots) table
+    → ObeysSets (board_without slots j) (amount_of slots) table
+without-obeys slots j table exact = set-obeys (board_without slots j) (slots-ask slots j) (idle-always slots j) (amount_of slots) table exact
+    (λ h some low. refl)
 
 -- where payments are within the bids, the exact table of the lowered worths obeys the rules for these
-pub lowered-obeys : (slots : SlotList) (c : CertValue) (table : List (List ℤ)) → length c.pay ≡ length slots.bidders → ((place : ℕ) → PaysWithinBids (market_of slots) c place)
-    → IsSetTable (board_of slots) (lowered c.den (amount_of slots) (surpluses_of (market_of slots) c.choice c.den c.pay)) table → ObeysSets (board_of slots) (lowered_in (market_of slots) c) table
+pub lowered-obeys : (slots : SlotList) (c : CertValue) (table : List (List ℤ)) → length c.pay ≡ length slots.bidders
+    → ((place : ℕ) → PaysWithinBids (market_of slots) c place)
+    → IsSetTable (board_of slots) (lowered c.den (amount_of slots) (surpluses_of (market_of slots) c.choice c.den c.pay)) table
+    → ObeysSets (board_of slots) (lowered_in (market_of slots) c) table
 lowered-obeys slots c table pay_is pays exact =
     let m = market_of slots in
     let counts = lowered c.den (amount_of slots) (surpluses_of m c.choice c.den c.pay) in

@@ -24,7 +24,8 @@ use Rattle.place_laws.proofs.Exact.{plain-obeys, without-obeys, lowered-obeys}
 use Rattle.place_laws.proofs.FirstEntry.{whole-entry, without-entry}
 
 -- where the order allows the choice and the value is its worth, P2 holds
-pub head-choice : (slots : SlotList) (p : PlaceCertValue) → IsTrue (allows slots p.order p.cert.choice) → value_of (market_of slots) p.cert.choice ≡ p.cert.value → (place : ℕ) → P2 slots p place
+pub head-choice : (slots : SlotList) (p : PlaceCertValue) → IsTrue (allows slots p.order p.cert.choice)
+    → value_of (market_of slots) p.cert.choice ≡ p.cert.value → (place : ℕ) → P2 slots p place
 head-choice slots p allowed value place = record {
   known = λ some low. placed-number (board_of slots) (slots-idle slots) p.cert.choice place (allowed-says slots p.cert.choice p.order allowed).known some low;
   allowed = λ e. allowed;
@@ -32,7 +33,8 @@ head-choice slots p allowed value place = record {
 }
 
 -- where the choice is greatest, the value is its worth and the table is exact, P3 holds
-pub head-table : (slots : SlotList) (p : PlaceCertValue) → IsGreatest (market_of slots).allowed (value_of (market_of slots)) p.cert.choice → value_of (market_of slots) p.cert.choice ≡ p.cert.value
+pub head-table : (slots : SlotList) (p : PlaceCertValue) → IsGreatest (market_of slots).allowed (value_of (market_of slots)) p.cert.choice
+    → value_of (market_of slots) p.cert.choice ≡ p.cert.value
     → IsSetTable (board_of slots) (amount_of slots) p.cert.table → (place : ℕ) → P3 slots p place
 head-table slots p greatest value exact place = record {
   rules = λ below. plain-obeys slots p.cert.table exact place below;
@@ -43,7 +45,8 @@ head-table slots p greatest value exact place = record {
 }
 
 -- the best choice without a winner, with its placement and the exact table, is a part as P4 asks for it
-pub part-passes : (slots : SlotList) (j : ℕ) (part : WithoutValue) (order : List ℕ) → 0 < j → IsBestPlacedPart slots j part order → IsPlacedPart slots j part order
+pub part-passes : (slots : SlotList) (j : ℕ) (part : WithoutValue) (order : List ℕ) → 0 < j → IsBestPlacedPart slots j part order
+    → IsPlacedPart slots j part order
 part-passes slots j part order some best =
     let both = and_parts ((market_of slots).allowed part.choice) (not (uses part.choice j)) best.choice.passed in
     record {
@@ -59,11 +62,13 @@ part-passes slots j part order some best =
 -- where payments are within the bids, no choice counts more than is paid, and the table is exact, P9 holds
 pub lowered-table : (slots : SlotList) (p : PlaceCertValue) → length p.cert.pay ≡ length slots.bidders → ((place : ℕ) → P5 slots p place)
     → IsSetTable (board_of slots) (lowered p.cert.den (amount_of slots) (surpluses_of (market_of slots) p.cert.choice p.cert.den p.cert.pay)) p.cert.lowered
-    → ((f : List ℕ) → IsTrue ((market_of slots).allowed f) → lowered_sum (market_of slots) p.cert.choice (cert_point p.cert) f ≤ℤ paid (market_of slots) (cert_point p.cert)) → (place : ℕ) → P9 slots p place
+    → ((f : List ℕ) → IsTrue ((market_of slots).allowed f) → lowered_sum (market_of slots) p.cert.choice (cert_point p.cert) f ≤ℤ paid (market_of slots)
+    (cert_point p.cert)) → (place : ℕ) → P9 slots p place
 lowered-table slots p pay_is pays exact free place = record {
   rules = λ below. lowered-obeys slots p.cert p.cert.lowered pay_is pays exact place below;
   top = λ e.
-      let first = (whole-entry slots (lowered p.cert.den (amount_of slots) (surpluses_of (market_of slots) p.cert.choice p.cert.den p.cert.pay)) p.cert.lowered exact).reached in
+      let first = (whole-entry slots (lowered p.cert.den (amount_of slots) (surpluses_of (market_of slots) p.cert.choice p.cert.den p.cert.pay))
+      p.cert.lowered exact).reached in
       let most = free first.0 first.1 in
       omega (arith, ints, most, first.2);
 }

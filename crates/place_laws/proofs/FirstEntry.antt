@@ -33,7 +33,8 @@ module _ (b : Board) (asks : AsksBidders b) where
       (sym (nobody-place b asks c) ∙ subst (λ (n : ℕ). IsTrue (can_place b c n (holds 0))) (nobody-outside b.bidders) f.place)
 
   -- the first entry of an exact table is the greatest sum of a placed choice
-  pub first-entry : (counts : ℕ → ℕ → ℤ) (table : List (List ℤ)) → IsSetTable b counts table → IsGreatestValue (is_placed b) (sum_after counts 0) (entry_at table 0 0)
+  pub first-entry : (counts : ℕ → ℕ → ℤ) (table : List (List ℤ)) → IsSetTable b counts table → IsGreatestValue (is_placed b) (sum_after counts 0)
+      (entry_at table 0 0)
   first-entry counts table exact =
       let e = exact.exact 0 (power-positive b.bidders) in
       record {
@@ -42,11 +43,14 @@ module _ (b : Board) (asks : AsksBidders b) where
       }
 
 -- the first entry of an exact table of slots is the greatest sum of an allowed choice
-pub whole-entry : (slots : SlotList) (counts : ℕ → ℕ → ℤ) (table : List (List ℤ)) → IsSetTable (board_of slots) counts table → IsGreatestValue (market_of slots).allowed (sum_after counts 0) (entry_at table 0 0)
+pub whole-entry : (slots : SlotList) (counts : ℕ → ℕ → ℤ) (table : List (List ℤ)) → IsSetTable (board_of slots) counts table
+    → IsGreatestValue (market_of slots).allowed (sum_after counts 0) (entry_at table 0 0)
 whole-entry slots = first-entry (board_of slots) (slots-ask slots 0)
 
 -- without a bidder's bids it is the greatest sum of an allowed choice that doesn't use the bidder
-pub without-entry : (slots : SlotList) (j : ℕ) (counts : ℕ → ℕ → ℤ) (table : List (List ℤ)) → 0 < j → IsSetTable (board_without slots j) counts table → IsGreatestValue (allowed_without (market_of slots) j) (sum_after counts 0) (entry_at table 0 0)
+pub without-entry : (slots : SlotList) (j : ℕ) (counts : ℕ → ℕ → ℤ) (table : List (List ℤ)) → 0 < j → IsSetTable (board_without slots j) counts table
+    → IsGreatestValue (allowed_without (market_of slots) j) (sum_after counts 0) (entry_at table 0 0)
 without-entry slots j counts table some exact =
-    IsGreatestValue-same (is_placed (board_without slots j)) (allowed_without (market_of slots) j) (sum_after counts 0) (entry_at table 0 0) (λ c. placed-without slots j c some)
+    IsGreatestValue-same (is_placed (board_without slots j)) (allowed_without (market_of slots) j) (sum_after counts 0) (entry_at table 0 0)
+    (λ c. placed-without slots j c some)
     (first-entry (board_without slots j) (slots-ask slots j) counts table exact)

@@ -43,12 +43,15 @@ module _ (m : Market) (none : (j : ℕ) → m.worth j 0 ≡ pos 0) (c : CertValu
       ]
 
   -- what a bidder adds to an offer of the coalition k, against what it counts
-  offer-term : (k : ℕ → Bool) (j i : ℕ) → 0 < j → j ≤ m.bidders → (0 < i → IsTrue (k j)) → ((c.den *ℤ m.worth j i) -ℤ cond (k j) (kept m c j) (pos 0)) ≤ℤ counted (lowered_in m c) j i
+  offer-term : (k : ℕ → Bool) (j i : ℕ) → 0 < j → j ≤ m.bidders → (0 < i → IsTrue (k j)) → ((c.den *ℤ m.worth j i) -ℤ cond (k j) (kept m c j) (pos 0)) ≤ℤ
+      counted (lowered_in m c) j i
   offer-term k j zero some low has = idle-most (c.den *ℤ m.worth j 0) (kept m c j) (k j) (times_zero c.den (m.worth j 0) (none j)) (kept-least j some low)
-  offer-term k j (suc i) some low has = used-most (c.den *ℤ m.worth j (suc i)) (kept m c j) (lowered_in m c j (suc i)) (uses c.choice j) (k j) refl (kept-loser j some low) (has (omega arith))
+  offer-term k j (suc i) some low has = used-most (c.den *ℤ m.worth j (suc i)) (kept m c j) (lowered_in m c j (suc i)) (uses c.choice j) (k j) refl
+      (kept-loser j some low) (has (omega arith))
 
   -- where no allowed choice counts more than is paid, no coalition blocks the payments
-  pub unblocked : ((f : List ℕ) → IsTrue (m.allowed f) → length f ≡ m.bidders) → ((f : List ℕ) → IsTrue (m.allowed f) → sum_after (counted (lowered_in m c)) 0 f ≤ℤ sum_over everyone (of_bidder c.pay) m.bidders)
+  pub unblocked : ((f : List ℕ) → IsTrue (m.allowed f) → length f ≡ m.bidders) →
+      ((f : List ℕ) → IsTrue (m.allowed f) → sum_after (counted (lowered_in m c)) 0 f ≤ℤ sum_over everyone (of_bidder c.pay) m.bidders)
       → IsUnblocked m c.choice (cert_point c)
   unblocked lengths most k f t only =
       let n = m.bidders in
@@ -59,7 +62,8 @@ module _ (m : Market) (none : (j : ℕ) → m.worth j 0 ≡ pos 0) (c : CertValu
       let value : c.den *ℤ value_of m f ≡ c.den *ℤ total n worth = ap (λ (z : ℤ). c.den *ℤ z) (choice-is m.worth f ∙ ap (λ (x : ℕ). total x worth) long) in
       let sums : sum_after (counted (lowered_in m c)) 0 f ≡ total n counts = choice-is (counted (lowered_in m c)) f ∙ ap (λ (x : ℕ). total x counts) long in
       let each : total n (λ j. c.den *ℤ worth j -ℤ part j) ≤ℤ total n counts =
-      total-le n (λ j. c.den *ℤ worth j -ℤ part j) counts (λ j lt. offer-term k (suc j) (number_of f (suc j)) (omega arith) (omega (arith, lt)) (λ some. only (suc j) (omega arith) (omega (arith, lt)) (uses-some f (suc j) some))) in
+      total-le n (λ j. c.den *ℤ worth j -ℤ part j) counts (λ j lt. offer-term k (suc j) (number_of f (suc j)) (omega arith) (omega (arith, lt))
+      (λ some. only (suc j) (omega arith) (omega (arith, lt)) (uses-some f (suc j) some))) in
       let split = total-sub n (λ j. c.den *ℤ worth j) part in
       let scaled = total-scale n c.den worth in
       let members : sum_over k (kept m c) n ≡ total n part = over-is k (kept m c) n in

@@ -15,7 +15,8 @@ use Rattle.cert_laws.proofs.Exact.{idle-none}
 use Rattle.place_laws.specs.PlaceTests.{lowered_in}
 use Rattle.place_laws.proofs.MarketCore.{kept, kept-least, kept-loser}
 
-module _ (m : Market) (none : (j : ℕ) → m.worth j 0 ≡ pos 0) (c : CertValue) (pay_is : length c.pay ≡ m.bidders) (pays : (place : ℕ) → PaysWithinBids m c place) where
+module _ (m : Market) (none : (j : ℕ) → m.worth j 0 ≡ pos 0) (c : CertValue) (pay_is : length c.pay ≡ m.bidders)
+    (pays : (place : ℕ) → PaysWithinBids m c place) where
   abbrev gains : List ℤ
   gains = surpluses_of m c.choice c.den c.pay
 
@@ -44,7 +45,8 @@ module _ (m : Market) (none : (j : ℕ) → m.worth j 0 ≡ pos 0) (c : CertValu
   kept-is : (k : ℕ) → k < m.bidders → (if uses c.choice (suc k) then kept m c (suc k) else pos 0) ≡ kept m c (suc k)
   kept-is k lt = elim (cases_Bool (uses c.choice (suc k))) [
     | inl wins ↦ ap (λ (b : Bool). if b then kept m c (suc k) else pos 0) wins
-    | inr loses ↦ ap (λ (b : Bool). if b then kept m c (suc k) else pos 0) loses ∙ sym (kept-loser m none c pays (suc k) (omega arith) (omega (arith, lt)) loses)
+    | inr loses ↦ ap (λ (b : Bool). if b then kept m c (suc k) else pos 0) loses
+        ∙ sym (kept-loser m none c pays (suc k) (omega arith) (omega (arith, lt)) loses)
   ]
 
   -- den times the bid less the gain, in the words of the tests

@@ -30,8 +30,10 @@ order-cases (i ∷ p) (j ∷ q) e =
     elim (cases_order i j) [
       | inl same ↦ elim (order-cases p q (omega (arith, e))) [
         | inl rest ↦ inl (cc (same, rest))
-        | inr (inl before) ↦ inr (inl (or_right (nat_lt i j) ((i == j) && is_order_before p q) (and_from (i == j) (is_order_before p q) (eq-eqb i j same) before)))
-        | inr (inr after) ↦ inr (inr (or_right (nat_lt j i) ((j == i) && is_order_before q p) (and_from (j == i) (is_order_before q p) (eq-eqb j i (sym same)) after)))
+        | inr (inl before) ↦ inr (inl (or_right (nat_lt i j) ((i == j) && is_order_before p q)
+            (and_from (i == j) (is_order_before p q) (eq-eqb i j same) before)))
+        | inr (inr after) ↦ inr (inr (or_right (nat_lt j i) ((j == i) && is_order_before q p)
+            (and_from (j == i) (is_order_before q p) (eq-eqb j i (sym same)) after)))
       ]
       | inr (inl less) ↦ inr (inl (or_left (nat_lt i j) ((i == j) && is_order_before p q) (lt-ltb i j less)))
       | inr (inr more) ↦ inr (inr (or_left (nat_lt j i) ((j == i) && is_order_before q p) (lt-ltb j i more)))
@@ -64,15 +66,18 @@ one-table b counts table other x y =
     ext_get_or (pos 0) (slice_index_or table 0 []) (slice_index_or other 0 []) (x.sets ∙ sym y.sets)
     (λ bits inside.
     let below : bits < 2 ^ b.bidders = omega (arith, inside, x.sets) in
-    one-value (fits_behind b (holds bits)) (sum_outside (holds bits) counts) (slice_index_or (slice_index_or table 0 []) bits (pos 0)) (slice_index_or (slice_index_or other 0 []) bits (pos 0)) (x.exact bits below) (y.exact bits below)) in
+    one-value (fits_behind b (holds bits)) (sum_outside (holds bits) counts) (slice_index_or (slice_index_or table 0 []) bits (pos 0))
+    (slice_index_or (slice_index_or other 0 []) bits (pos 0)) (x.exact bits below) (y.exact bits below)) in
     one-line table x.lines ∙ ap (λ (line : List ℤ). line ∷ []) lines ∙ sym (one-line other y.lines)
 
 -- a winner has one best part
-one-part : (slots : SlotList) (j : ℕ) (a b : WithoutValue) (order other : List ℕ) → IsMarket (market_of slots) → IsBestPlacedPart slots j a order → IsBestPlacedPart slots j b other → IsSamePlacedPart a b order other
+one-part : (slots : SlotList) (j : ℕ) (a b : WithoutValue) (order other : List ℕ) → IsMarket (market_of slots) → IsBestPlacedPart slots j a order
+    → IsBestPlacedPart slots j b other → IsSamePlacedPart a b order other
 one-part slots j a b order other law x y =
     let m = market_of slots in
     let long : (c : List ℕ) → IsTrue (allowed_without m j c) → length c ≡ m.bidders = λ c t. law.lengths c (and_parts (m.allowed c) (not (uses c j)) t).0 in
-    let same = one-first (allowed_without m j) (value_of m) a.choice b.choice (long a.choice x.choice.passed ∙ sym (long b.choice y.choice.passed)) x.choice y.choice in
+    let same = one-first (allowed_without m j) (value_of m) a.choice b.choice (long a.choice x.choice.passed ∙ sym (long b.choice y.choice.passed)) x.choice
+    y.choice in
     record {
       choice = same;
       placement = one-placement slots b.choice order other (subst (λ (c : List ℕ). IsPlacement slots c order) same x.placement) y.placement;
@@ -80,7 +85,8 @@ one-part slots j a b order other law x y =
     }
 
 -- two certificates that pricing writes of slots have the same choice, value, placement, tables, parts and payments
-pub one-pricing : (slots : SlotList) (p q : PlaceCertValue) → length slots.bidders < 2 ^ 16 → IsPricedPlaceCert slots p → IsPricedPlaceCert slots q → IsSamePricing slots p q
+pub one-pricing : (slots : SlotList) (p q : PlaceCertValue) → length slots.bidders < 2 ^ 16 → IsPricedPlaceCert slots p → IsPricedPlaceCert slots q
+    → IsSamePricing slots p q
 one-pricing slots p q few a b =
     let m = market_of slots in
     let law = market-of_slots slots few in
@@ -92,7 +98,9 @@ one-pricing slots p q few a b =
       placement = one-placement slots q.cert.choice p.order q.order (subst (λ (c : List ℕ). IsPlacement slots c p.order) same a.placement) b.placement;
       table = one-table (board_of slots) (amount_of slots) p.cert.table q.cert.table a.table b.table;
       parts = λ j some low wins.
-          one-part slots j (part_of p.cert.withouts j) (part_of q.cert.withouts j) (order_without p.cert.withouts p.part_orders j) (order_without q.cert.withouts q.part_orders j) law
+          one-part slots j (part_of p.cert.withouts j) (part_of q.cert.withouts j) (order_without p.cert.withouts p.part_orders j)
+          (order_without q.cert.withouts q.part_orders j) law
           (a.parts j some low wins) (b.parts j some low (subst (λ (c : List ℕ). IsTrue (uses c j)) same wins));
-      point = outcome-one m law alike q.cert.choice (cert_point p.cert) (cert_point q.cert) (subst (λ (c : List ℕ). IsCoreOutcome m alike c (cert_point p.cert)) same a.outcome) b.outcome;
+      point = outcome-one m law alike q.cert.choice (cert_point p.cert) (cert_point q.cert)
+          (subst (λ (c : List ℕ). IsCoreOutcome m alike c (cert_point p.cert)) same a.outcome) b.outcome;
     }

@@ -28,7 +28,8 @@ sum-none f k (i ∷ c) all =
     omega (arith, ints, own, rest)
 
 -- a bidder outside counts first, and then the others
-sum-next : (s : ℕ → Bool) (counts : ℕ → ℕ → ℤ) (c : List ℕ) (j : ℕ) → 0 < j → j ≤ length c → s j ≡ false → sum_outside s counts c ≡ counts j (number_of c j) +ℤ sum_outside (joined j s) counts c
+sum-next : (s : ℕ → Bool) (counts : ℕ → ℕ → ℤ) (c : List ℕ) (j : ℕ) → 0 < j → j ≤ length c → s j ≡ false
+    → sum_outside s counts c ≡ counts j (number_of c j) +ℤ sum_outside (joined j s) counts c
 sum-next s counts c j some low new =
     ap (λ (d : List ℕ). sum_outside s counts d) (sym (set-get_or c (j - 1) 0))
     ∙ sum-set s counts 0 c (j - 1) (number_of c j) j (omega (arith, some)) (omega (arith, some, low)) new
@@ -42,7 +43,8 @@ all-inside n bits below none =
     ]
 
 -- a board that asks only who is in the set, and on which a bidder can always be given 0
-module _ (b : Board) (asks : AsksBidders b) (idle : (s : ℕ → Bool) (j : ℕ) → IsTrue (b.may s j 0)) (worth : ℕ → ℕ → ℤ) (table : List (List ℤ)) (rules : ObeysSets b worth table) where
+module _ (b : Board) (asks : AsksBidders b) (idle : (s : ℕ → Bool) (j : ℕ) → IsTrue (b.may s j 0)) (worth : ℕ → ℕ → ℤ) (table : List (List ℤ))
+    (rules : ObeysSets b worth table) where
   -- the rule for a bidder outside with any number that it can be given
   next : (bits j i : ℕ) → bits < 2 ^ b.bidders → 0 < j → j ≤ b.bidders → holds bits j ≡ false → i ≤ b.bids j → IsTrue (b.may (holds bits) j i)
       → (counted worth j i +ℤ entry_at table 0 (bits + 2 ^ (j - 1))) ≤ℤ entry_at table 0 bits
@@ -59,11 +61,13 @@ module _ (b : Board) (asks : AsksBidders b) (idle : (s : ℕ → Bool) (j : ℕ)
         let last = (rules bits below).last whole in
         let none : sum_outside (holds bits) (counted worth) c ≡ pos 0 =
         sum-none (counts_outside (holds bits) (counted worth)) 0 c
-        (λ j i some low. ap (λ (t : Bool). cond t (pos 0) (counted worth j i)) (subst (λ (m : ℕ). holds m j ≡ true) (sym whole) (holds-everyone b.bidders j some (omega (arith, low, count))))) in
+        (λ j i some low. ap (λ (t : Bool). cond t (pos 0) (counted worth j i)) (subst (λ (m : ℕ). holds m j ≡ true) (sym whole)
+        (holds-everyone b.bidders j some (omega (arith, low, count))))) in
         omega (arith, ints, last, none)
 
     -- from the bidders that are left to one more
-    behind : (left bits : ℕ) → bits < 2 ^ b.bidders → outside (holds bits) b.bidders ≡ left → IsTrue (can_place b c left (holds bits)) → sum_outside (holds bits) (counted worth) c ≤ℤ entry_at table 0 bits
+    behind : (left bits : ℕ) → bits < 2 ^ b.bidders → outside (holds bits) b.bidders ≡ left → IsTrue (can_place b c left (holds bits))
+        → sum_outside (holds bits) (counted worth) c ≤ℤ entry_at table 0 bits
     behind zero bits below none place = behind-all bits below (all-inside b.bidders bits below none)
     behind (suc left) bits below some place =
         let q = next-which b c left (holds bits) place in
@@ -74,7 +78,8 @@ module _ (b : Board) (asks : AsksBidders b) (idle : (s : ℕ → Bool) (j : ℕ)
         let same : IsSame (joined j (holds bits)) (holds more) = λ i positive. holds-joined bits j i n.some n.new positive in
         let count_more = outside-same (joined j (holds bits)) (holds more) b.bidders same in
         let rest : sum_outside (holds more) (counted worth) c ≤ℤ entry_at table 0 more =
-        behind left more (joined-small b.bidders bits j below n.some n.low n.new) (omega (arith, some, fewer, count_more)) (sym (place-same b asks c left (joined j (holds bits)) (holds more) same) ∙ n.rest) in
+        behind left more (joined-small b.bidders bits j below n.some n.low n.new) (omega (arith, some, fewer, count_more))
+        (sym (place-same b asks c left (joined j (holds bits)) (holds more) same) ∙ n.rest) in
         let sums = sum-next (holds bits) (counted worth) c j n.some (omega (arith, n.low, count)) n.new in
         let moved = sum_outside-same (counted worth) (joined j (holds bits)) (holds more) same c in
         let own = next bits j (number_of c j) below n.some n.low n.new (placed-number b idle c j known n.some n.low) n.may in

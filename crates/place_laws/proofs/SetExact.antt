@@ -11,7 +11,8 @@ use Rattle.slot_places.proofs.StepLaws.{fits-length, fits-with, sum-set}
 use Rattle.slot_places.proofs.WholeLaws.{none-fits, sum-full}
 use Rattle.place_laws.specs.PlaceTests.{ObeysSets}
 
-module _ (b : Board) (asks : AsksBidders b) (idle : (s : ℕ → Bool) (j : ℕ) → IsTrue (b.may s j 0)) (counts : ℕ → ℕ → ℤ) (table : List (List ℤ)) (exact : IsSetTable b counts table) where
+module _ (b : Board) (asks : AsksBidders b) (idle : (s : ℕ → Bool) (j : ℕ) → IsTrue (b.may s j 0)) (counts : ℕ → ℕ → ℤ) (table : List (List ℤ))
+    (exact : IsSetTable b counts table) where
   -- a bidder outside with a number that it can be given, and the best choice behind the set with it
   with_next : (bits j i : ℕ) → bits < 2 ^ b.bidders → 0 < j → j ≤ b.bidders → holds bits j ≡ false → i ≤ b.bids j → IsTrue (b.may (holds bits) j i)
       → (counts j i +ℤ entry_at table 0 (bits + 2 ^ (j - 1))) ≤ℤ entry_at table 0 bits
@@ -42,9 +43,11 @@ module _ (b : Board) (asks : AsksBidders b) (idle : (s : ℕ → Bool) (j : ℕ)
   }
 
 -- rules for other worths that are the same at each bid
-pub sets-same : (b : Board) (v w : ℕ → ℕ → ℤ) (table : List (List ℤ)) → ((j i : ℕ) → 0 < j → j ≤ b.bidders → 0 < i → v j i ≡ w j i) → ObeysSets b v table → ObeysSets b w table
+pub sets-same : (b : Board) (v w : ℕ → ℕ → ℤ) (table : List (List ℤ)) → ((j i : ℕ) → 0 < j → j ≤ b.bidders → 0 < i → v j i ≡ w j i) → ObeysSets b v table
+    → ObeysSets b w table
 sets-same b v w table same rules bits below = record {
   last = (rules bits below).last;
   none = (rules bits below).none;
-  bid = λ j i some low new positive known may. let r = (rules bits below).bid j i some low new positive known may in let e = same j i some low positive in omega (arith, ints, r, e);
+  bid = λ j i some low new positive known may. let r = (rules bits below).bid j i some low new positive known may in let e = same j i some low positive in
+      omega (arith, ints, r, e);
 }

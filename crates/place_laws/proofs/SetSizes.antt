@@ -48,7 +48,8 @@ module _ (b : Board) (worth : ℕ → ℕ → ℤ) (table : List (List ℤ)) (ru
             let back : suc k - 1 ≡ k = omega arith in
             let whole : rest + 2 ^ (suc k - 1) ≡ bits = subst (λ (n : ℕ). rest + 2 ^ n ≡ bits) (sym back) (omega (arith, last)) in
             let step : entry_at table 0 bits ≤ℤ entry_at table 0 rest =
-            subst (λ (n : ℕ). entry_at table 0 n ≤ℤ entry_at table 0 rest) whole ((rules rest inside).none (suc k) (omega arith) le (holds-within rest k (suc k) small (omega arith))) in
+            subst (λ (n : ℕ). entry_at table 0 n ≤ℤ entry_at table 0 rest) whole
+            ((rules rest inside).none (suc k) (omega arith) le (holds-within rest k (suc k) small (omega arith))) in
             let before : entry_at table 0 rest ≤ℤ entry_at table 0 0 = most k rest (omega (arith, le)) small inside in
             omega (arith, ints, step, before))
       ]
@@ -58,7 +59,8 @@ module _ (b : Board) (worth : ℕ → ℕ → ℤ) (table : List (List ℤ)) (ru
   entry-most bits below = most b.bidders bits (omega arith) below below
 
   -- no bid that can be given behind a set is worth more than the first entry
-  pub worth-most : (bits j i : ℕ) → bits < 2 ^ b.bidders → 0 < j → j ≤ b.bidders → holds bits j ≡ false → 0 < i → i ≤ b.bids j → IsTrue (b.may (holds bits) j i) → worth j i ≤ℤ entry_at table 0 0
+  pub worth-most : (bits j i : ℕ) → bits < 2 ^ b.bidders → 0 < j → j ≤ b.bidders → holds bits j ≡ false → 0 < i → i ≤ b.bids j
+      → IsTrue (b.may (holds bits) j i) → worth j i ≤ℤ entry_at table 0 0
   worth-most bits j i below some low new positive known may =
       let step = (rules bits below).bid j i some low new positive known may in
       let rest = entry-least (bits + 2 ^ (j - 1)) (joined-small b.bidders bits j below some low new) in

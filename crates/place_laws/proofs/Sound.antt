@@ -49,18 +49,21 @@ allowed-length slots c t =
     omega (arith, e)
 
 -- no allowed choice is worth more than the first entry of a table of the amounts, or counts more than that of a table of other worths
-most-of : (slots : SlotList) (worth : ℕ → ℕ → ℤ) (table : List (List ℤ)) → ObeysSets (board_of slots) worth table → (d : List ℕ) → IsTrue ((market_of slots).allowed d) → sum_after (counted worth) 0 d ≤ℤ entry_at table 0 0
+most-of : (slots : SlotList) (worth : ℕ → ℕ → ℤ) (table : List (List ℤ)) → ObeysSets (board_of slots) worth table → (d : List ℕ)
+    → IsTrue ((market_of slots).allowed d) → sum_after (counted worth) 0 d ≤ℤ entry_at table 0 0
 most-of slots worth table rules d t = placed-most (board_of slots) (slots-ask slots 0) (slots-idle slots) worth table rules d t
 
 -- a part's choice is greatest of those that don't use its winner
-part-greatest : (slots : SlotList) (j : ℕ) (c : CertValue) (order : List ℕ) → 0 < j → IsPlacedPart slots j (part_of c.withouts j) order → IsGreatest (allowed_without (market_of slots) j) (value_of (market_of slots)) (part_of c.withouts j).choice
+part-greatest : (slots : SlotList) (j : ℕ) (c : CertValue) (order : List ℕ) → 0 < j → IsPlacedPart slots j (part_of c.withouts j) order
+    → IsGreatest (allowed_without (market_of slots) j) (value_of (market_of slots)) (part_of c.withouts j).choice
 part-greatest slots j c order some part =
     let m = market_of slots in
     let chosen = (part_of c.withouts j).choice in
     record {
       passed = and_from (m.allowed chosen) (not (uses chosen j)) (allowed-by_order slots chosen order part.allowed) (unused_to chosen j part.unused);
       greatest = λ d t.
-          let bound = placed-most (board_without slots j) (slots-ask slots j) (idle-always slots j) (amount_of slots) (part_of c.withouts j).table part.rules d (placed-without slots j d some ∙ t) in
+          let bound = placed-most (board_without slots j) (slots-ask slots j) (idle-always slots j) (amount_of slots)
+          (part_of c.withouts j).table part.rules d (placed-without slots j d some ∙ t) in
           let sum = sum-counted (amount_of slots) (λ i. refl) 0 d in
           let top = part.top in
           omega (arith, ints, bound, sum, top);
@@ -85,7 +88,8 @@ module _ (slots : SlotList) (p : PlaceCertValue) (h : Holds slots p) where
   }
 
   vickrey : AreVickreyPrices (market_of slots) p.cert.choice (prices_in (market_of slots) p.cert)
-  vickrey = prices (market_of slots) p.cert value-is (λ j some low wins. part-greatest slots j p.cert (order_without p.cert.withouts p.part_orders j) some ((h.p4 j).part some low wins))
+  vickrey = prices (market_of slots) p.cert value-is (λ j some low wins. part-greatest slots j p.cert (order_without p.cert.withouts p.part_orders j) some
+      ((h.p4 j).part some low wins))
 
   core : length p.cert.pay ≡ length slots.bidders → IsCorePoint (market_of slots) p.cert.choice (cert_point p.cert)
   core pay_is = record {
@@ -97,7 +101,8 @@ module _ (slots : SlotList) (p : PlaceCertValue) (h : Holds slots p) where
         (λ f t.
         let bound = most-of slots (lowered_in (market_of slots) p.cert) p.cert.lowered (λ bits below. (h.p9 bits).rules below) f t in
         let top = (h.p9 (2 ^ length slots.bidders)).top refl in
-        let most : sum_after (counted (lowered_in (market_of slots) p.cert)) 0 f ≤ℤ sum_over everyone (of_bidder p.cert.pay) (length slots.bidders) = omega (arith, ints, bound, top) in
+        let most : sum_after (counted (lowered_in (market_of slots) p.cert)) 0 f ≤ℤ sum_over everyone (of_bidder p.cert.pay) (length slots.bidders) =
+        omega (arith, ints, bound, top) in
         most);
   }
 
@@ -108,7 +113,8 @@ module _ (slots : SlotList) (p : PlaceCertValue) (h : Holds slots p) where
   near v is =
       let m = market_of slots in
       nearest_point m alike (alike-shares (length slots.bidders)) p.cert ((h.p1 1).den refl) h.p5 tight_rows h.p7 v
-      (λ j some low wins. vickrey-one m p.cert.choice j (v j) (prices_in m p.cert j) (is j some low) (vickrey j some low) ∙ ap (λ (b : Bool). if b then vickrey_in m p.cert j else pos 0) wins)
+      (λ j some low wins. vickrey-one m p.cert.choice j (v j) (prices_in m p.cert j) (is j some low) (vickrey j some low)
+      ∙ ap (λ (b : Bool). if b then vickrey_in m p.cert j else pos 0) wins)
       (λ j some low loses. (is j some low).1 loses) h.p8
 
   -- a placement certificate that passes all tests, with a payment for each bidder, is sound

@@ -7,7 +7,17 @@ use Rattle.cert_laws.specs.cert_form.specs.PlaceCert.{PlaceCertValue}
 use Rattle.place_laws.specs.PlaceTests.{Asks, Holds, FailsFirst}
 
 all_asked : (slots : SlotList) (p : PlaceCertValue) → Holds slots p → (t place : ℕ) → Asks slots p t place
-all_asked slots p h t place = (λ e. h.p1 place, λ e. h.p2 place, λ e. h.p3 place, λ e. h.p4 place, λ e. h.p5 place, λ e. h.p6 place, λ e. h.p7 place, λ e. h.p8 place, λ e. h.p9 place)
+all_asked slots p h t place = (
+  λ e. h.p1 place,
+  λ e. h.p2 place,
+  λ e. h.p3 place,
+  λ e. h.p4 place,
+  λ e. h.p5 place,
+  λ e. h.p6 place,
+  λ e. h.p7 place,
+  λ e. h.p8 place,
+  λ e. h.p9 place,
+)
 
 -- no certificate passes all tests and fails one first
 pub not_both : (slots : SlotList) (p : PlaceCertValue) (t place : ℕ) → Holds slots p → FailsFirst slots p t place → ⊥

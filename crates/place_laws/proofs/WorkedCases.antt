@@ -27,7 +27,8 @@ certificate_with choice order first second row_order = record {
     value = pos 18;
     choice = choice;
     table = entries 18 8 12 0 8 8 0 0;
-    withouts = record { winner = 1; choice = 0 ∷ 0 ∷ 1 ∷ []; table = entries 12 8 12 0 8 8 0 0 } ∷ record { winner = 2; choice = 0 ∷ 0 ∷ 1 ∷ []; table = entries 12 0 12 0 0 0 0 0 } ∷ [];
+    withouts = record { winner = 1; choice = 0 ∷ 0 ∷ 1 ∷ []; table = entries 12 8 12 0 8 8 0 0 } ∷ record
+        { winner = 2; choice = 0 ∷ 0 ∷ 1 ∷ []; table = entries 12 0 12 0 0 0 0 0 } ∷ [];
     pay = pos first ∷ pos second ∷ pos 0 ∷ [];
     rows = record { members = 1 ∷ 2 ∷ []; first = pos 1; second = pos 3; choice = 0 ∷ 0 ∷ 1 ∷ [] } ∷ [];
     lowered = entries 12 5 12 0 5 5 0 0;

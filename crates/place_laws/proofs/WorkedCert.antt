@@ -1,5 +1,6 @@
 -- A placement certificate of the band of the worked cases for which all tests hold. Its tables are tested by a computation.
-use Rattle.std.specs.Prelude.{◌≡◌, ℕ, zero, suc, ◌+◌, ◌-◌, ◌^◌, ◌≤◌, ◌<◌, Bool, true, false, ◌&&◌, ◌||◌, not, nat_le, ◌==◌, IsTrue, List, [], ◌∷◌, length, ℤ, pos, ◌+ℤ◌, ◌-ℤ◌, ◌*ℤ◌, ◌≤ℤ◌, ◌<ℤ◌, ◌⊎◌, int_le, refl}
+use Rattle.std.specs.Prelude.{◌≡◌, ℕ, zero, suc, ◌+◌, ◌-◌, ◌^◌, ◌≤◌, ◌<◌, Bool, true, false, ◌&&◌, ◌||◌, not, nat_le, ◌==◌, IsTrue, List, [], ◌∷◌, length, ℤ}
+use Rattle.std.specs.Prelude.{pos, ◌+ℤ◌, ◌-ℤ◌, ◌*ℤ◌, ◌≤ℤ◌, ◌<ℤ◌, ◌⊎◌, int_le, refl}
 use Rattle.std.proofs.Common.{inl, inr, sym, subst, arith}
 use Rattle.std.proofs.lemmas.Bool.{false≢true, and_parts, or_cases, cases_eq, eq-eqb, eqb-true, leb-true}
 use Rattle.std.proofs.lemmas.Int.{ints}
@@ -61,10 +62,12 @@ module _ (b : Board) (worth : ℕ → ℕ → ℤ) (table : List (List ℤ)) whe
   kept : IsTrue (all_of (λ s. set_kept (s - 1)) (2 ^ b.bidders)) → ObeysSets b worth table
   kept all bits below =
       let back : suc bits - 1 ≡ bits = omega arith in
-      let own : IsTrue (set_kept bits) = subst (λ (n : ℕ). IsTrue (set_kept n)) back (all-at (λ s. set_kept (s - 1)) (2 ^ b.bidders) (suc bits) all (omega arith) (omega (arith, below))) in
+      let own : IsTrue (set_kept bits) = subst (λ (n : ℕ). IsTrue (set_kept n)) back
+      (all-at (λ s. set_kept (s - 1)) (2 ^ b.bidders) (suc bits) all (omega arith) (omega (arith, below))) in
       let both = and_parts (not (bits == 2 ^ b.bidders - 1) || int_le (pos 0) (entry_at table 0 bits)) (all_of (next_kept bits) b.bidders) own in
       record {
-        last = λ whole. at_most (pos 0) (entry_at table 0 bits) (when (bits == 2 ^ b.bidders - 1) (int_le (pos 0) (entry_at table 0 bits)) both.0 (eq-eqb bits (2 ^ b.bidders - 1) whole));
+        last = λ whole. at_most (pos 0) (entry_at table 0 bits) (when (bits == 2 ^ b.bidders - 1) (int_le (pos 0) (entry_at table 0 bits)) both.0
+            (eq-eqb bits (2 ^ b.bidders - 1) whole));
         none = λ j some low new. at_most (entry_at table 0 (bits + 2 ^ (j - 1))) (entry_at table 0 bits) (kept-next bits j own some low new).0;
         bid = λ j i some low new positive known may.
             at_most (worth j i +ℤ entry_at table 0 (bits + 2 ^ (j - 1))) (entry_at table 0 bits)
@@ -110,21 +113,25 @@ all_tests : Holds band certificate
 all_tests = record {
   p1 = λ place. record { den = λ e. omega (arith, ints); value = λ e. omega (arith, ints); size = λ e. omega (arith, ints) };
   p2 = λ place. record {
-    known = λ some low. leb-true (number_of chosen place) (length (bids_of band place)) (all-at (λ j. nat_le (number_of chosen j) (length (bids_of band j))) 3 place refl some low);
+    known = λ some low. leb-true (number_of chosen place) (length (bids_of band place))
+        (all-at (λ j. nat_le (number_of chosen j) (length (bids_of band j))) 3 place refl some low);
     allowed = λ e. refl;
     value = λ e. omega (arith, ints);
   };
   p3 = λ place. record { rules = λ below. kept (board_of band) (amount_of band) certificate.cert.table refl place below; top = λ e. omega (arith, ints) };
   p4 = λ place. record {
-    part = three (λ j. IsTrue (uses chosen j) → IsPlacedPart band j (part_of certificate.cert.withouts j) (order_without certificate.cert.withouts certificate.part_orders j))
+    part = three (λ j. IsTrue (uses chosen j) → IsPlacedPart band j (part_of certificate.cert.withouts j)
+        (order_without certificate.cert.withouts certificate.part_orders j))
         (λ wins. record { allowed = refl; unused = refl; rules = kept (board_without band 1) (amount_of band) _ refl; top = omega (arith, ints) })
         (λ wins. record { allowed = refl; unused = refl; rules = kept (board_without band 2) (amount_of band) _ refl; top = omega (arith, ints) })
         (λ wins. absurd (false≢true wins)) place;
   };
   p5 = λ place. record {
-    winner = three (λ j. IsTrue (uses chosen j) → (pos 0 ≤ℤ of_bidder certificate.cert.pay j) × (of_bidder certificate.cert.pay j ≤ℤ (certificate.cert.den *ℤ won_in (market_of band) certificate.cert j)))
+    winner = three (λ j. IsTrue (uses chosen j) → (pos 0 ≤ℤ of_bidder certificate.cert.pay j)
+        × (of_bidder certificate.cert.pay j ≤ℤ (certificate.cert.den *ℤ won_in (market_of band) certificate.cert j)))
         (λ wins. (omega (arith, ints), omega (arith, ints))) (λ wins. (omega (arith, ints), omega (arith, ints))) (λ wins. absurd (false≢true wins)) place;
-    loser = three (λ j. uses chosen j ≡ false → of_bidder certificate.cert.pay j ≡ pos 0) (λ loses. absurd (false≢true (sym loses))) (λ loses. absurd (false≢true (sym loses))) (λ loses. refl) place;
+    loser = three (λ j. uses chosen j ≡ false → of_bidder certificate.cert.pay j ≡ pos 0) (λ loses. absurd (false≢true (sym loses)))
+        (λ loses. absurd (false≢true (sym loses))) (λ loses. refl) place;
   };
   p6 = λ place. record {
     row = record { row = one (λ r. IsTight (market_of band) certificate.cert (row_of certificate.cert.rows r)) tight place };
@@ -132,12 +139,18 @@ all_tests = record {
   };
   p7 = λ place. record {
     sign = one (λ r. pos 0 ≤ℤ (row_of certificate.cert.rows r).first) (omega (arith, ints)) place;
-    columns = λ j some low e. three (λ h. IsTrue (uses chosen h) → sum_holding certificate.cert.rows h (λ row. row.first) 1 ≡ pos 1) (λ wins. refl) (λ wins. refl) (λ wins. absurd (false≢true wins)) j some low;
+    columns = λ j some low e. three (λ h. IsTrue (uses chosen h) → sum_holding certificate.cert.rows h (λ row. row.first) 1 ≡ pos 1) (λ wins. refl)
+        (λ wins. refl) (λ wins. absurd (false≢true wins)) j some low;
   };
   p8 = λ place. record {
     sign = one (λ r. (pos 0 <ℤ (row_of certificate.cert.rows r).first) ⊎ (pos 0 ≤ℤ (row_of certificate.cert.rows r).second)) (inr (omega (arith, ints))) place;
-    columns = λ j some low e. three (λ h. IsTrue (uses chosen h) → of_bidder certificate.cert.pay h -ℤ (pos 1 *ℤ vickrey_in (market_of band) certificate.cert h) ≡ pos 1 *ℤ sum_holding certificate.cert.rows h (λ row. row.second) 1)
+    columns = λ j some low e. three (λ h. IsTrue (uses chosen h) → of_bidder certificate.cert.pay h -ℤ
+        (pos 1 *ℤ vickrey_in (market_of band) certificate.cert h) ≡ pos 1 *ℤ sum_holding certificate.cert.rows h (λ row. row.second) 1)
         (λ wins. refl) (λ wins. refl) (λ wins. absurd (false≢true wins)) j some low;
   };
-  p9 = λ place. record { rules = λ below. kept (board_of band) (lowered_in (market_of band) certificate.cert) certificate.cert.lowered refl place below; top = λ e. omega (arith, ints) };
+  p9 = λ place. record {
+    rules = λ below. kept (board_of band) (lowered_in (market_of band) certificate.cert) certificate.cert.lowered refl place below;
+    top =
+        λ e. omega (arith, ints);
+  };
 }

@@ -5,7 +5,8 @@ use Rattle.std.proofs.Common.{◌∙◌, ap}
 use Rattle.book_price.specs.cert_laws.specs.auction_model.specs.Blocks.{IsGreatestExcess}
 use Rattle.book_price.specs.cert_laws.specs.auction_model.specs.Market.{Market}
 use Rattle.book_price.specs.cert_laws.specs.auction_model.specs.Prices.{Point, alike, weight_of}
-use Rattle.book_price.specs.cert_laws.specs.auction_model.specs.PricingRun.{Block, GoOn, IsBlockOf, IsPricingRun, IsTurnPoint, MeetsRows, Row, Turn, single_rows}
+use Rattle.book_price.specs.cert_laws.specs.auction_model.specs.PricingRun.{Block, GoOn, IsBlockOf, IsPricingRun, IsTurnPoint, MeetsRows, Row, Turn}
+use Rattle.book_price.specs.cert_laws.specs.auction_model.specs.PricingRun.{single_rows}
 use Rattle.book_price.specs.cert_laws.specs.auction_model.proofs.WeightLaws.{nearest-same}
 use Rattle.book_price.proofs.Ones.{one-at}
 use Rattle.book_price.specs.cert_laws.specs.cert_form.specs.Certificate.{CertValue}
@@ -37,5 +38,6 @@ run-alike m z turns run = record {
 pub nearest-alike : (m : Market) (c : CertValue) (place : ℕ) → ShowsNearest m (weight_of (replicate m.bidders 1)) c place → ShowsNearest m alike c place
 nearest-alike m c place h = record {
   sign = h.sign;
-  columns = λ j some inside is wins. h.columns j some inside is wins ∙ ap (λ (n : ℕ). pos n *ℤ sum_holding c.rows j (λ row. row.second) (length c.rows)) (one-at m.bidders j some inside);
+  columns = λ j some inside is wins. h.columns j some inside is wins ∙ ap (λ (n : ℕ). pos n *ℤ sum_holding c.rows j (λ row. row.second) (length c.rows))
+      (one-at m.bidders j some inside);
 }

@@ -40,7 +40,8 @@ bid-most slots kept j (suc i) some known =
     ]
 
 -- an allowed choice is worth at most 2^42 for each of its winners
-pub value-most : (slots : SlotList) → AreSlots slots → (z : List ℕ) → IsTrue ((market_of slots).allowed z) → value_of (market_of slots) z ≤ℤ pos (winners_in z * 2 ^ 42)
+pub value-most : (slots : SlotList) → AreSlots slots → (z : List ℕ) → IsTrue ((market_of slots).allowed z)
+    → value_of (market_of slots) z ≤ℤ pos (winners_in z * 2 ^ 42)
 value-most slots kept z t = sum-most (menu_of (board_of slots)) (amount_of slots) (λ j. refl) (bid-most slots kept) 0 z (allowed-known slots z t)
 
 -- a placement is an order of so many bidders
@@ -55,7 +56,8 @@ order-shape slots c order kept is =
     (a.count, new-most (length slots.bidders) nobody order (let f = kept.few in omega (arith, f)) a.passes.0)
 
 -- what a winner wins with is small, and so is its price
-pub own-small : (slots : SlotList) → AreSlots slots → (z : List ℕ) → IsTrue ((market_of slots).allowed z) → (j : ℕ) → 0 < j → j ≤ length slots.bidders → unsigned_abs (worth_in (market_of slots) z j) ≤ 2 ^ 42
+pub own-small : (slots : SlotList) → AreSlots slots → (z : List ℕ) → IsTrue ((market_of slots).allowed z) → (j : ℕ) → 0 < j → j ≤ length slots.bidders
+    → unsigned_abs (worth_in (market_of slots) z j) ≤ 2 ^ 42
 own-small slots kept z t j some low = let b = bid-most slots kept j (number_of z j) some ((lawful slots kept).numbers z j t some low) in omega (arith, ints, b)
 
 -- what is left of a value without one bid fits in 128 bits
@@ -63,14 +65,18 @@ pub left-small : (all own : ℤ) → unsigned_abs all ≤ 6 * 2 ^ 42 → unsigne
 left-small all own p q = omega (arith, ints)
 
 -- a Vickrey price fits in 128 bits
-pub price-small : (others all own : ℤ) → unsigned_abs others ≤ 6 * 2 ^ 42 → unsigned_abs all ≤ 6 * 2 ^ 42 → unsigned_abs own ≤ 2 ^ 42 → unsigned_abs (others -ℤ (all -ℤ own)) < 2 ^ 127
+pub price-small : (others all own : ℤ) → unsigned_abs others ≤ 6 * 2 ^ 42 → unsigned_abs all ≤ 6 * 2 ^ 42 → unsigned_abs own ≤ 2 ^ 42
+    → unsigned_abs (others -ℤ (all -ℤ own)) < 2 ^ 127
 price-small others all own p q r = omega (arith, ints)
 
 -- what the others reach without a winner, less what they win with, is its Vickrey price
-pub price-is : (m : Market) (z : List ℕ) (j : ℕ) (others all own : ℤ) (c : List ℕ) → IsTrue (uses z j) → IsFirstGreatest (allowed_without m j) (value_of m) c → others ≡ value_of m c → all ≡ value_of m z → own ≡ worth_in m z j
+pub price-is : (m : Market) (z : List ℕ) (j : ℕ) (others all own : ℤ) (c : List ℕ) → IsTrue (uses z j) → IsFirstGreatest (allowed_without m j) (value_of m) c
+    → others ≡ value_of m c → all ≡ value_of m z → own ≡ worth_in m z j
     → IsVickreyPrice m z j (others -ℤ (all -ℤ own))
-price-is m z j others all own c used best others_are all_is own_is =
-    (λ _. record { reached = (c, best.passed, is); bound = λ d t. subst (λ (x : ℤ). value_of m d ≤ℤ x) is (best.greatest d t) }, λ unused. absurd (false≢true (sym unused ∙ used)))
+price-is m z j others all own c used best others_are all_is own_is = (
+  λ _. record { reached = (c, best.passed, is); bound = λ d t. subst (λ (x : ℤ). value_of m d ≤ℤ x) is (best.greatest d t) },
+  λ unused. absurd (false≢true (sym unused ∙ used)),
+)
   where
     is : value_of m c ≡ ((others -ℤ (all -ℤ own)) +ℤ value_of m z) -ℤ worth_in m z j
     is = omega (arith, ints, others_are, all_is, own_is)

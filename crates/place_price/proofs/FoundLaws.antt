@@ -33,11 +33,13 @@ stop-memory z weights (Winners n) none is = absurd (none is.0)
 stop-memory z weights Memory none is = refl
 
 -- the chooser's slots and choice are those that are priced
-pub found-by : (slots own : SlotList) (chosen : List ℕ) (whole : Found (List (List ℤ))) (singles : List Single) (parts : List PlaceWithout) (priced : Priced (List (List ℤ)))
+pub found-by : (slots own : SlotList) (chosen : List ℕ) (whole : Found (List (List ℤ))) (singles : List Single) (parts : List PlaceWithout)
+    (priced : Priced (List (List ℤ)))
     → own ≡ slots → chosen ≡ whole.choice
     → IsWinning (market_of slots) whole.choice → whole.sum ≡ value_of (market_of slots) whole.choice → IsSetTable (board_of slots) (amount_of slots) whole.table
     → AreSingles (market_of own) chosen singles → ArePartsOf own singles parts → IsPriced (market_of own) chosen (ones own) singles priced
-    → IsSetTable (board_of own) (lowered priced.den (amount_of own) (surpluses_of (market_of own) chosen priced.den (for_bidders chosen priced.at))) priced.last.table
+    → IsSetTable (board_of own) (lowered priced.den (amount_of own) (surpluses_of (market_of own) chosen priced.den (for_bidders chosen priced.at)))
+    priced.last.table
     → AreFound slots whole singles parts priced
 found-by slots own chosen whole singles parts priced same_slots same_choice winning value table are_singles are_parts is lowered_is = record {
   winning = winning;
@@ -50,7 +52,8 @@ found-by slots own chosen whole singles parts priced same_slots same_choice winn
 }
 
 -- the turns that led to these prices, for the choice of the certificate
-module _ (slots : SlotList) (z choice : List ℕ) (singles : List Single) (priced : Priced (List (List ℤ))) (turns : List Turn) (own : IsPriced (market_of slots) z (ones slots) singles priced) (choice_is : choice ≡ z) (turns_are : turns ≡ priced.turns) where
+module _ (slots : SlotList) (z choice : List ℕ) (singles : List Single) (priced : Priced (List (List ℤ))) (turns : List Turn)
+    (own : IsPriced (market_of slots) z (ones slots) singles priced) (choice_is : choice ≡ z) (turns_are : turns ≡ priced.turns) where
   -- the turns are a pricing run, in which all bidders weigh 1
   pub run-of : IsPricingRun (market_of slots) alike choice (turns_of choice turns)
   run-of = rw (choice_is, turns_are) (run-alike (market_of slots) z (turns_of z priced.turns) own.turns.run)

@@ -24,7 +24,8 @@ parts-push : (singles : List Single) (s : Single) (tables : List (List (List ℤ
 parts-push [] s [] t e = refl
 parts-push [] s (u ∷ tables) t e = absurd (omega (arith, e))
 parts-push (x ∷ singles) s [] t e = absurd (omega (arith, e))
-parts-push (x ∷ singles) s (u ∷ tables) t e = ap (λ (l : List WithoutValue). record { winner = x.winner; choice = x.choice; table = u } ∷ l) (parts-push singles s tables t (omega (arith, e)))
+parts-push (x ∷ singles) s (u ∷ tables) t e = ap (λ (l : List WithoutValue). record { winner = x.winner; choice = x.choice; table = u } ∷ l)
+    (parts-push singles s tables t (omega (arith, e)))
 
 abbrev table_in : PlaceWithout → List (List ℤ)
 table_in w = w.table
@@ -34,7 +35,8 @@ pub tables-count : (parts : List PlaceWithout) → length (tables_of parts) ≡ 
 tables-count parts = length-map parts table_in
 
 -- one winner more
-pub more-parts : (slots : SlotList) (singles : List Single) (parts : List PlaceWithout) (s : Single) (w : PlaceWithout) → ArePartsOf slots singles parts → IsPartOf slots s w → ArePartsOf slots (singles ++ s ∷ []) (parts ++ w ∷ [])
+pub more-parts : (slots : SlotList) (singles : List Single) (parts : List PlaceWithout) (s : Single) (w : PlaceWithout) → ArePartsOf slots singles parts
+    → IsPartOf slots s w → ArePartsOf slots (singles ++ s ∷ []) (parts ++ w ∷ [])
 more-parts slots singles parts s w are is = record {
   count = omega (arith, are.count, length-append parts (w ∷ []), length-append singles (s ∷ []));
   winners =
@@ -55,28 +57,34 @@ more-parts slots singles parts s w are is = record {
     own = λ t. record { winner = is.winner t; choice = is.choice t; table = w.table }
 
 -- the part of a bidder among them is a best one, with the order beside it
-best-at : (slots : SlotList) (parts : List PlaceWithout) → AllByRecursion (IsBest slots) parts → (j i : ℕ) → i < length parts → slice_index_or (map (λ (p : PlaceWithout). p.winner) parts) i 0 ≡ j
+best-at : (slots : SlotList) (parts : List PlaceWithout) → AllByRecursion (IsBest slots) parts → (j i : ℕ) → i < length parts
+    → slice_index_or (map (λ (p : PlaceWithout). p.winner) parts) i 0 ≡ j
     → IsBestPlacedPart slots j (part_of (map part_value parts) j) (order_without (map part_value parts) (map part_order parts) j)
 best-at slots [] all j i lt e = absurd (omega arith)
 best-at slots (w ∷ parts) all j i lt e =
     elim (cases_eq w.winner j) [
       | inl same ↦
-          subst (λ (b : Bool). IsBestPlacedPart slots j (if b then part_value w else part_of (map part_value parts) j) (if b then w.order else order_without (map part_value parts) (map part_order parts) j))
+          subst (λ (b : Bool). IsBestPlacedPart slots j (if b then part_value w else part_of (map part_value parts) j)
+          (if b then w.order else order_without (map part_value parts) (map part_order parts) j))
           (sym (eq-eqb w.winner j same)) (subst (λ (k : ℕ). IsBestPlacedPart slots k (part_value w) w.order) same all.0)
       | inr other ↦
-          subst (λ (b : Bool). IsBestPlacedPart slots j (if b then part_value w else part_of (map part_value parts) j) (if b then w.order else order_without (map part_value parts) (map part_order parts) j))
+          subst (λ (b : Bool). IsBestPlacedPart slots j (if b then part_value w else part_of (map part_value parts) j)
+          (if b then w.order else order_without (map part_value parts) (map part_order parts) j))
           (sym (ne_eqb w.winner j other)) (behind i lt e other (λ k low is. best-at slots parts all.1 j k low is))
     ]
   where
     behind : (k : ℕ) → k < suc (length parts) → slice_index_or (w.winner ∷ map (λ (p : PlaceWithout). p.winner) parts) k 0 ≡ j → ¬ (w.winner ≡ j)
-        → ((h : ℕ) → h < length parts → slice_index_or (map (λ (p : PlaceWithout). p.winner) parts) h 0 ≡ j → IsBestPlacedPart slots j (part_of (map part_value parts) j) (order_without (map part_value parts) (map part_order parts) j))
+        → ((h : ℕ) → h < length parts → slice_index_or (map (λ (p : PlaceWithout). p.winner) parts) h 0 ≡ j
+        → IsBestPlacedPart slots j (part_of (map part_value parts) j) (order_without (map part_value parts) (map part_order parts) j))
         → IsBestPlacedPart slots j (part_of (map part_value parts) j) (order_without (map part_value parts) (map part_order parts) j)
     behind zero low is other next = absurd (other is)
     behind (suc k) low is other next = next k (omega (arith, low)) is
 
 -- each winner has one
-pub best-parts : (slots : SlotList) (z : List ℕ) (singles : List Single) (parts : List PlaceWithout) → AreSingles (market_of slots) z singles → ArePartsOf slots singles parts
-    → (j : ℕ) → 0 < j → j ≤ length z → IsTrue (uses z j) → IsBestPlacedPart slots j (part_of (parts_from singles (tables_of parts)) j) (order_without (parts_from singles (tables_of parts)) (map part_order parts) j)
+pub best-parts : (slots : SlotList) (z : List ℕ) (singles : List Single) (parts : List PlaceWithout) → AreSingles (market_of slots) z singles
+    → ArePartsOf slots singles parts
+    → (j : ℕ) → 0 < j → j ≤ length z → IsTrue (uses z j) → IsBestPlacedPart slots j (part_of (parts_from singles (tables_of parts)) j)
+    (order_without (parts_from singles (tables_of parts)) (map part_order parts) j)
 best-parts slots z singles parts are made zero some inside used = absurd (omega (arith, some))
 best-parts slots z singles parts are made (suc k) some inside used =
     let p = part-of_winner z singles (tables_of parts) are.winners (tables-count parts ∙ made.count) k inside used in

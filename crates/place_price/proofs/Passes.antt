@@ -44,12 +44,20 @@ use Rattle.place_check.specs.slot_places.specs.Slots.{SlotList}
 
 -- the certificate of what was found, with an order of its choice and rows with their orders
 abbrev pub cert_found : SlotList → Found (List (List ℤ)) → List Single → List PlaceWithout → Priced (List (List ℤ)) → CertValue
-cert_found slots whole singles parts priced = cert_made whole.choice (value_of (market_of slots) whole.choice) whole.table singles (tables_of parts) priced.den priced.at priced.rows priced.last.table
+cert_found slots whole singles parts priced = cert_made whole.choice (value_of (market_of slots) whole.choice) whole.table singles
+    (tables_of parts) priced.den priced.at priced.rows priced.last.table
 
 abbrev pub places_found : SlotList → Found (List (List ℤ)) → List Single → List PlaceWithout → Priced (List (List ℤ)) → List ℕ → List PlaceRow → PlaceCertValue
-places_found slots whole singles parts priced order rows = record { cert = cert_found slots whole singles parts priced; order = order; part_orders = map part_order parts; row_orders = map row_order rows }
+places_found slots whole singles parts priced order rows = record {
+  cert = cert_found slots whole singles parts priced;
+  order = order;
+  part_orders =
+      map part_order parts;
+  row_orders = map row_order rows;
+}
 
-module _ (slots : SlotList) (kept : AreSlots slots) (whole : Found (List (List ℤ))) (singles : List Single) (parts : List PlaceWithout) (priced : Priced (List (List ℤ))) (found : AreFound slots whole singles parts priced) where
+module _ (slots : SlotList) (kept : AreSlots slots) (whole : Found (List (List ℤ))) (singles : List Single) (parts : List PlaceWithout)
+    (priced : Priced (List (List ℤ))) (found : AreFound slots whole singles parts priced) where
   -- what pricing promises
   pub own : IsPriced (market_of slots) whole.choice (ones slots) singles priced
   own = found.priced_is
@@ -75,44 +83,54 @@ module _ (slots : SlotList) (kept : AreSlots slots) (whole : Found (List (List �
 
   -- the certificate of what was found passes P5
   pub passes-5 : (place : ℕ) → PaysWithinBids (market_of slots) (cert_found slots whole singles parts priced) place
-  passes-5 = kept_payments (market_of slots) whole.choice (value_of (market_of slots) whole.choice) whole.table singles (tables_of parts) priced.den priced.at priced.rows priced.last.table core
+  passes-5 = kept_payments (market_of slots) whole.choice (value_of (market_of slots) whole.choice) whole.table singles
+      (tables_of parts) priced.den priced.at priced.rows priced.last.table core
 
   -- no allowed choice counts more by the lowered worths than all that is paid
-  free : (f : List ℕ) → IsTrue ((market_of slots).allowed f) → lowered_sum (market_of slots) whole.choice (cert_point (cert_found slots whole singles parts priced)) f ≤ℤ paid (market_of slots) (cert_point (cert_found slots whole singles parts priced))
+  free : (f : List ℕ) → IsTrue ((market_of slots).allowed f) → lowered_sum (market_of slots) whole.choice
+      (cert_point (cert_found slots whole singles parts priced)) f ≤ℤ paid (market_of slots) (cert_point (cert_found slots whole singles parts priced))
   free f t =
       let p = cert_point (cert_found slots whole singles parts priced) in
       let asks : AsksWinnersOnly (market_of slots) whole.choice p = record { bidders = core.bidders; losers = core.losers } in
       let most = own.last.first.greatest f t in
-      let all = unblocked-free (market_of slots) (lawful slots kept) whole.choice p (surpluses_of (market_of slots) whole.choice priced.den p.at) (surpluses-are (market_of slots) whole.choice p asks) priced.last.choice own.last.first core.unblocked in
+      let all = unblocked-free (market_of slots) (lawful slots kept) whole.choice p (surpluses_of (market_of slots) whole.choice priced.den p.at)
+      (surpluses-are (market_of slots) whole.choice p asks) priced.last.choice own.last.first core.unblocked in
       omega (arith, ints, most, all)
 
-  module _ (order : List ℕ) (placement : IsPlacement slots whole.choice order) (rows : List PlaceRow) (rows_are : map row_value rows ≡ map (row_from whole.choice) priced.rows) (placed : AllByRecursion (IsPlacedRow slots) rows) where
-    row-at : (r : ℕ) → 0 < r → r ≤ length (map (row_from whole.choice) priced.rows) → IsPlacement slots (row_of (map (row_from whole.choice) priced.rows) r).choice (order_in_row (map row_order rows) r)
-    row-at r some = subst (λ (values : List RowValue). r ≤ length values → IsPlacement slots (row_of values r).choice (order_in_row (map row_order rows) r)) rows_are (row-placed slots rows placed r some)
+  module _ (order : List ℕ) (placement : IsPlacement slots whole.choice order) (rows : List PlaceRow)
+      (rows_are : map row_value rows ≡ map (row_from whole.choice) priced.rows) (placed : AllByRecursion (IsPlacedRow slots) rows) where
+    row-at : (r : ℕ) → 0 < r → r ≤ length (map (row_from whole.choice) priced.rows) → IsPlacement slots
+        (row_of (map (row_from whole.choice) priced.rows) r).choice (order_in_row (map row_order rows) r)
+    row-at r some = subst (λ (values : List RowValue). r ≤ length values → IsPlacement slots (row_of values r).choice (order_in_row (map row_order rows) r))
+        rows_are (row-placed slots rows placed r some)
 
     passes-1 : (place : ℕ) → P1 (places_found slots whole singles parts priced order rows) place
     passes-1 place = record { den = λ is. core.den_positive; value = λ is. least; size = λ is. own.prices.range }
 
     best : (j : ℕ) → 0 < j → j ≤ length slots.bidders → IsTrue (uses whole.choice j)
-        → IsBestPlacedPart slots j (part_of (parts_from singles (tables_of parts)) j) (order_without (parts_from singles (tables_of parts)) (map part_order parts) j)
+        → IsBestPlacedPart slots j (part_of (parts_from singles (tables_of parts)) j)
+        (order_without (parts_from singles (tables_of parts)) (map part_order parts) j)
     best j some low wins = best-parts slots whole.choice singles parts found.are_singles found.are_parts j some (let l = long in omega (arith, low, l)) wins
 
     passes-4 : (place : ℕ) → P4 slots (places_found slots whole singles parts priced order rows) place
     passes-4 place = record {
       part = λ some low wins.
-          part-passes slots place (part_of (parts_from singles (tables_of parts)) place) (order_without (parts_from singles (tables_of parts)) (map part_order parts) place) some (best place some low wins);
+          part-passes slots place (part_of (parts_from singles (tables_of parts)) place)
+          (order_without (parts_from singles (tables_of parts)) (map part_order parts) place) some (best place some low wins);
     }
 
     passes-6 : (place : ℕ) → P6 slots (places_found slots whole singles parts priced order rows) place
     passes-6 place = record {
-      row = kept_rows (market_of slots) whole.choice long (value_of (market_of slots) whole.choice) whole.table singles (tables_of parts) priced.den priced.at priced.rows priced.last.table own.shown.kept place;
+      row = kept_rows (market_of slots) whole.choice long (value_of (market_of slots) whole.choice) whole.table singles
+          (tables_of parts) priced.den priced.at priced.rows priced.last.table own.shown.kept place;
       order = λ some low. (row-at place some low).allowed;
     }
 
     passes-8 : (place : ℕ) → P8 slots (places_found slots whole singles parts priced order rows) place
     passes-8 place =
         nearest-alike (market_of slots) (cert_found slots whole singles parts priced) place
-        (kept_seconds (market_of slots) whole.choice long (ones slots) (value_of (market_of slots) whole.choice) whole.table singles (tables_of parts) priced.den priced.at priced.rows priced.last.table refl found.are_singles count own.shown.first own.shown.second place)
+        (kept_seconds (market_of slots) whole.choice long (ones slots) (value_of (market_of slots) whole.choice) whole.table singles
+        (tables_of parts) priced.den priced.at priced.rows priced.last.table refl found.are_singles count own.shown.first own.shown.second place)
 
     -- the certificate of what was found passes P9
     pub passes-9 : (place : ℕ) → P9 slots (places_found slots whole singles parts priced order rows) place
@@ -126,7 +144,8 @@ module _ (slots : SlotList) (kept : AreSlots slots) (whole : Found (List (List �
       p4 = passes-4;
       p5 = passes-5;
       p6 = passes-6;
-      p7 = kept_firsts (market_of slots) whole.choice long (ones slots) (value_of (market_of slots) whole.choice) whole.table singles (tables_of parts) priced.den priced.at priced.rows priced.last.table own.shown.first own.shown.first_sums;
+      p7 = kept_firsts (market_of slots) whole.choice long (ones slots) (value_of (market_of slots) whole.choice) whole.table singles
+          (tables_of parts) priced.den priced.at priced.rows priced.last.table own.shown.first own.shown.first_sums;
       p8 = passes-8;
       p9 = passes-9;
     }

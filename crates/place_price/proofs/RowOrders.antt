@@ -19,7 +19,8 @@ use Rattle.place_check.specs.slot_places.specs.Orders.{IsPlacement}
 use Rattle.place_check.specs.slot_places.specs.Slots.{SlotList}
 
 -- the choices of kept rows are allowed
-pub kept-allowed : (slots : SlotList) (z : List ℕ) (den : ℤ) (at : List ℤ) (rows : List PricedRow) → AllByRecursion (IsKept (market_of slots) z den at) rows → AllByRecursion (HasAllowedChoice slots) rows
+pub kept-allowed : (slots : SlotList) (z : List ℕ) (den : ℤ) (at : List ℤ) (rows : List PricedRow) → AllByRecursion (IsKept (market_of slots) z den at) rows
+    → AllByRecursion (HasAllowedChoice slots) rows
 kept-allowed slots z den at [] all = tt
 kept-allowed slots z den at (r ∷ rows) all = (all.0.given.allowed, kept-allowed slots z den at rows all.1)
 
@@ -38,7 +39,8 @@ pub row-placed : (slots : SlotList) (rows : List PlaceRow) → AllByRecursion (I
 row-placed slots rows all r some inside = at-place slots rows all (r - 1) (let n = length-map rows row_value in omega (arith, some, inside, n))
 
 -- the rows with their orders have the shape that a placement certificate keeps
-pub ordered-rows : (slots : SlotList) → AreSlots slots → (rows : List PlaceRow) → AllByRecursion (IsPlacedRow slots) rows → AreRows (length slots.bidders) (map row_value rows)
+pub ordered-rows : (slots : SlotList) → AreSlots slots → (rows : List PlaceRow) → AllByRecursion (IsPlacedRow slots) rows
+    → AreRows (length slots.bidders) (map row_value rows)
     → AreOrderedRows (length slots.bidders) (map row_value rows) (map row_order rows)
 ordered-rows slots kept [] all shape = tt
 ordered-rows slots kept (r ∷ rows) all shape = (shape.0, order-shape slots r.choice r.order kept all.0, ordered-rows slots kept rows all.1 shape.1)

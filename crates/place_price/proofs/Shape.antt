@@ -49,16 +49,19 @@ use Rattle.book_price.specs.cert_laws.specs.wide_num.proofs.Ints.{*ℤ-one, mul-
 use Rattle.book_price.specs.cert_laws.specs.wide_num.proofs.Sums.{total-scale}
 
 -- at a core point no more is paid than the choice is worth
-paid-most : (m : Market) → IsMarket m → (z : List ℕ) (p : Point) → IsTrue (m.allowed z) → ((j : ℕ) → 0 < j → j ≤ m.bidders → of_bidder p.at j ≤ℤ (p.den *ℤ worth_in m z j)) → paid m p ≤ℤ (p.den *ℤ value_of m z)
+paid-most : (m : Market) → IsMarket m → (z : List ℕ) (p : Point) → IsTrue (m.allowed z)
+    → ((j : ℕ) → 0 < j → j ≤ m.bidders → of_bidder p.at j ≤ℤ (p.den *ℤ worth_in m z j)) → paid m p ≤ℤ (p.den *ℤ value_of m z)
 paid-most m lawful z p t each =
     let all = everyone-is (of_bidder p.at) m.bidders in
     let le = total-le m.bidders (λ k. of_bidder p.at (suc k)) (λ k. p.den *ℤ worth_in m z (suc k)) (λ k lt. each (suc k) (omega arith) (omega (arith, lt))) in
     let times = total-scale m.bidders p.den (λ k. worth_in m z (suc k)) in
-    let value : value_of m z ≡ total m.bidders (λ k. worth_in m z (suc k)) = choice-is m.worth z ∙ ap (λ n. total n (λ k. worth_in m z (suc k))) (lawful.lengths z t) in
+    let value : value_of m z ≡ total m.bidders (λ k. worth_in m z (suc k)) = choice-is m.worth z ∙ ap (λ n. total n (λ k. worth_in m z (suc k)))
+    (lawful.lengths z t) in
     let worth = ap (λ (x : ℤ). p.den *ℤ x) value in
     omega (arith, ints, all, le, times, worth)
 
-core-each : (m : Market) → IsMarket m → (z : List ℕ) (p : Point) → IsCorePoint m z p → (j : ℕ) → 0 < j → j ≤ m.bidders → of_bidder p.at j ≤ℤ (p.den *ℤ worth_in m z j)
+core-each : (m : Market) → IsMarket m → (z : List ℕ) (p : Point) → IsCorePoint m z p → (j : ℕ) → 0 < j → j ≤ m.bidders
+    → of_bidder p.at j ≤ℤ (p.den *ℤ worth_in m z j)
 core-each m lawful z p core zero some inside = absurd (omega (arith, some))
 core-each m lawful z p core (suc k) some inside =
     elim (cases_Bool (uses z (suc k))) [
@@ -100,10 +103,13 @@ module _ (slots : SlotList) (kept : AreSlots slots) where
         table = part-sets slots kept w.winner (part_value w) w.order (omega (arith, front)) all.0;
       }
 
-module _ (slots : SlotList) (kept : AreSlots slots) (whole : Found (List (List ℤ))) (singles : List Single) (parts : List PlaceWithout) (priced : Priced (List (List ℤ))) (found : AreFound slots whole singles parts priced)
-    (order : List ℕ) (placement : IsPlacement slots whole.choice order) (rows : List PlaceRow) (rows_are : map row_value rows ≡ map (row_from whole.choice) priced.rows) (placed : AllByRecursion (IsPlacedRow slots) rows) where
+module _ (slots : SlotList) (kept : AreSlots slots) (whole : Found (List (List ℤ))) (singles : List Single) (parts : List PlaceWithout)
+    (priced : Priced (List (List ℤ))) (found : AreFound slots whole singles parts priced)
+    (order : List ℕ) (placement : IsPlacement slots whole.choice order) (rows : List PlaceRow)
+    (rows_are : map row_value rows ≡ map (row_from whole.choice) priced.rows) (placed : AllByRecursion (IsPlacedRow slots) rows) where
   numbers : InRange priced.den × InRange (value_of (market_of slots) whole.choice)
-  numbers = numbers_shape priced.den (value_of (market_of slots) whole.choice) (core slots kept whole singles parts priced found).den_positive (least slots kept whole singles parts priced found) found.priced_is.prices.range
+  numbers = numbers_shape priced.den (value_of (market_of slots) whole.choice) (core slots kept whole singles parts priced found).den_positive
+      (least slots kept whole singles parts priced found) found.priced_is.prices.range
 
   table-shape : HasSets (length slots.bidders) whole.table
   table-shape =
@@ -117,10 +123,13 @@ module _ (slots : SlotList) (kept : AreSlots slots) (whole : Found (List (List �
       let c = cert_found slots whole singles parts priced in
       let point = core slots kept whole singles parts priced found in
       let top = (passes-9 slots kept whole singles parts priced found order placement rows rows_are placed (2 ^ length slots.bidders)).top refl in
-      let most = paid-most (market_of slots) (lawful slots kept) whole.choice (cert_point c) found.winning.passed (core-each (market_of slots) (lawful slots kept) whole.choice (cert_point c) point) in
-      let low = paid-below priced.den (value_of (market_of slots) whole.choice) (paid (market_of slots) (cert_point c)) point.den_positive most found.priced_is.prices.range in
+      let most = paid-most (market_of slots) (lawful slots kept) whole.choice (cert_point c) found.winning.passed
+      (core-each (market_of slots) (lawful slots kept) whole.choice (cert_point c) point) in
+      let low = paid-below priced.den (value_of (market_of slots) whole.choice) (paid (market_of slots) (cert_point c)) point.den_positive most
+      found.priced_is.prices.range in
       sets-shape (board_of slots) _ (lowered_in (market_of slots) c) priced.last.table found.lowered
-      (lowered-obeys slots c priced.last.table point.bidders (passes-5 slots kept whole singles parts priced found) found.lowered) (omega (arith, ints, top, low))
+      (lowered-obeys slots c priced.last.table point.bidders (passes-5 slots kept whole singles parts priced found) found.lowered)
+      (omega (arith, ints, top, low))
 
   withouts-shape : AreOrderedWithouts (length slots.bidders) 1 whole.choice (parts_from singles (tables_of parts)) (map part_order parts)
   withouts-shape =
@@ -131,7 +140,8 @@ module _ (slots : SlotList) (kept : AreSlots slots) (whole : Found (List (List �
   orders-shape =
       let shown = found.priced_is.shown in
       let shape : AreRows (length slots.bidders) (map (row_from whole.choice) priced.rows) =
-      rows_shape (market_of slots) whole.choice (long slots kept whole singles parts priced found) (choices slots kept) priced.den priced.at priced.rows shown.kept shown.first shown.first_sums numbers.0 shown.small_seconds in
+      rows_shape (market_of slots) whole.choice (long slots kept whole singles parts priced found) (choices slots kept) priced.den priced.at priced.rows
+      shown.kept shown.first shown.first_sums numbers.0 shown.small_seconds in
       subst (λ (values : List RowValue). AreOrderedRows (length slots.bidders) values (map row_order rows)) rows_are
       (ordered-rows slots kept rows placed (subst (AreRows (length slots.bidders)) (sym rows_are) shape))
 
@@ -153,12 +163,23 @@ module _ (slots : SlotList) (kept : AreSlots slots) (whole : Found (List (List �
 
   -- the fields that the program fills
   module _ (den value : ℤ) (choice : List ℕ) (table : List (List ℤ)) (pay : List ℤ) (lowered_lines : List (List ℤ))
-      (den_is : den ≡ priced.den) (value_is : value ≡ value_of (market_of slots) whole.choice) (choice_is : choice ≡ whole.choice) (table_is : table ≡ whole.table)
+      (den_is : den ≡ priced.den) (value_is : value ≡ value_of (market_of slots) whole.choice) (choice_is : choice ≡ whole.choice)
+      (table_is : table ≡ whole.table)
       (pay_is : pay ≡ for_bidders whole.choice priced.at) (lowered_is : lowered_lines ≡ priced.last.table) where
     -- the fields that the program fills make the certificate of what was found
     pub made_is : place_cert_from den value choice order table parts pay rows lowered_lines ≡ places_found slots whole singles parts priced order rows
     made_is = λ t. record {
-      cert = record { den = den_is t; value = value_is t; choice = choice_is t; table = table_is t; withouts = found.are_parts.made t; pay = pay_is t; rows = rows_are t; lowered = lowered_is t };
+      cert = record {
+        den = den_is t;
+        value = value_is t;
+        choice = choice_is t;
+        table = table_is t;
+        withouts = found.are_parts.made t;
+        pay = pay_is t;
+        rows =
+            rows_are t;
+        lowered = lowered_is t;
+      };
       order = order;
       part_orders = map part_order parts;
       row_orders = map row_order rows;
@@ -168,4 +189,5 @@ module _ (slots : SlotList) (kept : AreSlots slots) (whole : Found (List (List �
     pub made_shape : IsPlaceCertificate (length choice) (place_cert_from den value choice order table parts pay rows lowered_lines)
     made_shape =
         subst (IsPlaceCertificate (length choice)) (sym made_is)
-        (subst (λ (n : ℕ). IsPlaceCertificate n (places_found slots whole singles parts priced order rows)) (sym (ap length choice_is ∙ long slots kept whole singles parts priced found)) priced_shape)
+        (subst (λ (n : ℕ). IsPlaceCertificate n (places_found slots whole singles parts priced order rows))
+        (sym (ap length choice_is ∙ long slots kept whole singles parts priced found)) priced_shape)

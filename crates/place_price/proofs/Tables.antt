@@ -25,7 +25,8 @@ all-in_range [] small = tt
 all-in_range (x ∷ line) small = (small 0 (omega arith), all-in_range line (λ i lt. small (suc i) (omega (arith, lt))))
 
 -- an exact table that obeys the rules, with a first entry in range, has an entry in range for each set
-pub sets-shape : (b : Board) (worth counts : ℕ → ℕ → ℤ) (table : List (List ℤ)) → IsSetTable b worth table → ObeysSets b counts table → entry_at table 0 0 <ℤ pos (2 ^ 120) → HasSets b.bidders table
+pub sets-shape : (b : Board) (worth counts : ℕ → ℕ → ℤ) (table : List (List ℤ)) → IsSetTable b worth table → ObeysSets b counts table
+    → entry_at table 0 0 <ℤ pos (2 ^ 120) → HasSets b.bidders table
 sets-shape b worth counts [] exact rules first = absurd (let l = exact.lines in omega (arith, l))
 sets-shape b worth counts (t ∷ u ∷ table) exact rules first = absurd (let l = exact.lines in omega (arith, l))
 sets-shape b worth counts (t ∷ []) exact rules first = (refl, (exact.sets, all-in_range t small, tt))
@@ -43,7 +44,8 @@ pub below-range : (e v : ℤ) → e ≤ℤ v → InRange v → e <ℤ pos (2 ^ 1
 below-range e v le small = omega (arith, ints)
 
 -- the table of a best part
-pub part-sets : (slots : SlotList) → AreSlots slots → (j : ℕ) (part : WithoutValue) (order : List ℕ) → 0 < j → IsBestPlacedPart slots j part order → HasSets (length slots.bidders) part.table
+pub part-sets : (slots : SlotList) → AreSlots slots → (j : ℕ) (part : WithoutValue) (order : List ℕ) → 0 < j → IsBestPlacedPart slots j part order
+    → HasSets (length slots.bidders) part.table
 part-sets slots kept j part order some best =
     let first = (without-entry slots j (amount_of slots) part.table some best.table).reached in
     let most = best.choice.greatest first.0 first.1 in

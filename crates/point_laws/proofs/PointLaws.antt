@@ -20,7 +20,8 @@ gap_of d n e x j = d *ℤ x j -ℤ e *ℤ n j
 pub dot-gap : (m : ℕ) (a : ℕ → ℤ) (d : ℤ) (n : ℕ → ℤ) (e : ℤ) (x : ℕ → ℤ) → dot m a (gap_of d n e x) ≡ d *ℤ dot m a x -ℤ e *ℤ dot m a n
 dot-gap m a d n e x =
     total-same m (λ j. a j *ℤ gap_of d n e x j) (λ j. d *ℤ (a j *ℤ x j) -ℤ e *ℤ (a j *ℤ n j))
-    (λ j lt. ring (a j ∷ d ∷ x j ∷ e ∷ n j ∷ []) (mul (var 0) (sub (mul (var 1) (var 2)) (mul (var 3) (var 4)))) (sub (mul (var 1) (mul (var 0) (var 2))) (mul (var 3) (mul (var 0) (var 4)))) refl)
+    (λ j lt. ring (a j ∷ d ∷ x j ∷ e ∷ n j ∷ []) (mul (var 0) (sub (mul (var 1) (var 2)) (mul (var 3) (var 4))))
+    (sub (mul (var 1) (mul (var 0) (var 2))) (mul (var 3) (mul (var 0) (var 4)))) refl)
     ∙ total-sub m (λ j. d *ℤ (a j *ℤ x j)) (λ j. e *ℤ (a j *ℤ n j))
     ∙ (let p = total-scale m d (λ j. a j *ℤ x j) in let q = total-scale m e (λ j. a j *ℤ n j) in omega (arith, ints))
 
@@ -31,11 +32,13 @@ total-gap m d n e x =
     ∙ (let p = total-scale m d x in let q = total-scale m e n in omega (arith, ints))
 
 -- at a tight row no other point that meets it has less
-pub dot-tight : (m : ℕ) (a : ℕ → ℤ) (b d : ℤ) (n : ℕ → ℤ) (e : ℤ) (x : ℕ → ℤ) → pos 0 <ℤ d → dot m a n ≡ d *ℤ b → (e *ℤ b) ≤ℤ dot m a x → pos 0 ≤ℤ dot m a (gap_of d n e x)
+pub dot-tight : (m : ℕ) (a : ℕ → ℤ) (b d : ℤ) (n : ℕ → ℤ) (e : ℤ) (x : ℕ → ℤ) → pos 0 <ℤ d → dot m a n ≡ d *ℤ b → (e *ℤ b) ≤ℤ dot m a x
+    → pos 0 ≤ℤ dot m a (gap_of d n e x)
 dot-tight m a b d n e x dp t h =
     let g = dot-gap m a d n e x in
     let k : pos 0 ≤ℤ (d *ℤ (dot m a x -ℤ e *ℤ b)) = mul_nonneg d (dot m a x -ℤ e *ℤ b) (omega (arith, ints)) (omega (arith, ints)) in
-    let f : d *ℤ (dot m a x -ℤ e *ℤ b) ≡ d *ℤ dot m a x -ℤ e *ℤ (d *ℤ b) = ring (d ∷ dot m a x ∷ e ∷ b ∷ []) (mul (var 0) (sub (var 1) (mul (var 2) (var 3)))) (sub (mul (var 0) (var 1)) (mul (var 2) (mul (var 0) (var 3)))) refl in
+    let f : d *ℤ (dot m a x -ℤ e *ℤ b) ≡ d *ℤ dot m a x -ℤ e *ℤ (d *ℤ b) = ring (d ∷ dot m a x ∷ e ∷ b ∷ []) (mul (var 0) (sub (var 1) (mul (var 2) (var 3))))
+    (sub (mul (var 0) (var 1)) (mul (var 2) (mul (var 0) (var 3)))) refl in
     let t' : e *ℤ dot m a n ≡ e *ℤ (d *ℤ b) = ap (λ (z : ℤ). e *ℤ z) t in
     omega (arith, ints)
 
@@ -50,12 +53,14 @@ times_zero s t z = let q : s *ℤ t ≡ s *ℤ pos 0 = ap (λ (y : ℤ). s *ℤ 
 none_negative : (s t : ℤ) → s *ℤ t ≡ pos 0 → pos 0 ≤ℤ (s *ℤ t)
 none_negative s t e = omega (arith, ints)
 
-first_term : (m r : ℕ) (a : ℕ → ℕ → ℤ) (bound : ℕ → ℤ) (d : ℤ) (n first : ℕ → ℤ) (e : ℤ) (x : ℕ → ℤ) → AreFirst m r a bound d n first → MeetsRows m r a bound e x
+first_term : (m r : ℕ) (a : ℕ → ℕ → ℤ) (bound : ℕ → ℤ) (d : ℤ) (n first : ℕ → ℤ) (e : ℤ) (x : ℕ → ℤ) → AreFirst m r a bound d n first
+    → MeetsRows m r a bound e x
     → (i : ℕ) → i < r → pos 0 ≤ℤ (first i *ℤ dot m (a i) (gap_of d n e x))
 first_term m r a bound d n first e x h k i lt =
     elim (zero_or (first i)) [
       | inl z ↦ none_negative (first i) (dot m (a i) (gap_of d n e x)) (zero_times (first i) (dot m (a i) (gap_of d n e x)) z)
-      | inr z ↦ mul_nonneg (first i) (dot m (a i) (gap_of d n e x)) (h.not_negative i lt) (dot-tight m (a i) (bound i) d n e x h.positive (h.tight i lt z) (k.above i lt))
+      | inr z ↦ mul_nonneg (first i) (dot m (a i) (gap_of d n e x)) (h.not_negative i lt)
+          (dot-tight m (a i) (bound i) d n e x h.positive (h.tight i lt z) (k.above i lt))
     ]
 
 -- the sum of the rows' gaps, each times its first number, is d times the gap of the sums
@@ -63,7 +68,8 @@ first_sum : (m r : ℕ) (a : ℕ → ℕ → ℤ) (d : ℤ) (n first : ℕ → �
     → d *ℤ total m (gap_of d n e x) ≡ total r (λ i. first i *ℤ dot m (a i) (gap_of d n e x))
 first_sum m r a d n first e x h =
     sym (total-scale m d (gap_of d n e x))
-    ∙ total-same m (λ j. d *ℤ gap_of d n e x j) (λ j. sum_at r a first j *ℤ gap_of d n e x j) (λ j lt. column (sum_at r a first j) (d *ℤ x j) (e *ℤ n j) (h j lt))
+    ∙ total-same m (λ j. d *ℤ gap_of d n e x j) (λ j. sum_at r a first j *ℤ gap_of d n e x j)
+    (λ j lt. column (sum_at r a first j) (d *ℤ x j) (e *ℤ n j) (h j lt))
     ∙ dual m r a first (gap_of d n e x)
   where
     column : (c p q : ℤ) → (c ≡ d) ⊎ (p ≡ q) → d *ℤ (p -ℤ q) ≡ c *ℤ (p -ℤ q)
@@ -77,10 +83,12 @@ pub record Compared (m r : ℕ) (a : ℕ → ℕ → ℤ) (bound : ℕ → ℤ) 
   pub meets : MeetsRows m r a bound e x
 
 -- a point with first multipliers has at most the sum of another that it is compared with
-pub least_sum : (m r : ℕ) (a : ℕ → ℕ → ℤ) (bound : ℕ → ℤ) (d : ℤ) (n first : ℕ → ℤ) (e : ℤ) (x : ℕ → ℤ) → Compared m r a bound d n first e x → (e *ℤ total m n) ≤ℤ (d *ℤ total m x)
+pub least_sum : (m r : ℕ) (a : ℕ → ℕ → ℤ) (bound : ℕ → ℤ) (d : ℤ) (n first : ℕ → ℤ) (e : ℤ) (x : ℕ → ℤ) → Compared m r a bound d n first e x
+    → (e *ℤ total m n) ≤ℤ (d *ℤ total m x)
 least_sum m r a bound d n first e x h =
     let y : ℕ → ℤ = gap_of d n e x in
-    let s : pos 0 ≤ℤ total r (λ i. first i *ℤ dot m (a i) y) = total-nonneg r (λ i. first i *ℤ dot m (a i) y) (first_term m r a bound d n first e x h.firsts h.meets) in
+    let s : pos 0 ≤ℤ total r (λ i. first i *ℤ dot m (a i) y) = total-nonneg r (λ i. first i *ℤ dot m (a i) y)
+    (first_term m r a bound d n first e x h.firsts h.meets) in
     let q : d *ℤ total m y ≡ total r (λ i. first i *ℤ dot m (a i) y) = first_sum m r a d n first e x h.sums in
     let dp = h.firsts.positive in
     let c : pos 0 ≤ℤ total m y = cancel_nonneg d (total m y) dp (omega (arith, ints)) in
@@ -89,7 +97,8 @@ least_sum m r a bound d n first e x h =
 
 -- d² k (x - e v)² = e² k (n - d v)² + k y² + 2 e y k (n - d v) with y = d x - e n
 square_step : (k d e x n v : ℤ) → d *ℤ d *ℤ (k *ℤ ((x -ℤ e *ℤ v) *ℤ (x -ℤ e *ℤ v)))
-    ≡ e *ℤ e *ℤ (k *ℤ ((n -ℤ d *ℤ v) *ℤ (n -ℤ d *ℤ v))) +ℤ (k *ℤ ((d *ℤ x -ℤ e *ℤ n) *ℤ (d *ℤ x -ℤ e *ℤ n)) +ℤ pos 2 *ℤ e *ℤ ((k *ℤ (n -ℤ d *ℤ v)) *ℤ (d *ℤ x -ℤ e *ℤ n)))
+    ≡ e *ℤ e *ℤ (k *ℤ ((n -ℤ d *ℤ v) *ℤ (n -ℤ d *ℤ v))) +ℤ (k *ℤ ((d *ℤ x -ℤ e *ℤ n) *ℤ (d *ℤ x -ℤ e *ℤ n)) +ℤ pos 2 *ℤ e *ℤ
+    ((k *ℤ (n -ℤ d *ℤ v)) *ℤ (d *ℤ x -ℤ e *ℤ n)))
 square_step k d e x n v =
     let K = var 0 in let D = var 1 in let E = var 2 in let X = var 3 in let N = var 4 in let V = var 5 in
     let p = sub X (mul E V) in let q = sub N (mul D V) in let y = sub (mul D X) (mul E N) in

@@ -103,7 +103,8 @@ mono-ins env v (w ∷ ws) = mono-cond env (ltb v w) (v ∷ w ∷ ws) (w ∷ ins 
 
 mono-merge : (env : List ℤ) (m n : List ℕ) → mono env (merge m n) ≡ mono env m *ℤ mono env n
 mono-merge env [] n = omega (arith, ints)
-mono-merge env (v ∷ vs) n = mono-ins env v (merge vs n) ∙ ap (λ (x : ℤ). at env v *ℤ x) (mono-merge env vs n) ∙ sym (mul_assoc (at env v) (mono env vs) (mono env n))
+mono-merge env (v ∷ vs) n = mono-ins env v (merge vs n) ∙ ap (λ (x : ℤ). at env v *ℤ x) (mono-merge env vs n)
+    ∙ sym (mul_assoc (at env v) (mono env vs) (mono env n))
 
 eq_nat-is : (m n : ℕ) → eq_nat m n ≡ true → m ≡ n
 eq_nat-is zero zero e = refl
@@ -125,7 +126,8 @@ same-is (x ∷ xs) (y ∷ ys) e =
     let q : xs ≡ ys = same-is xs ys h.1 in
     cc
 
-put-cond : (env : List ℤ) (c : ℤ) (m : List ℕ) (t : Term) (ts rest : List Term) (b : Bool) → (b ≡ true → m ≡ t.vars) → sum_of env rest ≡ c *ℤ mono env m +ℤ sum_of env ts
+put-cond : (env : List ℤ) (c : ℤ) (m : List ℕ) (t : Term) (ts rest : List Term) (b : Bool) → (b ≡ true → m ≡ t.vars)
+    → sum_of env rest ≡ c *ℤ mono env m +ℤ sum_of env ts
     → sum_of env (cond b (record { coef = c +ℤ t.coef; vars = t.vars } ∷ ts) (t ∷ rest)) ≡ c *ℤ mono env m +ℤ (t.coef *ℤ mono env t.vars +ℤ sum_of env ts)
 put-cond env c m t ts rest true e h =
     let d : mono env m ≡ mono env t.vars = ap (mono env) (e refl) in

@@ -1,5 +1,6 @@
 -- The same point has the same block, whatever its denominator.
-use Rattle.std.proofs.Common.{◌≡◌, ℕ, ◌<◌, ◌≤◌, Bool, true, false, not, IsTrue, Option, Some, None, List, ℤ, pos, ◌-ℤ◌, ◌*ℤ◌, ◌≤ℤ◌, ◌<ℤ◌, refl, sym, ap, subst, ◌∙◌, arith, inl, inr}
+use Rattle.std.proofs.Common.{◌≡◌, ℕ, ◌<◌, ◌≤◌, Bool, true, false, not, IsTrue, Option, Some, None, List, ℤ, pos, ◌-ℤ◌, ◌*ℤ◌, ◌≤ℤ◌, ◌<ℤ◌, refl, sym, ap}
+use Rattle.std.proofs.Common.{subst, ◌∙◌, arith, inl, inr}
 use Rattle.std.proofs.lemmas.Int.{ints}
 use Rattle.std.proofs.Math.IntN.{*ℤ_comm}
 use Rattle.row_laws.specs.auction_model.specs.Blocks.{IsIdleSet, row_bound, excess_of, IsGreatestExcess}
@@ -51,7 +52,20 @@ reached-by : (d e x y given taken : ℤ) → pos 1 ≤ℤ d → pos 1 ≤ℤ e �
 reached-by d e x y given taken dp ep first second low high =
     let up = mul_nonneg d (y -ℤ given) (omega (arith, lin, dp)) (omega (arith, lin, low)) in
     let down = mul_nonneg e (x -ℤ taken) (omega (arith, lin, ep)) (omega (arith, lin, high)) in
-    let same : d *ℤ given ≡ d *ℤ y = omega (arith, lin, up, down, mul-sub d y given, mul-sub e x taken, *ℤ_comm x e, *ℤ_comm given d, *ℤ_comm taken e, *ℤ_comm y d, first, second) in
+    let same : d *ℤ given ≡ d *ℤ y = omega (
+      arith,
+      lin,
+      up,
+      down,
+      mul-sub d y given,
+      mul-sub e x taken,
+      *ℤ_comm x e,
+      *ℤ_comm given d,
+      *ℤ_comm taken e,
+      *ℤ_comm y d,
+      first,
+      second,
+    ) in
     mul_cancel d given y (λ zero. omega (arith, lin, zero, dp)) same
 
 -- a number above 0 has only numbers above 0 over other denominators
@@ -73,7 +87,8 @@ same-truth false false there back = refl
 same-truth false true there back = back refl
 
 -- a row's bound depends on its members among the bidders
-same-bound : (m : Market) (z : List ℕ) (s t : ℕ → Bool) (f g : List ℕ) → ((j : ℕ) → 0 < j → j ≤ m.bidders → s j ≡ t j) → f ≡ g → row_bound m z s f ≡ row_bound m z t g
+same-bound : (m : Market) (z : List ℕ) (s t : ℕ → Bool) (f g : List ℕ) → ((j : ℕ) → 0 < j → j ≤ m.bidders → s j ≡ t j) → f ≡ g
+    → row_bound m z s f ≡ row_bound m z t g
 same-bound m z s t f g members e =
     ap (λ (x : ℤ). value_of m f -ℤ x) (over-same (λ j. not (s j)) (λ j. not (t j)) (worth_in m z) m.bidders (λ j some inside. ap not (members j some inside)))
     ∙ ap (row_bound m z t) e
@@ -81,15 +96,18 @@ same-bound m z s t f g members e =
 -- the excess at both points is the same fraction
 scaled : (m : Market) (z : List ℕ) (p q : Point) → SamePoint m p q → (s : ℕ → Bool) (f : List ℕ) → excess_of m z p s f *ℤ q.den ≡ excess_of m z q s f *ℤ p.den
 scaled m z p q same s f =
-    over-both p.den q.den (row_bound m z s f) (sum_over s (of_bidder p.at) m.bidders) (sum_over s (of_bidder q.at) m.bidders) (excess_of m z p s f) (excess_of m z q s f) (excess-bound m z p s f) (excess-bound m z q s f)
-    (sums s (of_bidder p.at) (of_bidder q.at) q.den p.den m.bidders (λ j some inside. *ℤ_comm (of_bidder p.at j) q.den ∙ same j some inside ∙ *ℤ_comm p.den (of_bidder q.at j)))
+    over-both p.den q.den (row_bound m z s f) (sum_over s (of_bidder p.at) m.bidders) (sum_over s (of_bidder q.at) m.bidders) (excess_of m z p s f)
+    (excess_of m z q s f) (excess-bound m z p s f) (excess-bound m z q s f)
+    (sums s (of_bidder p.at) (of_bidder q.at) q.den p.den m.bidders (λ j some inside. *ℤ_comm (of_bidder p.at j) q.den ∙ same j some inside
+    ∙ *ℤ_comm p.den (of_bidder q.at j)))
 
 -- points that are the same are the same the other way round
 pub same-turned : (m : Market) (p q : Point) → SamePoint m p q → SamePoint m q p
 same-turned m p q same j some inside = sym (same j some inside)
 
 -- a block of one point reaches the excess of the other's
-reaches : (m : Market) (z : List ℕ) (p q : Point) → pos 1 ≤ℤ p.den → pos 1 ≤ℤ q.den → SamePoint m p q → (b c : Block) → IsBlockOf m z p b → IsBlockOf m z q c → excess_of m z q b.row.members b.choice ≡ c.excess
+reaches : (m : Market) (z : List ℕ) (p q : Point) → pos 1 ≤ℤ p.den → pos 1 ≤ℤ q.den → SamePoint m p q → (b c : Block) → IsBlockOf m z p b → IsBlockOf m z q c
+    → excess_of m z q b.row.members b.choice ≡ c.excess
 reaches m z p q dp dq same b c of-p of-q =
     reached-by p.den q.den b.excess c.excess (excess_of m z q b.row.members b.choice) (excess_of m z p c.row.members c.choice) dp dq
     (ap (λ (x : ℤ). x *ℤ q.den) (sym of-p.taken.reached) ∙ scaled m z p q same b.row.members b.choice)
@@ -98,15 +116,18 @@ reaches m z p q dp dq same b c of-p of-q =
     (of-p.taken.greatest c.row.members c.choice of-q.taken.allowed of-q.taken.idle)
 
 -- so it isn't earlier
-not_earlier : (m : Market) (z : List ℕ) (p q : Point) → pos 1 ≤ℤ p.den → pos 1 ≤ℤ q.den → SamePoint m p q → (b c : Block) → IsBlockOf m z p b → IsBlockOf m z q c → IsTrue (is_earlier b.choice c.choice) → ⊥
+not_earlier : (m : Market) (z : List ℕ) (p q : Point) → pos 1 ≤ℤ p.den → pos 1 ≤ℤ q.den → SamePoint m p q → (b c : Block) → IsBlockOf m z p b
+    → IsBlockOf m z q c → IsTrue (is_earlier b.choice c.choice) → ⊥
 not_earlier m z p q dp dq same b c of-p of-q before =
     not_below _ _ (reaches m z p q dp dq same b c of-p of-q) (of-q.taken.first b.choice b.row.members of-p.taken.allowed of-p.taken.idle before)
 
 -- and with the same choice its members are among the other's
-members-within : (m : Market) (z : List ℕ) (p q : Point) → pos 1 ≤ℤ p.den → pos 1 ≤ℤ q.den → SamePoint m p q → (b c : Block) → IsBlockOf m z p b → IsBlockOf m z q c → b.choice ≡ c.choice
+members-within : (m : Market) (z : List ℕ) (p q : Point) → pos 1 ≤ℤ p.den → pos 1 ≤ℤ q.den → SamePoint m p q → (b c : Block) → IsBlockOf m z p b
+    → IsBlockOf m z q c → b.choice ≡ c.choice
     → (j : ℕ) → 0 < j → j ≤ m.bidders → IsTrue (b.row.members j) → IsTrue (c.row.members j)
 members-within m z p q dp dq same b c of-p of-q e =
-    of-q.taken.largest b.row.members (subst (λ f. IsIdleSet m z f b.row.members) e of-p.taken.idle) (ap (excess_of m z q b.row.members) (sym e) ∙ reaches m z p q dp dq same b c of-p of-q)
+    of-q.taken.largest b.row.members (subst (λ f. IsIdleSet m z f b.row.members) e of-p.taken.idle)
+    (ap (excess_of m z q b.row.members) (sym e) ∙ reaches m z p q dp dq same b c of-p of-q)
 
 module _ (m : Market) (law : IsMarket m) (z : List ℕ) (p q : Point) (dp : pos 1 ≤ℤ p.den) (dq : pos 1 ≤ℤ q.den) (same : SamePoint m p q) where
   same-choice : (b c : Block) → IsBlockOf m z p b → IsBlockOf m z q c → b.choice ≡ c.choice
@@ -128,14 +149,18 @@ module _ (m : Market) (law : IsMarket m) (z : List ℕ) (p q : Point) (dp : pos 
   same-block b c of-p of-q = record {
     choices = same-choice b c of-p of-q;
     rows = record {
-      bound = of-p.bound ∙ same-bound m z b.row.members c.row.members b.choice c.choice (same-members b c of-p of-q) (same-choice b c of-p of-q) ∙ sym of-q.bound;
+      bound = of-p.bound ∙ same-bound m z b.row.members c.row.members b.choice c.choice (same-members b c of-p of-q) (same-choice b c of-p of-q)
+          ∙ sym of-q.bound;
       members = same-members b c of-p of-q;
     };
-    excesses = ap (λ (x : ℤ). x *ℤ q.den) (sym of-p.taken.reached) ∙ scaled m z p q same b.row.members b.choice ∙ ap (λ (x : ℤ). x *ℤ p.den) (reaches m z p q dp dq same b c of-p of-q);
+    excesses = ap (λ (x : ℤ). x *ℤ q.den) (sym of-p.taken.reached) ∙ scaled m z p q same b.row.members b.choice
+        ∙ ap (λ (x : ℤ). x *ℤ p.den) (reaches m z p q dp dq same b c of-p of-q);
   }
 
 -- where nothing has an excess at one point, nothing blocks the other
-pub free-both : (m : Market) (z : List ℕ) (p q : Point) → pos 1 ≤ℤ p.den → pos 1 ≤ℤ q.den → SamePoint m p q → IsGreatestExcess m z p (pos 0) → (c : Block) → IsBlockOf m z q c → ⊥
+pub free-both : (m : Market) (z : List ℕ) (p q : Point) → pos 1 ≤ℤ p.den → pos 1 ≤ℤ q.den → SamePoint m p q → IsGreatestExcess m z p (pos 0) → (c : Block)
+    → IsBlockOf m z q c → ⊥
 free-both m z p q dp dq same none c of-q =
-    stays-positive p.den q.den (excess_of m z p c.row.members c.choice) c.excess dp dq (scaled m z p q same c.row.members c.choice ∙ ap (λ (x : ℤ). x *ℤ p.den) of-q.taken.reached)
+    stays-positive p.den q.den (excess_of m z p c.row.members c.choice) c.excess dp dq
+    (scaled m z p q same c.row.members c.choice ∙ ap (λ (x : ℤ). x *ℤ p.den) of-q.taken.reached)
     (none c.row.members c.choice of-q.taken.allowed of-q.taken.idle) of-q.some

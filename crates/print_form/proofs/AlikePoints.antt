@@ -36,7 +36,8 @@ all-own m [] = tt
 all-own m (row ∷ rows) = (record { bound = refl; members = λ j some inside. refl }, all-own m rows)
 
 -- and stay alike with one more
-pub all-more : (m : Market) (rows others : List Row) (row other : Row) → AreAlike m rows others → IsAlike m row other → AreAlike m (rows ++ row ∷ []) (others ++ other ∷ [])
+pub all-more : (m : Market) (rows others : List Row) (row other : Row) → AreAlike m rows others → IsAlike m row other
+    → AreAlike m (rows ++ row ∷ []) (others ++ other ∷ [])
 all-more m [] [] row other a b = (b, tt)
 all-more m [] (o ∷ others) row other a b = absurd a
 all-more m (r ∷ rows) [] row other a b = absurd a
@@ -48,7 +49,8 @@ meets-alike m p row other a h =
     let bounds = ap (λ (x : ℤ). p.den *ℤ x) a.bound in
     omega (arith, ints, sums, bounds, h)
 
-each-alike : (m : Market) (p : Point) (rows others : List Row) → AreAlike m rows others → AllByRecursion (MeetsRow m p) rows → AllByRecursion (MeetsRow m p) others
+each-alike : (m : Market) (p : Point) (rows others : List Row) → AreAlike m rows others → AllByRecursion (MeetsRow m p) rows
+    → AllByRecursion (MeetsRow m p) others
 each-alike m p [] [] a h = tt
 each-alike m p [] (other ∷ others) a h = absurd a
 each-alike m p (row ∷ rows) [] a h = absurd a
@@ -58,7 +60,8 @@ rows-alike : (m : Market) (z : List ℕ) (p : Point) (rows others : List Row) �
 rows-alike m z p rows others a h = record { den_positive = h.den_positive; bidders = h.bidders; losers = h.losers; each = each-alike m p rows others a h.each }
 
 -- two points that are each the nearest of least sum are the same
-module _ (m : Market) (w : ℕ → ℕ) (z : List ℕ) (v : ℕ → ℤ) (rows others : List Row) (p q : Point) (alike : AreAlike m rows others) (a : IsTurnPoint m w z v rows p) (b : IsTurnPoint m w z v others q) where
+module _ (m : Market) (w : ℕ → ℕ) (z : List ℕ) (v : ℕ → ℤ) (rows others : List Row) (p q : Point) (alike : AreAlike m rows others)
+    (a : IsTurnPoint m w z v rows p) (b : IsTurnPoint m w z v others q) where
   strict : (x y : ℤ) → x <ℤ y → y ≤ℤ x → ⊥
   strict x y h k = omega (arith, ints, h, k)
 
@@ -82,11 +85,13 @@ module _ (m : Market) (w : ℕ → ℕ) (z : List ℕ) (v : ℕ → ℤ) (rows o
 
   not_apart : (SamePoint m p q → ⊥) → ⊥
   not_apart apart =
-      strict _ _ (a.nearest q q-meets equal-sums apart) (weaker _ _ (b.nearest p p-meets (sym equal-sums) (λ same. apart (λ j some inside. sym (same j some inside)))))
+      strict _ _ (a.nearest q q-meets equal-sums apart) (weaker _ _ (b.nearest p p-meets (sym equal-sums)
+      (λ same. apart (λ j some inside. sym (same j some inside)))))
 
   -- turns with alike rows have the same point
   pub same-point : SamePoint m p q
   same-point j some inside =
       by_lt_z (q.den *ℤ of_bidder p.at j) (p.den *ℤ of_bidder q.at j)
       (λ less. absurd (not_apart (λ same. strict _ _ less (most _ _ (same j some inside)))))
-      (λ high. by_lt_z (p.den *ℤ of_bidder q.at j) (q.den *ℤ of_bidder p.at j) (λ less. absurd (not_apart (λ same. strict _ _ less (most _ _ (sym (same j some inside)))))) (λ low. even _ _ high low))
+      (λ high. by_lt_z (p.den *ℤ of_bidder q.at j) (q.den *ℤ of_bidder p.at j) (λ less. absurd
+      (not_apart (λ same. strict _ _ less (most _ _ (sym (same j some inside)))))) (λ low. even _ _ high low))

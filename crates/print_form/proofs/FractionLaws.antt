@@ -22,7 +22,8 @@ cross n d m e a p b q dp ep same first second =
     let left : (d *ℤ e) *ℤ pos (a * q) ≡ (m *ℤ d) *ℤ pos (p * q) =
     swap_middle d e (pos a) (pos q) ∙ ap (λ (x : ℤ). x *ℤ (e *ℤ pos q)) (sym first) ∙ swap_middle n (pos p) e (pos q) ∙ ap (λ (x : ℤ). x *ℤ pos (p * q)) same in
     let right : (d *ℤ e) *ℤ pos (b * p) ≡ (m *ℤ d) *ℤ pos (q * p) =
-    ap (λ (x : ℤ). x *ℤ pos (b * p)) (*ℤ_comm d e) ∙ swap_middle e d (pos b) (pos p) ∙ ap (λ (x : ℤ). x *ℤ (d *ℤ pos p)) (sym second) ∙ swap_middle m (pos q) d (pos p) in
+    ap (λ (x : ℤ). x *ℤ pos (b * p)) (*ℤ_comm d e) ∙ swap_middle e d (pos b) (pos p) ∙ ap (λ (x : ℤ). x *ℤ (d *ℤ pos p)) (sym second)
+    ∙ swap_middle m (pos q) d (pos p) in
     let turned : p * q ≡ q * p = omega arith in
     let not : d *ℤ e ≢ pos 0 = λ z. not-zero e ep (mul-zero_cases d e z (not-zero d dp)) in
     pos-one (a * q) (b * p) (mul_cancel (d *ℤ e) (pos (a * q)) (pos (b * p)) not (left ∙ ap (λ (x : ℕ). (m *ℤ d) *ℤ pos x) turned ∙ sym right))
@@ -104,4 +105,5 @@ same-fractions n d m e w r p v s q dp ep same f g =
 pub one-text : (n d m e : ℤ) (t u : List ℕ) → pos 1 ≤ℤ d → pos 1 ≤ℤ e → n *ℤ e ≡ m *ℤ d → IsFractionText n d t → IsFractionText m e u → t ≡ u
 one-text n d m e t u dp ep same f g =
     let all = same-fractions n d m e f.0 f.1 f.2 g.0 g.1 g.2 dp ep same f.3 g.3 in
-    f.4 ∙ ap (λ (x : ℕ). parts_text x f.1 f.2) all.wholes ∙ ap (λ (x : ℕ). parts_text g.0 x f.2) all.rests ∙ ap (λ (x : ℕ). parts_text g.0 g.1 x) all.denominators ∙ sym g.4
+    f.4 ∙ ap (λ (x : ℕ). parts_text x f.1 f.2) all.wholes ∙ ap (λ (x : ℕ). parts_text g.0 x f.2) all.rests
+    ∙ ap (λ (x : ℕ). parts_text g.0 g.1 x) all.denominators ∙ sym g.4

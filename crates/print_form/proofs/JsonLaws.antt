@@ -1,5 +1,6 @@
 -- The JSON of an outcome depends on the points, the Vickrey prices and the turns alone.
-use Rattle.std.proofs.Common.{◌≡◌, ℕ, zero, suc, ◌+◌, ◌<◌, ◌≤◌, Option, Some, None, List, [], ◌∷◌, ◌++◌, length, ℤ, pos, ◌+ℤ◌, ◌*ℤ◌, ◌≤ℤ◌, codes, sym, ap, subst, ◌∙◌, arith}
+use Rattle.std.proofs.Common.{◌≡◌, ℕ, zero, suc, ◌+◌, ◌<◌, ◌≤◌, Option, Some, None, List, [], ◌∷◌, ◌++◌, length, ℤ, pos, ◌+ℤ◌, ◌*ℤ◌, ◌≤ℤ◌, codes, sym, ap}
+use Rattle.std.proofs.Common.{subst, ◌∙◌, arith}
 use Rattle.std.proofs.lemmas.List.{append_cancel_right}
 use Rattle.serde_json.specs.Data.{Data, Members, array, member, object, string}
 use Rattle.serde_json.specs.View.{items_of}
@@ -24,7 +25,8 @@ module _ (m : Market) (z : List ℕ) (long : length z ≡ m.bidders) where
   same-rounds k [] (other ∷ others) same a b these those = absurd same
   same-rounds k (turn ∷ turns) [] same a b these those = absurd same
   same-rounds k (turn ∷ turns) (other ∷ others) same a b (round, rest, (line, is, own), are, whole) (round', rest', (line', is', own'), are', whole') =
-      let lines : line ≡ line' = append_cancel_right line line' (codes "\n") (same-line m z long (suc k) turn other same.0 (line ++ codes "\n") (line' ++ codes "\n") is is') in
+      let lines : line ≡ line' = append_cancel_right line line' (codes "\n") (same-line m z long (suc k) turn other same.0 (line ++ codes "\n")
+      (line' ++ codes "\n") is is') in
       let rounds : round ≡ round' = own ∙ ap string lines ∙ sym own' in
       let others : rest ≡ rest' = same-rounds (suc k) turns others same.1 rest rest' are are' in
       whole ∙ ap (λ (d : Data). d ∷ rest) rounds ∙ ap (λ (d : List Data). round' ∷ d) others ∙ sym whole'
@@ -34,10 +36,12 @@ pub last-plain : (z : List ℕ) (winners : List Data) (a b : Members) → AreLas
 last-plain z winners a b these those = these ∙ sym those
 
 -- they are the same for two runs of one choice, with the same winners
-pub last-turns : (m : Market) (law : IsMarket m) (w : ℕ → ℕ) (z : List ℕ) (v : ℕ → ℤ) → AreVickreyPrices m z v → (runs others : List Turn) → IsPricingRun m w z runs → IsPricingRun m w z others
+pub last-turns : (m : Market) (law : IsMarket m) (w : ℕ → ℕ) (z : List ℕ) (v : ℕ → ℤ) → AreVickreyPrices m z v → (runs others : List Turn)
+    → IsPricingRun m w z runs → IsPricingRun m w z others
     → (winners : List Data) (a b : Members) → AreLastMembers z (Some runs) winners a → AreLastMembers z (Some others) winners b → a ≡ b
 last-turns m law w z v prices runs others x y winners a b these those =
-    let rounds : these.0 ≡ those.0 = same-rounds m z (law.lengths z x.winning.passed) 0 runs others (same-runs m law w z v prices runs others x y) these.0 those.0 these.1 those.1 in
+    let rounds : these.0 ≡ those.0 = same-rounds m z (law.lengths z x.winning.passed) 0 runs others (same-runs m law w z v prices runs others x y) these.0
+    those.0 these.1 those.1 in
     these.2 ∙ ap (λ (i : List Data). member (codes "rounds") (array (items_of i)) (with_winners winners)) rounds ∙ sym those.2
 
 module _ (book : Book) (z : List ℕ) (v w : ℕ → ℤ) (p q : Point) (dp : pos 1 ≤ℤ p.den) (dq : pos 1 ≤ℤ q.den) (same : SamePoint (market_of book) p q)
@@ -49,11 +53,14 @@ module _ (book : Book) (z : List ℕ) (v w : ℕ → ℤ) (p q : Point) (dp : po
       → winner_json (bidder_of book (suc k)).name (bid_of book (suc k) (suc i)) (v (suc k) +ℤ reserve_of book (suc k) (suc i)) pays ∷ rest
       ≡ winner_json (bidder_of book (suc k)).name (bid_of book (suc k) (suc i)) (w (suc k) +ℤ reserve_of book (suc k) (suc i)) pays' ∷ rest'
   same-winner k i pays pays' rest rest' inside e f =
-      ap (λ (x : ℤ). winner_json (bidder_of book (suc k)).name (bid_of book (suc k) (suc i)) (x +ℤ reserve_of book (suc k) (suc i)) pays ∷ rest) (agree (suc k) (omega arith) inside)
+      ap (λ (x : ℤ). winner_json (bidder_of book (suc k)).name (bid_of book (suc k) (suc i)) (x +ℤ reserve_of book (suc k) (suc i)) pays ∷ rest)
+      (agree (suc k) (omega arith) inside)
       ∙ ap (λ (l : List ℕ). winner_json (bidder_of book (suc k)).name (bid_of book (suc k) (suc i)) (w (suc k) +ℤ reserve_of book (suc k) (suc i)) l ∷ rest) e
-      ∙ ap (λ (r : List Data). winner_json (bidder_of book (suc k)).name (bid_of book (suc k) (suc i)) (w (suc k) +ℤ reserve_of book (suc k) (suc i)) pays' ∷ r) f
+      ∙ ap (λ (r : List Data). winner_json (bidder_of book (suc k)).name (bid_of book (suc k) (suc i))
+      (w (suc k) +ℤ reserve_of book (suc k) (suc i)) pays' ∷ r) f
 
-  same-winners : (k : ℕ) (c : List ℕ) (a b : List Data) → k + length c ≡ (market_of book).bidders → AreWinners book z v p k c a → AreWinners book z w q k c b → a ≡ b
+  same-winners : (k : ℕ) (c : List ℕ) (a b : List Data) → k + length c ≡ (market_of book).bidders → AreWinners book z v p k c a → AreWinners book z w q k c b
+      → a ≡ b
   same-winners k [] a b long these those = these ∙ sym those
   same-winners k (zero ∷ c) a b long these those = same-winners (suc k) c a b (omega arith) these those
   same-winners k (suc i ∷ c) a b long these those =
@@ -62,7 +69,8 @@ module _ (book : Book) (z : List ℕ) (v w : ℕ → ℤ) (p q : Point) (dp : po
       these.4 ∙ same-winner k i these.0 those.0 these.1 those.1 (omega arith) pays rest ∙ sym those.4
 
   -- where the members behind the revenue are the same for the same winners
-  pub same-json : (turns others : Option (List Turn)) → ((winners : List Data) (a b : Members) → AreLastMembers z turns winners a → AreLastMembers z others winners b → a ≡ b)
+  pub same-json : (turns others : Option (List Turn)) → ((winners : List Data) (a b : Members) → AreLastMembers z turns winners a
+      → AreLastMembers z others winners b → a ≡ b)
       → (t u : List ℕ) → length z ≡ (market_of book).bidders → IsOutcomeJson book z v p turns t → IsOutcomeJson book z w q others u → t ≡ u
   same-json turns others one t u long (d, a, these) (e, b, those) =
       let winners : b.winners ≡ a.winners = sym (same-winners 0 z a.winners b.winners (omega arith) a.are_winners b.are_winners) in

@@ -25,7 +25,8 @@ module _ (book : Book) (z : List ℕ) (v w : ℕ → ℤ) (p q : Point) (dp : po
       → priced_line (bidder_of book (suc k)).name (bid_of book (suc k) (suc i)) (v (suc k) +ℤ reserve_of book (suc k) (suc i)) pays ++ rest
       ≡ priced_line (bidder_of book (suc k)).name (bid_of book (suc k) (suc i)) (w (suc k) +ℤ reserve_of book (suc k) (suc i)) pays' ++ rest'
   same-line k i pays pays' rest rest' inside e f =
-      ap (λ (x : ℤ). priced_line (bidder_of book (suc k)).name (bid_of book (suc k) (suc i)) (x +ℤ reserve_of book (suc k) (suc i)) pays ++ rest) (agree (suc k) (omega arith) inside)
+      ap (λ (x : ℤ). priced_line (bidder_of book (suc k)).name (bid_of book (suc k) (suc i)) (x +ℤ reserve_of book (suc k) (suc i)) pays ++ rest)
+      (agree (suc k) (omega arith) inside)
       ∙ ap (λ (l : List ℕ). priced_line (bidder_of book (suc k)).name (bid_of book (suc k) (suc i)) (w (suc k) +ℤ reserve_of book (suc k) (suc i)) l ++ rest) e
       ∙ ap (λ (l : List ℕ). priced_line (bidder_of book (suc k)).name (bid_of book (suc k) (suc i)) (w (suc k) +ℤ reserve_of book (suc k) (suc i)) pays' ++ l) f
 

@@ -1,5 +1,6 @@
 -- The lines of the same turns are the same, and so is the point that they end with.
-use Rattle.std.proofs.Common.{◌≡◌, ℕ, zero, suc, ◌+◌, ◌<◌, ◌≤◌, Bool, cond, Option, Some, None, List, [], ◌∷◌, ◌++◌, length, ℤ, pos, ◌*ℤ◌, ◌≤ℤ◌, codes, refl, sym, ap, ◌∙◌, subst, arith}
+use Rattle.std.proofs.Common.{◌≡◌, ℕ, zero, suc, ◌+◌, ◌<◌, ◌≤◌, Bool, cond, Option, Some, None, List, [], ◌∷◌, ◌++◌, length, ℤ, pos, ◌*ℤ◌, ◌≤ℤ◌, codes, refl}
+use Rattle.std.proofs.Common.{sym, ap, ◌∙◌, subst, arith}
 use Rattle.std.specs.Fmt.{decimal}
 use Rattle.std.proofs.Math.IntN.{*ℤ_comm}
 use Rattle.row_laws.specs.auction_model.specs.Lawful.{IsMarket}
@@ -24,7 +25,8 @@ same-members s t (suc n) same =
     ∙ ap (λ (l : List ℕ). cond (t (suc n)) (l ++ suc n ∷ []) l) rest
 
 module _ (m : Market) (z : List ℕ) (long : length z ≡ m.bidders) where
-  same-points : (p q : Point) → pos 1 ≤ℤ p.den → pos 1 ≤ℤ q.den → SamePoint m p q → (k : ℕ) (c t u : List ℕ) → k + length c ≡ m.bidders → ArePoints p k c t → ArePoints q k c u → t ≡ u
+  same-points : (p q : Point) → pos 1 ≤ℤ p.den → pos 1 ≤ℤ q.den → SamePoint m p q → (k : ℕ) (c t u : List ℕ) → k + length c ≡ m.bidders → ArePoints p k c t
+      → ArePoints q k c u → t ≡ u
   same-points p q dp dq same k [] t u few these those = these ∙ sym those
   same-points p q dp dq same k (zero ∷ c) t u few these those = same-points p q dp dq same (suc k) c t u (omega arith) these those
   same-points p q dp dq same k (suc i ∷ c) t u few these those =
@@ -34,24 +36,30 @@ module _ (m : Market) (z : List ℕ) (long : length z ≡ m.bidders) where
       let rest : these.1 ≡ those.1 = same-points p q dp dq same (suc k) c these.1 those.1 (omega arith) these.3 those.3 in
       these.4 ∙ ap (λ (l : List ℕ). 32 ∷ l ++ these.1) price ∙ ap (λ (l : List ℕ). 32 ∷ those.0 ++ l) rest ∙ sym those.4
 
-  same-end : (d e : ℤ) → pos 1 ≤ℤ d → pos 1 ≤ℤ e → (a b : Option Block) → IsSameEnd m d e a b → (t u : List ℕ) → IsTurnEnd (length z) d a t → IsTurnEnd (length z) e b u → t ≡ u
+  same-end : (d e : ℤ) → pos 1 ≤ℤ d → pos 1 ≤ℤ e → (a b : Option Block) → IsSameEnd m d e a b → (t u : List ℕ) → IsTurnEnd (length z) d a t
+      → IsTurnEnd (length z) e b u → t ≡ u
   same-end d e dp dq None None same t u these those = these ∙ sym those
   same-end d e dp dq None (Some c) same t u these those = absurd same
   same-end d e dp dq (Some b) None same t u these those = absurd same
   same-end d e dp dq (Some b) (Some c) same t u these those =
       let excess : these.0 ≡ those.0 = one-text b.excess d c.excess e these.0 those.0 dp dq same.excesses these.1 those.1 in
-      let members : members_of b.row.members (length z) ≡ members_of c.row.members (length z) = same-members b.row.members c.row.members (length z) (λ j some inside. same.rows.members j some (omega arith)) in
+      let members : members_of b.row.members (length z) ≡ members_of c.row.members (length z) = same-members b.row.members c.row.members (length z)
+      (λ j some inside. same.rows.members j some (omega arith)) in
       these.2
       ∙ ap (λ (l : List ℕ). codes " row" ++ decimals_text l ++ codes " choice" ++ decimals_text b.choice ++ codes " excess " ++ these.0 ++ codes "\n") members
-      ∙ ap (λ (l : List ℕ). codes " row" ++ decimals_text (members_of c.row.members (length z)) ++ codes " choice" ++ decimals_text l ++ codes " excess " ++ these.0 ++ codes "\n") same.choices
-      ∙ ap (λ (l : List ℕ). codes " row" ++ decimals_text (members_of c.row.members (length z)) ++ codes " choice" ++ decimals_text c.choice ++ codes " excess " ++ l ++ codes "\n") excess
+      ∙ ap (λ (l : List ℕ). codes " row" ++ decimals_text (members_of c.row.members (length z)) ++ codes " choice" ++ decimals_text l ++ codes " excess "
+      ++ these.0 ++ codes "\n") same.choices
+      ∙ ap (λ (l : List ℕ). codes " row" ++ decimals_text (members_of c.row.members (length z)) ++ codes " choice" ++ decimals_text c.choice
+      ++ codes " excess " ++ l ++ codes "\n") excess
       ∙ sym those.2
 
   -- the lines of the same turn are the same
   pub same-line : (number : ℕ) (turn other : Turn) → IsSameTurn m turn other → (t u : List ℕ) → IsTurnLine z number turn t → IsTurnLine z number other u → t ≡ u
   same-line number turn other same t u these those =
-      let points : these.0 ≡ those.0 = same-points turn.point other.point same.positive same.also_positive same.points 0 z these.0 those.0 (omega arith) these.2 those.2 in
-      let ends : these.1 ≡ those.1 = same-end turn.point.den other.point.den same.positive same.also_positive turn.block other.block same.ends these.1 those.1 these.3 those.3 in
+      let points : these.0 ≡ those.0 = same-points turn.point other.point same.positive same.also_positive same.points 0 z these.0 those.0
+      (omega arith) these.2 those.2 in
+      let ends : these.1 ≡ those.1 = same-end turn.point.den other.point.den same.positive same.also_positive turn.block other.block same.ends these.1 those.1
+      these.3 those.3 in
       these.4
       ∙ ap (λ (l : List ℕ). codes "round " ++ decimal number ++ codes " point" ++ l ++ these.1) points
       ∙ ap (λ (l : List ℕ). codes "round " ++ decimal number ++ codes " point" ++ those.0 ++ l) ends
@@ -75,10 +83,12 @@ same-last m (turn ∷ t ∷ turns) (other ∷ []) same p q these those = absurd 
 same-last m (turn ∷ t ∷ turns) (other ∷ o ∷ others) same p q these those = same-last m (t ∷ turns) (o ∷ others) same.1 p q these those
 
 -- the runs of one choice
-module _ (m : Market) (law : IsMarket m) (w : ℕ → ℕ) (z : List ℕ) (v : ℕ → ℤ) (prices : AreVickreyPrices m z v) (runs others : List Turn) (a : IsPricingRun m w z runs) (b : IsPricingRun m w z others) where
+module _ (m : Market) (law : IsMarket m) (w : ℕ → ℕ) (z : List ℕ) (v : ℕ → ℤ) (prices : AreVickreyPrices m z v) (runs others : List Turn)
+    (a : IsPricingRun m w z runs) (b : IsPricingRun m w z others) where
   -- they go through the same turns
   pub same-runs : AreSameTurns m runs others
-  same-runs = same-turns m law w z v runs others (single_rows v 0 z) (single_rows v 0 z) (all-own m (single_rows v 0 z)) (a.turns_of v prices) (b.turns_of v prices)
+  same-runs = same-turns m law w z v runs others (single_rows v 0 z) (single_rows v 0 z) (all-own m (single_rows v 0 z)) (a.turns_of v prices)
+      (b.turns_of v prices)
 
   -- they have the same lines
   pub same-text : (t u : List ℕ) → AreTurnLines z 0 runs t → AreTurnLines z 0 others u → t ≡ u

@@ -24,11 +24,13 @@ AreSameTurns m (turn ∷ turns) (other ∷ others) = IsSameTurn m turn other × 
 
 -- what stands behind the point of a turn
 abbrev Follows : Market → (ℕ → ℕ) → List ℕ → (ℕ → ℤ) → List Row → Point → List Turn → Option Block → Type 0
-Follows m w z v rows p turns block = MatchOption block ((turns ≡ []) × IsGreatestExcess m z p (pos 0)) (λ b. IsBlockOf m z p b × GoOn m w z v (rows ++ b.row ∷ []) turns)
+Follows m w z v rows p turns block = MatchOption block ((turns ≡ []) × IsGreatestExcess m z p (pos 0))
+    (λ b. IsBlockOf m z p b × GoOn m w z v (rows ++ b.row ∷ []) turns)
 
 module _ (m : Market) (law : IsMarket m) (w : ℕ → ℕ) (z : List ℕ) (v : ℕ → ℤ) where
   -- one point more gives the same end, and the same turns behind it where those of alike rows are
-  module _ (p q : Point) (dp : pos 1 ≤ℤ p.den) (dq : pos 1 ≤ℤ q.den) (same : SamePoint m p q) (rows others : List Row) (alike : AreAlike m rows others) (turns these : List Turn)
+  module _ (p q : Point) (dp : pos 1 ≤ℤ p.den) (dq : pos 1 ≤ℤ q.den) (same : SamePoint m p q) (rows others : List Row) (alike : AreAlike m rows others)
+      (turns these : List Turn)
       (next : (rows' others' : List Row) → AreAlike m rows' others' → GoOn m w z v rows' turns → GoOn m w z v others' these → AreSameTurns m turns these) where
     follow : (a b : Option Block) → Follows m w z v rows p turns a → Follows m w z v others q these b → IsSameEnd m p.den q.den a b × AreSameTurns m turns these
     follow None None f g = (tt, ended turns these f.0 g.0)
@@ -42,10 +44,12 @@ module _ (m : Market) (law : IsMarket m) (w : ℕ → ℕ) (z : List ℕ) (v : �
         (block, next (rows ++ b.row ∷ []) (others ++ c.row ∷ []) (all-more m rows others b.row c.row alike block.rows) f.1 g.1)
 
   -- pricing goes on from alike rows through the same turns
-  pub same-turns : (turns these : List Turn) (rows others : List Row) → AreAlike m rows others → GoOn m w z v rows turns → GoOn m w z v others these → AreSameTurns m turns these
+  pub same-turns : (turns these : List Turn) (rows others : List Row) → AreAlike m rows others → GoOn m w z v rows turns → GoOn m w z v others these
+      → AreSameTurns m turns these
   same-turns [] these rows others alike g h = absurd g
   same-turns (t ∷ turns) [] rows others alike g h = absurd h
   same-turns (t ∷ turns) (u ∷ these) rows others alike g h =
       let points = same-point m w z v rows others t.point u.point alike g.0 h.0 in
-      let rest = follow t.point u.point g.0.meets.den_positive h.0.meets.den_positive points rows others alike turns these (same-turns turns these) t.block u.block g.1 h.1 in
+      let rest = follow t.point u.point g.0.meets.den_positive h.0.meets.den_positive points rows others alike turns these
+      (same-turns turns these) t.block u.block g.1 h.1 in
       (record { positive = g.0.meets.den_positive; also_positive = h.0.meets.den_positive; points = points; ends = rest.0 }, rest.1)

@@ -15,7 +15,8 @@ added x y u w a b e f =
 pub sums : (s : ℕ → Bool) (f g : ℕ → ℤ) (a b : ℤ) (n : ℕ) → ((j : ℕ) → 0 < j → j ≤ n → f j *ℤ a ≡ g j *ℤ b) → sum_over s f n *ℤ a ≡ sum_over s g n *ℤ b
 sums s f g a b zero same = zero-times a ∙ sym (zero-times b)
 sums s f g a b (suc n) same =
-    added (sum_over s f n) (sum_over s g n) (cond (s (suc n)) (f (suc n)) (pos 0)) (cond (s (suc n)) (g (suc n)) (pos 0)) a b (sums s f g a b n (λ j some inside. same j some (omega arith))) (own (s (suc n)))
+    added (sum_over s f n) (sum_over s g n) (cond (s (suc n)) (f (suc n)) (pos 0)) (cond (s (suc n)) (g (suc n)) (pos 0)) a b
+    (sums s f g a b n (λ j some inside. same j some (omega arith))) (own (s (suc n)))
   where
     own : (t : Bool) → cond t (f (suc n)) (pos 0) *ℤ a ≡ cond t (g (suc n)) (pos 0) *ℤ b
     own true = same (suc n) (omega arith) (omega arith)

@@ -12,7 +12,10 @@ regroup t w n l a e = simp append_assoc
 
 -- the line of a winner behind a text
 pub winner-added : (text name lots : List ℕ) (amount : ℕ)
-    → ((((text ++ codes "winner ") ++ name) ++ decimals_text lots) ++ 32 ∷ decimal amount) ++ 10 ∷ [] ≡ text ++ winner_line name (record { lots = lots; amount = amount })
+    → ((((text ++ codes "winner ") ++ name) ++ decimals_text lots) ++ 32 ∷ decimal amount) ++ 10 ∷ [] ≡ text
+    ++ winner_line name (record { lots = lots; amount = amount })
 winner-added text name lots amount =
-    let numbers : decimals_text (lots ++ amount ∷ []) ≡ decimals_text lots ++ 32 ∷ decimal amount = numbers-append lots (amount ∷ []) ∙ ap (λ (l : List ℕ). decimals_text lots ++ l) (append-nil (32 ∷ decimal amount)) in
-    regroup text (codes "winner ") name (decimals_text lots) (32 ∷ decimal amount) (10 ∷ []) ∙ ap (λ (l : List ℕ). text ++ (((codes "winner " ++ name) ++ l) ++ 10 ∷ [])) (sym numbers)
+    let numbers : decimals_text (lots ++ amount ∷ []) ≡ decimals_text lots ++ 32 ∷ decimal amount = numbers-append lots (amount ∷ [])
+    ∙ ap (λ (l : List ℕ). decimals_text lots ++ l) (append-nil (32 ∷ decimal amount)) in
+    regroup text (codes "winner ") name (decimals_text lots) (32 ∷ decimal amount) (10 ∷ [])
+    ∙ ap (λ (l : List ℕ). text ++ (((codes "winner " ++ name) ++ l) ++ 10 ∷ [])) (sym numbers)

@@ -55,12 +55,19 @@ book = record {
 point : Point
 point = record { den = pos 2; at = pos 7 ∷ pos 0 ∷ pos 8 ∷ [] }
 
-prices : IsPriceText book (1 ∷ 0 ∷ 1 ∷ []) (λ j. pos 2) point (codes "winner a 1 bid 25 vickrey 12 pays 13+1/2\nwinner c 1 bid 30 vickrey 12 pays 14\nnet 35\nrevenue 27+1/2\n")
+prices : IsPriceText book (1 ∷ 0 ∷ 1 ∷ []) (λ j. pos 2) point
+    (codes "winner a 1 bid 25 vickrey 12 pays 13+1/2\nwinner c 1 bid 30 vickrey 12 pays 14\nnet 35\nrevenue 27+1/2\n")
 unfolding digits book bids point
 prices = (
   codes "winner a 1 bid 25 vickrey 12 pays 13+1/2\nwinner c 1 bid 30 vickrey 12 pays 14\n",
   codes "27+1/2",
-  (codes "13+1/2", codes "winner c 1 bid 30 vickrey 12 pays 14\n", half 27 13 (codes "13+1/2") refl refl, (codes "14", [], even 28 14 (codes "14") refl refl, refl, refl), refl),
+  (
+    codes "13+1/2",
+    codes "winner c 1 bid 30 vickrey 12 pays 14\n",
+    half 27 13 (codes "13+1/2") refl refl,
+    (codes "14", [], even 28 14 (codes "14") refl refl, refl, refl),
+    refl,
+  ),
   half 55 27 (codes "27+1/2") refl refl,
   refl,
 )
@@ -74,7 +81,13 @@ turns =
 lines : AreTurnLines (1 ∷ 0 ∷ 1 ∷ []) 0 turns (codes "round 1 point 3+1/2 4 row 1 3 choice 0 1 0 excess 1+1/2\nround 2 point 3+1/2 4 end\n")
 unfolding digits turns point
 lines =
-    let at : ArePoints point 0 (1 ∷ 0 ∷ 1 ∷ []) (codes " 3+1/2 4") = (codes "3+1/2", codes " 4", half 7 3 (codes "3+1/2") refl refl, (codes "4", [], even 8 4 (codes "4") refl refl, refl, refl), refl) in (
+    let at : ArePoints point 0 (1 ∷ 0 ∷ 1 ∷ []) (codes " 3+1/2 4") = (
+      codes "3+1/2",
+      codes " 4",
+      half 7 3 (codes "3+1/2") refl refl,
+      (codes "4", [], even 8 4 (codes "4") refl refl, refl, refl),
+      refl,
+    ) in (
       codes "round 1 point 3+1/2 4 row 1 3 choice 0 1 0 excess 1+1/2\n",
       codes "round 2 point 3+1/2 4 end\n",
       (codes " 3+1/2 4", codes " row 1 3 choice 0 1 0 excess 1+1/2\n", at, (codes "1+1/2", half 3 1 (codes "1+1/2") refl refl, refl), refl),

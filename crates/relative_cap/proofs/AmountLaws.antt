@@ -1,5 +1,6 @@
 -- Amounts: their bounds, and the greatest for a package.
-use Rattle.std.proofs.Common.{◌≡◌, ℕ, zero, suc, ◌+◌, ◌-◌, ◌*◌, ◌^◌, ◌<◌, ◌≤◌, max, false, List, [], ◌∷◌, ◌++◌, length, map, get_or, sym, ◌∙◌, ap, subst, inl, inr, arith}
+use Rattle.std.proofs.Common.{◌≡◌, ℕ, zero, suc, ◌+◌, ◌-◌, ◌*◌, ◌^◌, ◌<◌, ◌≤◌, max, false, List, [], ◌∷◌, ◌++◌, length, map, get_or, sym, ◌∙◌, ap, subst, inl}
+use Rattle.std.proofs.Common.{inr, arith}
 use Rattle.std.specs.Prelude.{sum, ◌==◌, if◌then◌else◌}
 use Rattle.std.specs.List.{All}
 use Rattle.std.proofs.lemmas.Bool.{cases_Bool, cond-true, cond-false}
@@ -36,7 +37,8 @@ price-most prices lots most few =
 pub highest-is : (rounds : List OwnRound) (list : List BookBid) (lots : List ℕ) (clock listed best : ℕ) → is_empty lots ≡ false
     → clock ≡ greatest lots (map clock_bid rounds) → listed ≡ greatest lots list → best ≡ max clock listed → best ≡ highest rounds list lots
 highest-is rounds list lots clock listed best some by_clock by_list is =
-    let both : greatest lots (map clock_bid rounds ++ list) ≡ max (greatest lots (map clock_bid rounds)) (greatest lots list) = greatest-append lots (map clock_bid rounds) list in
+    let both : greatest lots (map clock_bid rounds ++ list) ≡ max (greatest lots (map clock_bid rounds)) (greatest lots list) =
+    greatest-append lots (map clock_bid rounds) list in
     is ∙ ap (λ n. max n listed) by_clock ∙ ap (max (greatest lots (map clock_bid rounds))) by_list ∙ sym both ∙ sym (cond-false (is_empty lots) 0 _ some)
 
 -- each clock bid is among them
@@ -44,7 +46,8 @@ clock-least : (rounds : List OwnRound) (k : ℕ) (d : OwnRound) → k < length r
     → cost_of (get_or rounds k d).prices (get_or rounds k d).held ≤ greatest (get_or rounds k d).held (map clock_bid rounds)
 clock-least [] k d inside = absurd (omega arith)
 clock-least (r ∷ rounds) zero d inside =
-    let own : (if is_same r.held r.held then cost_of r.prices r.held else 0) ≡ cost_of r.prices r.held = cond-true (is_same r.held r.held) (cost_of r.prices r.held) 0 (is_same-refl r.held) in
+    let own : (if is_same r.held r.held then cost_of r.prices r.held else 0) ≡ cost_of r.prices r.held =
+    cond-true (is_same r.held r.held) (cost_of r.prices r.held) 0 (is_same-refl r.held) in
     omega (arith, own)
 clock-least (r ∷ rounds) (suc k) d inside = omega (arith, clock-least rounds k d (omega arith))
 
@@ -67,4 +70,5 @@ price-least history list j r prices held low high by_prices by_held =
     = subst (λ (o : OwnRound). cost_of o.prices o.held ≤ greatest o.held (map clock_bid (rounds_of j history))) (own-at j history r low high)
     (clock-least (rounds_of j history) (r - 1) no_round (omega arith)) in
     subst (λ q. cost_of q held ≤ highest (rounds_of j history) list held) (sym by_prices)
-    (subst (λ q. cost_of (own_in history j r).prices q ≤ highest (rounds_of j history) list q) (sym by_held) (highest-floor (rounds_of j history) list (own_in history j r) least))
+    (subst (λ q. cost_of (own_in history j r).prices q ≤ highest (rounds_of j history) list q) (sym by_held)
+    (highest-floor (rounds_of j history) list (own_in history j r) least))

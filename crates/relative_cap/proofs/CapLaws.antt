@@ -17,12 +17,15 @@ last-held history j last held some is by_held =
     by_held ∙ ap (λ n. (own_in history j n).held) is ∙ ap (λ (o : OwnRound). o.held) (sym (last_round-is history j some))
 
 -- the package held in the final round has no cap
-pub cap-none : (final : Bool) (points : List ℕ) (rounds : List OwnRound) (list : List BookBid) (lots held : List ℕ) → held ≡ (last_round rounds).held → is_same lots held ≡ true
+pub cap-none : (final : Bool) (points : List ℕ) (rounds : List OwnRound) (list : List BookBid) (lots held : List ℕ) → held ≡ (last_round rounds).held
+    → is_same lots held ≡ true
     → None ≡ cap_of final points rounds list lots
-cap-none final points rounds list lots held by_held same = sym (cond-true (is_same lots (last_round rounds).held) None _ (sym (ap (is_same lots) by_held) ∙ same))
+cap-none final points rounds list lots held by_held same = sym (cond-true (is_same lots (last_round rounds).held) None _
+    (sym (ap (is_same lots) by_held) ∙ same))
 
 -- a package other than that held in the final round has the cap of the rounds
-pub cap-some : (final : Bool) (points : List ℕ) (rounds : List OwnRound) (list : List BookBid) (lots held : List ℕ) (amount : ℕ) → held ≡ (last_round rounds).held
+pub cap-some : (final : Bool) (points : List ℕ) (rounds : List OwnRound) (list : List BookBid) (lots held : List ℕ) (amount : ℕ)
+    → held ≡ (last_round rounds).held
     → is_same lots held ≡ false → amount ≡ cap_among final points rounds list lots → Some amount ≡ cap_of final points rounds list lots
 cap-some final points rounds list lots held amount by_held apart is =
     ap (λ (n : ℕ). Some n) is ∙ sym (cond-false (is_same lots (last_round rounds).held) None _ (sym (ap (is_same lots) by_held) ∙ apart))
@@ -36,7 +39,8 @@ cap-by_round false points history list lots j r round_cap plain is cap =
     cap ∙ ap (λ (o : OwnRound). cap_by (rounds_of j history) list o lots) (sym (constraining-is (cost_of points lots) history j r is))
 
 -- with the final cap the cap is the lesser of those by the constraining round and by the final round
-pub cap-by_final : (final : Bool) (points : List ℕ) (history : List Round) (list : List BookBid) (lots : List ℕ) (j r last round_cap final_cap least : ℕ) → final ≡ true
+pub cap-by_final : (final : Bool) (points : List ℕ) (history : List Round) (list : List BookBid) (lots : List ℕ) (j r last round_cap final_cap least : ℕ)
+    → final ≡ true
     → IsConstraining (cost_of points lots) history j r → 1 ≤ length history → last ≡ length history
     → round_cap ≡ cap_by (rounds_of j history) list (own_in history j r) lots
     → final_cap ≡ cap_by (rounds_of j history) list (own_in history j last) lots

@@ -1,5 +1,6 @@
 -- What is worked out once for a list gives the constraining round and the highest amounts.
-use Rattle.std.proofs.Common.{◌≡◌, ◌⊎◌, ℕ, zero, suc, ◌+◌, ◌-◌, ◌^◌, ◌<◌, ◌≤◌, max, true, false, List, [], ◌∷◌, ◌++◌, length, map, get_or, set, drop, refl, sym, subst, ◌∙◌, ap, inl, inr, arith}
+use Rattle.std.proofs.Common.{◌≡◌, ◌⊎◌, ℕ, zero, suc, ◌+◌, ◌-◌, ◌^◌, ◌<◌, ◌≤◌, max, true, false, List, [], ◌∷◌, ◌++◌, length, map, get_or, set, drop, refl}
+use Rattle.std.proofs.Common.{sym, subst, ◌∙◌, ap, inl, inr, arith}
 use Rattle.std.specs.Prelude.{slice_index}
 use Rattle.std.proofs.lemmas.Bool.{cases_order, cond-true, cond-false}
 use Rattle.std.proofs.lemmas.List.{length-map, length-drop, get_or-map, get_or-drop, get_or-set_same, get_or-set_other, drop_more}
@@ -39,7 +40,8 @@ peak-at history j r low high =
     ∙ ap (λ m. max (eligibility_in history j r) (peak_from history j m)) next
 
 -- the peak from a round on is the greater of its eligibility and the peak behind it
-pub peak-step : (history : List Round) (j k peak eligibility more : ℕ) → k < length history → peak ≡ peak_from history j (k + 1) → eligibility ≡ eligibility_in history j (k + 1)
+pub peak-step : (history : List Round) (j k peak eligibility more : ℕ) → k < length history → peak ≡ peak_from history j (k + 1)
+    → eligibility ≡ eligibility_in history j (k + 1)
     → more ≡ max peak eligibility → more ≡ peak_from history j k
 peak-step history j k peak eligibility more inside is own by =
     let back : k ≡ k + 1 - 1 = omega arith in
@@ -53,12 +55,14 @@ peak-end (h ∷ history) j zero past = absurd (omega arith)
 peak-end (h ∷ history) j (suc k) past = peak-end history j k (omega arith)
 
 -- the last number that is enough gives the constraining round
-enough-at : (history : List Round) (j needed r : ℕ) → 1 ≤ r → r ≤ length history → needed ≤ peak_from history j (r - 1) → (r ≡ length history) ⊎ (peak_from history j r < needed)
+enough-at : (history : List Round) (j needed r : ℕ) → 1 ≤ r → r ≤ length history → needed ≤ peak_from history j (r - 1)
+    → (r ≡ length history) ⊎ (peak_from history j r < needed)
     → needed ≤ eligibility_in history j r
 enough-at history j needed r low high enough (inl last) = omega (arith, enough, peak-at history j r low high, peak-end history j r (omega (arith, last)))
 enough-at history j needed r low high enough (inr short) = omega (arith, enough, peak-at history j r low high, short)
 
-short-behind : (history : List Round) (j needed r : ℕ) → (r ≡ length history) ⊎ (peak_from history j r < needed) → (s : ℕ) → r < s → s ≤ length history → eligibility_in history j s < needed
+short-behind : (history : List Round) (j needed r : ℕ) → (r ≡ length history) ⊎ (peak_from history j r < needed) → (s : ℕ) → r < s → s ≤ length history
+    → eligibility_in history j s < needed
 short-behind history j needed r (inl last) s low high = absurd (omega (arith, last))
 short-behind history j needed r (inr short) s low high = omega (arith, short, later-below history j r s low high)
 
@@ -90,26 +94,34 @@ pub level-high : (history : List Round) (j : ℕ) (peaks highs : List ℕ) (r : 
 level-high history j peaks highs r are low high = are.each_high (r - 1) (omega arith) (omega arith)
 
 -- what is highest for the package held in round r, by its place
-pub high_of-round : (history : List Round) (j : ℕ) (bids : List BookBid) (r high : ℕ) → 1 ≤ r → IsHigh history j bids (r - 1) high → high ≡ highest (rounds_of j history) bids (own_in history j r).held
+pub high_of-round : (history : List Round) (j : ℕ) (bids : List BookBid) (r high : ℕ) → 1 ≤ r → IsHigh history j bids (r - 1) high
+    → high ≡ highest (rounds_of j history) bids (own_in history j r).held
 high_of-round history j bids r high low is =
     let next : r - 1 + 1 ≡ r = omega arith in
     is.0 ∙ ap (λ m. highest (rounds_of j history) bids (own_in history j m).held) next
 
 -- and the other way round
-pub high-here : (history : List Round) (j r high : ℕ) (held : List ℕ) → 0 < r → held ≡ (own_in history j r).held → high ≡ highest (rounds_of j history) [] held → high ≤ 2 ^ 42 → IsHigh history j [] (r - 1) high
+pub high-here : (history : List Round) (j r high : ℕ) (held : List ℕ) → 0 < r → held ≡ (own_in history j r).held
+    → high ≡ highest (rounds_of j history) [] held → high ≤ 2 ^ 42 → IsHigh history j [] (r - 1) high
 high-here history j r high held low by_held is most =
     let next : r ≡ r - 1 + 1 = omega arith in
     (is ∙ ap (highest (rounds_of j history) []) by_held ∙ ap (λ m. highest (rounds_of j history) [] (own_in history j m).held) next, most)
 
 -- nothing is highest for the empty package
-pub high-empty : (history : List Round) (j : ℕ) (bids : List BookBid) (r : ℕ) (held : List ℕ) → 1 ≤ r → held ≡ (own_in history j r).held → is_empty held ≡ true → IsHigh history j bids (r - 1) 0
+pub high-empty : (history : List Round) (j : ℕ) (bids : List BookBid) (r : ℕ) (held : List ℕ) → 1 ≤ r → held ≡ (own_in history j r).held
+    → is_empty held ≡ true → IsHigh history j bids (r - 1) 0
 high-empty history j bids r held low by_held empty =
     let next : r ≡ r - 1 + 1 = omega arith in
-    let is : is_empty (own_in history j (r - 1 + 1)).held ≡ true = ap (λ m. is_empty (own_in history j m).held) (sym next) ∙ ap is_empty (sym by_held) ∙ empty in
-    (sym (cond-true (is_empty (own_in history j (r - 1 + 1)).held) 0 (greatest (own_in history j (r - 1 + 1)).held (map clock_bid (rounds_of j history) ++ bids)) is), omega arith)
+    let is : is_empty (own_in history j (r - 1 + 1)).held ≡ true = ap (λ m. is_empty (own_in history j m).held) (sym next) ∙ ap is_empty (sym by_held)
+    ∙ empty in (
+      sym (cond-true (is_empty (own_in history j (r - 1 + 1)).held) 0 (greatest (own_in history j (r - 1 + 1)).held
+          (map clock_bid (rounds_of j history) ++ bids)) is),
+      omega arith,
+    )
 
 -- the greatest of the clock and of the list
-pub high-some : (history : List Round) (j : ℕ) (bids : List BookBid) (r clock listed best : ℕ) (held : List ℕ) → 1 ≤ r → held ≡ (own_in history j r).held → is_empty held ≡ false
+pub high-some : (history : List Round) (j : ℕ) (bids : List BookBid) (r clock listed best : ℕ) (held : List ℕ) → 1 ≤ r → held ≡ (own_in history j r).held
+    → is_empty held ≡ false
     → IsHigh history j [] (r - 1) clock → listed ≡ greatest held bids → listed ≤ 2 ^ 42 → best ≡ max clock listed → IsHigh history j bids (r - 1) best
 high-some history j bids r clock listed best held low by_held some by_clock by_list most is =
     let next : r ≡ r - 1 + 1 = omega arith in
@@ -119,8 +131,10 @@ high-some history j bids r clock listed best held low by_held some by_clock by_l
     let own : List ℕ = (own_in history j (r - 1 + 1)).held in
     let alone : clock ≡ greatest own (map clock_bid rounds ++ []) = by_clock.0 ∙ cond-false (is_empty own) 0 (greatest own (map clock_bid rounds ++ [])) none in
     let no_list : greatest own (map clock_bid rounds ++ []) ≡ max (greatest own (map clock_bid rounds)) 0 = greatest-append own (map clock_bid rounds) [] in
-    let bids_alone : clock ≡ greatest own (map clock_bid rounds) = omega (arith, alone, no_list) in
-    (highest-is rounds bids own clock listed best none bids_alone (by_list ∙ ap (λ (q : List ℕ). greatest q bids) place) is, omega (arith, is, most, by_clock.1))
+    let bids_alone : clock ≡ greatest own (map clock_bid rounds) = omega (arith, alone, no_list) in (
+      highest-is rounds bids own clock listed best none bids_alone (by_list ∙ ap (λ (q : List ℕ). greatest q bids) place) is,
+      omega (arith, is, most, by_clock.1),
+    )
 
 -- a write in front of what is known
 pub set-from : (P : ℕ → ℕ → Type 0) (xs : List ℕ) (i v p : ℕ) → p ≡ i + 1 → i < length xs → ((k : ℕ) → p ≤ k → P k (slice_index xs k)) → P i v

@@ -1,5 +1,6 @@
 -- Lists in order: where a package stands, and its amount.
-use Rattle.std.proofs.Common.{◌≡◌, ◌⊎◌, ℕ, zero, suc, ◌+◌, ◌<◌, ◌≤◌, true, false, List, [], ◌∷◌, length, map, get_or, refl, sym, subst, ◌∙◌, ap, inl, inr, arith}
+use Rattle.std.proofs.Common.{◌≡◌, ◌⊎◌, ℕ, zero, suc, ◌+◌, ◌<◌, ◌≤◌, true, false, List, [], ◌∷◌, length, map, get_or, refl, sym, subst, ◌∙◌, ap, inl, inr}
+use Rattle.std.proofs.Common.{arith}
 use Rattle.std.proofs.lemmas.Bool.{cases_Bool, cases_order}
 use Rattle.std.proofs.lemmas.List.{length-map, get_or-map, get_or_default}
 use Rattle.clock_stage.specs.auction_model.specs.PackageTests.{is_same, is_before, AllAfter, InOrder}
@@ -22,18 +23,21 @@ order-at (p ∷ ps) zero (suc m) order less inside = after-at p ps m order.0 (om
 order-at (p ∷ ps) (suc k) (suc m) order less inside = order-at ps k m order.1 (omega arith) (omega arith)
 
 -- where the package in the middle comes before this one, so do all up to it
-pub before-more : (list : List Bid) (lots : List ℕ) (middle : ℕ) → InOrder (map entry_lots list) → middle < length list → is_before (lots_at list middle) lots ≡ true → AreBefore list lots (middle + 1)
+pub before-more : (list : List Bid) (lots : List ℕ) (middle : ℕ) → InOrder (map entry_lots list) → middle < length list
+    → is_before (lots_at list middle) lots ≡ true → AreBefore list lots (middle + 1)
 before-more list lots middle order inside own k low =
     elim (cases_order k middle) [
       | inl same ↦ subst (λ m. is_before (lots_at list m) lots ≡ true) (sym same) own
       | inr other ↦ elim other [
-        | inl less ↦ is_before-trans (lots_at list k) (lots_at list middle) lots (order-at (map entry_lots list) k middle order less (omega (arith, length-map list entry_lots))) own
+        | inl less ↦ is_before-trans (lots_at list k) (lots_at list middle) lots
+            (order-at (map entry_lots list) k middle order less (omega (arith, length-map list entry_lots))) own
         | inr more ↦ absurd (omega arith)
       ]
     ]
 
 -- where the package in the middle doesn't come before this one, none behind it does
-pub behind-more : (list : List Bid) (lots : List ℕ) (middle : ℕ) → InOrder (map entry_lots list) → is_before (lots_at list middle) lots ≡ false → AreBehind list lots middle
+pub behind-more : (list : List Bid) (lots : List ℕ) (middle : ℕ) → InOrder (map entry_lots list) → is_before (lots_at list middle) lots ≡ false
+    → AreBehind list lots middle
 behind-more list lots middle order own k low inside =
     elim (cases_order k middle) [
       | inl same ↦ subst (λ m. is_before (lots_at list m) lots ≡ false) (sym same) own
@@ -42,7 +46,8 @@ behind-more list lots middle order own k low inside =
         | inr more ↦ elim (cases_Bool (is_before (lots_at list k) lots)) [
           | inl early ↦
               let no : is_before (lots_at list middle) lots ≡ true
-              = is_before-trans (lots_at list middle) (lots_at list k) lots (order-at (map entry_lots list) middle k order more (omega (arith, length-map list entry_lots))) early in cc
+              = is_before-trans (lots_at list middle) (lots_at list k) lots (order-at (map entry_lots list) middle k order more
+              (omega (arith, length-map list entry_lots))) early in cc
           | inr late ↦ late
         ]
       ]
@@ -64,17 +69,20 @@ greatest-one (b ∷ list) lots zero d inside same apart =
     rw (same, none) (omega arith)
 greatest-one (b ∷ list) lots (suc i) d inside same apart =
     let rest : greatest lots (map bid_value list) ≡ (get_or list i d).amount
-    = greatest-one list lots i d (omega arith) same (λ k other below. apart (suc k) (elim other [ inl less ↦ inl (omega arith) | inr more ↦ inr (omega arith) ]) (omega arith)) in
+    = greatest-one list lots i d (omega arith) same (λ k other below. apart (suc k)
+    (elim other [ inl less ↦ inl (omega arith) | inr more ↦ inr (omega arith) ]) (omega arith)) in
     rw (apart 0 (inl (omega arith)) (omega arith)) (omega (arith, rest))
 
 before-apart : (list : List Bid) (lots : List ℕ) (place k : ℕ) → IsPlace list lots place → k < place → is_same (lots_at list k) lots ≡ false
 before-apart list lots place k is low = is_before-not_same (lots_at list k) lots (is.before k low)
 
-behind-apart : (list : List Bid) (lots : List ℕ) (place k : ℕ) → InOrder (map entry_lots list) → IsPlace list lots place → place < k → k < length list → is_same (lots_at list k) lots ≡ false
+behind-apart : (list : List Bid) (lots : List ℕ) (place k : ℕ) → InOrder (map entry_lots list) → IsPlace list lots place → place < k → k < length list
+    → is_same (lots_at list k) lots ≡ false
 behind-apart list lots place k order is low inside =
     elim (cases_Bool (is_same (lots_at list k) lots)) [
       | inl same ↦
-          let early : is_before (lots_at list place) (lots_at list k) ≡ true = order-at (map entry_lots list) place k order low (omega (arith, length-map list entry_lots)) in
+          let early : is_before (lots_at list place) (lots_at list k) ≡ true = order-at (map entry_lots list) place k order low
+          (omega (arith, length-map list entry_lots)) in
           let yes : is_before (lots_at list place) lots ≡ true = ap (is_before (lots_at list place)) (sym (is_same-true (lots_at list k) lots same)) ∙ early in
           let no : is_before (lots_at list place) lots ≡ false = is.behind place (omega arith) (omega arith) in cc
       | inr apart ↦ apart
@@ -98,7 +106,8 @@ pub amount-past : (list : List Bid) (lots : List ℕ) (place : ℕ) → IsPlace 
 amount-past list lots place is past = sym (greatest-none list lots (λ k below. before-apart list lots place k is (omega arith)))
 
 -- a package that isn't the one at its place has no amount
-pub amount-absent : (list : List Bid) (lots : List ℕ) (place : ℕ) → InOrder (map entry_lots list) → IsPlace list lots place → is_same (lots_at list place) lots ≡ false → 0 ≡ greatest lots (map bid_value list)
+pub amount-absent : (list : List Bid) (lots : List ℕ) (place : ℕ) → InOrder (map entry_lots list) → IsPlace list lots place
+    → is_same (lots_at list place) lots ≡ false → 0 ≡ greatest lots (map bid_value list)
 amount-absent list lots place order is apart = sym (greatest-none list lots (λ k below. elim (cases_order k place) [
   | inl same ↦ subst (λ m. is_same (lots_at list m) lots ≡ false) (sym same) apart
   | inr other ↦ elim other [ inl less ↦ before-apart list lots place k is less | inr more ↦ behind-apart list lots place k order is more below ]

@@ -11,7 +11,8 @@ use Rattle.clock_stage.specs.auction_rules.proofs.Constraining.{round_at-constra
 use Rattle.clock_stage.specs.Kept as kept
 use Rattle.relative_cap.specs.OwnRounds.{rounds_of, own_in, IsConstraining}
 
-none-enough : (p number d : ℕ) (rounds : List OwnRound) → ((k : ℕ) → k < length rounds → (get_or rounds k no_round).eligibility < p) → last_or d (enough_numbers p number rounds) ≡ d
+none-enough : (p number d : ℕ) (rounds : List OwnRound) → ((k : ℕ) → k < length rounds → (get_or rounds k no_round).eligibility < p)
+    → last_or d (enough_numbers p number rounds) ≡ d
 none-enough p number d [] short = refl
 none-enough p number d (r ∷ rounds) short =
     rw (lt-leb p r.eligibility (short 0 (omega arith))) (none-enough p (suc number) d rounds (λ k inside. short (suc k) (omega arith)))
@@ -41,7 +42,8 @@ own-before j history k inside =
     sym (ap (λ m. get_or (rounds_of j history) m no_round) e) ∙ own-at j history (suc k) (omega arith) (omega arith)
 
 -- the number of the constraining round
-pub constraining_number-is : (needed : ℕ) (history : List Round) (j r : ℕ) → IsConstraining needed history j r → constraining_number needed (rounds_of j history) ≡ r
+pub constraining_number-is : (needed : ℕ) (history : List Round) (j r : ℕ) → IsConstraining needed history j r
+    → constraining_number needed (rounds_of j history) ≡ r
 constraining_number-is needed history j r is =
     let count : length (rounds_of j history) ≡ length history = length-map history (own_of j) in
     last-enough needed 1 0 (rounds_of j history) (r - 1) (omega (arith, is.first, is.last))
@@ -54,7 +56,8 @@ round_at-place rounds zero low = absurd (omega arith)
 round_at-place rounds (suc k) low = let e : k ≡ suc k - 1 = omega arith in ap (λ m. get_or rounds m no_round) e
 
 -- and that round
-pub constraining-is : (needed : ℕ) (history : List Round) (j r : ℕ) → IsConstraining needed history j r → constraining needed (rounds_of j history) ≡ own_in history j r
+pub constraining-is : (needed : ℕ) (history : List Round) (j r : ℕ) → IsConstraining needed history j r
+    → constraining needed (rounds_of j history) ≡ own_in history j r
 constraining-is needed history j r is =
     round_at-constraining_number needed (rounds_of j history)
     ∙ ap (round_at (rounds_of j history)) (constraining_number-is needed history j r is)

@@ -70,19 +70,28 @@ gone-other lots p (b ∷ bids) other =
     ]
 
 -- the edited package has the new amount, or none
-pub amount-own : (book : Book) (edit : Edit) → edit_reply book edit ≡ reply.Ok → amount_for (edit_lots edit) (bids_of (edited book edit) (edit_bidder edit)) ≡ edit_amount edit
-amount-own book (Add j lots amount) ok = let fit = edit-fit book (Add j lots amount) ok in ap (amount_for lots) (own-bids book j _ fit.some fit.known) ∙ put-own lots amount (bids_of book j)
-amount-own book (Raise j lots amount) ok = let fit = edit-fit book (Raise j lots amount) ok in ap (amount_for lots) (own-bids book j _ fit.some fit.known) ∙ put-own lots amount (bids_of book j)
-amount-own book (Remove j lots) ok = let fit = edit-fit book (Remove j lots) ok in ap (amount_for lots) (own-bids book j _ fit.some fit.known) ∙ gone-own lots (bids_of book j)
+pub amount-own : (book : Book) (edit : Edit) → edit_reply book edit ≡ reply.Ok → amount_for (edit_lots edit)
+    (bids_of (edited book edit) (edit_bidder edit)) ≡ edit_amount edit
+amount-own book (Add j lots amount) ok = let fit = edit-fit book (Add j lots amount) ok in ap (amount_for lots) (own-bids book j _ fit.some fit.known)
+    ∙ put-own lots amount (bids_of book j)
+amount-own book (Raise j lots amount) ok = let fit = edit-fit book (Raise j lots amount) ok in ap (amount_for lots) (own-bids book j _ fit.some fit.known)
+    ∙ put-own lots amount (bids_of book j)
+amount-own book (Remove j lots) ok = let fit = edit-fit book (Remove j lots) ok in ap (amount_for lots) (own-bids book j _ fit.some fit.known)
+    ∙ gone-own lots (bids_of book j)
 
 -- every other package of its bidder keeps its own
-pub amount-kept : (book : Book) (edit : Edit) (p : List ℕ) → edit_reply book edit ≡ reply.Ok → p ≢ edit_lots edit → amount_for p (bids_of (edited book edit) (edit_bidder edit)) ≡ amount_for p (bids_of book (edit_bidder edit))
-amount-kept book (Add j lots amount) p ok other = let fit = edit-fit book (Add j lots amount) ok in ap (amount_for p) (own-bids book j _ fit.some fit.known) ∙ put-other lots amount p (bids_of book j) other
-amount-kept book (Raise j lots amount) p ok other = let fit = edit-fit book (Raise j lots amount) ok in ap (amount_for p) (own-bids book j _ fit.some fit.known) ∙ put-other lots amount p (bids_of book j) other
-amount-kept book (Remove j lots) p ok other = let fit = edit-fit book (Remove j lots) ok in ap (amount_for p) (own-bids book j _ fit.some fit.known) ∙ gone-other lots p (bids_of book j) other
+pub amount-kept : (book : Book) (edit : Edit) (p : List ℕ) → edit_reply book edit ≡ reply.Ok → p ≢ edit_lots edit
+    → amount_for p (bids_of (edited book edit) (edit_bidder edit)) ≡ amount_for p (bids_of book (edit_bidder edit))
+amount-kept book (Add j lots amount) p ok other = let fit = edit-fit book (Add j lots amount) ok in ap (amount_for p) (own-bids book j _ fit.some fit.known)
+    ∙ put-other lots amount p (bids_of book j) other
+amount-kept book (Raise j lots amount) p ok other = let fit = edit-fit book (Raise j lots amount) ok in
+    ap (amount_for p) (own-bids book j _ fit.some fit.known) ∙ put-other lots amount p (bids_of book j) other
+amount-kept book (Remove j lots) p ok other = let fit = edit-fit book (Remove j lots) ok in ap (amount_for p) (own-bids book j _ fit.some fit.known)
+    ∙ gone-other lots p (bids_of book j) other
 
 -- and every other bidder all
-pub bidder-kept : (book : Book) (edit : Edit) (q : ℕ) → edit_reply book edit ≡ reply.Ok → 0 < q → q ≢ edit_bidder edit → bidder_of (edited book edit) q ≡ bidder_of book q
+pub bidder-kept : (book : Book) (edit : Edit) (q : ℕ) → edit_reply book edit ≡ reply.Ok → 0 < q → q ≢ edit_bidder edit
+    → bidder_of (edited book edit) q ≡ bidder_of book q
 bidder-kept book (Add j lots amount) q ok some other = let fit = edit-fit book (Add j lots amount) ok in bidder-other book j _ fit.some q some other
 bidder-kept book (Raise j lots amount) q ok some other = let fit = edit-fit book (Raise j lots amount) ok in bidder-other book j _ fit.some q some other
 bidder-kept book (Remove j lots) q ok some other = let fit = edit-fit book (Remove j lots) ok in bidder-other book j _ fit.some q some other

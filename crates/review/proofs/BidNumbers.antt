@@ -1,5 +1,6 @@
 -- The numbers that the bids of one bidder have before and after a bid is put in, taken out or replaced.
-use Rattle.std.specs.Prelude.{◌≡◌, ◌≢◌, ◌⊎◌, ℕ, zero, suc, ◌+◌, ◌-◌, ◌≤◌, ◌<◌, true, false, nat_le, nat_lt, IsTrue, None, List, [], ◌∷◌, length, get_or, ℤ, pos, ◌-ℤ◌, refl}
+use Rattle.std.specs.Prelude.{◌≡◌, ◌≢◌, ◌⊎◌, ℕ, zero, suc, ◌+◌, ◌-◌, ◌≤◌, ◌<◌, true, false, nat_le, nat_lt, IsTrue, None, List, [], ◌∷◌, length, get_or, ℤ}
+use Rattle.std.specs.Prelude.{pos, ◌-ℤ◌, refl}
 use Rattle.std.proofs.Common.{inl, inr, set, sym, ◌∙◌, ap, subst, arith}
 use Rattle.std.specs.List.{insert, remove}
 use Rattle.std.proofs.Math.ListN.{length-set}
@@ -152,7 +153,14 @@ module _ (old : List BookBid) (p : ℕ) (x : BookBid) where
 
   pub put-pairs : p ≤ length old → OwnPairs old (insert old p x) PutPair
   put-pairs inside = record {
-    known = λ g h o. (o.0, elim o.1 [ inl a ↦ omega (arith, o.0, a.1, length-insert old p x inside) | inr a ↦ omega (arith, o.0, a.1, length-insert old p x inside) ]);
+    known = λ g h o. (
+      o.0,
+      elim o.1 [
+        | inl a ↦ omega (arith, o.0, a.1, length-insert old p x inside)
+        | inr a ↦ omega
+            (arith, o.0, a.1, length-insert old p x inside)
+      ],
+    );
     same = λ g h o. put-same old p x g h inside o.1;
     order = λ g h e f o q t. shifted-order_back (suc p) g h e f (omega arith) o.1 q.1 t;
     one = λ g h e o q. shifted-one (suc p) g h e o.1 q.1;
@@ -171,7 +179,14 @@ module _ (old : List BookBid) (p : ℕ) (x : BookBid) where
 
   pub gone-pairs : p < length old → OwnPairs old (remove old p) GonePair
   gone-pairs inside = record {
-    known = λ g h o. (o.0, elim o.1 [ inl a ↦ omega (arith, a.0, inside, length-remove old p inside) | inr a ↦ omega (arith, o.0, a.1, length-remove old p inside) ]);
+    known = λ g h o. (
+      o.0,
+      elim o.1 [
+        | inl a ↦ omega (arith, a.0, inside, length-remove old p inside)
+        | inr a ↦ omega
+            (arith, o.0, a.1, length-remove old p inside)
+      ],
+    );
     same = λ g h o. gone-same old p g h inside o.1;
     order = λ g h e f o q t. shifted-order_on (suc p) h g f e (omega arith) o.1 q.1 t;
     one = λ g h e o q. shifted-same (suc p) h g e o.1 q.1;
@@ -213,7 +228,8 @@ none-there (b ∷ bids) lots (suc i) none inside own =
 abbrev IsPutAt : List BookBid → List ℕ → ℕ → ℕ → Type 0
 IsPutAt bids lots amount p = (p ≤ length bids) × (with_entry lots amount bids ≡ insert bids p (record { lots = lots; amount = amount }))
 
-put-first : (b : BookBid) (bids : List BookBid) (lots : List ℕ) (amount p : ℕ) → amount_for lots (b ∷ bids) ≡ None → is_same lots b.lots ≡ false → is_before lots b.lots ≡ true
+put-first : (b : BookBid) (bids : List BookBid) (lots : List ℕ) (amount p : ℕ) → amount_for lots (b ∷ bids) ≡ None → is_same lots b.lots ≡ false
+    → is_before lots b.lots ≡ true
     → p < length (with_entry lots amount (b ∷ bids)) → (get_or (with_entry lots amount (b ∷ bids)) p no_bid).lots ≡ lots → IsPutAt (b ∷ bids) lots amount p
 put-first b bids lots amount zero none other early inside own = (omega arith, rw (other, early) refl)
 put-first b bids lots amount (suc p) none other early inside own =
@@ -234,7 +250,8 @@ put-later b bids lots amount (suc p) rest apart other late inside own =
     let behind = rest p (omega (arith, low)) there in
     (omega (arith, behind.0), rw (other, late) (ap (λ (l : List BookBid). b ∷ l) behind.1))
 
-pub put-in : (bids : List BookBid) (lots : List ℕ) (amount p : ℕ) → amount_for lots bids ≡ None → p < length (with_entry lots amount bids) → (get_or (with_entry lots amount bids) p no_bid).lots ≡ lots → IsPutAt bids lots amount p
+pub put-in : (bids : List BookBid) (lots : List ℕ) (amount p : ℕ) → amount_for lots bids ≡ None → p < length (with_entry lots amount bids)
+    → (get_or (with_entry lots amount bids) p no_bid).lots ≡ lots → IsPutAt bids lots amount p
 put-in [] lots amount zero none inside own = (omega arith, refl)
 put-in [] lots amount (suc p) none inside own = absurd (omega (arith, inside))
 put-in (b ∷ bids) lots amount p none inside own =

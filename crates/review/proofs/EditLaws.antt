@@ -21,11 +21,13 @@ module _ (book : Book) (j : ℕ) (bids : List BookBid) (some : 0 < j) where
   right-with : (lines : List (List ℤ)) (from to : ℕ) → from ≤ to → j ≤ to → AreRightLines book from lines → AreRightLines (with_bids book j bids) to lines
   right-with lines from to up own are = record {
     full = full-with lines are.full;
-    exact = λ k low h. right-stays book j bids some k (get_or lines k []) (omega (arith, own, low)) (are.exact k (omega (arith, up, low)) (omega (arith, h, bidders-same book j bids some)));
+    exact = λ k low h. right-stays book j bids some k (get_or lines k []) (omega (arith, own, low))
+        (are.exact k (omega (arith, up, low)) (omega (arith, h, bidders-same book j bids some)));
   }
 
   -- and those of the bidders up to each before j
-  left-with : (lines : List (List ℤ)) (from to : ℕ) → to ≤ from → to < j → j ≤ length book.bidders → AreLeftLines book from lines → AreLeftLines (with_bids book j bids) to lines
+  left-with : (lines : List (List ℤ)) (from to : ℕ) → to ≤ from → to < j → j ≤ length book.bidders → AreLeftLines book from lines
+      → AreLeftLines (with_bids book j bids) to lines
   left-with lines from to down own known are = record {
     full = full-with lines are.full;
     exact = λ k high h.
@@ -35,7 +37,8 @@ module _ (book : Book) (j : ℕ) (bids : List BookBid) (some : 0 < j) where
 
   -- so the lines of a book that one bidder doesn't count in are those of the book in which it has other bids
   pub sides-with : (old new : SideLines) → AreSideLines book old → j ≤ length book.bidders → new.right ≡ old.right → new.left ≡ old.left
-      → old.right_from ≤ new.right_from → j ≤ new.right_from → new.right_from ≤ length book.bidders → new.left_to ≤ old.left_to → new.left_to < j → new.rooms ≡ old.rooms → AreSideLines (with_bids book j bids) new
+      → old.right_from ≤ new.right_from → j ≤ new.right_from → new.right_from ≤ length book.bidders → new.left_to ≤ old.left_to → new.left_to < j
+      → new.rooms ≡ old.rooms → AreSideLines (with_bids book j bids) new
   sides-with old new are known right left up own last down low room = record {
     from = omega (arith, last, bidders-same book j bids some);
     to = omega (arith, down, are.to, bidders-same book j bids some);
@@ -45,7 +48,8 @@ module _ (book : Book) (j : ℕ) (bids : List BookBid) (some : 0 < j) where
   }
 
 -- the first of the greatest has the greatest value
-pub greatest-is : (passes : List ℕ → Bool) (value : List ℕ → ℤ) (c : List ℕ) (most : ℤ) → IsFirstGreatest passes value c → IsGreatestValue passes value most → most ≡ value c
+pub greatest-is : (passes : List ℕ → Bool) (value : List ℕ → ℤ) (c : List ℕ) (most : ℤ) → IsFirstGreatest passes value c → IsGreatestValue passes value most
+    → most ≡ value c
 greatest-is passes value c most g e =
     let up : value c ≤ℤ most = e.bound c g.passed in
     let down : value e.reached.0 ≤ℤ value c = g.greatest e.reached.0 e.reached.1 in

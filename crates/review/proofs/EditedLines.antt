@@ -3,7 +3,8 @@ use Rattle.std.specs.Prelude.{◌≡◌, ◌≢◌, ℕ, zero, suc, ◌-◌, ◌
 use Rattle.std.proofs.Common.{sym, ◌∙◌, ap, subst, arith}
 use Rattle.std.proofs.lemmas.List.{get_or-set_other}
 use Rattle.std.proofs.Math.ListN.{length-set}
-use Rattle.value_table.specs.auction_model.specs.Book.{Book, BookBid, Bidder, bid_of, bidder_of, bids_of, lots_of, menu_of, net_of, no_bid, no_bidder, bidder_with}
+use Rattle.value_table.specs.auction_model.specs.Book.{Book, BookBid, Bidder, bid_of, bidder_of, bids_of, lots_of, menu_of, net_of, no_bid, no_bidder}
+use Rattle.value_table.specs.auction_model.specs.Book.{bidder_with}
 use Rattle.value_table.specs.auction_model.specs.Package.{cost_of}
 use Rattle.value_table.specs.auction_model.specs.Table.{IsLine}
 use Rattle.value_table.specs.bid_book.specs.Changes.{with_bids}
@@ -50,11 +51,14 @@ module _ (book : Book) (j : ℕ) (bids : List BookBid) (some : 0 < j) where
 
   -- so the line of the bidders after k stays, where k is at least j
   pub right-stays : (k : ℕ) (line : List ℤ) → j ≤ k → IsRightLine book k line → IsRightLine (with_bids book j bids) k line
-  right-stays k line low e = line-same (menu_of book) (menu_of (with_bids book j bids)) (net_of book) (net_of (with_bids book j bids)) book.supply k line (right-after k low) e
+  right-stays k line low e = line-same (menu_of book) (menu_of (with_bids book j bids)) (net_of book) (net_of (with_bids book j bids)) book.supply k line
+      (right-after k low) e
 
   -- nor do they in a line of those up to k
   left-after : (k n : ℕ) → n ≡ length book.bidders → k < j → j ≤ n
-      → AreSameAfter (in_order true (menu_of book)) (in_order true (menu_of (with_bids book j bids))) (worths_in_order true (length book.bidders) (net_of book)) (worths_in_order true (length (with_bids book j bids).bidders) (net_of (with_bids book j bids))) (n - k)
+      → AreSameAfter (in_order true (menu_of book)) (in_order true (menu_of (with_bids book j bids)))
+      (worths_in_order true (length book.bidders) (net_of book)) (worths_in_order true (length (with_bids book j bids).bidders)
+      (net_of (with_bids book j bids))) (n - k)
   left-after k n all low last =
       let m = length (with_bids book j bids).bidders in
       let same : suc m ≡ suc (length book.bidders) = ap suc bidders-same in
@@ -62,9 +66,12 @@ module _ (book : Book) (j : ℕ) (bids : List BookBid) (some : 0 < j) where
       let other : (i : ℕ) → n - k ≤ i → suc (length book.bidders) - suc i ≢ j = λ i from e. absurd (omega (arith, all, low, last, from, e)) in
       record {
         bidders = sym bidders-same;
-        bids = λ i from inside. sym (ap (λ (x : ℕ). length (bids_of (with_bids book j bids) (x - suc i))) same ∙ count-other (suc (length book.bidders) - suc i) (first i inside) (other i from));
-        lots = λ i h from inside. sym (ap (λ (x : ℕ). lots_of (with_bids book j bids) (x - suc i) h) same ∙ lots-other (suc (length book.bidders) - suc i) h (first i inside) (other i from));
-        worths = λ i h from inside. sym (ap (λ (x : ℕ). net_of (with_bids book j bids) (x - suc i) h) same ∙ net-other (suc (length book.bidders) - suc i) h (first i inside) (other i from));
+        bids = λ i from inside. sym (ap (λ (x : ℕ). length (bids_of (with_bids book j bids) (x - suc i))) same
+            ∙ count-other (suc (length book.bidders) - suc i) (first i inside) (other i from));
+        lots = λ i h from inside. sym (ap (λ (x : ℕ). lots_of (with_bids book j bids) (x - suc i) h) same
+            ∙ lots-other (suc (length book.bidders) - suc i) h (first i inside) (other i from));
+        worths = λ i h from inside. sym (ap (λ (x : ℕ). net_of (with_bids book j bids) (x - suc i) h) same
+            ∙ net-other (suc (length book.bidders) - suc i) h (first i inside) (other i from));
       }
 
   -- so the line of the bidders up to k stays, where k is before j
@@ -72,7 +79,8 @@ module _ (book : Book) (j : ℕ) (bids : List BookBid) (some : 0 < j) where
   left-stays k line low last e =
       let new = with_bids book j bids in
       let turned = line-turned book k line (omega (arith, low, last)) e in
-      let moved = line-same (in_order true (menu_of book)) (in_order true (menu_of new)) (worths_in_order true (length book.bidders) (net_of book)) (worths_in_order true (length new.bidders) (net_of new)) book.supply (length book.bidders - k) line
+      let moved = line-same (in_order true (menu_of book)) (in_order true (menu_of new)) (worths_in_order true (length book.bidders) (net_of book))
+      (worths_in_order true (length new.bidders) (net_of new)) book.supply (length book.bidders - k) line
       (left-after k (length book.bidders) refl low last) turned in
       let place : length book.bidders - k ≡ length new.bidders - k = ap (λ (x : ℕ). x - k) (sym bidders-same) in
       line-left new k line (omega (arith, low, last, bidders-same))

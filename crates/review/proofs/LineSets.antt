@@ -2,7 +2,8 @@
 use Rattle.std.specs.Prelude.{◌≡◌, ◌≢◌, ℕ, ◌+◌, ◌-◌, ◌≤◌, ◌<◌, true, List, [], length, get_or, replicate, ℤ, pos, refl}
 use Rattle.std.proofs.Common.{inl, inr, set, sym, ◌∙◌, ap, subst, arith, Vec, Global}
 use Rattle.std.proofs.lemmas.Bool.{cases_order}
-use Rattle.std.proofs.lemmas.List.{get_or-map, get_or_default, get_or-set_other, get_or-set_same, get_or-replicate, length-map, length-replicate, map-set, set-set}
+use Rattle.std.proofs.lemmas.List.{get_or-map, get_or_default, get_or-set_other, get_or-set_same, get_or-replicate, length-map, length-replicate, map-set}
+use Rattle.std.proofs.lemmas.List.{set-set}
 use Rattle.std.proofs.Math.ListN.{length-set}
 use Rattle.value_table.specs.auction_model.specs.Book.{Book, menu_of, net_of}
 use Rattle.value_table.specs.auction_model.specs.Place.{left_at, states_of}
@@ -20,7 +21,8 @@ module _ (book : Book) (k : ℕ) (lines : List (List ℤ)) (line : List ℤ) (kn
     count = length-set lines k line ∙ full.count;
     places = λ i h. elim (cases_order i k) [
       | inl same ↦ rw (same, get_or-set_same lines k line [] (omega (arith, full.count, known))) places
-      | inr other ↦ let apart : i ≢ k = λ e. elim other [ inl low ↦ absurd (omega (arith, low, e)) | inr high ↦ absurd (omega (arith, high, e)) ] in rw (get_or-set_other lines k i line [] apart) (full.places i h)
+      | inr other ↦ let apart : i ≢ k = λ e. elim other [ inl low ↦ absurd (omega (arith, low, e)) | inr high ↦ absurd (omega (arith, high, e)) ] in
+          rw (get_or-set_other lines k i line [] apart) (full.places i h)
     ];
   }
 
@@ -32,7 +34,8 @@ module _ (book : Book) (k : ℕ) (lines : List (List ℤ)) (line : List ℤ) (kn
       | inl same ↦ rw (same, get_or-set_same lines k line [] (omega (arith, are.full.count, known))) is
       | inr other ↦ elim other [
         | inl low ↦ absurd (omega (arith, low, from))
-        | inr high ↦ let apart : i ≢ k = λ e. absurd (omega (arith, high, e)) in rw (get_or-set_other lines k i line [] apart) (are.exact i (omega (arith, high)) h)
+        | inr high ↦ let apart : i ≢ k = λ e. absurd (omega (arith, high, e)) in rw (get_or-set_other lines k i line [] apart)
+            (are.exact i (omega (arith, high)) h)
       ]
     ];
   }
@@ -44,7 +47,8 @@ module _ (book : Book) (k : ℕ) (lines : List (List ℤ)) (line : List ℤ) (kn
     exact = λ i to h. elim (cases_order i k) [
       | inl same ↦ rw (same, get_or-set_same lines k line [] (omega (arith, are.full.count, known))) is
       | inr other ↦ elim other [
-        | inl low ↦ let apart : i ≢ k = λ e. absurd (omega (arith, low, e)) in rw (get_or-set_other lines k i line [] apart) (are.exact i (omega (arith, low)) h)
+        | inl low ↦ let apart : i ≢ k = λ e. absurd (omega (arith, low, e)) in rw (get_or-set_other lines k i line [] apart)
+            (are.exact i (omega (arith, low)) h)
         | inr high ↦ absurd (omega (arith, high, to))
       ]
     ];
@@ -55,7 +59,8 @@ abbrev pub zero_line : ℕ → List ℤ
 zero_line states = replicate states (pos 0)
 
 -- lines of zeros are the last line of the right side and the first one of the left
-module _ (book : Book) (lines : List (List ℤ)) (states : ℕ) (is : lines ≡ replicate (length book.bidders + 1) (zero_line states)) (all : states ≡ states_of book.supply) where
+module _ (book : Book) (lines : List (List ℤ)) (states : ℕ) (is : lines ≡ replicate (length book.bidders + 1) (zero_line states))
+    (all : states ≡ states_of book.supply) where
   zero-at : (k : ℕ) → k ≤ length book.bidders → get_or lines k [] ≡ zero_line states
   zero-at k h = ap (λ (l : List (List ℤ)). get_or l k []) is ∙ get_or-replicate (length book.bidders + 1) k (zero_line states) [] (omega (arith, h))
 
@@ -72,7 +77,8 @@ module _ (book : Book) (lines : List (List ℤ)) (states : ℕ) (is : lines ≡ 
   pub zero-right : AreRightLines book (length book.bidders) lines
   zero-right = record {
     full = zero-full;
-    exact = λ k from h. line-last (menu_of book) (net_of book) book.supply k (get_or lines k []) (omega (arith, from, h)) (zero-places k h) (λ s inside. zero-entries k s h inside);
+    exact = λ k from h. line-last (menu_of book) (net_of book) book.supply k (get_or lines k []) (omega (arith, from, h)) (zero-places k h)
+        (λ s inside. zero-entries k s h inside);
   }
 
   -- the first one is the line of the left side before all bidders
@@ -81,7 +87,8 @@ module _ (book : Book) (lines : List (List ℤ)) (states : ℕ) (is : lines ≡ 
     full = zero-full;
     exact = λ k to h.
         line-left book k (get_or lines k []) h
-        (line-last (in_order true (menu_of book)) (worths_in_order true (length book.bidders) (net_of book)) book.supply (length book.bidders - k) (get_or lines k []) (omega (arith, to)) (zero-places k h) (λ s inside. zero-entries k s h inside));
+        (line-last (in_order true (menu_of book)) (worths_in_order true (length book.bidders) (net_of book)) book.supply (length book.bidders - k)
+        (get_or lines k []) (omega (arith, to)) (zero-places k h) (λ s inside. zero-entries k s h inside));
   }
 
 -- ---- lines as the code holds them
@@ -106,14 +113,16 @@ module _ (lines : List (Vec ℤ Global)) (k : ℕ) where
   count-of = length-map lines (λ (w : Vec ℤ Global). w.items)
 
 -- what is read of the lines of the bidders after each
-pub line-read : (book : Book) (lines : List (Vec ℤ Global)) (k : ℕ) (d : Vec ℤ Global) (line : List ℤ) → k ≤ length book.bidders → AreRightLines book 0 (lines_of lines) → line ≡ (get_or lines k d).items → IsRightLine book k line
+pub line-read : (book : Book) (lines : List (Vec ℤ Global)) (k : ℕ) (d : Vec ℤ Global) (line : List ℤ) → k ≤ length book.bidders
+    → AreRightLines book 0 (lines_of lines) → line ≡ (get_or lines k d).items → IsRightLine book k line
 line-read book lines k d line known are is =
     let inside : k < length lines = omega (arith, known, are.full.count, count-of lines k) in
     let own : line ≡ get_or (lines_of lines) k [] = is ∙ sym (get_or-map (λ (w : Vec ℤ Global). w.items) lines k d [] inside) in
     subst (λ (l : List ℤ). IsRightLine book k l) (sym own) (are.exact k (omega arith) known)
 
 -- and the number read at a place is the entry of the bidders after k for what the place leaves
-pub entry-read : (book : Book) (lines : List (Vec ℤ Global)) (k : ℕ) (d : Vec ℤ Global) (place : ℕ) (here : ℤ) → k ≤ length book.bidders → place < states_of book.supply → AreRightLines book 0 (lines_of lines) → here ≡ get_or (get_or lines k d).items place here
+pub entry-read : (book : Book) (lines : List (Vec ℤ Global)) (k : ℕ) (d : Vec ℤ Global) (place : ℕ) (here : ℤ) → k ≤ length book.bidders
+    → place < states_of book.supply → AreRightLines book 0 (lines_of lines) → here ≡ get_or (get_or lines k d).items place here
     → IsEntry (menu_of book) (net_of book) k (left_at book.supply place) here
 entry-read book lines k d place here known inside are read =
     let line = (get_or lines k d).items in

@@ -33,7 +33,8 @@ module _ (m o : Menu) (worth other : ℕ → ℕ → ℤ) (P : ℕ → ℕ → �
   known-first k (g ∷ c) [] are t = absurd are
   known-first k (g ∷ c) (h ∷ d) are t =
       let p = and_parts (nat_le h (o.bids (suc k))) (is_known_after o (suc k) d) t in
-      and_from (nat_le g (m.bids (suc k))) (is_known_after m (suc k) c) (le-leb g (m.bids (suc k)) (pairs.known k g h are.0).0) (known-first (suc k) c d are.1 p.1)
+      and_from (nat_le g (m.bids (suc k))) (is_known_after m (suc k) c) (le-leb g (m.bids (suc k)) (pairs.known k g h are.0).0)
+      (known-first (suc k) c d are.1 p.1)
 
   known-second : (k : ℕ) (c d : List ℕ) → AreMatched P k c d → IsTrue (is_known_after m k c) → IsTrue (is_known_after o k d)
   known-second k [] [] are t = subst (λ (n : ℕ). IsTrue (k == n)) pairs.bidders t
@@ -41,7 +42,8 @@ module _ (m o : Menu) (worth other : ℕ → ℕ → ℤ) (P : ℕ → ℕ → �
   known-second k (g ∷ c) [] are t = absurd are
   known-second k (g ∷ c) (h ∷ d) are t =
       let p = and_parts (nat_le g (m.bids (suc k))) (is_known_after m (suc k) c) t in
-      and_from (nat_le h (o.bids (suc k))) (is_known_after o (suc k) d) (le-leb h (o.bids (suc k)) (pairs.known k g h are.0).1) (known-second (suc k) c d are.1 p.1)
+      and_from (nat_le h (o.bids (suc k))) (is_known_after o (suc k) d) (le-leb h (o.bids (suc k)) (pairs.known k g h are.0).1)
+      (known-second (suc k) c d are.1 p.1)
 
   taken-both : (k : ℕ) (c d : List ℕ) → AreMatched P k c d → packages_after m k c ≡ packages_after o k d
   taken-both k [] [] are = refl
@@ -60,12 +62,14 @@ module _ (m o : Menu) (worth other : ℕ → ℕ → ℤ) (P : ℕ → ℕ → �
   fits-first : (supply c d : List ℕ) → AreMatched P 0 c d → IsTrue (fits_after o 0 supply d) → IsTrue (fits_after m 0 supply c)
   fits-first supply c d are t =
       let p = and_parts (is_known_after o 0 d) (is_within (packages_after o 0 d) supply) t in
-      and_from (is_known_after m 0 c) (is_within (packages_after m 0 c) supply) (known-first 0 c d are p.0) (subst (λ (l : List ℕ). IsTrue (is_within l supply)) (sym (taken-both 0 c d are)) p.1)
+      and_from (is_known_after m 0 c) (is_within (packages_after m 0 c) supply) (known-first 0 c d are p.0)
+      (subst (λ (l : List ℕ). IsTrue (is_within l supply)) (sym (taken-both 0 c d are)) p.1)
 
   fits-second : (supply c d : List ℕ) → AreMatched P 0 c d → IsTrue (fits_after m 0 supply c) → IsTrue (fits_after o 0 supply d)
   fits-second supply c d are t =
       let p = and_parts (is_known_after m 0 c) (is_within (packages_after m 0 c) supply) t in
-      and_from (is_known_after o 0 d) (is_within (packages_after o 0 d) supply) (known-second 0 c d are p.0) (subst (λ (l : List ℕ). IsTrue (is_within l supply)) (taken-both 0 c d are) p.1)
+      and_from (is_known_after o 0 d) (is_within (packages_after o 0 d) supply) (known-second 0 c d are p.0)
+      (subst (λ (l : List ℕ). IsTrue (is_within l supply)) (taken-both 0 c d are) p.1)
 
   -- the order of ties goes over
   earlier-both : (k : ℕ) (a d c e : List ℕ) → AreMatched P k a d → AreMatched P k c e → IsTrue (is_earlier d e) → IsTrue (is_earlier a c)
@@ -98,7 +102,14 @@ module _ (m o : Menu) (worth other : ℕ → ℕ → ℤ) (P : ℕ → ℕ → �
             ];
         first = λ d t early.
             elim (all d t) [
-              | inl pair ↦ omega (arith, ints, own, sum-both 0 pair.0 d pair.1, g.first pair.0 (fits-first supply pair.0 d pair.1 t) (earlier-both 0 pair.0 d c e pair.1 are early))
+              | inl pair ↦ omega (
+                arith,
+                ints,
+                own,
+                sum-both 0 pair.0 d pair.1,
+                g.first pair.0 (fits-first supply pair.0 d pair.1 t)
+                    (earlier-both 0 pair.0 d c e pair.1 are early),
+              )
               | inr less ↦ omega (arith, ints, own, less)
             ];
       }
@@ -119,7 +130,8 @@ module _ (m : Menu) (j : ℕ) (Own : ℕ → ℕ → Type 0) where
       (inr (other, (refl, leb-true g (m.bids (suc k)) p.0)), same-matched (suc k) c (omega (arith, past)) p.1)
 
   -- and a choice with the one in which bidder j has another number
-  pub set-matched : (k h n : ℕ) (c : List ℕ) → n ≡ j - suc k → k < j → j ≤ m.bidders → IsTrue (is_known_after m k c) → Own (get_or c n 0) h → AreMatched (ButFor j Own m.bids) k c (set c n h)
+  pub set-matched : (k h n : ℕ) (c : List ℕ) → n ≡ j - suc k → k < j → j ≤ m.bidders → IsTrue (is_known_after m k c) → Own (get_or c n 0) h
+      → AreMatched (ButFor j Own m.bids) k c (set c n h)
   set-matched k h n [] place low inside t own = absurd (omega (arith, low, inside, known-length m k [] t))
   set-matched k h zero (g ∷ c) place low inside t own =
       let p = and_parts (nat_le g (m.bids (suc k))) (is_known_after m (suc k) c) t in

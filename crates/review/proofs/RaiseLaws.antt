@@ -5,7 +5,8 @@ use Rattle.std.proofs.Math.ListN.{length-set}
 use Rattle.std.proofs.lemmas.Bool.{cases_eq}
 use Rattle.std.proofs.lemmas.Int.{ints}
 use Rattle.std.proofs.lemmas.List.{get_or-set_other, get_or-set_same}
-use Rattle.value_table.specs.auction_model.specs.Book.{Book, BookBid, Bidder, bid_of, bidder_of, bids_of, lots_of, market_of, menu_of, net_of, no_bid, no_bidder, bidder_with}
+use Rattle.value_table.specs.auction_model.specs.Book.{Book, BookBid, Bidder, bid_of, bidder_of, bids_of, lots_of, market_of, menu_of, net_of, no_bid}
+use Rattle.value_table.specs.auction_model.specs.Book.{no_bidder, bidder_with}
 use Rattle.value_table.specs.auction_model.specs.Greatest.{IsFirstGreatest, IsWinning}
 use Rattle.value_table.specs.auction_model.specs.Market.{number_of, sum_after}
 use Rattle.value_table.specs.auction_model.specs.Menu.{Menu, fits_after}
@@ -66,10 +67,12 @@ module _ (m o : Menu) (worth other : ℕ → ℕ → ℤ) (j number : ℕ) (gain
   fits-same supply c = rw (known-same m o 0 c are.bidders (λ q low. are.bids q), taken-same m o 0 c are.lots) refl
 
   -- a choice that uses the bid gains most, so the first of the greatest goes on to be it
-  pub chosen-stays : (supply c : List ℕ) → 0 < j → 0 < number → get_or c (j - 1) 0 ≡ number → IsFirstGreatest (fits_after m 0 supply) (sum_after worth 0) c → IsFirstGreatest (fits_after o 0 supply) (sum_after other 0) c
+  pub chosen-stays : (supply c : List ℕ) → 0 < j → 0 < number → get_or c (j - 1) 0 ≡ number → IsFirstGreatest (fits_after m 0 supply) (sum_after worth 0) c
+      → IsFirstGreatest (fits_after o 0 supply) (sum_after other 0) c
   chosen-stays supply c some first is g =
       let own = sum-own 0 (j - 1) c refl some first is in
-      let back : (d : List ℕ) → IsTrue (fits_after o 0 supply d) → IsTrue (fits_after m 0 supply d) = λ d t. subst (λ (T : Type 0). T) (sym (fits-same supply d)) t in
+      let back : (d : List ℕ) → IsTrue (fits_after o 0 supply d) → IsTrue (fits_after m 0 supply d) =
+      λ d t. subst (λ (T : Type 0). T) (sym (fits-same supply d)) t in
       record {
         passed = subst (λ (T : Type 0). T) (fits-same supply c) g.passed;
         greatest = λ d t. omega (arith, ints, own, sum-most 0 d, g.greatest d (back d t));
@@ -78,8 +81,10 @@ module _ (m o : Menu) (worth other : ℕ → ℕ → ℤ) (j number : ℕ) (gain
 
 -- ---- a bid of a book with another amount
 
-module _ (book : Book) (j number : ℕ) (bid : BookBid) (some : 0 < j) (inside : j ≤ length book.bidders) (first : 0 < number) (known : number ≤ length (bids_of book j)) (lots : (get_or (bids_of book j) (number - 1) no_bid).lots ≡ bid.lots) where
-  bids-at : (k : ℕ) → length (get_or book.bidders k no_bidder).bids ≡ length (get_or (set book.bidders (j - 1) (bidder_with (bidder_of book j).name (set (bids_of book j) (number - 1) bid))) k no_bidder).bids
+module _ (book : Book) (j number : ℕ) (bid : BookBid) (some : 0 < j) (inside : j ≤ length book.bidders) (first : 0 < number)
+    (known : number ≤ length (bids_of book j)) (lots : (get_or (bids_of book j) (number - 1) no_bid).lots ≡ bid.lots) where
+  bids-at : (k : ℕ) → length (get_or book.bidders k no_bidder).bids ≡ length (get_or
+      (set book.bidders (j - 1) (bidder_with (bidder_of book j).name (set (bids_of book j) (number - 1) bid))) k no_bidder).bids
   bids-at k =
       let new = bidder_with (bidder_of book j).name (set (bids_of book j) (number - 1) bid) in
       elim (cases_eq k (j - 1)) [
@@ -101,7 +106,8 @@ module _ (book : Book) (j number : ℕ) (bid : BookBid) (some : 0 < j) (inside :
         | inr apart ↦ sym (ap (λ (b : BookBid). b.lots) (get_or-set_other (bids_of book j) (number - 1) i bid no_bid apart))
       ]
 
-  lots-at : (k i : ℕ) → (get_or (get_or book.bidders k no_bidder).bids i no_bid).lots ≡ (get_or (get_or (set book.bidders (j - 1) (bidder_with (bidder_of book j).name (set (bids_of book j) (number - 1) bid))) k no_bidder).bids i no_bid).lots
+  lots-at : (k i : ℕ) → (get_or (get_or book.bidders k no_bidder).bids i no_bid).lots ≡
+      (get_or (get_or (set book.bidders (j - 1) (bidder_with (bidder_of book j).name (set (bids_of book j) (number - 1) bid))) k no_bidder).bids i no_bid).lots
   lots-at k i =
       let new = bidder_with (bidder_of book j).name (set (bids_of book j) (number - 1) bid) in
       elim (cases_eq k (j - 1)) [
@@ -128,21 +134,25 @@ module _ (book : Book) (j number : ℕ) (bid : BookBid) (some : 0 < j) (inside :
   at-own zero is = absurd (omega (arith, is, first))
   at-own (suc n) is =
       let place : n ≡ number - 1 = omega (arith, is) in
-      ap (λ (k : ℕ). get_or (set (bids_of book j) (number - 1) bid) k no_bid) place ∙ get_or-set_same (bids_of book j) (number - 1) bid no_bid (omega (arith, first, known))
+      ap (λ (k : ℕ). get_or (set (bids_of book j) (number - 1) bid) k no_bid) place ∙ get_or-set_same (bids_of book j) (number - 1) bid no_bid
+      (omega (arith, first, known))
 
   at-was : (n : ℕ) → n ≡ number → at (bids_of book j) n ≡ get_or (bids_of book j) (number - 1) no_bid
   at-was zero is = absurd (omega (arith, is, first))
   at-was (suc n) is = ap (λ (k : ℕ). get_or (bids_of book j) k no_bid) (omega (arith, is))
 
   -- a bid that the winning choice uses is raised
-  pub raised-winning : (choice : List ℕ) → (get_or (bids_of book j) (number - 1) no_bid).amount ≤ bid.amount → number_of choice j ≡ number → IsWinning (market_of book) choice → IsWinning (market_of (with_bids book j (set (bids_of book j) (number - 1) bid))) choice
+  pub raised-winning : (choice : List ℕ) → (get_or (bids_of book j) (number - 1) no_bid).amount ≤ bid.amount → number_of choice j ≡ number
+      → IsWinning (market_of book) choice → IsWinning (market_of (with_bids book j (set (bids_of book j) (number - 1) bid))) choice
   raised-winning choice higher is g =
       let new = with_bids book j (set (bids_of book j) (number - 1) bid) in
       let was = get_or (bids_of book j) (number - 1) no_bid in
       let gain = pos bid.amount -ℤ pos was.amount in
       let cost_same : cost_of book.reserves was.lots ≡ cost_of book.reserves bid.lots = ap (cost_of book.reserves) lots in
-      let now_net : net_of new j number ≡ worth_of book.reserves bid = net-at new j number ∙ ap (worth_of book.reserves) (bid-now number ∙ at-own number refl) in
-      let was_net : net_of book j number ≡ worth_of book.reserves was = net-at book j number ∙ ap (worth_of book.reserves) (bid-at book j number ∙ at-was number refl) in
+      let now_net : net_of new j number ≡ worth_of book.reserves bid = net-at new j number ∙ ap (worth_of book.reserves)
+      (bid-now number ∙ at-own number refl) in
+      let was_net : net_of book j number ≡ worth_of book.reserves was = net-at book j number ∙ ap (worth_of book.reserves)
+      (bid-at book j number ∙ at-was number refl) in
       chosen-stays (menu_of book) (menu_of new) (net_of book) (net_of new) j number gain
       (record {
         bidders = sym (bidders-same book j (set (bids_of book j) (number - 1) bid) some);

@@ -1,5 +1,6 @@
 -- What it says of an edit that it is answered Ok.
-use Rattle.std.specs.Prelude.{◌≡◌, ℕ, zero, suc, ◌+◌, ◌≤◌, ◌<◌, ◌^◌, Bool, true, false, not, ◌&&◌, nat_le, nat_lt, IsTrue, Option, Some, None, List, [], ◌∷◌, length, drop, get_or, pos, ◌-ℤ◌, ◌≤ℤ◌, refl}
+use Rattle.std.specs.Prelude.{◌≡◌, ℕ, zero, suc, ◌+◌, ◌≤◌, ◌<◌, ◌^◌, Bool, true, false, not, ◌&&◌, nat_le, nat_lt, IsTrue, Option, Some, None, List, [], ◌∷◌}
+use Rattle.std.specs.Prelude.{length, drop, get_or, pos, ◌-ℤ◌, ◌≤ℤ◌, refl}
 use Rattle.std.proofs.Common.{inl, inr, subst, arith}
 use Rattle.std.proofs.lemmas.Bool.{cases_Bool}
 use Rattle.std.proofs.lemmas.Bool.Decides.{nat_tests}
@@ -14,7 +15,8 @@ use Rattle.review.specs.declared.edit.Edit.{Edit}
 use Rattle.review.specs.declared.edit.Edit.TheVariants.{Add, Raise, Remove}
 use Rattle.review.specs.declared.edit.EditReply.{EditReply}
 use Rattle.review.specs.declared.edit.EditReply.TheVariants as reply
-use Rattle.review.specs.Edits.{amount_for, first_reply, first_refusal, when, unknown, supply_reply, present, absent, not_higher, below_reserve, amount_top, full, unfit, edit_bidder, edit_lots, edit_reply}
+use Rattle.review.specs.Edits.{amount_for, first_reply, first_refusal, when, unknown, supply_reply, present, absent, not_higher, below_reserve, amount_top}
+use Rattle.review.specs.Edits.{full, unfit, edit_bidder, edit_lots, edit_reply}
 
 -- the reply, where there is one, isn't Ok
 abbrev NeverOk : Option EditReply → Type 0
@@ -52,7 +54,8 @@ none-supply (Some category) is = absurd (cc is)
 
 never-unfit : (book : Book) (j : ℕ) (lots : List ℕ) → NeverOk (unfit book j lots)
 never-unfit book j lots =
-    never-first (unknown book j) (supply_reply (first_over 1 lots book.supply) ∷ when (is_empty lots) reply.Empty ∷ []) (never-when (not (nat_lt 0 j && nat_le j (length book.bidders))) reply.Unknown (λ is. cc))
+    never-first (unknown book j) (supply_reply (first_over 1 lots book.supply) ∷ when (is_empty lots) reply.Empty ∷ [])
+    (never-when (not (nat_lt 0 j && nat_le j (length book.bidders))) reply.Unknown (λ is. cc))
     (never-first (supply_reply (first_over 1 lots book.supply)) (when (is_empty lots) reply.Empty ∷ []) (never-supply (first_over 1 lots book.supply))
     (never-first (when (is_empty lots) reply.Empty) [] (never-when (is_empty lots) reply.Empty (λ is. cc)) tt))
 
@@ -92,7 +95,8 @@ pub amount-bid : (bids : List BookBid) (lots : List ℕ) (amount : ℕ) → amou
 amount-bid [] lots amount is = absurd (cc is)
 amount-bid (b ∷ bids) lots amount is =
     elim (cases_Bool (is_same b.lots lots)) [
-      | inl same ↦ let here : Some b.amount ≡ Some amount = rw same at is in record { place = 0; inside = omega arith; own = is_same-true b.lots lots same; is = cc (here) }
+      | inl same ↦ let here : Some b.amount ≡ Some amount = rw same at is in record
+          { place = 0; inside = omega arith; own = is_same-true b.lots lots same; is = cc (here) }
       | inr apart ↦
           let rest = amount-bid bids lots amount (rw apart at is) in
           record { place = suc rest.place; inside = omega (arith, rest.inside); own = rest.own; is = rest.is }
@@ -117,12 +121,16 @@ below-top : (n most : ℕ) → nat_le most n ≡ false → n < most
 below-top n most is = grind (arith, nat_tests)
 
 -- an edit that adds a bid
-pub add-can : (book : Book) (j : ℕ) (lots : List ℕ) (amount : ℕ) → length lots ≡ length book.supply → edit_reply book (Add j lots amount) ≡ reply.Ok → CanPut book j (record { lots = lots; amount = amount })
+pub add-can : (book : Book) (j : ℕ) (lots : List ℕ) (amount : ℕ) → length lots ≡ length book.supply → edit_reply book (Add j lots amount) ≡ reply.Ok
+    → CanPut book j (record { lots = lots; amount = amount })
 add-can book j lots amount categories is =
     let bids = bids_of book j in
-    let s1 = ok-step (unfit book j lots) (present (amount_for lots bids) ∷ below_reserve book lots amount ∷ amount_top amount ∷ full bids ∷ []) (never-unfit book j lots) is in
-    let s2 = ok-step (present (amount_for lots bids)) (below_reserve book lots amount ∷ amount_top amount ∷ full bids ∷ []) (never-present (amount_for lots bids)) s1.1 in
-    let s3 = ok-step (below_reserve book lots amount) (amount_top amount ∷ full bids ∷ []) (never-when (nat_lt amount (cost_of book.reserves lots)) (reply.BelowReserve (cost_of book.reserves lots)) (λ e. cc)) s2.1 in
+    let s1 = ok-step (unfit book j lots) (present (amount_for lots bids) ∷ below_reserve book lots amount ∷ amount_top amount ∷ full bids ∷ [])
+    (never-unfit book j lots) is in
+    let s2 = ok-step (present (amount_for lots bids)) (below_reserve book lots amount ∷ amount_top amount ∷ full bids ∷ [])
+    (never-present (amount_for lots bids)) s1.1 in
+    let s3 = ok-step (below_reserve book lots amount) (amount_top amount ∷ full bids ∷ [])
+    (never-when (nat_lt amount (cost_of book.reserves lots)) (reply.BelowReserve (cost_of book.reserves lots)) (λ e. cc)) s2.1 in
     let s4 = ok-step (amount_top amount) (full bids ∷ []) (never-when (nat_lt (2 ^ 42) amount) (reply.AmountTop (2 ^ 42)) (λ e. cc)) s3.1 in
     let s5 = ok-step (full bids) [] (never-when (nat_le 600 (length bids)) (reply.Full 600) (λ e. cc)) s4.1 in
     let fit = fit-of book j lots s1.0 in
@@ -132,7 +140,8 @@ add-can book j lots amount categories is =
       categories = categories;
       within = fit.within;
       lots = fit.lots_some;
-      reserve = at-least amount (cost_of book.reserves lots) (none-when (nat_lt amount (cost_of book.reserves lots)) (reply.BelowReserve (cost_of book.reserves lots)) s3.0);
+      reserve = at-least amount (cost_of book.reserves lots) (none-when (nat_lt amount (cost_of book.reserves lots))
+          (reply.BelowReserve (cost_of book.reserves lots)) s3.0);
       top = at-least (2 ^ 42) amount (none-when (nat_lt (2 ^ 42) amount) (reply.AmountTop (2 ^ 42)) s4.0);
       room = inr (below-top (length bids) 600 (none-when (nat_le 600 (length bids)) (reply.Full 600) s5.0));
     }
@@ -149,11 +158,14 @@ net-low : (a r : ℕ) → pos 0 ≤ℤ (pos a -ℤ pos r) → r ≤ a
 net-low a r low = omega (arith, ints)
 
 -- an edit that raises a bid
-pub raise-can : (book : Book) (j : ℕ) (lots : List ℕ) (amount : ℕ) → IsBidBook book → length lots ≡ length book.supply → edit_reply book (Raise j lots amount) ≡ reply.Ok → CanPut book j (record { lots = lots; amount = amount })
+pub raise-can : (book : Book) (j : ℕ) (lots : List ℕ) (amount : ℕ) → IsBidBook book → length lots ≡ length book.supply
+    → edit_reply book (Raise j lots amount) ≡ reply.Ok → CanPut book j (record { lots = lots; amount = amount })
 raise-can book j lots amount kept categories is =
     let bids = bids_of book j in
-    let s1 = ok-step (unfit book j lots) (absent (amount_for lots bids) ∷ not_higher amount (amount_for lots bids) ∷ amount_top amount ∷ []) (never-unfit book j lots) is in
-    let s2 = ok-step (absent (amount_for lots bids)) (not_higher amount (amount_for lots bids) ∷ amount_top amount ∷ []) (never-absent (amount_for lots bids)) s1.1 in
+    let s1 = ok-step (unfit book j lots) (absent (amount_for lots bids) ∷ not_higher amount (amount_for lots bids) ∷ amount_top amount ∷ [])
+    (never-unfit book j lots) is in
+    let s2 = ok-step (absent (amount_for lots bids)) (not_higher amount (amount_for lots bids) ∷ amount_top amount ∷ [])
+    (never-absent (amount_for lots bids)) s1.1 in
     let s3 = ok-step (not_higher amount (amount_for lots bids)) (amount_top amount ∷ []) (never-not_higher amount (amount_for lots bids)) s2.1 in
     let s4 = ok-step (amount_top amount) [] (never-when (nat_lt (2 ^ 42) amount) (reply.AmountTop (2 ^ 42)) (λ e. cc)) s3.1 in
     let fit = fit-of book j lots s1.0 in
@@ -161,7 +173,8 @@ raise-can book j lots amount kept categories is =
     let bid = amount-bid bids lots has.0 has.1 in
     let higher : has.0 < amount = higher-of amount has.0 (subst (λ (o : Option ℕ). not_higher amount o ≡ None) has.1 s3.0) in
     let low : cost_of book.reserves (get_or bids bid.place no_bid).lots ≤ (get_or bids bid.place no_bid).amount =
-    net-low (get_or bids bid.place no_bid).amount (cost_of book.reserves (get_or bids bid.place no_bid).lots) (kept.not_negative j (suc bid.place) (omega (arith, bid.inside))) in
+    net-low (get_or bids bid.place no_bid).amount (cost_of book.reserves (get_or bids bid.place no_bid).lots)
+    (kept.not_negative j (suc bid.place) (omega (arith, bid.inside))) in
     let own_low : cost_of book.reserves lots ≤ has.0 = rw (bid.own, bid.is) at low in
     record {
       some = fit.some;
@@ -175,7 +188,8 @@ raise-can book j lots amount kept categories is =
     }
 
 -- an edit that takes a bid out
-pub remove-has : (book : Book) (j : ℕ) (lots : List ℕ) → edit_reply book (Remove j lots) ≡ reply.Ok → IsFit book j lots × ((was : ℕ) × (amount_for lots (bids_of book j) ≡ Some was))
+pub remove-has : (book : Book) (j : ℕ) (lots : List ℕ) → edit_reply book (Remove j lots) ≡ reply.Ok → IsFit book j lots
+    × ((was : ℕ) × (amount_for lots (bids_of book j) ≡ Some was))
 remove-has book j lots is =
     let s1 = ok-step (unfit book j lots) (absent (amount_for lots (bids_of book j)) ∷ []) (never-unfit book j lots) is in
     let s2 = ok-step (absent (amount_for lots (bids_of book j))) [] (never-absent (amount_for lots (bids_of book j))) s1.1 in
@@ -184,7 +198,8 @@ remove-has book j lots is =
 -- ---- the bid for a package, number by number
 
 -- of the bids from the one for a package on, the amount for it is that of this bid
-pub amount-found : (lots : List ℕ) (bids : List BookBid) (i : ℕ) → i < length bids → (get_or bids i no_bid).lots ≡ lots → amount_for lots (drop i bids) ≡ Some (get_or bids i no_bid).amount
+pub amount-found : (lots : List ℕ) (bids : List BookBid) (i : ℕ) → i < length bids → (get_or bids i no_bid).lots ≡ lots
+    → amount_for lots (drop i bids) ≡ Some (get_or bids i no_bid).amount
 amount-found lots [] i inside own = absurd (omega (arith, inside))
 amount-found lots (b ∷ bids) zero inside own =
     let same : is_same b.lots lots ≡ true = subst (λ (x : List ℕ). is_same b.lots x ≡ true) own (is_same-refl b.lots) in
@@ -192,7 +207,8 @@ amount-found lots (b ∷ bids) zero inside own =
 amount-found lots (b ∷ bids) (suc i) inside own = amount-found lots bids i (omega (arith, inside)) own
 
 -- past a bid for another package the amount for this one is that of the bids behind
-pub amount-passed : (lots : List ℕ) (bids : List BookBid) (i : ℕ) → i < length bids → ((get_or bids i no_bid).lots ≡ lots → ⊥) → amount_for lots (drop i bids) ≡ amount_for lots (drop (suc i) bids)
+pub amount-passed : (lots : List ℕ) (bids : List BookBid) (i : ℕ) → i < length bids → ((get_or bids i no_bid).lots ≡ lots → ⊥)
+    → amount_for lots (drop i bids) ≡ amount_for lots (drop (suc i) bids)
 amount-passed lots [] i inside other = absurd (omega (arith, inside))
 amount-passed lots (b ∷ bids) zero inside other =
     elim (cases_Bool (is_same b.lots lots)) [
@@ -207,6 +223,10 @@ bid-next book j i = let up : i + 1 ≡ suc i = omega arith in rw up refl
 
 -- each edit that is answered Ok
 pub edit-fit : (book : Book) (edit : Edit) → edit_reply book edit ≡ reply.Ok → IsFit book (edit_bidder edit) (edit_lots edit)
-edit-fit book (Add j lots amount) is = fit-of book j lots (ok-step (unfit book j lots) (present (amount_for lots (bids_of book j)) ∷ below_reserve book lots amount ∷ amount_top amount ∷ full (bids_of book j) ∷ []) (never-unfit book j lots) is).0
-edit-fit book (Raise j lots amount) is = fit-of book j lots (ok-step (unfit book j lots) (absent (amount_for lots (bids_of book j)) ∷ not_higher amount (amount_for lots (bids_of book j)) ∷ amount_top amount ∷ []) (never-unfit book j lots) is).0
-edit-fit book (Remove j lots) is = fit-of book j lots (ok-step (unfit book j lots) (absent (amount_for lots (bids_of book j)) ∷ []) (never-unfit book j lots) is).0
+edit-fit book (Add j lots amount) is = fit-of book j lots (ok-step (unfit book j lots)
+    (present (amount_for lots (bids_of book j)) ∷ below_reserve book lots amount ∷ amount_top amount ∷ full (bids_of book j) ∷ [])
+    (never-unfit book j lots) is).0
+edit-fit book (Raise j lots amount) is = fit-of book j lots (ok-step (unfit book j lots)
+    (absent (amount_for lots (bids_of book j)) ∷ not_higher amount (amount_for lots (bids_of book j)) ∷ amount_top amount ∷ []) (never-unfit book j lots) is).0
+edit-fit book (Remove j lots) is = fit-of book j lots (ok-step (unfit book j lots) (absent (amount_for lots (bids_of book j)) ∷ [])
+    (never-unfit book j lots) is).0

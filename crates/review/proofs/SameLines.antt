@@ -33,7 +33,8 @@ same-next m o counts others k same = record {
 }
 
 -- a choice of these bidders is known to both, takes the same and is worth the same
-known-on : (m o : Menu) (counts others : ℕ → ℕ → ℤ) (k : ℕ) (c : List ℕ) → AreSameAfter m o counts others k → IsTrue (is_known_after m k c) → IsTrue (is_known_after o k c)
+known-on : (m o : Menu) (counts others : ℕ → ℕ → ℤ) (k : ℕ) (c : List ℕ) → AreSameAfter m o counts others k → IsTrue (is_known_after m k c)
+    → IsTrue (is_known_after o k c)
 known-on m o counts others k [] same t = subst (λ (n : ℕ). IsTrue (k == n)) same.bidders t
 known-on m o counts others k (i ∷ c) same t =
     let p = and_parts (nat_le i (m.bids (suc k))) (is_known_after m (suc k) c) t in
@@ -41,7 +42,8 @@ known-on m o counts others k (i ∷ c) same t =
     and_from (nat_le i (o.bids (suc k))) (is_known_after o (suc k) c) (subst (λ (n : ℕ). IsTrue (nat_le i n)) (same.bids k (omega arith) inside) p.0)
     (known-on m o counts others (suc k) c (same-next m o counts others k same) p.1)
 
-taken-on : (m o : Menu) (counts others : ℕ → ℕ → ℤ) (k : ℕ) (c : List ℕ) → AreSameAfter m o counts others k → IsTrue (is_known_after m k c) → packages_after m k c ≡ packages_after o k c
+taken-on : (m o : Menu) (counts others : ℕ → ℕ → ℤ) (k : ℕ) (c : List ℕ) → AreSameAfter m o counts others k → IsTrue (is_known_after m k c)
+    → packages_after m k c ≡ packages_after o k c
 taken-on m o counts others k [] same t = refl
 taken-on m o counts others k (i ∷ c) same t =
     let p = and_parts (nat_le i (m.bids (suc k))) (is_known_after m (suc k) c) t in
@@ -49,7 +51,8 @@ taken-on m o counts others k (i ∷ c) same t =
     ap (λ (l : List ℕ). together l (packages_after m (suc k) c)) (same.lots k i (omega arith) inside)
     ∙ ap (together (o.lots (suc k) i)) (taken-on m o counts others (suc k) c (same-next m o counts others k same) p.1)
 
-sum-on : (m o : Menu) (counts others : ℕ → ℕ → ℤ) (k : ℕ) (c : List ℕ) → AreSameAfter m o counts others k → IsTrue (is_known_after m k c) → sum_after counts k c ≡ sum_after others k c
+sum-on : (m o : Menu) (counts others : ℕ → ℕ → ℤ) (k : ℕ) (c : List ℕ) → AreSameAfter m o counts others k → IsTrue (is_known_after m k c)
+    → sum_after counts k c ≡ sum_after others k c
 sum-on m o counts others k [] same t = refl
 sum-on m o counts others k (i ∷ c) same t =
     let p = and_parts (nat_le i (m.bids (suc k))) (is_known_after m (suc k) c) t in
@@ -57,7 +60,8 @@ sum-on m o counts others k (i ∷ c) same t =
     ap (λ (z : ℤ). z +ℤ sum_after counts (suc k) c) (same.worths k i (omega arith) inside)
     ∙ ap (λ (z : ℤ). others (suc k) i +ℤ z) (sum-on m o counts others (suc k) c (same-next m o counts others k same) p.1)
 
-fits-on : (m o : Menu) (counts others : ℕ → ℕ → ℤ) (k : ℕ) (left c : List ℕ) → AreSameAfter m o counts others k → IsTrue (fits_after m k left c) → IsTrue (fits_after o k left c)
+fits-on : (m o : Menu) (counts others : ℕ → ℕ → ℤ) (k : ℕ) (left c : List ℕ) → AreSameAfter m o counts others k → IsTrue (fits_after m k left c)
+    → IsTrue (fits_after o k left c)
 fits-on m o counts others k left c same t =
     let p = and_parts (is_known_after m k c) (is_within (packages_after m k c) left) t in
     and_from (is_known_after o k c) (is_within (packages_after o k c) left) (known-on m o counts others k c same p.0)
@@ -66,17 +70,24 @@ fits-on m o counts others k left c same t =
 known-of : (m : Menu) (k : ℕ) (left c : List ℕ) → IsTrue (fits_after m k left c) → IsTrue (is_known_after m k c)
 known-of m k left c t = (and_parts (is_known_after m k c) (is_within (packages_after m k c) left) t).0
 
-entry-same : (m o : Menu) (counts others : ℕ → ℕ → ℤ) (k : ℕ) (left : List ℕ) (most : ℤ) → AreSameAfter m o counts others k → IsEntry m counts k left most → IsEntry o others k left most
+entry-same : (m o : Menu) (counts others : ℕ → ℕ → ℤ) (k : ℕ) (left : List ℕ) (most : ℤ) → AreSameAfter m o counts others k → IsEntry m counts k left most
+    → IsEntry o others k left most
 entry-same m o counts others k left most same e =
     let c = e.reached.0 in
     let back = same-back m o counts others k same in
     record {
-      reached = (c, fits-on m o counts others k left c same e.reached.1, sym (sum-on m o counts others k c same (known-of m k left c e.reached.1)) ∙ e.reached.2);
+      reached = (
+        c,
+        fits-on m o counts others k left c same e.reached.1,
+        sym (sum-on m o counts others k c same (known-of m k left c e.reached.1))
+            ∙ e.reached.2,
+      );
       bound = λ d t. rw (sum-on o m others counts k d back (known-of o k left d t)) (e.bound d (fits-on o m others counts k left d back t));
     }
 
 -- so a line of one is a line of the other
-pub line-same : (m o : Menu) (counts others : ℕ → ℕ → ℤ) (supply : List ℕ) (k : ℕ) (line : List ℤ) → AreSameAfter m o counts others k → IsLine m counts supply k line → IsLine o others supply k line
+pub line-same : (m o : Menu) (counts others : ℕ → ℕ → ℤ) (supply : List ℕ) (k : ℕ) (line : List ℤ) → AreSameAfter m o counts others k
+    → IsLine m counts supply k line → IsLine o others supply k line
 line-same m o counts others supply k line same e = record {
   places = e.places;
   exact = λ s inside. entry-same m o counts others k (left_at supply s) (get_or line s (pos 0)) same (e.exact s inside);

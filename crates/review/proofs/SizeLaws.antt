@@ -17,22 +17,36 @@ module _ (book : Book) (k : ℕ) (line : List ℤ) (kept : IsBidBook book) where
   -- no number of a line is above that of all bidders at the greatest amount
   pub right-small : IsRightLine book k line → (s : ℕ) → unsigned_abs (get_or line s (pos 0)) ≤ 2 ^ 46
   right-small is s =
-      omega (arith, kept.bidders, sum_to-at_most (λ _. 2 ^ 42) (length book.bidders) (2 ^ 42) (λ _. omega arith), line-sizes (menu_of book) (net_of book) book.supply k line (λ _. 2 ^ 42) (λ j i known. net-small book j i kept known) is s)
+      omega (
+        arith,
+        kept.bidders,
+        sum_to-at_most (λ _. 2 ^ 42) (length book.bidders) (2 ^ 42) (λ _. omega arith),
+        line-sizes (menu_of book) (net_of book) book.supply k line (λ _. 2 ^ 42) (λ j i known. net-small book j i kept known) is s,
+      )
 
   pub left-small : k ≤ length book.bidders → IsLeftLine book k line → (s : ℕ) → unsigned_abs (get_or line s (pos 0)) ≤ 2 ^ 46
   left-small inside is s =
       let n = length book.bidders in
-      omega (arith, kept.bidders, sum_to-at_most (λ _. 2 ^ 42) n (2 ^ 42) (λ _. omega arith), line-sizes (in_order true (menu_of book)) (worths_in_order true n (net_of book)) book.supply (n - k) line (λ _. 2 ^ 42) (λ j i known. net-small book (bidder_at true n j) i kept known) (line-turned book k line inside is) s)
+      omega (
+        arith,
+        kept.bidders,
+        sum_to-at_most (λ _. 2 ^ 42) n (2 ^ 42) (λ _. omega arith),
+        line-sizes (in_order true (menu_of book))
+            (worths_in_order true n (net_of book)) book.supply (n - k) line (λ _. 2 ^ 42) (λ j i known. net-small book (bidder_at true n j) i kept known)
+            (line-turned book k line inside is) s,
+      )
 
 module _ (book : Book) (lines : SideLines) (k : ℕ) (v : Vec ℤ Global) (line : List ℤ) where
   -- a line of the right side that isn't stale
-  pub right-line : k ≤ length book.bidders → lines.right_from ≤ k → v ≡ get_or lines.right.items k v → line ≡ v.items → AreSideLines book lines → IsRightLine book k line
+  pub right-line : k ≤ length book.bidders → lines.right_from ≤ k → v ≡ get_or lines.right.items k v → line ≡ v.items → AreSideLines book lines
+      → IsRightLine book k line
   right-line known low read is are =
       let inside : k < length lines.right.items = omega (arith, known, are.after.full.count, count-of lines.right.items k) in
       subst (λ (l : List ℤ). IsRightLine book k l) (sym (is ∙ read-own lines.right.items k v inside read)) (are.after.exact k low known)
 
   -- and one of the left side
-  pub left-line : k ≤ length book.bidders → k ≤ lines.left_to → v ≡ get_or lines.left.items k v → line ≡ v.items → AreSideLines book lines → IsLeftLine book k line
+  pub left-line : k ≤ length book.bidders → k ≤ lines.left_to → v ≡ get_or lines.left.items k v → line ≡ v.items → AreSideLines book lines
+      → IsLeftLine book k line
   left-line known high read is are =
       let inside : k < length lines.left.items = omega (arith, known, are.before.full.count, count-of lines.left.items k) in
       subst (λ (l : List ℤ). IsLeftLine book k l) (sym (is ∙ read-own lines.left.items k v inside read)) (are.before.exact k high known)

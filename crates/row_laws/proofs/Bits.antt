@@ -1,5 +1,6 @@
 -- Rows as bit sets over the winners, and lists with a number for each winner.
-use Rattle.std.specs.Prelude.{◌≡◌, ℕ, zero, suc, ◌+◌, ◌-◌, ◌*◌, ◌/◌, ◌%◌, ◌^◌, ◌<◌, ◌≤◌, ◌==◌, Bool, true, false, cond, not, ◌&&◌, List, [], ◌∷◌, length, drop, get_or, ℤ, pos, ◌*ℤ◌, refl}
+use Rattle.std.specs.Prelude.{◌≡◌, ℕ, zero, suc, ◌+◌, ◌-◌, ◌*◌, ◌/◌, ◌%◌, ◌^◌, ◌<◌, ◌≤◌, ◌==◌, Bool, true, false, cond, not, ◌&&◌, List, [], ◌∷◌, length}
+use Rattle.std.specs.Prelude.{drop, get_or, ℤ, pos, ◌*ℤ◌, refl}
 use Rattle.std.proofs.Common.{sym, ◌∙◌, ap, arith, add-one, drop-cons}
 use Rattle.std.proofs.lemmas.Int.{ints}
 use Rattle.std.proofs.lemmas.Bool.{ne_eqb}
@@ -21,7 +22,8 @@ holds-front bits = rw (div-one bits) refl
 -- each later winner is in a set of bits where it is, one place lower, in half of them
 pub holds-rest : (bits j : ℕ) → holds bits (suc j) ≡ holds (bits / 2) j
 holds-rest bits j =
-    let e : bits / 2 ^ suc j ≡ bits / 2 / 2 ^ j = ap (λ n. bits / n) (pow-suc 2 j ∙ (let a : 2 ^ j * 2 ≡ 2 * 2 ^ j = omega arith in a)) ∙ sym (div-div-eq-div-mul bits 2 (2 ^ j)) in
+    let e : bits / 2 ^ suc j ≡ bits / 2 / 2 ^ j = ap (λ n. bits / n) (pow-suc 2 j ∙ (let a : 2 ^ j * 2 ≡ 2 * 2 ^ j = omega arith in a))
+    ∙ sym (div-div-eq-div-mul bits 2 (2 ^ j)) in
     ap (λ n. pos (n % 2)) e
 
 bit_value : (r : ℕ) (x : ℤ) → r < 2 → cond (r == 1) x (pos 0) ≡ pos r *ℤ x
@@ -30,15 +32,18 @@ bit_value (suc zero) x h = omega (arith, ints)
 bit_value (suc (suc r)) x h = absurd (omega arith)
 
 -- the sum of a row over the bidders, the bidders counted from 0
-pub row_sum-from : (z : List ℕ) (xs : List ℤ) (bits : ℕ) → total (length z) (λ k. cond (has_bit z bits k) (nth (for_bidders z xs) k) (pos 0)) ≡ dot (winners_in z) (holds bits) (nth xs)
+pub row_sum-from : (z : List ℕ) (xs : List ℤ) (bits : ℕ) → total (length z) (λ k. cond (has_bit z bits k) (nth (for_bidders z xs) k) (pos 0)) ≡ dot
+    (winners_in z) (holds bits) (nth xs)
 row_sum-from [] xs bits = refl
 row_sum-from (zero ∷ z) xs bits =
-    total-first (length z) (λ k. cond (has_bit (zero ∷ z) bits k) (nth (for_bidders (zero ∷ z) xs) k) (pos 0)) ∙ (let h = row_sum-from z xs bits in omega (arith, ints))
+    total-first (length z) (λ k. cond (has_bit (zero ∷ z) bits k) (nth (for_bidders (zero ∷ z) xs) k) (pos 0))
+    ∙ (let h = row_sum-from z xs bits in omega (arith, ints))
 row_sum-from (suc i ∷ z) [] bits =
     let a = total-first (length z) (λ k. cond (has_bit (suc i ∷ z) bits k) (nth (for_bidders (suc i ∷ z) []) k) (pos 0)) in
     let h = row_sum-from z [] (bits / 2) in
     let c = total-first (winners_in z) (λ j. holds bits j *ℤ nth [] j) in
-    let d = total-same (winners_in z) (λ j. holds bits (suc j) *ℤ nth [] (suc j)) (λ j. holds (bits / 2) j *ℤ nth [] j) (λ j lt. ap (λ (t : ℤ). t *ℤ pos 0) (holds-rest bits j)) in
+    let d = total-same (winners_in z) (λ j. holds bits (suc j) *ℤ nth [] (suc j)) (λ j. holds (bits / 2) j *ℤ nth [] j)
+    (λ j lt. ap (λ (t : ℤ). t *ℤ pos 0) (holds-rest bits j)) in
     let e = bit_value (bits % 2) (pos 0) (mod_below bits 2 (omega arith)) in
     let f : holds bits 0 *ℤ pos 0 ≡ pos (bits % 2) *ℤ pos 0 = ap (λ (t : ℤ). t *ℤ pos 0) (holds-front bits) in
     omega (arith, ints)
@@ -46,16 +51,19 @@ row_sum-from (suc i ∷ z) (x ∷ xs) bits =
     let a = total-first (length z) (λ k. cond (has_bit (suc i ∷ z) bits k) (nth (for_bidders (suc i ∷ z) (x ∷ xs)) k) (pos 0)) in
     let h = row_sum-from z xs (bits / 2) in
     let c = total-first (winners_in z) (λ j. holds bits j *ℤ nth (x ∷ xs) j) in
-    let d = total-same (winners_in z) (λ j. holds bits (suc j) *ℤ nth (x ∷ xs) (suc j)) (λ j. holds (bits / 2) j *ℤ nth xs j) (λ j lt. ap (λ (t : ℤ). t *ℤ nth xs j) (holds-rest bits j)) in
+    let d = total-same (winners_in z) (λ j. holds bits (suc j) *ℤ nth (x ∷ xs) (suc j)) (λ j. holds (bits / 2) j *ℤ nth xs j)
+    (λ j lt. ap (λ (t : ℤ). t *ℤ nth xs j) (holds-rest bits j)) in
     let e = bit_value (bits % 2) x (mod_below bits 2 (omega arith)) in
     let f : holds bits 0 *ℤ x ≡ pos (bits % 2) *ℤ x = ap (λ (t : ℤ). t *ℤ x) (holds-front bits) in
     omega (arith, ints)
 
 -- the sum of a row over bidders is the sum over winners
-pub row-sum : (z : List ℕ) (xs : List ℤ) (bits : ℕ) → sum_over (row_of z bits) (of_bidder (for_bidders z xs)) (length z) ≡ dot (winners_in z) (holds bits) (nth xs)
+pub row-sum : (z : List ℕ) (xs : List ℤ) (bits : ℕ) → sum_over (row_of z bits) (of_bidder (for_bidders z xs)) (length z) ≡ dot (winners_in z) (holds bits)
+    (nth xs)
 row-sum z xs bits =
     over-is (row_of z bits) (of_bidder (for_bidders z xs)) (length z)
-    ∙ total-same (length z) (λ k. cond (row_of z bits (suc k)) (of_bidder (for_bidders z xs) (suc k)) (pos 0)) (λ k. cond (has_bit z bits k) (nth (for_bidders z xs) k) (pos 0))
+    ∙ total-same (length z) (λ k. cond (row_of z bits (suc k)) (of_bidder (for_bidders z xs) (suc k)) (pos 0))
+    (λ k. cond (has_bit z bits k) (nth (for_bidders z xs) k) (pos 0))
     (λ k lt. let e : suc k - 1 ≡ k = omega arith in rw e refl)
     ∙ row_sum-from z xs bits
 
@@ -124,10 +132,13 @@ bits-skip z s k lt e = rw (add-one, drop-cons z k 0) (go (get_or z k 0) (let a :
         lie h = cc
 
 -- from a winner on, the bits are its own and twice those behind it, and the winners one more than behind it
-pub bits-take : (z : List ℕ) (s : ℕ → Bool) (k : ℕ) → k < length z → uses z (k + 1) ≡ true → (bits_after (drop k z) s k ≡ cond (s (k + 1)) 1 0 + 2 * bits_after (drop (k + 1) z) s (k + 1)) × (winners_in (drop k z) ≡ suc (winners_in (drop (k + 1) z)))
+pub bits-take : (z : List ℕ) (s : ℕ → Bool) (k : ℕ) → k < length z → uses z (k + 1) ≡ true
+    → (bits_after (drop k z) s k ≡ cond (s (k + 1)) 1 0 + 2 * bits_after (drop (k + 1) z) s (k + 1))
+    × (winners_in (drop k z) ≡ suc (winners_in (drop (k + 1) z)))
 bits-take z s k lt e = rw (add-one, drop-cons z k 0) (go (get_or z k 0) (let a : k + 1 - 1 ≡ k = omega arith in rw a at e))
   where
-    go : (i : ℕ) → not (i == 0) ≡ true → (bits_after (i ∷ drop (suc k) z) s k ≡ cond (s (suc k)) 1 0 + 2 * bits_after (drop (suc k) z) s (suc k)) × (winners_in (i ∷ drop (suc k) z) ≡ suc (winners_in (drop (suc k) z)))
+    go : (i : ℕ) → not (i == 0) ≡ true → (bits_after (i ∷ drop (suc k) z) s k ≡ cond (s (suc k)) 1 0 + 2 * bits_after (drop (suc k) z) s (suc k))
+        × (winners_in (i ∷ drop (suc k) z) ≡ suc (winners_in (drop (suc k) z)))
     go zero q = absurd (lie q)
       where
         lie : false ≡ true → ⊥

@@ -29,30 +29,36 @@ times_le d a b p h =
     omega (arith, ints)
 
 -- the row of a taken block is given by its choice
-pub block-row : (m : Market) (z : List ℕ) (p : Point) → pos 1 ≤ℤ p.den → (f : List ℕ) (row : Row) (x : ℤ) → IsTakenBlock m z p f (row_of z row.members) x → HasWinners z row.members → row.bound ≡ row_bound m z (row_of z row.members) f → IsGivenBy m z row f
+pub block-row : (m : Market) (z : List ℕ) (p : Point) → pos 1 ≤ℤ p.den → (f : List ℕ) (row : Row) (x : ℤ) → IsTakenBlock m z p f (row_of z row.members) x
+    → HasWinners z row.members → row.bound ≡ row_bound m z (row_of z row.members) f → IsGivenBy m z row f
 block-row m z p dp f row x t members is = record {
   members = members;
   allowed = t.allowed;
   idle = t.idle;
   given = is;
-  greatest = λ g ok idle. let h = bound-by_excess m z p (row_of z row.members) f g dp (let a = t.greatest (row_of z row.members) g ok idle in let b = t.reached in omega (arith, ints)) in omega (arith, ints);
+  greatest = λ g ok idle. let h = bound-by_excess m z p (row_of z row.members) f g dp
+      (let a = t.greatest (row_of z row.members) g ok idle in let b = t.reached in omega (arith, ints)) in omega (arith, ints);
 }
 
 -- what a row asks for at a point with a number for each winner, over the bidders
-pub row-asks : (m : Market) (z : List ℕ) → length z ≡ m.bidders → (at : List ℤ) (bits : ℕ) → sum_over (row_of z bits) (of_bidder (for_bidders z at)) m.bidders ≡ dot (winners_in z) (holds bits) (nth at)
+pub row-asks : (m : Market) (z : List ℕ) → length z ≡ m.bidders → (at : List ℤ) (bits : ℕ) → sum_over (row_of z bits)
+    (of_bidder (for_bidders z at)) m.bidders ≡ dot (winners_in z) (holds bits) (nth at)
 row-asks m z len at bits = sym (ap (sum_over (row_of z bits) (of_bidder (for_bidders z at))) len) ∙ row-sum z at bits
 
 -- the winners' numbers meet the row where the bidders' do
-pub meets-winners : (m : Market) (z : List ℕ) → length z ≡ m.bidders → (den : ℤ) (at : List ℤ) (row : Row) → MeetsRow m (record { den = den; at = for_bidders z at }) (row_in z row) → Meets z row den at
+pub meets-winners : (m : Market) (z : List ℕ) → length z ≡ m.bidders → (den : ℤ) (at : List ℤ) (row : Row)
+    → MeetsRow m (record { den = den; at = for_bidders z at }) (row_in z row) → Meets z row den at
 meets-winners m z len den at row h = let e = row-asks m z len at row.members in omega (arith, ints)
 
 -- the bidders' numbers meet the row where the winners' do
-pub meets-bidders : (m : Market) (z : List ℕ) → length z ≡ m.bidders → (den : ℤ) (at : List ℤ) (row : Row) → Meets z row den at → MeetsRow m (record { den = den; at = for_bidders z at }) (row_in z row)
+pub meets-bidders : (m : Market) (z : List ℕ) → length z ≡ m.bidders → (den : ℤ) (at : List ℤ) (row : Row)
+    → Meets z row den at → MeetsRow m (record { den = den; at = for_bidders z at }) (row_in z row)
 meets-bidders m z len den at row h = let e = row-asks m z len at row.members in omega (arith, ints)
 
 -- the excess of a choice over a row is what the row asks for beyond what it gets
 pub excess-row : (m : Market) (z : List ℕ) → length z ≡ m.bidders → (den : ℤ) (at : List ℤ) (bits : ℕ) (f : List ℕ)
-    → excess_of m z (record { den = den; at = for_bidders z at }) (row_of z bits) f ≡ den *ℤ row_bound m z (row_of z bits) f -ℤ dot (winners_in z) (holds bits) (nth at)
+    → excess_of m z (record { den = den; at = for_bidders z at }) (row_of z bits) f ≡ den *ℤ row_bound m z (row_of z bits) f -ℤ dot (winners_in z)
+    (holds bits) (nth at)
 excess-row m z len den at bits f =
     let a = excess-bound m z (record { den = den; at = for_bidders z at }) (row_of z bits) f in
     let b = row-asks m z len at bits in
@@ -60,7 +66,8 @@ excess-row m z len den at bits f =
 
 -- no row comes twice
 pub row-is_new : (m : Market) (z : List ℕ) → length z ≡ m.bidders → (den : ℤ) (at : List ℤ) → pos 1 ≤ℤ den → (bits : ℕ) (old : Row) (c f : List ℕ) (x : ℤ)
-    → IsGivenBy m z old c → Meets z old den at → IsTakenBlock m z (record { den = den; at = for_bidders z at }) f (row_of z bits) x → pos 0 <ℤ x → bits ≢ old.members
+    → IsGivenBy m z old c → Meets z old den at → IsTakenBlock m z (record { den = den; at = for_bidders z at }) f (row_of z bits) x → pos 0 <ℤ x
+    → bits ≢ old.members
 row-is_new m z len den at dp bits old c f x row meets t above same =
     let idle : IsIdleSet m z f (row_of z old.members) = subst (λ b. IsIdleSet m z f (row_of z b)) same t.idle in
     let g = row.greatest f t.allowed idle in
@@ -90,13 +97,16 @@ idle-outside m z f s idle j q le u = by (s j) (uses z j) (uses f j) (λ e. idle 
 
 -- the winners' numbers of a core point
 pub core-back : (m : Market) (z : List ℕ) → length z ≡ m.bidders → (q : Point) → IsCorePoint m z q → for_bidders z (for_winners z q.at) ≡ q.at
-core-back m z len q core = there_and_back z q.at (omega (arith, core.bidders, len)) (λ k lt e. let b : suc k - 1 ≡ k = omega arith in let h = core.losers (suc k) (omega arith) (omega (arith, len)) e in rw b at h)
+core-back m z len q core = there_and_back z q.at (omega (arith, core.bidders, len))
+    (λ k lt e. let b : suc k - 1 ≡ k = omega arith in let h = core.losers (suc k) (omega arith) (omega (arith, len)) e in rw b at h)
 
 -- a core point meets each row
-pub core-meets : (m : Market) → IsMarket m → (z : List ℕ) → length z ≡ m.bidders → (q : Point) → IsCorePoint m z q → (row : Row) (c : List ℕ) → IsGivenBy m z row c → Meets z row q.den (for_winners z q.at)
+pub core-meets : (m : Market) → IsMarket m → (z : List ℕ) → length z ≡ m.bidders → (q : Point) → IsCorePoint m z q → (row : Row) (c : List ℕ)
+    → IsGivenBy m z row c → Meets z row q.den (for_winners z q.at)
 core-meets m lawful z len q core row c by =
     let x = free-excess m lawful z q core.unblocked c by.allowed (row_of z row.members) (idle-outside m z c (row_of z row.members) by.idle) in
     let e = excess-row m z len q.den (for_winners z q.at) row.members c in
-    let f : excess_of m z q (row_of z row.members) c ≡ excess_of m z (record { den = q.den; at = for_bidders z (for_winners z q.at) }) (row_of z row.members) c = ap (λ l. excess_of m z (record { den = q.den; at = l }) (row_of z row.members) c) (sym (core-back m z len q core)) in
+    let f : excess_of m z q (row_of z row.members) c ≡ excess_of m z (record { den = q.den; at = for_bidders z (for_winners z q.at) })
+    (row_of z row.members) c = ap (λ l. excess_of m z (record { den = q.den; at = l }) (row_of z row.members) c) (sym (core-back m z len q core)) in
     let g = ap (λ (t : ℤ). q.den *ℤ t) by.given in
     omega (arith, ints)

@@ -1,5 +1,6 @@
 -- The greatest lowered sum of a market is the greatest excess, and decides whether a coalition blocks.
-use Rattle.std.specs.Prelude.{◌≡◌, ℕ, zero, suc, ◌<◌, ◌≤◌, ◌==◌, Bool, true, false, cond, not, ◌&&◌, IsTrue, IsFalse, List, ℤ, pos, ◌+ℤ◌, ◌-ℤ◌, ◌*ℤ◌, ◌≤ℤ◌, ◌<ℤ◌, int_le, refl}
+use Rattle.std.specs.Prelude.{◌≡◌, ℕ, zero, suc, ◌<◌, ◌≤◌, ◌==◌, Bool, true, false, cond, not, ◌&&◌, IsTrue, IsFalse, List, ℤ, pos, ◌+ℤ◌, ◌-ℤ◌, ◌*ℤ◌, ◌≤ℤ◌}
+use Rattle.std.specs.Prelude.{◌<ℤ◌, int_le, refl}
 use Rattle.std.proofs.Common.{sym, ◌∙◌, ap, arith, subst, inl, inr}
 use Rattle.std.proofs.lemmas.Int.{ints}
 use Rattle.std.proofs.lemmas.Bool.{ne_eqb, and_parts, cases_Bool}
@@ -51,7 +52,8 @@ module _ (m : Market) (lawful : IsMarket m) (z : List ℕ) (p : Point) where
       ∙ sym (total-scale m.bidders p.den (λ k. worth_in m f (suc k)))
 
   terms-are : (f : List ℕ) → IsTrue (m.allowed f) → (s : ℕ → Bool)
-      → total m.bidders (terms m z p f s) ≡ p.den *ℤ value_of m f -ℤ total m.bidders (λ k. cond (s (suc k)) (p.den *ℤ worth_in m z (suc k)) (of_bidder p.at (suc k)))
+      → total m.bidders (terms m z p f s) ≡ p.den *ℤ value_of m f -ℤ total m.bidders
+      (λ k. cond (s (suc k)) (p.den *ℤ worth_in m z (suc k)) (of_bidder p.at (suc k)))
   terms-are f t s =
       let a = total-sub m.bidders (λ k. p.den *ℤ worth_in m f (suc k)) (λ k. cond (s (suc k)) (p.den *ℤ worth_in m z (suc k)) (of_bidder p.at (suc k))) in
       let w = worths-are f t in
@@ -64,7 +66,9 @@ module _ (m : Market) (lawful : IsMarket m) (z : List ℕ) (p : Point) where
       let o = over-is s (λ j. (p.den *ℤ worth_in m z j) -ℤ of_bidder p.at j) m.bidders in
       let e = everyone-is (of_bidder p.at) m.bidders in
       let g = total-add m.bidders (λ k. cond (s (suc k)) ((p.den *ℤ worth_in m z (suc k)) -ℤ of_bidder p.at (suc k)) (pos 0)) (λ k. of_bidder p.at (suc k)) in
-      let c = total-same m.bidders (λ k. cond (s (suc k)) ((p.den *ℤ worth_in m z (suc k)) -ℤ of_bidder p.at (suc k)) (pos 0) +ℤ of_bidder p.at (suc k)) (λ k. cond (s (suc k)) (p.den *ℤ worth_in m z (suc k)) (of_bidder p.at (suc k))) (λ k lt. cond_gap (s (suc k)) (p.den *ℤ worth_in m z (suc k)) (of_bidder p.at (suc k))) in
+      let c = total-same m.bidders (λ k. cond (s (suc k)) ((p.den *ℤ worth_in m z (suc k)) -ℤ of_bidder p.at (suc k)) (pos 0) +ℤ of_bidder p.at (suc k))
+      (λ k. cond (s (suc k)) (p.den *ℤ worth_in m z (suc k)) (of_bidder p.at (suc k)))
+      (λ k lt. cond_gap (s (suc k)) (p.den *ℤ worth_in m z (suc k)) (of_bidder p.at (suc k))) in
       omega (arith, ints)
 
   -- the excess over a set is the sum of the terms for the coalition of all others
@@ -73,8 +77,11 @@ module _ (m : Market) (lawful : IsMarket m) (z : List ℕ) (p : Point) where
       let a = terms-are f t (λ j. not (s j)) in
       let o = over-is (λ j. not (s j)) (λ j. p.den *ℤ worth_in m z j) m.bidders in
       let e = over-is s (of_bidder p.at) m.bidders in
-      let g = total-add m.bidders (λ k. cond (not (s (suc k))) (p.den *ℤ worth_in m z (suc k)) (pos 0)) (λ k. cond (s (suc k)) (of_bidder p.at (suc k)) (pos 0)) in
-      let c = total-same m.bidders (λ k. cond (not (s (suc k))) (p.den *ℤ worth_in m z (suc k)) (pos 0) +ℤ cond (s (suc k)) (of_bidder p.at (suc k)) (pos 0)) (λ k. cond (not (s (suc k))) (p.den *ℤ worth_in m z (suc k)) (of_bidder p.at (suc k))) (λ k lt. cond_turn (s (suc k)) (p.den *ℤ worth_in m z (suc k)) (of_bidder p.at (suc k))) in
+      let g = total-add m.bidders (λ k. cond (not (s (suc k))) (p.den *ℤ worth_in m z (suc k)) (pos 0))
+      (λ k. cond (s (suc k)) (of_bidder p.at (suc k)) (pos 0)) in
+      let c = total-same m.bidders (λ k. cond (not (s (suc k))) (p.den *ℤ worth_in m z (suc k)) (pos 0) +ℤ cond (s (suc k)) (of_bidder p.at (suc k)) (pos 0))
+      (λ k. cond (not (s (suc k))) (p.den *ℤ worth_in m z (suc k)) (of_bidder p.at (suc k)))
+      (λ k lt. cond_turn (s (suc k)) (p.den *ℤ worth_in m z (suc k)) (of_bidder p.at (suc k))) in
       omega (arith, ints)
 
   module _ (surplus : List ℤ) (own : IsPaid m z p surplus) where
@@ -84,7 +91,8 @@ module _ (m : Market) (lawful : IsMarket m) (z : List ℕ) (p : Point) where
     -- the lowered sum of an allowed choice, less all payments, is the sum of its lowered terms
     pub low-is : (f : List ℕ) → IsTrue (m.allowed f) → sum_after (lowered p.den m.worth surplus) 0 f -ℤ paid m p ≡ total m.bidders (low_terms m p surplus f)
     low-is f t =
-        let a = choice-is (lowered p.den m.worth surplus) f ∙ ap (λ n. total n (λ k. lowered p.den m.worth surplus (suc k) (number_of f (suc k)))) (lawful.lengths f t) in
+        let a = choice-is (lowered p.den m.worth surplus) f ∙ ap (λ n. total n (λ k. lowered p.den m.worth surplus (suc k) (number_of f (suc k))))
+        (lawful.lengths f t) in
         let b = everyone-is (of_bidder p.at) m.bidders in
         let c = total-sub m.bidders (λ k. lowered p.den m.worth surplus (suc k) (number_of f (suc k))) (λ k. of_bidder p.at (suc k)) in
         omega (arith, ints)
@@ -93,7 +101,8 @@ module _ (m : Market) (lawful : IsMarket m) (z : List ℕ) (p : Point) where
     pub terms-most : (f : List ℕ) (s : ℕ → Bool) → ((k : ℕ) → k < m.bidders → IsTrue (uses f (suc k)) → IsTrue (s (suc k)))
         → total m.bidders (terms m z p f s) ≤ℤ total m.bidders (low_terms m p surplus f)
     terms-most f s u = total-le m.bidders (terms m z p f s) (low_terms m p surplus f)
-        (λ k lt. term_most p.den m.worth surplus (suc k) (number_of f (suc k)) (worth_in m z (suc k)) (of_bidder p.at (suc k)) (s (suc k)) (lawful.none (suc k)) (own.surpluses k lt) (u k lt))
+        (λ k lt. term_most p.den m.worth surplus (suc k) (number_of f (suc k)) (worth_in m z (suc k)) (of_bidder p.at (suc k)) (s (suc k))
+        (lawful.none (suc k)) (own.surpluses k lt) (u k lt))
 
     loser-none : (k : ℕ) → k < m.bidders → IsFalse (uses z (suc k)) → (worth_in m z (suc k) ≡ pos 0) × (of_bidder p.at (suc k) ≡ pos 0)
     loser-none k lt e = (unused (number_of z (suc k)) e, own.losers k lt e)
@@ -108,18 +117,21 @@ module _ (m : Market) (lawful : IsMarket m) (z : List ℕ) (p : Point) where
     -- the coalition of all but the idle row offers just the lowered sum
     pub terms-reached : (f : List ℕ) → total m.bidders (terms m z p f (λ j. not (idle_row m z p f j))) ≡ total m.bidders (low_terms m p surplus f)
     terms-reached f = total-same m.bidders (terms m z p f (λ j. not (idle_row m z p f j))) (low_terms m p surplus f)
-        (λ k lt. term_reached p.den m.worth surplus (suc k) (number_of f (suc k)) (worth_in m z (suc k)) (of_bidder p.at (suc k)) (uses z (suc k)) (lawful.none (suc k)) (own.surpluses k lt) (loser-none k lt))
+        (λ k lt. term_reached p.den m.worth surplus (suc k) (number_of f (suc k)) (worth_in m z (suc k)) (of_bidder p.at (suc k)) (uses z (suc k))
+        (lawful.none (suc k)) (own.surpluses k lt) (loser-none k lt))
 
     -- the excess of a choice over its idle row is its lowered sum less all payments
     pub low-reached : (f : List ℕ) → IsTrue (m.allowed f) → excess_of m z p (idle_row m z p f) f ≡ sum_after (lowered p.den m.worth surplus) 0 f -ℤ paid m p
     low-reached f t = excess-is f t (idle_row m z p f) ∙ terms-reached f ∙ sym (low-is f t)
 
     -- over no set of winners that it doesn't use is the excess of a choice above its lowered sum less all payments
-    pub low-most : (f : List ℕ) (s : ℕ → Bool) → IsTrue (m.allowed f) → IsIdleSet m z f s → excess_of m z p s f ≤ℤ (sum_after (lowered p.den m.worth surplus) 0 f -ℤ paid m p)
+    pub low-most : (f : List ℕ) (s : ℕ → Bool) → IsTrue (m.allowed f) → IsIdleSet m z f s → excess_of m z p s f ≤ℤ
+        (sum_after (lowered p.den m.worth surplus) 0 f -ℤ paid m p)
     low-most f s t idle =
         let e = excess-is f t s in
         let l = low-is f t in
-        let h = terms-most f (λ j. not (s j)) (λ k lt u. not_member (s (suc k)) (uses z (suc k)) (uses f (suc k)) (λ q. idle (suc k) (omega arith) (omega arith) q) u) in
+        let h = terms-most f (λ j. not (s j)) (λ k lt u. not_member (s (suc k)) (uses z (suc k)) (uses f (suc k))
+        (λ q. idle (suc k) (omega arith) (omega arith) q) u) in
         omega (arith, ints)
       where
         not_member : (s w u : Bool) → (s ≡ true → (w && not u) ≡ true) → u ≡ true → not s ≡ true
@@ -162,7 +174,8 @@ module _ (m : Market) (lawful : IsMarket m) (z : List ℕ) (p : Point) where
     pub winning-pays : IsTrue (m.allowed z) → sum_after (lowered p.den m.worth surplus) 0 z ≡ paid m p
     winning-pays t =
         let l = low-is z t in
-        let s = total-zero m.bidders (low_terms m p surplus z) (λ k lt. term_own p.den m.worth surplus (suc k) (number_of z (suc k)) (of_bidder p.at (suc k)) (lawful.none (suc k)) (own.surpluses k lt) (own.losers k lt)) in
+        let s = total-zero m.bidders (low_terms m p surplus z) (λ k lt. term_own p.den m.worth surplus (suc k) (number_of z (suc k)) (of_bidder p.at (suc k))
+        (lawful.none (suc k)) (own.surpluses k lt) (own.losers k lt)) in
         omega (arith, ints)
 
     module _ (f : List ℕ) (best : IsFirstGreatest m.allowed (sum_after (lowered p.den m.worth surplus) 0) f) where
@@ -177,18 +190,24 @@ module _ (m : Market) (lawful : IsMarket m) (z : List ℕ) (p : Point) where
         largest = λ s idle e j some inside member. largest s idle e j some inside member;
       }
         where
-          short : (s : ℕ → Bool) → IsIdleSet m z f s → (k : ℕ) → k < m.bidders → IsTrue (s (suc k)) → idle_row m z p f (suc k) ≡ false → excess_of m z p s f <ℤ (sum_after (lowered p.den m.worth surplus) 0 f -ℤ paid m p)
+          short : (s : ℕ → Bool) → IsIdleSet m z f s → (k : ℕ) → k < m.bidders → IsTrue (s (suc k)) → idle_row m z p f (suc k) ≡ false
+              → excess_of m z p s f <ℤ (sum_after (lowered p.den m.worth surplus) 0 f -ℤ paid m p)
           short s idle k lt member out =
               let t = best.passed in
               let e = excess-is f t s in
               let l = low-is f t in
               let both = and_parts (uses z (suc k)) (not (uses f (suc k))) (idle (suc k) (omega arith) (omega arith) member) in
               let unused : uses f (suc k) ≡ false = not_true (uses f (suc k)) both.1 in
-              let above : int_le (of_bidder p.at (suc k)) (p.den *ℤ worth_in m z (suc k)) ≡ false = last (uses z (suc k)) (uses f (suc k)) (int_le (of_bidder p.at (suc k)) (p.den *ℤ worth_in m z (suc k))) both.0 unused out in
-              let less = term_short p.den m.worth surplus (suc k) (number_of f (suc k)) (worth_in m z (suc k)) (of_bidder p.at (suc k)) (lawful.none (suc k)) (own.surpluses k lt) unused above in
+              let above : int_le (of_bidder p.at (suc k)) (p.den *ℤ worth_in m z (suc k)) ≡ false = last (uses z (suc k)) (uses f (suc k))
+              (int_le (of_bidder p.at (suc k)) (p.den *ℤ worth_in m z (suc k))) both.0 unused out in
+              let less = term_short p.den m.worth surplus (suc k) (number_of f (suc k)) (worth_in m z (suc k)) (of_bidder p.at (suc k)) (lawful.none (suc k))
+              (own.surpluses k lt) unused above in
               let h = total-lt m.bidders (terms m z p f (λ j. not (s j))) (low_terms m p surplus f)
-              (λ i li. term_most p.den m.worth surplus (suc i) (number_of f (suc i)) (worth_in m z (suc i)) (of_bidder p.at (suc i)) (not (s (suc i))) (lawful.none (suc i)) (own.surpluses i li) (λ u. not_member (s (suc i)) (uses z (suc i)) (uses f (suc i)) (λ q. idle (suc i) (omega arith) (omega arith) q) u))
-              k lt (subst (λ b. term p.den (worth_in m f (suc k)) (worth_in m z (suc k)) (of_bidder p.at (suc k)) b <ℤ low_terms m p surplus f k) (sym (ap not member)) less) in
+              (λ i li. term_most p.den m.worth surplus (suc i) (number_of f (suc i)) (worth_in m z (suc i)) (of_bidder p.at (suc i)) (not (s (suc i)))
+              (lawful.none (suc i)) (own.surpluses i li) (λ u. not_member (s (suc i)) (uses z (suc i)) (uses f (suc i))
+              (λ q. idle (suc i) (omega arith) (omega arith) q) u))
+              k lt (subst (λ b. term p.den (worth_in m f (suc k)) (worth_in m z (suc k)) (of_bidder p.at (suc k)) b <ℤ low_terms m p surplus f k)
+              (sym (ap not member)) less) in
               omega (arith, ints)
             where
               not_true : (u : Bool) → not u ≡ true → u ≡ false
@@ -201,10 +220,15 @@ module _ (m : Market) (lawful : IsMarket m) (z : List ℕ) (p : Point) where
               not_member : (s w u : Bool) → (s ≡ true → (w && not u) ≡ true) → u ≡ true → not s ≡ true
               not_member s w u h e = grind (arith)
 
-          largest : (s : ℕ → Bool) → IsIdleSet m z f s → excess_of m z p s f ≡ sum_after (lowered p.den m.worth surplus) 0 f -ℤ paid m p → (j : ℕ) → 0 < j → j ≤ m.bidders → IsTrue (s j) → IsTrue (idle_row m z p f j)
+          largest : (s : ℕ → Bool) → IsIdleSet m z f s → excess_of m z p s f ≡ sum_after (lowered p.den m.worth surplus) 0 f -ℤ paid m p → (j : ℕ) → 0 < j
+              → j ≤ m.bidders → IsTrue (s j) → IsTrue (idle_row m z p f j)
           largest s idle e zero some inside member = absurd (omega arith)
           largest s idle e (suc k) some inside member =
-              elim (cases_Bool (idle_row m z p f (suc k))) [ inl y ↦ y | inr n ↦ (let h = short s idle k (omega arith) member n in absurd (omega (arith, ints))) ]
+              elim (cases_Bool (idle_row m z p f (suc k))) [
+                | inl y ↦ y
+                | inr n ↦
+                    (let h = short s idle k (omega arith) member n in absurd (omega (arith, ints)))
+              ]
 
       -- if the greatest lowered sum is at most all payments, no coalition blocks the point
       pub free-unblocked : sum_after (lowered p.den m.worth surplus) 0 f ≤ℤ paid m p → IsUnblocked m z p

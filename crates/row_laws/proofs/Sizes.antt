@@ -1,5 +1,6 @@
 -- The sizes of what winners win with, times the denominator, and of what bidders pay.
-use Rattle.std.specs.Prelude.{◌≡◌, ℕ, zero, suc, ◌+◌, ◌*◌, ◌^◌, ◌<◌, ◌≤◌, ◌==◌, true, false, not, IsTrue, List, ℤ, pos, negsuc, ◌*ℤ◌, ◌≤ℤ◌, ◌<ℤ◌, unsigned_abs, refl}
+use Rattle.std.specs.Prelude.{◌≡◌, ℕ, zero, suc, ◌+◌, ◌*◌, ◌^◌, ◌<◌, ◌≤◌, ◌==◌, true, false, not, IsTrue, List, ℤ, pos, negsuc, ◌*ℤ◌, ◌≤ℤ◌, ◌<ℤ◌}
+use Rattle.std.specs.Prelude.{unsigned_abs, refl}
 use Rattle.std.proofs.Common.{sym, ◌∙◌, ap, arith}
 use Rattle.std.proofs.lemmas.Int.{ints}
 use Rattle.std.proofs.Math.Nat.{mul-le-mul_left, mul-le-mul_right}
@@ -13,14 +14,17 @@ use Rattle.point_laws.proofs.Sums.{term-le, total-nonneg}
 use Rattle.row_laws.proofs.Sums.{over-is, choice-is}
 
 -- what a bidder wins with is no more than the worth of the winners
-pub won-low : (m : Market) → IsMarket m → (z : List ℕ) → IsTrue (m.allowed z) → (j : ℕ) → 0 < j → j ≤ m.bidders → (pos 0 ≤ℤ worth_in m z j) × (worth_in m z j ≤ℤ value_of m z)
+pub won-low : (m : Market) → IsMarket m → (z : List ℕ) → IsTrue (m.allowed z) → (j : ℕ) → 0 < j → j ≤ m.bidders
+    → (pos 0 ≤ℤ worth_in m z j) × (worth_in m z j ≤ℤ value_of m z)
 won-low m lawful z t zero some inside = absurd (omega arith)
 won-low m lawful z t (suc k) some inside =
-    let s : value_of m z ≡ total m.bidders (λ k. worth_in m z (suc k)) = choice-is m.worth z ∙ ap (λ n. total n (λ k. worth_in m z (suc k))) (lawful.lengths z t) in
+    let s : value_of m z ≡ total m.bidders (λ k. worth_in m z (suc k)) = choice-is m.worth z ∙ ap (λ n. total n (λ k. worth_in m z (suc k)))
+    (lawful.lengths z t) in
     let h = term-le m.bidders (λ k. worth_in m z (suc k)) (λ i lt. lawful.not_negative z (suc i) t (omega arith) (omega arith)) k (omega arith) in
     (lawful.not_negative z (suc k) t (omega arith) (omega arith), omega (arith, ints))
 
-product : (n : ℕ) (d w v : ℤ) (r : ℕ) → 0 < n → pos 1 ≤ℤ d → pos 0 ≤ℤ w → w ≤ℤ v → n * unsigned_abs d * unsigned_abs v + r < 2 ^ 120 → (pos 0 ≤ℤ (d *ℤ w)) × ((d *ℤ w) <ℤ pos (2 ^ 120))
+product : (n : ℕ) (d w v : ℤ) (r : ℕ) → 0 < n → pos 1 ≤ℤ d → pos 0 ≤ℤ w → w ≤ℤ v → n * unsigned_abs d * unsigned_abs v + r < 2 ^ 120
+    → (pos 0 ≤ℤ (d *ℤ w)) × ((d *ℤ w) <ℤ pos (2 ^ 120))
 product zero d w v r some a b c h = absurd (omega arith)
 product (suc n) (negsuc d) w v r some a b c h = absurd (omega (arith, ints))
 product (suc n) (pos d) (negsuc w) v r some a b c h = absurd (omega (arith, ints))
@@ -33,26 +37,33 @@ product (suc n) (pos d) (pos w) (pos v) r some a b c h =
     (omega (arith, ints), omega (arith, ints))
 
 -- den times what any one bidder wins with is at least 0 and in the range
-pub won-range : (m : Market) → IsMarket m → (z : List ℕ) → IsTrue (m.allowed z) → (den : ℤ) (r : ℕ) → pos 1 ≤ℤ den → m.bidders * unsigned_abs den * unsigned_abs (value_of m z) + r < 2 ^ 120 → (j : ℕ) → 0 < j → j ≤ m.bidders → (pos 0 ≤ℤ (den *ℤ worth_in m z j)) × ((den *ℤ worth_in m z j) <ℤ pos (2 ^ 120))
+pub won-range : (m : Market) → IsMarket m → (z : List ℕ) → IsTrue (m.allowed z) → (den : ℤ) (r : ℕ) → pos 1 ≤ℤ den
+    → m.bidders * unsigned_abs den * unsigned_abs (value_of m z) + r < 2 ^ 120 → (j : ℕ) → 0 < j → j ≤ m.bidders
+    → (pos 0 ≤ℤ (den *ℤ worth_in m z j)) × ((den *ℤ worth_in m z j) <ℤ pos (2 ^ 120))
 won-range m lawful z t den r dp range j some inside =
     let w = won-low m lawful z t j some inside in
     product m.bidders den (worth_in m z j) (value_of m z) r (omega arith) dp w.0 w.1 range
 
 -- what a bidder pays is no more than what is paid
-pub paid-most : (m : Market) (p : Point) → ((j : ℕ) → 0 < j → j ≤ m.bidders → pos 0 ≤ℤ of_bidder p.at j) → (k : ℕ) → k < m.bidders → of_bidder p.at (suc k) ≤ℤ paid m p
+pub paid-most : (m : Market) (p : Point) → ((j : ℕ) → 0 < j → j ≤ m.bidders → pos 0 ≤ℤ of_bidder p.at j) → (k : ℕ) → k < m.bidders
+    → of_bidder p.at (suc k) ≤ℤ paid m p
 paid-most m p h k lt =
     let s = over-is everyone (of_bidder p.at) m.bidders in
     let t = term-le m.bidders (λ k. of_bidder p.at (suc k)) (λ i li. h (suc i) (omega arith) (omega arith)) k lt in
     omega (arith, ints)
 
 -- den times the worth of the winners is in the range
-pub worth-range : (m : Market) → IsMarket m → (z : List ℕ) → IsTrue (m.allowed z) → (den : ℤ) (r : ℕ) → pos 1 ≤ℤ den → m.bidders * unsigned_abs den * unsigned_abs (value_of m z) + r < 2 ^ 120 → (pos 0 ≤ℤ value_of m z) × (pos 0 ≤ℤ (den *ℤ value_of m z)) × ((den *ℤ value_of m z) <ℤ pos (2 ^ 120))
+pub worth-range : (m : Market) → IsMarket m → (z : List ℕ) → IsTrue (m.allowed z) → (den : ℤ) (r : ℕ) → pos 1 ≤ℤ den
+    → m.bidders * unsigned_abs den * unsigned_abs (value_of m z) + r < 2 ^ 120 → (pos 0 ≤ℤ value_of m z) × (pos 0 ≤ℤ (den *ℤ value_of m z))
+    × ((den *ℤ value_of m z) <ℤ pos (2 ^ 120))
 worth-range m lawful z t den r dp range =
-    let s : value_of m z ≡ total m.bidders (λ k. worth_in m z (suc k)) = choice-is m.worth z ∙ ap (λ n. total n (λ k. worth_in m z (suc k))) (lawful.lengths z t) in
+    let s : value_of m z ≡ total m.bidders (λ k. worth_in m z (suc k)) = choice-is m.worth z ∙ ap (λ n. total n (λ k. worth_in m z (suc k)))
+    (lawful.lengths z t) in
     let h = total-nonneg m.bidders (λ k. worth_in m z (suc k)) (λ i lt. lawful.not_negative z (suc i) t (omega arith) (omega arith)) in
     by m.bidders refl s h
   where
-    by : (n : ℕ) → m.bidders ≡ n → value_of m z ≡ total m.bidders (λ k. worth_in m z (suc k)) → pos 0 ≤ℤ total m.bidders (λ k. worth_in m z (suc k)) → (pos 0 ≤ℤ value_of m z) × (pos 0 ≤ℤ (den *ℤ value_of m z)) × ((den *ℤ value_of m z) <ℤ pos (2 ^ 120))
+    by : (n : ℕ) → m.bidders ≡ n → value_of m z ≡ total m.bidders (λ k. worth_in m z (suc k)) → pos 0 ≤ℤ total m.bidders (λ k. worth_in m z (suc k))
+        → (pos 0 ≤ℤ value_of m z) × (pos 0 ≤ℤ (den *ℤ value_of m z)) × ((den *ℤ value_of m z) <ℤ pos (2 ^ 120))
     by zero e s h =
         let v : value_of m z ≡ pos 0 = s ∙ ap (λ n. total n (λ k. worth_in m z (suc k))) e in
         let w : den *ℤ value_of m z ≡ pos 0 = ap (λ (t : ℤ). den *ℤ t) v ∙ omega (arith, ints) in
@@ -64,7 +75,8 @@ worth-range m lawful z t den r dp range =
 -- the value of an allowed choice is never negative
 pub worth-nonneg : (m : Market) → IsMarket m → (z : List ℕ) → IsTrue (m.allowed z) → pos 0 ≤ℤ value_of m z
 worth-nonneg m lawful z t =
-    let s : value_of m z ≡ total m.bidders (λ k. worth_in m z (suc k)) = choice-is m.worth z ∙ ap (λ n. total n (λ k. worth_in m z (suc k))) (lawful.lengths z t) in
+    let s : value_of m z ≡ total m.bidders (λ k. worth_in m z (suc k)) = choice-is m.worth z ∙ ap (λ n. total n (λ k. worth_in m z (suc k)))
+    (lawful.lengths z t) in
     let h = total-nonneg m.bidders (λ k. worth_in m z (suc k)) (λ i lt. lawful.not_negative z (suc i) t (omega arith) (omega arith)) in
     omega (arith, ints)
 

@@ -34,7 +34,8 @@ some-or_none s (suc n) = by (cases_Bool (s (suc n))) (some-or_none s n)
     by (inr e) (inl r) = inl (r.0, r.1, omega (arith, r.2), r.3)
     by (inr e) (inr none) = inr (λ j some inside. last e none j some inside (split j inside))
 
-module _ (m : Market) (lawful : IsMarket m) (z : List ℕ) (win : IsWinning m z) (p : Point) (dp : pos 1 ≤ℤ p.den) (f : List ℕ) (s : ℕ → Bool) (excess : ℤ) (taken : IsTakenBlock m z p f s excess) where
+module _ (m : Market) (lawful : IsMarket m) (z : List ℕ) (win : IsWinning m z) (p : Point) (dp : pos 1 ≤ℤ p.den) (f : List ℕ) (s : ℕ → Bool) (excess : ℤ)
+    (taken : IsTakenBlock m z p f s excess) where
   -- a set with no member has no excess
   empty-low : ((j : ℕ) → 0 < j → j ≤ m.bidders → s j ≡ false) → excess ≤ℤ pos 0
   empty-low none =
@@ -45,7 +46,8 @@ module _ (m : Market) (lawful : IsMarket m) (z : List ℕ) (win : IsWinning m z)
       let w = total-zero m.bidders (λ k. pos 0) (λ k lt. refl) in
       let v = win.greatest f taken.allowed in
       let u = over-is (λ j. true) (worth_in m z) m.bidders in
-      let own : value_of m z ≡ total m.bidders (λ k. worth_in m z (suc k)) = choice-is m.worth z ∙ ap (λ n. total n (λ k. worth_in m z (suc k))) (lawful.lengths z win.passed) in
+      let own : value_of m z ≡ total m.bidders (λ k. worth_in m z (suc k)) = choice-is m.worth z ∙ ap (λ n. total n (λ k. worth_in m z (suc k)))
+      (lawful.lengths z win.passed) in
       let b : row_bound m z (λ j. false) f ≤ℤ pos 0 = omega (arith, ints) in
       let q = mul_nonneg p.den (pos 0 -ℤ row_bound m z (λ j. false) f) (omega (arith, ints)) (omega (arith, ints)) in
       let t = mul-add p.den (pos 0 -ℤ row_bound m z (λ j. false) f) (row_bound m z (λ j. false) f) in
@@ -57,6 +59,7 @@ module _ (m : Market) (lawful : IsMarket m) (z : List ℕ) (win : IsWinning m z)
   pub some-member : pos 0 <ℤ excess → (j : ℕ) × (0 < j) × (j ≤ m.bidders) × IsTrue (s j)
   some-member above = by (some-or_none s m.bidders)
     where
-      by : ((j : ℕ) × (0 < j) × (j ≤ m.bidders) × (s j ≡ true)) ⊎ ((j : ℕ) → 0 < j → j ≤ m.bidders → s j ≡ false) → (j : ℕ) × (0 < j) × (j ≤ m.bidders) × IsTrue (s j)
+      by : ((j : ℕ) × (0 < j) × (j ≤ m.bidders) × (s j ≡ true)) ⊎ ((j : ℕ) → 0 < j → j ≤ m.bidders → s j ≡ false)
+          → (j : ℕ) × (0 < j) × (j ≤ m.bidders) × IsTrue (s j)
       by (inl r) = (r.0, r.1, r.2, r.3)
       by (inr none) = let low = empty-low none in absurd (omega (arith, ints))

@@ -53,13 +53,15 @@ pub paid-zip : (z : List ℕ) (xs : List ℤ) → sum_over everyone (of_bidder (
 paid-zip z xs = everyone-zip (λ x v. x) refl z xs xs
 
 -- a list with 0 for losers is the list of its winners
-pub there_and_back : (z : List ℕ) (ys : List ℤ) → length ys ≡ length z → ((k : ℕ) → k < length z → uses z (suc k) ≡ false → nth ys k ≡ pos 0) → for_bidders z (for_winners z ys) ≡ ys
+pub there_and_back : (z : List ℕ) (ys : List ℤ) → length ys ≡ length z → ((k : ℕ) → k < length z → uses z (suc k) ≡ false → nth ys k ≡ pos 0)
+    → for_bidders z (for_winners z ys) ≡ ys
 there_and_back [] [] e h = refl
 there_and_back [] (y ∷ ys) e h = absurd (omega arith)
 there_and_back (zero ∷ z) [] e h = absurd (omega arith)
 there_and_back (zero ∷ z) (y ∷ ys) e h =
     let first : y ≡ pos 0 = h 0 (omega arith) refl in
-    rw first (ap (λ t. pos 0 ∷ t) (there_and_back z ys (omega arith) (λ k lt q. h (suc k) (omega arith) (let b : suc (suc k) - 1 ≡ suc (suc k - 1) = omega arith in rw b q))))
+    rw first (ap (λ t. pos 0 ∷ t) (there_and_back z ys (omega arith) (λ k lt q. h (suc k) (omega arith)
+    (let b : suc (suc k) - 1 ≡ suc (suc k - 1) = omega arith in rw b q))))
 there_and_back (suc i ∷ z) [] e h = absurd (omega arith)
 there_and_back (suc i ∷ z) (y ∷ ys) e h =
     ap (λ t. y ∷ t) (there_and_back z ys (omega arith) (λ k lt q. h (suc k) (omega arith) (let b : suc (suc k) - 1 ≡ suc (suc k - 1) = omega arith in rw b q)))

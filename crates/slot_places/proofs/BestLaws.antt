@@ -5,7 +5,8 @@ use Rattle.std.proofs.lemmas.Bool.{false≢true}
 use Rattle.std.proofs.lemmas.Int.{ints}
 use Rattle.choices.specs.auction_model.specs.Market.{is_number_before, is_earlier}
 use Rattle.choices.specs.auction_model.specs.Greatest.{IsFirstGreatest}
-use Rattle.choices.specs.auction_model.proofs.OrderLaws.{before-says, before-self, before-greater, before-none, earlier-says, earlier-number, earlier-rest, earlier-not_both, earlier-cases}
+use Rattle.choices.specs.auction_model.proofs.OrderLaws.{before-says, before-self, before-greater, before-none, earlier-says, earlier-number, earlier-rest}
+use Rattle.choices.specs.auction_model.proofs.OrderLaws.{earlier-not_both, earlier-cases}
 use Rattle.slot_places.specs.Steps.{IsBefore}
 
 -- no choice comes before itself
@@ -65,7 +66,11 @@ module _ (value : List ℕ → ℤ) where
 
   -- a choice whose sum is no smaller and before which the other doesn't come is no worse
   pub before-by_rest : (c d : List ℕ) (x y : ℤ) → x ≡ value c → y ≡ value d → y ≤ℤ x → is_earlier d c ≡ false → IsBefore value c d
-  before-by_rest c d x y p q most f = record { most = (let low : value d ≤ℤ value c = omega (arith, ints, p, q, most) in low); first = λ t. absurd (false≢true (sym f ∙ t)) }
+  before-by_rest c d x y p q most f = record {
+    most = (let low : value d ≤ℤ value c = omega (arith, ints, p, q, most) in low);
+    first =
+        λ t. absurd (false≢true (sym f ∙ t));
+  }
 
   -- of three choices of one length, each no worse than the next, the first is no worse than the last
   pub before-trans : (c d e : List ℕ) → length c ≡ length d → length d ≡ length e → IsBefore value c d → IsBefore value d e → IsBefore value c e
@@ -83,11 +88,13 @@ module _ (value : List ℕ → ℤ) where
           ]
 
   -- the first of the greatest is no worse than all that pass
-  pub first-of : (passes : List ℕ → Bool) (c : List ℕ) → IsTrue (passes c) → ((d : List ℕ) → IsTrue (passes d) → IsBefore value c d) → IsFirstGreatest passes value c
+  pub first-of : (passes : List ℕ → Bool) (c : List ℕ) → IsTrue (passes c) → ((d : List ℕ) → IsTrue (passes d) → IsBefore value c d)
+      → IsFirstGreatest passes value c
   first-of passes c passed all = record { passed = passed; greatest = λ d t. (all d t).most; first = λ d t earlier. (all d t).first earlier }
 
 -- two choices with the same number at a place stand as they do with another number there
-pub earlier-set : (c d : List ℕ) (k n : ℕ) → k < length c → length c ≡ length d → get_or c k 0 ≡ get_or d k 0 → IsTrue (is_earlier (set d k n) (set c k n)) → IsTrue (is_earlier d c)
+pub earlier-set : (c d : List ℕ) (k n : ℕ) → k < length c → length c ≡ length d → get_or c k 0 ≡ get_or d k 0 → IsTrue (is_earlier (set d k n) (set c k n))
+    → IsTrue (is_earlier d c)
 earlier-set [] d k n inside e same t = absurd (omega (arith, inside))
 earlier-set (i ∷ c) [] k n inside e same t = absurd (omega (arith, e))
 earlier-set (i ∷ c) (j ∷ d) zero n inside e same t =

@@ -14,17 +14,20 @@ or-false true y r p = refl
 or-false false y r p = rw p refl
 
 same-number : (i j : ℕ) (r : Bool) → i ≡ j → is_number_before i j || ((i == j) && r) ≡ r
-same-number i j r e = false_or_true (is_number_before i j) (i == j) r (false_from_ne_true (is_number_before i j) (λ t. before-self j (rw e at t))) (eq-eqb i j e)
+same-number i j r e = false_or_true (is_number_before i j) (i == j) r (false_from_ne_true (is_number_before i j) (λ t. before-self j (rw e at t)))
+    (eq-eqb i j e)
 
 module _ (c d : List ℕ) (k : ℕ) (inside : k < length c) (within : k < length d) where
   -- where two choices have the same number at a place, the numbers behind it decide which comes first
   pub earlier-goes_on : get_or c k 0 ≡ get_or d k 0 → is_earlier (drop k c) (drop k d) ≡ is_earlier (drop (k + 1) c) (drop (k + 1) d)
-  earlier-goes_on e = rw (add-one, drop-cons c k 0, drop-cons d k 0) (same-number (get_or c k 0) (get_or d k 0) (is_earlier (drop (suc k) c) (drop (suc k) d)) e)
+  earlier-goes_on e = rw (add-one, drop-cons c k 0, drop-cons d k 0) (same-number (get_or c k 0) (get_or d k 0)
+      (is_earlier (drop (suc k) c) (drop (suc k) d)) e)
 
   -- where two choices differ at a place, their numbers there decide which comes first
   pub earlier-ends : (get_or c k 0 ≡ get_or d k 0 → ⊥) → is_earlier (drop k c) (drop k d) ≡ is_number_before (get_or c k 0) (get_or d k 0)
   earlier-ends other =
-      rw (drop-cons c k 0, drop-cons d k 0) (or-false (is_number_before (get_or c k 0) (get_or d k 0)) (get_or c k 0 == get_or d k 0) (is_earlier (drop (suc k) c) (drop (suc k) d)) (ne_eqb (get_or c k 0) (get_or d k 0) other))
+      rw (drop-cons c k 0, drop-cons d k 0) (or-false (is_number_before (get_or c k 0) (get_or d k 0)) (get_or c k 0 == get_or d k 0)
+      (is_earlier (drop (suc k) c) (drop (suc k) d)) (ne_eqb (get_or c k 0) (get_or d k 0) other))
 
 -- behind the last number neither choice comes first
 pub earlier-none : (c d : List ℕ) (k : ℕ) → length c ≡ k → length d ≡ k → is_earlier (drop k c) (drop k d) ≡ false

@@ -23,7 +23,8 @@ use Rattle.choices.specs.book_form.proofs.NameLaws.{name_own}
 use Rattle.slot_places.proofs.LineLaws.{bidder_no_place, two_parts}
 
 -- a text whose first field ends without a space has one field
-pub one_only : (text field behind : List ℕ) → text ≡ field ++ behind → NoSpace field → FieldEnds behind → ((more : List ℕ) → behind ≡ codes " " ++ more → ⊥) → (first second : List ℕ) → NoSpace first → text ≡ first ++ 32 ∷ second → ⊥
+pub one_only : (text field behind : List ℕ) → text ≡ field ++ behind → NoSpace field → FieldEnds behind → ((more : List ℕ) → behind ≡ codes " " ++ more → ⊥)
+    → (first second : List ℕ) → NoSpace first → text ≡ first ++ 32 ∷ second → ⊥
 one_only text field behind whole own ends other first second first_own is =
     let parts = one_field field first behind (32 ∷ second) own first_own ends refl (sym whole ∙ is) in
     other second parts.1
@@ -58,21 +59,33 @@ none_named name (b ∷ bidders) =
     ]
 
 -- the line of a bidder, as what it adds
-pub adds_entrant : (old : SlotList) (line fields name : List ℕ) (width : ℕ) → line ≡ codes "bidder " ++ fields → IsEntrant old fields name width → AddsBidder old (with_bidders old (old.bidders ++ bidder_with name width [] ∷ [])) line
-adds_entrant old line fields name width spelled entrant = record { name = name; width = width; fields = fields; line_is = spelled; entrant = entrant; new_is = refl }
+pub adds_entrant : (old : SlotList) (line fields name : List ℕ) (width : ℕ) → line ≡ codes "bidder " ++ fields → IsEntrant old fields name width
+    → AddsBidder old (with_bidders old (old.bidders ++ bidder_with name width [] ∷ [])) line
+adds_entrant old line fields name width spelled entrant = record {
+  name = name;
+  width = width;
+  fields = fields;
+  line_is = spelled;
+  entrant = entrant;
+  new_is =
+      refl;
+}
 
 -- the fields behind the word are those of the bidder
 pub entrant_of : (old new : SlotList) (fields : List ℕ) (adds : AddsBidder old new (codes "bidder " ++ fields)) → IsEntrant old fields adds.name adds.width
-entrant_of old new fields adds = subst (λ (f : List ℕ). IsEntrant old f adds.name adds.width) (sym (append_cancel_left (codes "bidder ") fields adds.fields adds.line_is)) adds.entrant
+entrant_of old new fields adds = subst (λ (f : List ℕ). IsEntrant old f adds.name adds.width)
+    (sym (append_cancel_left (codes "bidder ") fields adds.fields adds.line_is)) adds.entrant
 
 -- what the fields of a bidder's line are
-pub entrant_fields : (slots : SlotList) (fields first second name : List ℕ) (width : ℕ) → fields ≡ first ++ 32 ∷ second → NoSpace first → IsEntrant slots fields name width → (name ≡ first) × (second ≡ decimal width)
+pub entrant_fields : (slots : SlotList) (fields first second name : List ℕ) (width : ℕ) → fields ≡ first ++ 32 ∷ second → NoSpace first
+    → IsEntrant slots fields name width → (name ≡ first) × (second ≡ decimal width)
 entrant_fields slots fields first second name width is own e =
     let parts = two_parts name first (decimal width) second (name_own name e.valid) own (sym e.spelled ∙ is) in
     (parts.0, sym parts.1)
 
 -- a valid name that isn't used, and a width that there is room for, make a bidder that may follow
-pub made_entrant : (slots : SlotList) (fields first second text : List ℕ) (width room : ℕ) → fields ≡ first ++ 32 ∷ second → text ≡ first → IsName first → AllByRecursion (λ b. b.name ≢ text) slots.bidders
+pub made_entrant : (slots : SlotList) (fields first second text : List ℕ) (width room : ℕ) → fields ≡ first ++ 32 ∷ second → text ≡ first → IsName first
+    → AllByRecursion (λ b. b.name ≢ text) slots.bidders
     → 1 ≤ width → width ≤ room → second ≡ decimal width → room + width_together slots.bidders ≡ slots.band → IsEntrant slots fields text width
 made_entrant slots fields first second text width room is same valid unused some low spelled left =
     subst (λ (t : List ℕ). IsEntrant slots fields t width) (sym same)
@@ -85,7 +98,8 @@ made_entrant slots fields first second text width room is same valid unused some
     })
 
 -- what the fields of a bid's line are
-pub next_fields : (slots : SlotList) (line fields first second : List ℕ) (bid : SlotBid) → slots.band ≤ 40 → line ≡ codes "place " ++ fields → fields ≡ first ++ 32 ∷ second → NoSpace first → IsNextPlace slots line bid
+pub next_fields : (slots : SlotList) (line fields first second : List ℕ) (bid : SlotBid) → slots.band ≤ 40 → line ≡ codes "place " ++ fields
+    → fields ≡ first ++ 32 ∷ second → NoSpace first → IsNextPlace slots line bid
     → (first ≡ decimal bid.start) × (second ≡ decimal bid.amount)
 next_fields slots line fields first second bid low line_is is own next =
     let within = next.valid.within in
@@ -94,10 +108,12 @@ next_fields slots line fields first second bid low line_is is own next =
     (parts.0, parts.1)
 
 -- a line without two fields behind the word states no bid
-pub no_fields : (slots : SlotList) (line fields : List ℕ) (bid : SlotBid) → slots.band ≤ 40 → line ≡ codes "place " ++ fields → ((first second : List ℕ) → NoSpace first → fields ≡ first ++ 32 ∷ second → ⊥) → IsNextPlace slots line bid → ⊥
+pub no_fields : (slots : SlotList) (line fields : List ℕ) (bid : SlotBid) → slots.band ≤ 40 → line ≡ codes "place " ++ fields
+    → ((first second : List ℕ) → NoSpace first → fields ≡ first ++ 32 ∷ second → ⊥) → IsNextPlace slots line bid → ⊥
 no_fields slots line fields bid low line_is none next =
     let within = next.valid.within in
-    none (decimal bid.start) (decimal bid.amount) (number_own bid.start (omega (arith, within, low))) (append_cancel_left (codes "place ") fields (decimal bid.start ++ 32 ∷ decimal bid.amount) (sym line_is ∙ next.spelled))
+    none (decimal bid.start) (decimal bid.amount) (number_own bid.start (omega (arith, within, low)))
+    (append_cancel_left (codes "place ") fields (decimal bid.start ++ 32 ∷ decimal bid.amount) (sym line_is ∙ next.spelled))
 
 -- the line of a bid, as what it adds
 pub adds_next : (old : SlotList) (line : List ℕ) (bid : SlotBid) → 0 < length old.bidders → IsNextPlace old line bid → AddsPlace old (with_bid old bid) line
@@ -106,9 +122,11 @@ adds_next old line bid some next = record { bid = bid; some = some; next = next;
 -- a line that begins so is a bidder's, and each other is a bid's
 
 -- a line that begins with the word of a bidder adds a bidder
-pub adds_named : (old new : SlotList) (line fields : List ℕ) → line ≡ codes "bidder " ++ fields → Adds old new line → AddsBidder old new (codes "bidder " ++ fields)
+pub adds_named : (old new : SlotList) (line fields : List ℕ) → line ≡ codes "bidder " ++ fields → Adds old new line
+    → AddsBidder old new (codes "bidder " ++ fields)
 adds_named old new line fields is (inl adds) = subst (AddsBidder old new) is adds
-adds_named old new line fields is (inr adds) = absurd (bidder_no_place line fields (decimal adds.bid.start ++ 32 ∷ decimal adds.bid.amount) is adds.next.spelled)
+adds_named old new line fields is (inr adds) = absurd (bidder_no_place line fields (decimal adds.bid.start ++ 32 ∷ decimal adds.bid.amount) is
+    adds.next.spelled)
 
 -- a line that doesn't begin so adds a bid
 pub adds_unnamed : (old new : SlotList) (line : List ℕ) → ((fields : List ℕ) → line ≢ codes "bidder " ++ fields) → Adds old new line → AddsPlace old new line

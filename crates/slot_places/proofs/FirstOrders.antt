@@ -17,15 +17,21 @@ abbrev pub Passes : Board → List ℕ → (ℕ → Bool) → List ℕ → Type 
 Passes b c s order = IsTrue (are_new b.bidders s order) × IsTrue (gives b c s order)
 
 -- in an order that passes, the first bidder can follow and the others pass behind it
-pub passes-says : (b : Board) (c : List ℕ) (s : ℕ → Bool) (j : ℕ) (order : List ℕ) → Passes b c s (j ∷ order) → CanFollow b c s j × Passes b c (joined j s) order
+pub passes-says : (b : Board) (c : List ℕ) (s : ℕ → Bool) (j : ℕ) (order : List ℕ) → Passes b c s (j ∷ order)
+    → CanFollow b c s j × Passes b c (joined j s) order
 passes-says b c s j order p =
     let n = new-parts b.bidders s j order p.0 in
     let g = and_parts (b.may s j (number_of c j)) (gives b c (joined j s) order) p.1 in
     (record { some = n.0; low = n.1; new = n.2; may = g.0 }, (n.3, g.1))
 
 -- a bidder that can follow, before an order that passes behind it, makes an order that passes
-pub passes-from : (b : Board) (c : List ℕ) (s : ℕ → Bool) (j : ℕ) (order : List ℕ) → CanFollow b c s j → Passes b c (joined j s) order → Passes b c s (j ∷ order)
-passes-from b c s j order f p = (new-from b.bidders s j order f.some f.low f.new p.0, and_from (b.may s j (number_of c j)) (gives b c (joined j s) order) f.may p.1)
+pub passes-from : (b : Board) (c : List ℕ) (s : ℕ → Bool) (j : ℕ) (order : List ℕ) → CanFollow b c s j → Passes b c (joined j s) order
+    → Passes b c s (j ∷ order)
+passes-from b c s j order f p = (
+  new-from b.bidders s j order f.some f.low f.new p.0,
+  and_from (b.may s j (number_of c j))
+      (gives b c (joined j s) order) f.may p.1,
+)
 
 -- the same for sets that hold the same bidders
 pub passes-same : (b : Board) → AsksBidders b → (c : List ℕ) (s t : ℕ → Bool) (order : List ℕ) → IsSame s t → Passes b c s order → Passes b c t order
@@ -60,13 +66,15 @@ module _ (slots : SlotList) (c : List ℕ) where
       passes-same board asks c (joined j (holds n)) (holds (n + 2 ^ (j - 1))) order (λ i some. holds-joined n j i q.0.some q.0.new some) q.1
 
   -- and the other way, with a bidder that can follow before it
-  pub passes-back : (n j : ℕ) (order : List ℕ) → CanFollow board c (holds n) j → Passes board c (holds (n + 2 ^ (j - 1))) order → Passes board c (holds n) (j ∷ order)
+  pub passes-back : (n j : ℕ) (order : List ℕ) → CanFollow board c (holds n) j → Passes board c (holds (n + 2 ^ (j - 1))) order
+      → Passes board c (holds n) (j ∷ order)
   passes-back n j order f p =
       passes-from board c (holds n) j order f
       (passes-same board asks c (holds (n + 2 ^ (j - 1))) (joined j (holds n)) order (λ i some. sym (holds-joined n j i f.some f.new some)) p)
 
   -- an order of all bidders that passes behind nobody allows the known choice
-  pub allowed-by : (order : List ℕ) → length order ≡ length slots.bidders → IsTrue (is_known board c) → Passes board c nobody order → allows slots order c ≡ true
+  pub allowed-by : (order : List ℕ) → length order ≡ length slots.bidders → IsTrue (is_known board c) → Passes board c nobody order
+      → allows slots order c ≡ true
   allowed-by order count known p =
       and_from (is_order (length slots.bidders) order) (is_known board c && gives board c nobody order)
       (and_from (length order == length slots.bidders) (are_new (length slots.bidders) nobody order) (eq-eqb (length order) (length slots.bidders) count) p.0)
@@ -100,7 +108,8 @@ pub record FirstOrder (b : Board) (c : List ℕ) (left : ℕ) (s : ℕ → Bool)
   pub first : (other : List ℕ) → Order b c left s other → IsTrue (is_order_before other order) → ⊥
 
 -- behind the smallest bidder that can be next the first order of the others
-pub first-with : (b : Board) (c : List ℕ) (left : ℕ) (s : ℕ → Bool) (j : ℕ) (order : List ℕ) → IsFirstNext b c left s j → FirstOrder b c left (joined j s) order → FirstOrder b c (suc left) s (j ∷ order)
+pub first-with : (b : Board) (c : List ℕ) (left : ℕ) (s : ℕ → Bool) (j : ℕ) (order : List ℕ) → IsFirstNext b c left s j
+    → FirstOrder b c left (joined j s) order → FirstOrder b c (suc left) s (j ∷ order)
 first-with b c left s j order is rest = record { is = whole; first = none }
   where
     n : Next b c left s j
@@ -121,14 +130,22 @@ first-with b c left s j order is rest = record { is = whole; first = none }
         let tail : Order b c left (joined i s) other = record { count = (let e = o.count in omega (arith, e)); new = q.1.0; gives = q.1.1 } in
         elim (or_cases (nat_lt i j) ((i == j) && is_order_before other order) t) [
           | inl lower ↦
-              is.first i (ltb-true i j lower) (record { some = f.some; low = f.low; new = f.new; may = f.may; rest = order-places b c left (joined i s) other tail })
+              is.first i (ltb-true i j lower) (record {
+                some = f.some;
+                low = f.low;
+                new = f.new;
+                may = f.may;
+                rest =
+                    order-places b c left (joined i s) other tail;
+              })
           | inr later ↦
               let p = and_parts (i == j) (is_order_before other order) later in
               rest.first other (subst (λ h. Order b c left (joined h s) other) (eqb-true i j p.0) tail) p.1
         ]
 
 -- the same for sets that hold the same bidders
-pub first-same : (b : Board) → AsksBidders b → (c : List ℕ) (left : ℕ) (s t : ℕ → Bool) (order : List ℕ) → IsSame s t → FirstOrder b c left s order → FirstOrder b c left t order
+pub first-same : (b : Board) → AsksBidders b → (c : List ℕ) (left : ℕ) (s t : ℕ → Bool) (order : List ℕ) → IsSame s t → FirstOrder b c left s order
+    → FirstOrder b c left t order
 first-same b asks c left s t order same is = record {
   is = moved s t order same is.is;
   first = λ other o. is.first other (moved t s other (λ i some. sym (same i some)) o);

@@ -17,16 +17,52 @@ use Rattle.slot_places.specs.Stages.{with_bid, bidder_with, with_bidders, IsEntr
 
 -- the first line has no line feed
 pub slots_word : IsLine (codes "slots 1")
-slots_word = ((λ is. absurd (omega arith)), ((λ is. absurd (omega arith)), ((λ is. absurd (omega arith)), ((λ is. absurd (omega arith)), ((λ is. absurd (omega arith)), ((λ is. absurd (omega arith)), ((λ is. absurd (omega arith)), tt)))))))
+slots_word = (
+  (λ is. absurd (omega arith)),
+  (
+    (λ is. absurd (omega arith)),
+    (
+      (λ is. absurd (omega arith)),
+      ((λ is. absurd (omega arith)), ((λ is. absurd (omega arith)), ((λ is. absurd (omega arith)), ((λ is. absurd (omega arith)), tt)))),
+    ),
+  ),
+)
 
 band_word : IsLine (codes "band ")
-band_word = ((λ is. absurd (omega arith)), ((λ is. absurd (omega arith)), ((λ is. absurd (omega arith)), ((λ is. absurd (omega arith)), ((λ is. absurd (omega arith)), tt)))))
+band_word = (
+  (λ is. absurd (omega arith)),
+  (
+    (λ is. absurd (omega arith)),
+    (
+      (λ is. absurd (omega arith)),
+      ((λ is. absurd (omega arith)), ((λ is. absurd (omega arith)), tt)),
+    ),
+  ),
+)
 
 bidder_word : IsLine (codes "bidder ")
-bidder_word = ((λ is. absurd (omega arith)), ((λ is. absurd (omega arith)), ((λ is. absurd (omega arith)), ((λ is. absurd (omega arith)), ((λ is. absurd (omega arith)), ((λ is. absurd (omega arith)), ((λ is. absurd (omega arith)), tt)))))))
+bidder_word = (
+  (λ is. absurd (omega arith)),
+  (
+    (λ is. absurd (omega arith)),
+    (
+      (λ is. absurd (omega arith)),
+      ((λ is. absurd (omega arith)), ((λ is. absurd (omega arith)), ((λ is. absurd (omega arith)), ((λ is. absurd (omega arith)), tt)))),
+    ),
+  ),
+)
 
 place_word : IsLine (codes "place ")
-place_word = ((λ is. absurd (omega arith)), ((λ is. absurd (omega arith)), ((λ is. absurd (omega arith)), ((λ is. absurd (omega arith)), ((λ is. absurd (omega arith)), ((λ is. absurd (omega arith)), tt))))))
+place_word = (
+  (λ is. absurd (omega arith)),
+  (
+    (λ is. absurd (omega arith)),
+    (
+      (λ is. absurd (omega arith)),
+      ((λ is. absurd (omega arith)), ((λ is. absurd (omega arith)), ((λ is. absurd (omega arith)), tt))),
+    ),
+  ),
+)
 
 -- the last line has no line feed
 pub end_word : IsLine (codes "end")
@@ -42,7 +78,8 @@ band_feeds n low = line_append (codes "band ") (decimal n) band_word (number_lin
 -- the line of a bidder has no line feed
 pub bidder_feeds : (before : ℕ) (name : List ℕ) (width : ℕ) → IsName name → width ≤ 999 → IsLine (bidder_line before name width).0
 bidder_feeds before name width is low =
-    line_append (codes "bidder ") (name ++ 32 ∷ decimal width) bidder_word (line_append name (32 ∷ decimal width) (name_line name is) (behind_space width (omega (arith, low))))
+    line_append (codes "bidder ") (name ++ 32 ∷ decimal width) bidder_word (line_append name (32 ∷ decimal width) (name_line name is)
+    (behind_space width (omega (arith, low))))
 
 -- the line of a bid has no line feed
 pub place_feeds : (b : SlotBid) → b.start ≤ 1000 → b.amount ≤ 2 ^ 42 → IsLine (place_line b).0
@@ -62,16 +99,19 @@ pub band_one : (m n : ℕ) → m ≤ 999 → n ≤ 999 → (band_line m).0 ≡ (
 band_one m n a b is = decimal_one m n (omega (arith, a)) (omega (arith, b)) (append_cancel_left (codes "band ") (decimal m) (decimal n) is)
 
 -- the fields of a bidder's line state one bidder
-pub entrant_one : (slots : SlotList) (fields m n : List ℕ) (v w : ℕ) → slots.band ≤ 999 → IsEntrant slots fields m v → IsEntrant slots fields n w → (m ≡ n) × (v ≡ w)
+pub entrant_one : (slots : SlotList) (fields m n : List ℕ) (v w : ℕ) → slots.band ≤ 999 → IsEntrant slots fields m v → IsEntrant slots fields n w
+    → (m ≡ n) × (v ≡ w)
 entrant_one slots fields m n v w low a b =
     let parts = two_parts m n (decimal v) (decimal w) (name_own m a.valid) (name_own n b.valid) (sym a.spelled ∙ b.spelled) in
     (parts.0, decimal_one v w (let r = a.room in omega (arith, r, low)) (let r = b.room in omega (arith, r, low)) parts.1)
 
 -- a bid's line states one bid
-pub place_one : (band : ℕ) (a b : SlotBid) → band ≤ 999 → a.start ≤ band + 1 → b.start ≤ band + 1 → a.amount ≤ 2 ^ 42 → b.amount ≤ 2 ^ 42 → (place_line a).0 ≡ (place_line b).0 → a ≡ b
+pub place_one : (band : ℕ) (a b : SlotBid) → band ≤ 999 → a.start ≤ band + 1 → b.start ≤ band + 1 → a.amount ≤ 2 ^ 42 → b.amount ≤ 2 ^ 42
+    → (place_line a).0 ≡ (place_line b).0 → a ≡ b
 place_one band a b low sa sb ta tb is =
     let behind = append_cancel_left (codes "place ") (decimal a.start ++ 32 ∷ decimal a.amount) (decimal b.start ++ 32 ∷ decimal b.amount) is in
-    let parts = two_parts (decimal a.start) (decimal b.start) (decimal a.amount) (decimal b.amount) (number_own a.start (omega (arith, sa, low))) (number_own b.start (omega (arith, sb, low))) behind in
+    let parts = two_parts (decimal a.start) (decimal b.start) (decimal a.amount) (decimal b.amount) (number_own a.start (omega (arith, sa, low)))
+    (number_own b.start (omega (arith, sb, low))) behind in
     let starts = decimal_one a.start b.start (omega (arith, sa, low)) (omega (arith, sb, low)) parts.0 in
     let amounts = decimal_one a.amount b.amount (omega (arith, ta)) (omega (arith, tb)) parts.1 in
     λ i. record { start = starts i; amount = amounts i }

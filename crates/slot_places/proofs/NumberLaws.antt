@@ -19,7 +19,8 @@ use Rattle.slot_places.proofs.SizeLaws.{own-size, whole-size}
 pub idle-always : (slots : SlotList) (skip : ℕ) (s : ℕ → Bool) (j : ℕ) → IsTrue ((board_without slots skip).may s j 0)
 idle-always slots skip s j = refl
 
-module _ (b : Board) (asks : AsksBidders b) (idle : (s : ℕ → Bool) (j : ℕ) → IsTrue (b.may s j 0)) (counts : ℕ → ℕ → ℤ) (n j : ℕ) (some : 0 < j) (low : j ≤ b.bidders) (new : holds n j ≡ false) (d : List ℕ) (best : IsSetBest b counts (holds (n + 2 ^ (j - 1))) d) where
+module _ (b : Board) (asks : AsksBidders b) (idle : (s : ℕ → Bool) (j : ℕ) → IsTrue (b.may s j 0)) (counts : ℕ → ℕ → ℤ) (n j : ℕ) (some : 0 < j)
+    (low : j ≤ b.bidders) (new : holds n j ≡ false) (d : List ℕ) (best : IsSetBest b counts (holds (n + 2 ^ (j - 1))) d) where
   joined-is : IsSame (holds (n + 2 ^ (j - 1))) (joined j (holds n))
   joined-is i positive = sym (holds-joined n j i some new positive)
 
@@ -42,11 +43,15 @@ module _ (b : Board) (asks : AsksBidders b) (idle : (s : ℕ → Bool) (j : ℕ)
       ∙ ap (λ (z : ℤ). counts j i +ℤ z) (sym (sum_outside-same counts (holds (n + 2 ^ (j - 1))) (joined j (holds n)) joined-is d))
 
   -- the best choice with a number of the bidder is no worse than each in which the bidder is next with it
-  pub step-best : (i : ℕ) (c : List ℕ) → IsTrue (fits_behind b (holds n) c) → Next b c (outside (joined j (holds n)) b.bidders) (holds n) j → number_of c j ≡ i → IsBefore (sum_outside (holds n) counts) (set d (j - 1) i) c
+  pub step-best : (i : ℕ) (c : List ℕ) → IsTrue (fits_behind b (holds n) c) → Next b c (outside (joined j (holds n)) b.bidders) (holds n) j
+      → number_of c j ≡ i → IsBefore (sum_outside (holds n) counts) (set d (j - 1) i) c
   step-best i c t next is = step-bound b idle counts (holds n) j some low new d i behind-joined c t next is
 
 -- of slots, with the range of a search
-module _ (slots : SlotList) (skip : ℕ) (den : ℤ) (surplus : List ℤ) (range : StaysInRange (board_without slots skip) (amount_of slots) den surplus) (n j : ℕ) (small : n < 2 ^ length slots.bidders) (some : 0 < j) (low : j ≤ length slots.bidders) (new : holds n j ≡ false) (d : List ℕ) (best : IsSetBest (board_without slots skip) (lowered den (amount_of slots) surplus) (holds (n + 2 ^ (j - 1))) d) (i : ℕ) (known : i ≤ (board_without slots skip).bids j) (may : IsTrue ((board_without slots skip).may (holds n) j i)) where
+module _ (slots : SlotList) (skip : ℕ) (den : ℤ) (surplus : List ℤ) (range : StaysInRange (board_without slots skip) (amount_of slots) den surplus) (n j : ℕ)
+    (small : n < 2 ^ length slots.bidders) (some : 0 < j) (low : j ≤ length slots.bidders) (new : holds n j ≡ false) (d : List ℕ)
+    (best : IsSetBest (board_without slots skip) (lowered den (amount_of slots) surplus) (holds (n + 2 ^ (j - 1))) d) (i : ℕ)
+    (known : i ≤ (board_without slots skip).bids j) (may : IsTrue ((board_without slots skip).may (holds n) j i)) where
   -- the amount of the bid times the denominator and the bidder's surplus stay in the range together
   pub step-own : unsigned_abs den * unsigned_abs (amount_of slots j i) + unsigned_abs (of_bidder surplus j) ≤ 2 ^ 120
   step-own =
@@ -57,7 +62,8 @@ module _ (slots : SlotList) (skip : ℕ) (den : ℤ) (surplus : List ℤ) (range
       let fits = step-fits b asks idle counts n j some low new d best i known may in
       let count = step-length b asks idle counts n j some low new d best in
       let own : number_of (set d (j - 1) i) j ≡ i = get_or-set_same d (j - 1) i 0 (omega (arith, count, some, low)) in
-      let size = own-size b asks idle (amount_of slots) den surplus range (holds n) (set d (j - 1) i) (λ h past. holds-within n (length slots.bidders) h small past) fits j some low in
+      let size = own-size b asks idle (amount_of slots) den surplus range (holds n) (set d (j - 1) i)
+      (λ h past. holds-within n (length slots.bidders) h small past) fits j some low in
       subst (λ h. unsigned_abs den * unsigned_abs (amount_of slots j h) + unsigned_abs (of_bidder surplus j) ≤ 2 ^ 120) own size
 
   -- the sum with the number of the bidder stays in the range
@@ -67,7 +73,8 @@ module _ (slots : SlotList) (skip : ℕ) (den : ℤ) (surplus : List ℤ) (range
       let counts = lowered den (amount_of slots) surplus in
       let asks = slots-ask slots skip in
       let idle = idle-always slots skip in
-      whole-size b asks idle (amount_of slots) den surplus range (holds n) (set d (j - 1) i) (λ h past. holds-within n (length slots.bidders) h small past) (step-fits b asks idle counts n j some low new d best i known may)
+      whole-size b asks idle (amount_of slots) den surplus range (holds n) (set d (j - 1) i) (λ h past. holds-within n (length slots.bidders) h small past)
+      (step-fits b asks idle counts n j some low new d best i known may)
 
 -- a bid for the start behind a set
 pub starts-from : (slots : SlotList) (start j i : ℕ) → (bid_of slots j (i + 1)).start ≡ start → IsTrue (starts_at slots start j (i + 1))
@@ -79,10 +86,12 @@ starts-from slots start j i e =
 pub starts-says : (slots : SlotList) (start j i : ℕ) → IsTrue (starts_at slots start j (i + 1)) → (bid_of slots j (i + 1)).start ≡ start
 starts-says slots start j i t =
     let up : i + 1 ≡ suc i = omega arith in
-    subst (λ h. (bid_of slots j h).start ≡ start) (sym up) (eqb-true (bid_of slots j (suc i)).start start (subst (λ h. IsTrue (starts_at slots start j h)) up t))
+    subst (λ h. (bid_of slots j h).start ≡ start) (sym up) (eqb-true (bid_of slots j (suc i)).start start
+    (subst (λ h. IsTrue (starts_at slots start j h)) up t))
 
 -- no worse than one that is no worse
-pub fits-trans : (b : Board) (counts : ℕ → ℕ → ℤ) (s : ℕ → Bool) (c d e : List ℕ) → IsTrue (fits_behind b s c) → IsTrue (fits_behind b s d) → IsTrue (fits_behind b s e) → IsBefore (sum_outside s counts) c d → IsBefore (sum_outside s counts) d e → IsBefore (sum_outside s counts) c e
+pub fits-trans : (b : Board) (counts : ℕ → ℕ → ℤ) (s : ℕ → Bool) (c d e : List ℕ) → IsTrue (fits_behind b s c) → IsTrue (fits_behind b s d)
+    → IsTrue (fits_behind b s e) → IsBefore (sum_outside s counts) c d → IsBefore (sum_outside s counts) d e → IsBefore (sum_outside s counts) c e
 fits-trans b counts s c d e p q r =
     let x = fits-length b s c p in
     let y = fits-length b s d q in

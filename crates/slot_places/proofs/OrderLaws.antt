@@ -15,7 +15,8 @@ pub record Order (b : Board) (c : List ℕ) (left : ℕ) (s : ℕ → Bool) (ord
   pub gives : IsTrue (gives b c s order)
 
 -- the first of new entries is a bidder outside the set, and the others are new behind it
-pub new-parts : (n : ℕ) (s : ℕ → Bool) (j : ℕ) (order : List ℕ) → IsTrue (are_new n s (j ∷ order)) → (0 < j) × (j ≤ n) × (s j ≡ false) × IsTrue (are_new n (joined j s) order)
+pub new-parts : (n : ℕ) (s : ℕ → Bool) (j : ℕ) (order : List ℕ) → IsTrue (are_new n s (j ∷ order)) → (0 < j) × (j ≤ n) × (s j ≡ false)
+    × IsTrue (are_new n (joined j s) order)
 new-parts n s j order t =
     let p = and_parts (nat_lt 0 j && nat_le j n) (not (s j) && are_new n (joined j s) order) t in
     let q = and_parts (nat_lt 0 j) (nat_le j n) p.0 in
@@ -23,7 +24,8 @@ new-parts n s j order t =
     (ltb-true 0 j q.0, leb-true j n q.1, not-true (s j) r.0, r.1)
 
 -- a bidder outside the set, before entries that are new behind it, makes new entries
-pub new-from : (n : ℕ) (s : ℕ → Bool) (j : ℕ) (order : List ℕ) → 0 < j → j ≤ n → s j ≡ false → IsTrue (are_new n (joined j s) order) → IsTrue (are_new n s (j ∷ order))
+pub new-from : (n : ℕ) (s : ℕ → Bool) (j : ℕ) (order : List ℕ) → 0 < j → j ≤ n → s j ≡ false → IsTrue (are_new n (joined j s) order)
+    → IsTrue (are_new n s (j ∷ order))
 new-from n s j order some low new rest =
     and_from (nat_lt 0 j && nat_le j n) (not (s j) && are_new n (joined j s) order)
     (and_from (nat_lt 0 j) (nat_le j n) (lt-ltb 0 j some) (le-leb j n low))

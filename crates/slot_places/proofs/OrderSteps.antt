@@ -10,10 +10,12 @@ use Rattle.slot_places.specs.Steps.{CanFollow, IsFirstNext}
 use Rattle.slot_places.proofs.SameLaws.{slots-ask}
 use Rattle.slot_places.proofs.SetBits.{holds-joined, joined-small, power-positive}
 use Rattle.slot_places.proofs.NextLaws.{next-places, placed-by}
-use Rattle.slot_places.proofs.FirstOrders.{FirstOrder, SoPlaced, Passes, first-with, first-same, allowed-by, refused-by, passes-says, passes-start, passes-begins, passes-on, passes-back}
+use Rattle.slot_places.proofs.FirstOrders.{FirstOrder, SoPlaced, Passes, first-with, first-same, allowed-by, refused-by, passes-says, passes-start}
+use Rattle.slot_places.proofs.FirstOrders.{passes-begins, passes-on, passes-back}
 
 -- one bidder more
-pub so-next : (slots : SlotList) (c order : List ℕ) (left n j : ℕ) → SoPlaced slots c order (suc left) n → IsFirstNext (board_of slots) c left (holds n) j → SoPlaced slots c (order ++ j ∷ []) left (n + 2 ^ (j - 1))
+pub so-next : (slots : SlotList) (c order : List ℕ) (left n j : ℕ) → SoPlaced slots c order (suc left) n → IsFirstNext (board_of slots) c left (holds n) j
+    → SoPlaced slots c (order ++ j ∷ []) left (n + 2 ^ (j - 1))
 so-next slots c order left n j so is =
     let b = board_of slots in
     let asks = slots-ask slots 0 in
@@ -23,11 +25,13 @@ so-next slots c order left n j so is =
       on = λ rest first.
           subst (λ (l : List ℕ). FirstOrder b c (length slots.bidders) nobody l) (sym (append_assoc order (j ∷ []) rest))
           (so.on (j ∷ rest) (first-with b c left (holds n) j rest is
-          (first-same b asks c left (holds (n + 2 ^ (j - 1))) (joined j (holds n)) rest (λ i some. sym (holds-joined n j i is.next.some is.next.new some)) first)));
+          (first-same b asks c left (holds (n + 2 ^ (j - 1))) (joined j (holds n)) rest (λ i some. sym (holds-joined n j i is.next.some is.next.new some))
+          first)));
     }
 
 -- the same by the values at hand
-pub so-more : (slots : SlotList) (c order new : List ℕ) (rest left less n j w : ℕ) → rest ≡ suc left → left ≡ less → new ≡ order ++ j ∷ [] → w ≡ 2 ^ (j - 1) → SoPlaced slots c order rest n → IsFirstNext (board_of slots) c left (holds n) j → SoPlaced slots c new less (n + w)
+pub so-more : (slots : SlotList) (c order new : List ℕ) (rest left less n j w : ℕ) → rest ≡ suc left → left ≡ less → new ≡ order ++ j ∷ [] → w ≡ 2 ^ (j - 1)
+    → SoPlaced slots c order rest n → IsFirstNext (board_of slots) c left (holds n) j → SoPlaced slots c new less (n + w)
 so-more slots c order new rest left less n j w more fewer pushed weight so is =
     subst (λ (l : List ℕ). SoPlaced slots c l less (n + w)) (sym pushed)
     (subst (λ m. SoPlaced slots c (order ++ j ∷ []) less (n + m)) (sym weight)
@@ -45,7 +49,8 @@ pub tests-begin : (slots : SlotList) (c order : List ℕ) → SoTested slots c o
 tests-begin slots c order = record { whole = passes-start slots c order; part = passes-begins slots c order; small = power-positive (length slots.bidders) }
 
 -- one entry more can follow
-pub tests-more : (slots : SlotList) (c order : List ℕ) (i n w : ℕ) → i < length order → w ≡ 2 ^ (get_or order i 0 - 1) → CanFollow (board_of slots) c (holds n) (get_or order i 0) → SoTested slots c order i n → SoTested slots c order (i + 1) (n + w)
+pub tests-more : (slots : SlotList) (c order : List ℕ) (i n w : ℕ) → i < length order → w ≡ 2 ^ (get_or order i 0 - 1)
+    → CanFollow (board_of slots) c (holds n) (get_or order i 0) → SoTested slots c order i n → SoTested slots c order (i + 1) (n + w)
 tests-more slots c order i n w inside weight f so =
     let b = board_of slots in
     let j = get_or order i 0 in
@@ -59,13 +64,16 @@ tests-more slots c order i n w inside weight f so =
     })
 
 -- one that can't
-pub tests-fail : (slots : SlotList) (c order : List ℕ) (i n : ℕ) → i < length order → (CanFollow (board_of slots) c (holds n) (get_or order i 0) → ⊥) → SoTested slots c order i n → false ≡ allows slots order c
+pub tests-fail : (slots : SlotList) (c order : List ℕ) (i n : ℕ) → i < length order → (CanFollow (board_of slots) c (holds n) (get_or order i 0) → ⊥)
+    → SoTested slots c order i n → false ≡ allows slots order c
 tests-fail slots c order i n inside not so =
     let b = board_of slots in
     let rest = drop (i + 1) order in
-    refused-by slots c order (λ a. not (passes-says b c (holds n) (get_or order i 0) rest (subst (Passes b c (holds n)) (drop_more order i 0 inside) (so.part a.passes))).0)
+    refused-by slots c order (λ a. not (passes-says b c (holds n) (get_or order i 0) rest
+    (subst (Passes b c (holds n)) (drop_more order i 0 inside) (so.part a.passes))).0)
 
 -- all can follow
-pub tests-end : (slots : SlotList) (c order : List ℕ) (i n : ℕ) → length order ≤ i → length order ≡ length slots.bidders → is_known (board_of slots) c ≡ true → SoTested slots c order i n → true ≡ allows slots order c
+pub tests-end : (slots : SlotList) (c order : List ℕ) (i n : ℕ) → length order ≤ i → length order ≡ length slots.bidders → is_known (board_of slots) c ≡ true
+    → SoTested slots c order i n → true ≡ allows slots order c
 tests-end slots c order i n all count known so =
     sym (allowed-by slots c order count known (so.whole (subst (Passes (board_of slots) c (holds n)) (sym (drop_all i order all)) (refl, refl))))

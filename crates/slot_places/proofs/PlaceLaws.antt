@@ -20,10 +20,12 @@ next-which b c left s t =
 pub next-from : (b : Board) (c : List ℕ) (left : ℕ) (s : ℕ → Bool) (j : ℕ) → Next b c left s j → IsTrue (can_place b c (suc left) s)
 next-from b c left s j n =
     some-at (λ i. not (s i) && (b.may s i (number_of c i) && can_place b c left (joined i s))) b.bidders j n.some n.low
-    (and_from (not (s j)) (b.may s j (number_of c j) && can_place b c left (joined j s)) (not_from_false (s j) n.new) (and_from (b.may s j (number_of c j)) (can_place b c left (joined j s)) n.may n.rest))
+    (and_from (not (s j)) (b.may s j (number_of c j) && can_place b c left (joined j s)) (not_from_false (s j) n.new)
+    (and_from (b.may s j (number_of c j)) (can_place b c left (joined j s)) n.may n.rest))
 
 -- other numbers that those outside can be given wherever they can be given these
-pub place-other : (b : Board) (c d : List ℕ) (left : ℕ) (s : ℕ → Bool) → ((j : ℕ) (t : ℕ → Bool) → 0 < j → s j ≡ false → IsTrue (b.may t j (number_of c j)) → IsTrue (b.may t j (number_of d j))) → IsTrue (can_place b c left s) → IsTrue (can_place b d left s)
+pub place-other : (b : Board) (c d : List ℕ) (left : ℕ) (s : ℕ → Bool) → ((j : ℕ) (t : ℕ → Bool) → 0 < j → s j ≡ false → IsTrue (b.may t j (number_of c j))
+    → IsTrue (b.may t j (number_of d j))) → IsTrue (can_place b c left s) → IsTrue (can_place b d left s)
 place-other b c d zero s more t = refl
 place-other b c d (suc left) s more t =
     let q = next-which b c left s t in
@@ -37,7 +39,8 @@ place-other b c d (suc left) s more t =
     })
 
 -- those outside without a bid can be placed in any order
-pub place-idle : (b : Board) (c : List ℕ) (left : ℕ) (s : ℕ → Bool) → left ≤ outside s b.bidders → ((j : ℕ) (t : ℕ → Bool) → 0 < j → s j ≡ false → IsTrue (b.may t j (number_of c j))) → IsTrue (can_place b c left s)
+pub place-idle : (b : Board) (c : List ℕ) (left : ℕ) (s : ℕ → Bool) → left ≤ outside s b.bidders
+    → ((j : ℕ) (t : ℕ → Bool) → 0 < j → s j ≡ false → IsTrue (b.may t j (number_of c j))) → IsTrue (can_place b c left s)
 place-idle b c zero s few all = refl
 place-idle b c (suc left) s few all =
     let q = outside-some s b.bidders (omega (arith, few)) in

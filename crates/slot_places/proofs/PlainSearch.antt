@@ -1,5 +1,6 @@
 -- A search for the amounts themselves, in which one bidder may have no bids.
-use Rattle.std.specs.Prelude.{IsTrue, ◌≡◌, ℕ, zero, suc, ◌+◌, ◌-◌, ◌*◌, ◌^◌, ◌≤◌, ◌<◌, Bool, true, false, cond, ◌&&◌, not, ◌==◌, List, [], ◌∷◌, length, get_or, refl, ℤ, pos, ◌≤ℤ◌, unsigned_abs}
+use Rattle.std.specs.Prelude.{IsTrue, ◌≡◌, ℕ, zero, suc, ◌+◌, ◌-◌, ◌*◌, ◌^◌, ◌≤◌, ◌<◌, Bool, true, false, cond, ◌&&◌, not, ◌==◌, List, [], ◌∷◌, length}
+use Rattle.std.specs.Prelude.{get_or, refl, ℤ, pos, ◌≤ℤ◌, unsigned_abs}
 use Rattle.std.proofs.Common.{sym, ◌∙◌, ap, arith, subst}
 use Rattle.std.proofs.lemmas.Bool.{and_parts, cond_both}
 use Rattle.std.proofs.lemmas.Int.{ints}
@@ -23,7 +24,8 @@ use Rattle.slot_places.proofs.StepLaws.{sum-same}
 use Rattle.slot_places.proofs.WithoutLaws.{place-without}
 
 -- the range: at most six amounts of at most 2^42
-amount-small : (slots : SlotList) → AreSlots slots → (j i : ℕ) → 0 < j → j ≤ length slots.bidders → i ≤ length (bids_of slots j) → (bid_of slots j i).amount ≤ 2 ^ 42
+amount-small : (slots : SlotList) → AreSlots slots → (j i : ℕ) → 0 < j → j ≤ length slots.bidders → i ≤ length (bids_of slots j)
+    → (bid_of slots j i).amount ≤ 2 ^ 42
 amount-small slots kept j zero some low known = omega arith
 amount-small slots kept j (suc i) some low known = (kept.bidders j some low).amounts i (omega (arith, known))
 
@@ -39,7 +41,8 @@ sum-most f most (suc n) h =
     omega (arith, rest, own)
 
 -- with a denominator of 1 and no surpluses, no sum of a placed choice leaves the range
-pub range-plain : (slots : SlotList) (skip : ℕ) (surplus : List ℤ) → AreSlots slots → ((k : ℕ) → get_or surplus k (pos 0) ≡ pos 0) → StaysInRange (board_without slots skip) (amount_of slots) (pos 1) surplus
+pub range-plain : (slots : SlotList) (skip : ℕ) (surplus : List ℤ) → AreSlots slots → ((k : ℕ) → get_or surplus k (pos 0) ≡ pos 0)
+    → StaysInRange (board_without slots skip) (amount_of slots) (pos 1) surplus
 range-plain slots skip surplus kept zeros c t =
     let n = length slots.bidders in
     let b = board_without slots skip in
@@ -55,7 +58,8 @@ range-plain slots skip surplus kept zeros c t =
     omega (arith, sum, few)
 
 -- no allowed choice is worth more than so many of the greatest amounts
-pub value-small : (slots : SlotList) (c : List ℕ) → AreSlots slots → IsTrue (is_placed (board_of slots) c) → unsigned_abs (value_of (market_of slots) c) ≤ 6 * 2 ^ 42
+pub value-small : (slots : SlotList) (c : List ℕ) → AreSlots slots → IsTrue (is_placed (board_of slots) c)
+    → unsigned_abs (value_of (market_of slots) c) ≤ 6 * 2 ^ 42
 value-small slots c kept t =
     let n = length slots.bidders in
     let b = board_of slots in
@@ -66,14 +70,16 @@ value-small slots c kept t =
     let down : suc i - 1 ≡ i = omega arith in
     let low : get_or c i 0 ≤ length (bids_of slots (suc i)) = subst (λ h. get_or c h 0 ≤ length (bids_of slots (suc i))) down number in
     let same : i ≡ 0 + i = omega arith in
-    subst (λ h. unsigned_abs (amount_of slots (suc h) (get_or c i 0)) ≤ 2 ^ 42) same (amount-small slots kept (suc i) (get_or c i 0) (omega arith) (omega (arith, inside, count)) low) in
+    subst (λ h. unsigned_abs (amount_of slots (suc h) (get_or c i 0)) ≤ 2 ^ 42) same
+    (amount-small slots kept (suc i) (get_or c i 0) (omega arith) (omega (arith, inside, count)) low) in
     let sum = sum-size (amount_of slots) (λ j. 2 ^ 42) 0 c each in
     let whole = sum-most (λ j. 2 ^ 42) (2 ^ 42) (0 + length c) (λ j some low. omega arith) in
     let few = kept.few in
     omega (arith, sum, whole, count, few)
 
 -- a lowered amount is the amount itself
-amount-plain : (slots : SlotList) (surplus : List ℤ) (j i : ℕ) → of_bidder surplus j ≡ pos 0 → lowered (pos 1) (amount_of slots) surplus j i ≡ amount_of slots j i
+amount-plain : (slots : SlotList) (surplus : List ℤ) (j i : ℕ) → of_bidder surplus j ≡ pos 0 → lowered (pos 1)
+    (amount_of slots) surplus j i ≡ amount_of slots j i
 amount-plain slots surplus j zero none = rw none refl
 amount-plain slots surplus j (suc i) none = rw none omega (arith, ints)
 
@@ -83,8 +89,10 @@ module _ (slots : SlotList) (skip : ℕ) (surplus : List ℤ) (zeros : (k : ℕ)
   value-plain c = sum-plain (amount_of slots) surplus 0 c (λ j. refl) (λ j. zeros (j - 1))
 
   -- the first of the greatest by the sums is the first of the greatest by the values
-  pub first-plain : (c : List ℕ) → IsFirstGreatest (is_placed (board_without slots skip)) (sum_after (lowered (pos 1) (amount_of slots) surplus) 0) c → IsFirstGreatest (is_placed (board_without slots skip)) (value_of (market_of slots)) c
-  first-plain c g = IsFirstGreatest-same (is_placed (board_without slots skip)) (is_placed (board_without slots skip)) (sum_after (lowered (pos 1) (amount_of slots) surplus) 0) (value_of (market_of slots)) c (λ d. refl) value-plain g
+  pub first-plain : (c : List ℕ) → IsFirstGreatest (is_placed (board_without slots skip)) (sum_after (lowered (pos 1) (amount_of slots) surplus) 0) c
+      → IsFirstGreatest (is_placed (board_without slots skip)) (value_of (market_of slots)) c
+  first-plain c g = IsFirstGreatest-same (is_placed (board_without slots skip)) (is_placed (board_without slots skip))
+      (sum_after (lowered (pos 1) (amount_of slots) surplus) 0) (value_of (market_of slots)) c (λ d. refl) value-plain g
 
   outside-plain : (s : ℕ → Bool) (c : List ℕ) → sum_outside s (lowered (pos 1) (amount_of slots) surplus) c ≡ sum_outside s (amount_of slots) c
   outside-plain s c =
@@ -92,13 +100,15 @@ module _ (slots : SlotList) (skip : ℕ) (surplus : List ℤ) (zeros : (k : ℕ)
       (λ j i some. ap (λ z. cond (s j) (pos 0) z) (amount-plain slots surplus j i (zeros (j - 1))))
 
   -- the exact table of the lowered amounts is that of the amounts
-  pub table-plain : (table : List (List ℤ)) → IsSetTable (board_without slots skip) (lowered (pos 1) (amount_of slots) surplus) table → IsSetTable (board_without slots skip) (amount_of slots) table
+  pub table-plain : (table : List (List ℤ)) → IsSetTable (board_without slots skip) (lowered (pos 1) (amount_of slots) surplus) table
+      → IsSetTable (board_without slots skip) (amount_of slots) table
   table-plain table is = record {
     lines = is.lines;
     sets = is.sets;
     exact = λ bits low.
         let e = is.exact bits low in
-        most-same (fits_behind (board_without slots skip) (holds bits)) (sum_outside (holds bits) (lowered (pos 1) (amount_of slots) surplus)) (sum_outside (holds bits) (amount_of slots)) (get_or (get_or table 0 []) bits (pos 0)) (outside-plain (holds bits)) e;
+        most-same (fits_behind (board_without slots skip) (holds bits)) (sum_outside (holds bits) (lowered (pos 1) (amount_of slots) surplus))
+        (sum_outside (holds bits) (amount_of slots)) (get_or (get_or table 0 []) bits (pos 0)) (outside-plain (holds bits)) e;
   }
     where
       most-same : (p : List ℕ → Bool) (v w : List ℕ → ℤ) (most : ℤ) → ((c : List ℕ) → v c ≡ w c) → IsGreatestValue p v most → IsGreatestValue p w most
@@ -121,7 +131,8 @@ fits-known b c = ap (λ p. is_known b c && is_within p []) (no-packages b 0 c) �
 
 known-without : (slots : SlotList) (skip : ℕ) (c : List ℕ) → 0 < skip → is_known (board_without slots skip) c ≡ is_known (board_of slots) c && not (uses c skip)
 known-without slots skip c some =
-    sym (fits-known (board_without slots skip) c) ∙ (fits-skip (menu_of (board_of slots)) skip [] c some ∙ ap (λ x. x && not (uses c skip)) (fits-known (board_of slots) c))
+    sym (fits-known (board_without slots skip) c) ∙ (fits-skip (menu_of (board_of slots)) skip [] c some
+    ∙ ap (λ x. x && not (uses c skip)) (fits-known (board_of slots) c))
 
 -- a choice is placed without a bidder's bids just where it is allowed and doesn't use the bidder
 pub placed-without : (slots : SlotList) (skip : ℕ) (c : List ℕ) → 0 < skip → is_placed (board_without slots skip) c ≡ allowed_without (market_of slots) skip c
@@ -132,6 +143,8 @@ placed-without slots skip c some =
     ∙ move-last (is_known (board_of slots) c) (can_place (board_of slots) c n nobody) (not (uses c skip)))
 
 -- the first of the greatest without a bidder's bids is the first of the greatest that don't use the bidder
-pub first-without : (slots : SlotList) (skip : ℕ) (c : List ℕ) → 0 < skip → IsFirstGreatest (is_placed (board_without slots skip)) (value_of (market_of slots)) c → IsFirstGreatest (allowed_without (market_of slots) skip) (value_of (market_of slots)) c
+pub first-without : (slots : SlotList) (skip : ℕ) (c : List ℕ) → 0 < skip → IsFirstGreatest (is_placed (board_without slots skip))
+    (value_of (market_of slots)) c → IsFirstGreatest (allowed_without (market_of slots) skip) (value_of (market_of slots)) c
 first-without slots skip c some g =
-    IsFirstGreatest-same (is_placed (board_without slots skip)) (allowed_without (market_of slots) skip) (value_of (market_of slots)) (value_of (market_of slots)) c (λ d. placed-without slots skip d some) (λ d. refl) g
+    IsFirstGreatest-same (is_placed (board_without slots skip)) (allowed_without (market_of slots) skip) (value_of (market_of slots))
+    (value_of (market_of slots)) c (λ d. placed-without slots skip d some) (λ d. refl) g

@@ -15,12 +15,14 @@ use Rattle.slot_places.specs.Fields.{bid_value, bidder_value, slots_value}
 pub bidders-read : (s : Inside) (slots : SlotList) → slots_value s ≡ slots → length s.bidders.items ≡ length slots.bidders
 bidders-read s slots is = sym (length-map s.bidders.items bidder_value) ∙ ap (λ (x : SlotList). length x.bidders) is
 
-module _ (s : Inside) (slots : SlotList) (is : slots_value s ≡ slots) (j : ℕ) (known : j ≤ length s.bidders.items) (some : zero < j) (bidder : BandBidder) (read : bidder ≡ get_or s.bidders.items (j - 1) bidder) where
+module _ (s : Inside) (slots : SlotList) (is : slots_value s ≡ slots) (j : ℕ) (known : j ≤ length s.bidders.items) (some : zero < j) (bidder : BandBidder)
+    (read : bidder ≡ get_or s.bidders.items (j - 1) bidder) where
   -- a bidder that is read from the fields is the bidder of the slots
   pub bidder-read : bidder_of slots j ≡ bidder_value bidder
   bidder-read =
       let inside : j - 1 < length s.bidders.items = omega (arith, known, some) in
-      let one : bidder_of (slots_value s) j ≡ bidder_value (get_or s.bidders.items (j - 1) bidder) = get_or-map bidder_value s.bidders.items (j - 1) bidder no_bidder inside in
+      let one : bidder_of (slots_value s) j ≡ bidder_value (get_or s.bidders.items (j - 1) bidder) =
+      get_or-map bidder_value s.bidders.items (j - 1) bidder no_bidder inside in
       ap (λ x. bidder_of x j) (sym is) ∙ one ∙ ap bidder_value (sym read)
 
   -- its bids are those of the slots
@@ -52,7 +54,8 @@ part-most f g (suc n) low = let rest = part-most f g n low in let own = low (suc
 
 first-most : (g : ℕ → ℕ) (n m : ℕ) → sum_to g n ≤ sum_to g (n + m)
 first-most g n zero = let e : n + 0 ≡ n = omega arith in subst (λ k. sum_to g n ≤ sum_to g k) (sym e) (omega arith)
-first-most g n (suc m) = let rest = first-most g n m in let e : n + suc m ≡ suc (n + m) = omega arith in subst (λ k. sum_to g n ≤ sum_to g k) (sym e) (omega (arith, rest))
+first-most g n (suc m) = let rest = first-most g n m in let e : n + suc m ≡ suc (n + m) = omega arith in
+    subst (λ k. sum_to g n ≤ sum_to g k) (sym e) (omega (arith, rest))
 
 cond-most : (x : Bool) (w : ℕ) → cond x w 0 ≤ w
 cond-most true w = omega arith
@@ -63,7 +66,8 @@ pub widths-to : (slots : SlotList) → AreSlots slots → (s : ℕ → Bool) (k 
 widths-to slots kept s k low =
     let a = part-most (λ j. cond (s j) (width_of slots j) 0) (width_of slots) k (λ j. cond-most (s j) (width_of slots j)) in
     let e : k + (length slots.bidders - k) ≡ length slots.bidders = omega (arith, low) in
-    let b : sum_to (width_of slots) k ≤ sum_to (width_of slots) (length slots.bidders) = subst (λ n. sum_to (width_of slots) k ≤ sum_to (width_of slots) n) e (first-most (width_of slots) k (length slots.bidders - k)) in
+    let b : sum_to (width_of slots) k ≤ sum_to (width_of slots) (length slots.bidders) = subst (λ n. sum_to (width_of slots) k ≤ sum_to (width_of slots) n) e
+    (first-most (width_of slots) k (length slots.bidders - k)) in
     omega (arith, a, b, kept.widths, kept.band.1)
 
 -- no bidder is wider than 40 slots

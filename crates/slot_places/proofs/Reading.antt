@@ -7,7 +7,8 @@ use Rattle.choices.specs.line_text.specs.Reading.{Runs}
 use Rattle.choices.specs.line_text.proofs.Runs.{FrontOf, Reads, StepsBehind, StepsOnce, front_reached, runs_append}
 use Rattle.slot_places.specs.Slots.{SlotBid, SlotBidder, SlotList}
 use Rattle.choices.specs.book_form.specs.BookLines.{Line}
-use Rattle.slot_places.specs.SlotForm.{IsSlotBid, AreSlotBids, IsSlotBidder, AreSlotBidders, IsSlotText, bidder_excess, band_line, bidder_line, place_line, place_lines, bidder_lines, head_lines, slot_lines}
+use Rattle.slot_places.specs.SlotForm.{IsSlotBid, AreSlotBids, IsSlotBidder, AreSlotBidders, IsSlotText, bidder_excess, band_line, bidder_line, place_line}
+use Rattle.slot_places.specs.SlotForm.{place_lines, bidder_lines, head_lines, slot_lines}
 use Rattle.slot_places.specs.declared.read.Stage.{Stage}
 use Rattle.slot_places.specs.declared.read.Stage.TheVariants.{Start, Headed, Listing, Ended}
 use Rattle.slot_places.specs.Stages.{last_start, bidder_with, with_bidders, opened, AddsPlace, Step, last_excess, excess}
@@ -45,7 +46,8 @@ step_behind s t l = by_stage s
 
     by_stage : (s : Stage) → IsSound s → Step s l t → F (behind s) l t
     by_stage Start sound step = move [] (codes "slots 1") Headed step.0 step.1 (tt, refl)
-    by_stage Headed sound step = move ((codes "slots 1", None) ∷ []) (band_line step.0).0 (Listing (opened step.0)) step.1 step.3 (record { band = step.2; bidders = tt }, refl)
+    by_stage Headed sound step = move ((codes "slots 1", None) ∷ []) (band_line step.0).0 (Listing (opened step.0)) step.1 step.3
+        (record { band = step.2; bidders = tt }, refl)
     by_stage (Listing slots) sound (inl last) = move (listed slots) (codes "end") (Ended slots) last.0 last.1 (sound, refl)
     by_stage (Listing slots) sound (inr step) = move (listed slots) l (Listing step.0) refl step.2 (adds_one slots step.0 l sound step.1)
     by_stage (Ended slots) sound step = absurd step
@@ -56,13 +58,27 @@ one_slot = record { band = (omega arith, omega arith); bidders = tt }
 front_of : (s : Stage) → IsSound s → FrontOf IsSlotText slot_lines (behind s)
 front_of Start sound = record { value = opened 1; count = 0; valid = one_slot; same = refl }
 front_of Headed sound = record { value = opened 1; count = 1; valid = one_slot; same = refl }
-front_of (Listing slots) sound = record { value = slots; count = length (listed slots); valid = sound; same = take_at (listed slots) ((codes "end", None) ∷ []) _ refl }
-front_of (Ended slots) sound = record { value = slots; count = length (slot_lines slots); valid = sound; same = take_all (length (slot_lines slots)) (slot_lines slots) (omega arith) }
+front_of (Listing slots) sound = record {
+  value = slots;
+  count = length (listed slots);
+  valid = sound;
+  same =
+      take_at (listed slots) ((codes "end", None) ∷ []) _ refl;
+}
+front_of (Ended slots) sound = record {
+  value = slots;
+  count = length (slot_lines slots);
+  valid = sound;
+  same =
+      take_all (length (slot_lines slots)) (slot_lines slots) (omega arith);
+}
 
 -- the stages go over the lines of slots
 
-bid_added_line : (slots : SlotList) (front : List SlotBidder) (name : List ℕ) (width : ℕ) (had : List SlotBid) (b : SlotBid) → IsSlotBid slots.band width (last_start 0 had) b
-    → AddsPlace (with_bidders slots (front ++ bidder_with name width had ∷ [])) (with_bidders slots (front ++ bidder_with name width (had ++ b ∷ []) ∷ [])) (place_line b).0
+bid_added_line : (slots : SlotList) (front : List SlotBidder) (name : List ℕ) (width : ℕ) (had : List SlotBid) (b : SlotBid)
+    → IsSlotBid slots.band width (last_start 0 had) b
+    → AddsPlace (with_bidders slots (front ++ bidder_with name width had ∷ [])) (with_bidders slots (front ++ bidder_with name width (had ++ b ∷ []) ∷ []))
+    (place_line b).0
 bid_added_line slots front name width had b is =
     let old = with_bidders slots (front ++ bidder_with name width had ∷ []) in
     record {
@@ -75,9 +91,12 @@ bid_added_line slots front name width had b is =
       new_is = sym (with_last old front (bidder_with name width had) b refl);
     }
 
-bids_run : (slots : SlotList) (front : List SlotBidder) (name : List ℕ) (width : ℕ) (had bs : List SlotBid) → slots.band ≤ 999 → AreSlotBids slots.band width (last_start 0 had) bs
-    → Runs Step excess (Listing (with_bidders slots (front ++ bidder_with name width had ∷ []))) (place_lines bs) (Listing (with_bidders slots (front ++ bidder_with name width (had ++ bs) ∷ [])))
-bids_run slots front name width had [] low all = ap (λ (r : List SlotBid). Listing (with_bidders slots (front ++ bidder_with name width r ∷ []))) (sym (append-nil had))
+bids_run : (slots : SlotList) (front : List SlotBidder) (name : List ℕ) (width : ℕ) (had bs : List SlotBid) → slots.band ≤ 999
+    → AreSlotBids slots.band width (last_start 0 had) bs
+    → Runs Step excess (Listing (with_bidders slots (front ++ bidder_with name width had ∷ []))) (place_lines bs)
+    (Listing (with_bidders slots (front ++ bidder_with name width (had ++ bs) ∷ [])))
+bids_run slots front name width had [] low all = ap (λ (r : List SlotBid). Listing (with_bidders slots (front ++ bidder_with name width r ∷ [])))
+    (sym (append-nil had))
 bids_run slots front name width had (b ∷ bs) low all =
     let rest = bids_run slots front name width (had ++ b ∷ []) bs low (subst (λ p. AreSlotBids slots.band width p bs) (sym (last_start-push 0 had b)) all.1) in
     let within = all.0.within in
@@ -91,14 +110,17 @@ bids_run slots front name width had (b ∷ bs) low all =
         refl,
       ),
       mark,
-      subst (λ (r : List SlotBid). Runs Step excess (Listing (with_bidders slots (front ++ bidder_with name width (had ++ b ∷ []) ∷ []))) (place_lines bs) (Listing (with_bidders slots (front ++ bidder_with name width r ∷ [])))) (append_assoc had (b ∷ []) bs) rest,
+      subst (λ (r : List SlotBid). Runs Step excess (Listing (with_bidders slots (front ++ bidder_with name width (had ++ b ∷ []) ∷ []))) (place_lines bs)
+          (Listing (with_bidders slots (front ++ bidder_with name width r ∷ [])))) (append_assoc had (b ∷ []) bs) rest,
     )
 
 bidder_run : (slots : SlotList) (front : List SlotBidder) (b : SlotBidder) → slots.band ≤ 999 → IsSlotBidder slots.band front b
-    → Runs Step excess (Listing (with_bidders slots front)) (bidder_line (length front) b.name b.width ∷ place_lines b.bids) (Listing (with_bidders slots (front ++ b ∷ [])))
+    → Runs Step excess (Listing (with_bidders slots front)) (bidder_line (length front) b.name b.width ∷ place_lines b.bids)
+    (Listing (with_bidders slots (front ++ b ∷ [])))
 bidder_run slots front b low is =
     let room = is.room in
-    let mark : bidder_excess (length front + 1) ≡ last_excess slots.band 0 (front ++ bidder_with b.name b.width [] ∷ []) = ap bidder_excess (omega arith) ∙ sym (last_excess-push slots.band 0 front (bidder_with b.name b.width [])) in (
+    let mark : bidder_excess (length front + 1) ≡ last_excess slots.band 0 (front ++ bidder_with b.name b.width [] ∷ []) =
+    ap bidder_excess (omega arith) ∙ sym (last_excess-push slots.band 0 front (bidder_with b.name b.width [])) in (
       Listing (with_bidders slots (front ++ bidder_with b.name b.width [] ∷ [])),
       bidder_feeds (length front) b.name b.width is.name (omega (arith, room, low)),
       inr (
@@ -123,10 +145,15 @@ bidders_run slots front [] low all = ap (λ (r : List SlotBidder). Listing (with
 bidders_run slots front (b ∷ bs) low all =
     let first = bidder_run slots front b low all.0 in
     let rest = bidders_run slots (front ++ b ∷ []) bs low all.1 in
-    let moved : Runs Step excess (Listing (with_bidders slots (front ++ b ∷ []))) (bidder_lines (length front + 1) bs) (Listing (with_bidders slots (front ++ b ∷ bs))) =
-    subst (λ (r : List SlotBidder). Runs Step excess (Listing (with_bidders slots (front ++ b ∷ []))) (bidder_lines (length front + 1) bs) (Listing (with_bidders slots r))) (append_assoc front (b ∷ []) bs)
-    (subst (λ (k : ℕ). Runs Step excess (Listing (with_bidders slots (front ++ b ∷ []))) (bidder_lines k bs) (Listing (with_bidders slots ((front ++ b ∷ []) ++ bs)))) (length-append front (b ∷ [])) rest) in
-    runs_append Step excess (Listing (with_bidders slots front)) (Listing (with_bidders slots (front ++ b ∷ []))) (Listing (with_bidders slots (front ++ b ∷ bs))) (bidder_line (length front) b.name b.width ∷ place_lines b.bids) (bidder_lines (length front + 1) bs) first moved
+    let moved : Runs Step excess (Listing (with_bidders slots (front ++ b ∷ []))) (bidder_lines (length front + 1) bs)
+    (Listing (with_bidders slots (front ++ b ∷ bs))) =
+    subst (λ (r : List SlotBidder). Runs Step excess (Listing (with_bidders slots (front ++ b ∷ []))) (bidder_lines (length front + 1) bs)
+    (Listing (with_bidders slots r))) (append_assoc front (b ∷ []) bs)
+    (subst (λ (k : ℕ). Runs Step excess (Listing (with_bidders slots (front ++ b ∷ []))) (bidder_lines k bs)
+    (Listing (with_bidders slots ((front ++ b ∷ []) ++ bs)))) (length-append front (b ∷ [])) rest) in
+    runs_append Step excess (Listing (with_bidders slots front)) (Listing (with_bidders slots (front ++ b ∷ [])))
+    (Listing (with_bidders slots (front ++ b ∷ bs))) (bidder_line (length front) b.name b.width ∷ place_lines b.bids)
+    (bidder_lines (length front + 1) bs) first moved
 
 complete : (slots : SlotList) → IsSlotText slots → Runs Step excess begin (slot_lines slots) (finish slots)
 complete slots valid =

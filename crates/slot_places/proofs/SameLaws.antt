@@ -35,7 +35,8 @@ idle-same s t k (i ∷ c) same = rw (idle-same s t (suc k) c same, same (suc k) 
 abbrev pub AsksBidders : Board → Type 0
 AsksBidders b = (s t : ℕ → Bool) (j i : ℕ) → IsSame s t → b.may s j i ≡ b.may t j i
 
-widths-same : (slots : SlotList) (s t : ℕ → Bool) (n : ℕ) → IsSame s t → sum_to (λ j. cond (s j) (width_of slots j) 0) n ≡ sum_to (λ j. cond (t j) (width_of slots j) 0) n
+widths-same : (slots : SlotList) (s t : ℕ → Bool) (n : ℕ) → IsSame s t → sum_to (λ j. cond (s j) (width_of slots j) 0) n ≡ sum_to
+    (λ j. cond (t j) (width_of slots j) 0) n
 widths-same slots s t zero same = refl
 widths-same slots s t (suc n) same = rw (widths-same slots s t n same, same (suc n) (omega arith)) refl
 
@@ -49,15 +50,18 @@ slots-ask slots skip s t j i same = ap (λ start. starts_at slots start j i) (st
 
 -- a choice counts the same outside the one as outside the other
 pub sum_outside-same : (counts : ℕ → ℕ → ℤ) (s t : ℕ → Bool) → IsSame s t → (d : List ℕ) → sum_outside s counts d ≡ sum_outside t counts d
-sum_outside-same counts s t same d = sum-same (counts_outside s counts) (counts_outside t counts) 0 d (λ j i some. ap (λ x. cond x (pos 0) (counts j i)) (same j some))
+sum_outside-same counts s t same d = sum-same (counts_outside s counts) (counts_outside t counts) 0 d
+    (λ j i some. ap (λ x. cond x (pos 0) (counts j i)) (same j some))
 
 module _ (b : Board) (asks : AsksBidders b) where
   -- so many others can be placed behind the one just where they can behind the other
   pub place-same : (c : List ℕ) (left : ℕ) (s t : ℕ → Bool) → IsSame s t → can_place b c left s ≡ can_place b c left t
   place-same c zero s t same = refl
   place-same c (suc left) s t same =
-      some-same (λ j. not (s j) && (b.may s j (number_of c j) && can_place b c left (joined j s))) (λ j. not (t j) && (b.may t j (number_of c j) && can_place b c left (joined j t))) b.bidders
-      (λ j some. three (s j) (b.may s j (number_of c j)) (can_place b c left (joined j s)) (t j) (b.may t j (number_of c j)) (can_place b c left (joined j t)) (same j some) (asks s t j (number_of c j) same) (place-same c left (joined j s) (joined j t) (joined-same j s t same)))
+      some-same (λ j. not (s j) && (b.may s j (number_of c j) && can_place b c left (joined j s)))
+      (λ j. not (t j) && (b.may t j (number_of c j) && can_place b c left (joined j t))) b.bidders
+      (λ j some. three (s j) (b.may s j (number_of c j)) (can_place b c left (joined j s)) (t j) (b.may t j (number_of c j)) (can_place b c left (joined j t))
+      (same j some) (asks s t j (number_of c j) same) (place-same c left (joined j s) (joined j t) (joined-same j s t same)))
     where
       three : (x y z u v w : Bool) → x ≡ u → y ≡ v → z ≡ w → not x && (y && z) ≡ not u && (v && w)
       three x y z u v w p q r = rw (p, q, r) refl
@@ -66,7 +70,8 @@ module _ (b : Board) (asks : AsksBidders b) where
   pub fits-same : (s t : ℕ → Bool) → IsSame s t → (c : List ℕ) → fits_behind b s c ≡ fits_behind b t c
   fits-same s t same c =
       ap (λ x. (is_known b c && x) && can_place b c (outside s b.bidders) s) (idle-same s t 0 c same)
-      ∙ ap (λ x. (is_known b c && is_idle_in t 0 c) && x) (ap (λ n. can_place b c n s) (outside-same s t b.bidders same) ∙ place-same c (outside t b.bidders) s t same)
+      ∙ ap (λ x. (is_known b c && is_idle_in t 0 c) && x) (ap (λ n. can_place b c n s) (outside-same s t b.bidders same)
+      ∙ place-same c (outside t b.bidders) s t same)
 
   -- the best choice behind the one is the best behind the other
   pub best-same : (counts : ℕ → ℕ → ℤ) (s t : ℕ → Bool) → IsSame s t → (c : List ℕ) → IsSetBest b counts s c → IsSetBest b counts t c

@@ -105,8 +105,13 @@ out-at (suc k) n small = by (cases_eq (n % 2) 0) (λ half. out-at k (n / 2) half
 pub some-out : (k n : ℕ) → n + 1 < 2 ^ k → (j : ℕ) × (0 < j) × (j ≤ k) × (holds n j ≡ false)
 some-out k n small =
     let q = out-at k n small in
-    let e : suc q.0 - 1 ≡ q.0 = omega arith in
-    (suc q.0, omega arith, omega (arith, q.1), ne_eqb (bit_at n (suc q.0 - 1)) 1 (λ t. let z : bit_at n (suc q.0 - 1) ≡ 0 = subst (λ h. bit_at n h ≡ 0) (sym e) q.2 in omega (arith, t, z)))
+    let e : suc q.0 - 1 ≡ q.0 = omega arith in (
+      suc q.0,
+      omega arith,
+      omega (arith, q.1),
+      ne_eqb (bit_at n (suc q.0 - 1)) 1
+          (λ t. let z : bit_at n (suc q.0 - 1) ≡ 0 = subst (λ h. bit_at n h ≡ 0) (sym e) q.2 in omega (arith, t, z)),
+    )
 
 -- a set that isn't that of all has bidders outside
 pub outside-positive : (k n : ℕ) → n + 1 < 2 ^ k → 0 < outside (holds n) k

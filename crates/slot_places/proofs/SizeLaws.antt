@@ -1,5 +1,6 @@
 -- What fits behind a set is placed: the bidders of the set go first, each with 0.
-use Rattle.std.specs.Prelude.{◌≡◌, ◌⊎◌, ℕ, zero, suc, ◌+◌, ◌-◌, ◌*◌, ◌^◌, ◌≤◌, ◌<◌, Bool, true, false, cond, ◌&&◌, nat_le, IsTrue, List, [], ◌∷◌, length, get_or, refl, ℤ, pos, unsigned_abs}
+use Rattle.std.specs.Prelude.{◌≡◌, ◌⊎◌, ℕ, zero, suc, ◌+◌, ◌-◌, ◌*◌, ◌^◌, ◌≤◌, ◌<◌, Bool, true, false, cond, ◌&&◌, nat_le, IsTrue, List, [], ◌∷◌, length}
+use Rattle.std.specs.Prelude.{get_or, refl, ℤ, pos, unsigned_abs}
 use Rattle.std.proofs.Common.{inl, inr, sym, ◌∙◌, ap, arith, subst}
 use Rattle.std.proofs.lemmas.Bool.{and_from, and_right, le-leb, lt-leb, cases_Bool, cases_eq, cases_lt}
 use Rattle.std.proofs.lemmas.Int.{ints, unsigned_abs-mul}
@@ -27,7 +28,8 @@ up_to-low s k i low = ap (λ x. s i && x) (le-leb i k low) ∙ true-right (s i)
 up_to-past : (s : ℕ → Bool) (k i : ℕ) → k < i → up_to s k i ≡ false
 up_to-past s k i past = and_right (s i) (nat_le i k) (lt-leb i k past)
 
-module _ (b : Board) (asks : AsksBidders b) (idle : (s : ℕ → Bool) (j : ℕ) → IsTrue (b.may s j 0)) (s : ℕ → Bool) (c : List ℕ) (within : (i : ℕ) → b.bidders < i → s i ≡ false) (zeros : (j : ℕ) → 0 < j → j ≤ b.bidders → s j ≡ true → number_of c j ≡ 0) where
+module _ (b : Board) (asks : AsksBidders b) (idle : (s : ℕ → Bool) (j : ℕ) → IsTrue (b.may s j 0)) (s : ℕ → Bool) (c : List ℕ)
+    (within : (i : ℕ) → b.bidders < i → s i ≡ false) (zeros : (j : ℕ) → 0 < j → j ≤ b.bidders → s j ≡ true → number_of c j ≡ 0) where
   -- up to the last bidder it is the whole set
   up_to-all : (k : ℕ) → k ≡ b.bidders → IsSame s (up_to s k)
   up_to-all k e i some =
@@ -39,7 +41,8 @@ module _ (b : Board) (asks : AsksBidders b) (idle : (s : ℕ → Bool) (j : ℕ)
   up_to-in : (k : ℕ) → s (suc k) ≡ true → IsSame (up_to s (suc k)) (joined (suc k) (up_to s k))
   up_to-in k t i some =
       elim (cases_eq i (suc k)) [
-        | inl same ↦ subst (λ h. up_to s (suc k) h ≡ joined (suc k) (up_to s k) h) (sym same) (up_to-low s (suc k) (suc k) (omega arith) ∙ (t ∙ sym (joined-self (suc k) (up_to s k))))
+        | inl same ↦ subst (λ h. up_to s (suc k) h ≡ joined (suc k) (up_to s k) h) (sym same)
+            (up_to-low s (suc k) (suc k) (omega arith) ∙ (t ∙ sym (joined-self (suc k) (up_to s k))))
         | inr other ↦
             elim (cases_lt k i) [
               | inl past ↦ up_to-past s (suc k) i (omega (arith, past, other)) ∙ sym (joined-other (suc k) (up_to s k) i other ∙ up_to-past s k i past)
@@ -50,7 +53,8 @@ module _ (b : Board) (asks : AsksBidders b) (idle : (s : ℕ → Bool) (j : ℕ)
   up_to-out : (k : ℕ) → s (suc k) ≡ false → IsSame (up_to s (suc k)) (up_to s k)
   up_to-out k f i some =
       elim (cases_eq i (suc k)) [
-        | inl same ↦ subst (λ h. up_to s (suc k) h ≡ up_to s k h) (sym same) (up_to-low s (suc k) (suc k) (omega arith) ∙ (f ∙ sym (up_to-past s k (suc k) (omega arith))))
+        | inl same ↦ subst (λ h. up_to s (suc k) h ≡ up_to s k h) (sym same) (up_to-low s (suc k) (suc k) (omega arith)
+            ∙ (f ∙ sym (up_to-past s k (suc k) (omega arith))))
         | inr other ↦
             elim (cases_lt k i) [
               | inl past ↦ up_to-past s (suc k) i (omega (arith, past, other)) ∙ sym (up_to-past s k i past)
@@ -62,10 +66,12 @@ module _ (b : Board) (asks : AsksBidders b) (idle : (s : ℕ → Bool) (j : ℕ)
   reach : (n k : ℕ) → k + n ≡ b.bidders → IsTrue (can_place b c (outside s b.bidders) s) → IsTrue (can_place b c (outside (up_to s k) b.bidders) (up_to s k))
   reach zero k e t =
       let same = up_to-all k (omega (arith, e)) in
-      ap (λ m. can_place b c m (up_to s k)) (sym (outside-same s (up_to s k) b.bidders same)) ∙ (sym (place-same b asks c (outside s b.bidders) s (up_to s k) same) ∙ t)
+      ap (λ m. can_place b c m (up_to s k)) (sym (outside-same s (up_to s k) b.bidders same))
+      ∙ (sym (place-same b asks c (outside s b.bidders) s (up_to s k) same) ∙ t)
   reach (suc n) k e t = by (reach n (suc k) (omega (arith, e)) t) (cases_Bool (s (suc k)))
     where
-      by : IsTrue (can_place b c (outside (up_to s (suc k)) b.bidders) (up_to s (suc k))) → (s (suc k) ≡ true) ⊎ (s (suc k) ≡ false) → IsTrue (can_place b c (outside (up_to s k) b.bidders) (up_to s k))
+      by : IsTrue (can_place b c (outside (up_to s (suc k)) b.bidders) (up_to s (suc k))) → (s (suc k) ≡ true) ⊎ (s (suc k) ≡ false)
+          → IsTrue (can_place b c (outside (up_to s k) b.bidders) (up_to s k))
       by rest (inl in_set) =
           let same = up_to-in k in_set in
           let m = joined (suc k) (up_to s k) in
@@ -73,7 +79,8 @@ module _ (b : Board) (asks : AsksBidders b) (idle : (s : ℕ → Bool) (j : ℕ)
           let more = outside-joined (suc k) (up_to s k) b.bidders (omega arith) (omega (arith, e)) new in
           let none = zeros (suc k) (omega arith) (omega (arith, e)) in_set in
           let after : IsTrue (can_place b c (outside m b.bidders) m) =
-          ap (λ x. can_place b c x m) (sym (outside-same (up_to s (suc k)) m b.bidders same)) ∙ (sym (place-same b asks c (outside (up_to s (suc k)) b.bidders) (up_to s (suc k)) m same) ∙ rest) in
+          ap (λ x. can_place b c x m) (sym (outside-same (up_to s (suc k)) m b.bidders same))
+          ∙ (sym (place-same b asks c (outside (up_to s (suc k)) b.bidders) (up_to s (suc k)) m same) ∙ rest) in
           subst (λ x. IsTrue (can_place b c x (up_to s k))) (sym more)
           (next-from b c (outside m b.bidders) (up_to s k) (suc k) (record {
             some = omega arith;
@@ -84,7 +91,8 @@ module _ (b : Board) (asks : AsksBidders b) (idle : (s : ℕ → Bool) (j : ℕ)
           }))
       by rest (inr out) =
           let same = up_to-out k out in
-          ap (λ x. can_place b c x (up_to s k)) (sym (outside-same (up_to s (suc k)) (up_to s k) b.bidders same)) ∙ (sym (place-same b asks c (outside (up_to s (suc k)) b.bidders) (up_to s (suc k)) (up_to s k) same) ∙ rest)
+          ap (λ x. can_place b c x (up_to s k)) (sym (outside-same (up_to s (suc k)) (up_to s k) b.bidders same))
+          ∙ (sym (place-same b asks c (outside (up_to s (suc k)) b.bidders) (up_to s (suc k)) (up_to s k) same) ∙ rest)
 
   -- where those outside the set can be placed behind it, all bidders can be placed behind nobody
   pub place-whole : IsTrue (can_place b c (outside s b.bidders) s) → IsTrue (can_place b c b.bidders nobody)
@@ -94,7 +102,8 @@ module _ (b : Board) (asks : AsksBidders b) (idle : (s : ℕ → Bool) (j : ℕ)
       sym (place-same b asks c b.bidders (up_to s 0) nobody same) ∙ subst (λ m. IsTrue (can_place b c m (up_to s 0))) all (reach b.bidders 0 (omega arith) t)
 
 -- a choice that fits behind a set is placed
-pub fits-placed : (b : Board) → AsksBidders b → ((s : ℕ → Bool) (j : ℕ) → IsTrue (b.may s j 0)) → (s : ℕ → Bool) (c : List ℕ) → ((i : ℕ) → b.bidders < i → s i ≡ false) → IsTrue (fits_behind b s c) → IsTrue (is_placed b c)
+pub fits-placed : (b : Board) → AsksBidders b → ((s : ℕ → Bool) (j : ℕ) → IsTrue (b.may s j 0)) → (s : ℕ → Bool) (c : List ℕ)
+    → ((i : ℕ) → b.bidders < i → s i ≡ false) → IsTrue (fits_behind b s c) → IsTrue (is_placed b c)
 fits-placed b asks idle s c within t =
     let f = fits-says b s c t in
     let count = fits-length b s c t in
@@ -115,16 +124,19 @@ sum_to-term f (suc n) j some low =
     ]
 
 -- a sum is no greater in size than the bounds of its terms together
-pub sum-size : (f : ℕ → ℕ → ℤ) (caps : ℕ → ℕ) (k : ℕ) (c : List ℕ) → ((i : ℕ) → i < length c → unsigned_abs (f (suc (k + i)) (get_or c i 0)) ≤ caps (suc (k + i))) → sum_to caps k + unsigned_abs (sum_after f k c) ≤ sum_to caps (k + length c)
+pub sum-size : (f : ℕ → ℕ → ℤ) (caps : ℕ → ℕ) (k : ℕ) (c : List ℕ) → ((i : ℕ) → i < length c → unsigned_abs (f (suc (k + i)) (get_or c i 0)) ≤ caps
+    (suc (k + i))) → sum_to caps k + unsigned_abs (sum_after f k c) ≤ sum_to caps (k + length c)
 sum-size f caps k [] all = let e : k + 0 ≡ k = omega arith in rw e (omega arith)
 sum-size f caps k (x ∷ c) all =
     let zero_at : suc (k + 0) ≡ suc k = omega arith in
     let own : unsigned_abs (f (suc k) x) ≤ caps (suc k) = rw zero_at at (all 0 (omega arith)) in
-    let rest = sum-size f caps (suc k) c (λ i inside. let e : suc (k + suc i) ≡ suc (suc k + i) = omega arith in rw e at (all (suc i) (omega (arith, inside)))) in
+    let rest = sum-size f caps (suc k) c (λ i inside. let e : suc (k + suc i) ≡ suc (suc k + i) = omega arith in
+    rw e at (all (suc i) (omega (arith, inside)))) in
     let e : k + suc (length c) ≡ suc k + length c = omega arith in
     rw e (omega (arith, ints, own, rest))
 
-lowered-size : (den : ℤ) (worth : ℕ → ℕ → ℤ) (surplus : List ℤ) (j i : ℕ) → unsigned_abs (lowered den worth surplus j i) ≤ unsigned_abs den * unsigned_abs (worth j i) + unsigned_abs (of_bidder surplus j)
+lowered-size : (den : ℤ) (worth : ℕ → ℕ → ℤ) (surplus : List ℤ) (j i : ℕ) → unsigned_abs (lowered den worth surplus j i) ≤ unsigned_abs den * unsigned_abs
+    (worth j i) + unsigned_abs (of_bidder surplus j)
 lowered-size den worth surplus j zero = let a = abs-idle (of_bidder surplus j) in omega (arith, a)
 lowered-size den worth surplus j (suc i) =
     let m = unsigned_abs-mul den (worth j (suc i)) in
@@ -137,7 +149,9 @@ outside-size s counts j i n low = by (s j)
     by true = omega arith
     by false = low
 
-module _ (b : Board) (asks : AsksBidders b) (idle : (s : ℕ → Bool) (j : ℕ) → IsTrue (b.may s j 0)) (worth : ℕ → ℕ → ℤ) (den : ℤ) (surplus : List ℤ) (range : StaysInRange b worth den surplus) (s : ℕ → Bool) (c : List ℕ) (within : (i : ℕ) → b.bidders < i → s i ≡ false) (fits : IsTrue (fits_behind b s c)) where
+module _ (b : Board) (asks : AsksBidders b) (idle : (s : ℕ → Bool) (j : ℕ) → IsTrue (b.may s j 0)) (worth : ℕ → ℕ → ℤ) (den : ℤ) (surplus : List ℤ)
+    (range : StaysInRange b worth den surplus) (s : ℕ → Bool) (c : List ℕ) (within : (i : ℕ) → b.bidders < i → s i ≡ false)
+    (fits : IsTrue (fits_behind b s c)) where
   abbrev caps : ℕ → ℕ
   caps j = unsigned_abs den * unsigned_abs (worth j (number_of c j)) + unsigned_abs (of_bidder surplus j)
 
@@ -155,7 +169,9 @@ module _ (b : Board) (asks : AsksBidders b) (idle : (s : ℕ → Bool) (j : ℕ)
       let count = fits-length b s c fits in
       let each : (i : ℕ) → i < length c → unsigned_abs (counts_outside s counts (suc (0 + i)) (get_or c i 0)) ≤ caps (suc (0 + i)) = λ i inside.
       let e : suc (0 + i) - 1 ≡ i = omega arith in
-      outside-size s counts (suc (0 + i)) (get_or c i 0) (caps (suc (0 + i))) (subst (λ h. unsigned_abs (counts (suc (0 + i)) (get_or c i 0)) ≤ unsigned_abs den * unsigned_abs (worth (suc (0 + i)) (get_or c h 0)) + unsigned_abs (of_bidder surplus (suc (0 + i)))) (sym e) (lowered-size den worth surplus (suc (0 + i)) (get_or c i 0))) in
+      outside-size s counts (suc (0 + i)) (get_or c i 0) (caps (suc (0 + i))) (subst
+      (λ h. unsigned_abs (counts (suc (0 + i)) (get_or c i 0)) ≤ unsigned_abs den * unsigned_abs (worth (suc (0 + i)) (get_or c h 0)) + unsigned_abs
+      (of_bidder surplus (suc (0 + i)))) (sym e) (lowered-size den worth surplus (suc (0 + i)) (get_or c i 0))) in
       let sum = sum-size (counts_outside s counts) caps 0 c each in
       let same : 0 + length c ≡ b.bidders = omega (arith, count) in
       let most : 0 + unsigned_abs (sum_after (counts_outside s counts) 0 c) ≤ sum_to caps b.bidders = rw same at sum in

@@ -1,7 +1,9 @@
 -- One entry of the table over sets from those with one bidder more.
-use Rattle.std.specs.Prelude.{◌≡◌, ℕ, zero, suc, ◌+◌, ◌-◌, ◌≤◌, ◌<◌, Bool, true, false, cond, ◌&&◌, ◌||◌, not, ◌==◌, IsTrue, List, [], ◌∷◌, length, get_or, set, refl, ℤ, pos, ◌+ℤ◌, ◌≤ℤ◌, ◌<ℤ◌}
+use Rattle.std.specs.Prelude.{◌≡◌, ℕ, zero, suc, ◌+◌, ◌-◌, ◌≤◌, ◌<◌, Bool, true, false, cond, ◌&&◌, ◌||◌, not, ◌==◌, IsTrue, List, [], ◌∷◌, length, get_or}
+use Rattle.std.specs.Prelude.{set, refl, ℤ, pos, ◌+ℤ◌, ◌≤ℤ◌, ◌<ℤ◌}
 use Rattle.std.proofs.Common.{inl, inr, sym, ◌∙◌, ap, arith, subst}
-use Rattle.std.proofs.lemmas.Bool.{false≢true, and_parts, and_from, or_cases, or_left, or_right, not_from_false, not-true, eqb-true, eq-eqb, cases_Bool, cases_eq, cond-false}
+use Rattle.std.proofs.lemmas.Bool.{false≢true, and_parts, and_from, or_cases, or_left, or_right, not_from_false, not-true, eqb-true, eq-eqb, cases_Bool}
+use Rattle.std.proofs.lemmas.Bool.{cases_eq, cond-false}
 use Rattle.std.proofs.lemmas.Int.{ints}
 use Rattle.std.proofs.lemmas.List.{length-set, get_or-set_same, get_or-set_other, set-get_or}
 use Rattle.choices.specs.auction_model.specs.Market.{number_of, sum_after}
@@ -29,7 +31,8 @@ fits-says b s c t =
 
 -- a known choice that is idle in a set, and whose others can be placed behind it, fits behind the set
 pub fits-from : (b : Board) (s : ℕ → Bool) (c : List ℕ) → Fits b s c → IsTrue (fits_behind b s c)
-fits-from b s c f = and_from (is_known b c && is_idle_in s 0 c) (can_place b c (outside s b.bidders) s) (and_from (is_known b c) (is_idle_in s 0 c) f.known f.idle) f.place
+fits-from b s c f = and_from (is_known b c && is_idle_in s 0 c) (can_place b c (outside s b.bidders) s)
+    (and_from (is_known b c) (is_idle_in s 0 c) f.known f.idle) f.place
 
 -- a choice that fits behind a set has a number for each bidder
 pub fits-length : (b : Board) (s : ℕ → Bool) (c : List ℕ) → IsTrue (fits_behind b s c) → length c ≡ b.bidders
@@ -74,18 +77,25 @@ move-rest : (a z b r t : ℤ) → z ≡ a → r ≡ b +ℤ t → a +ℤ r ≡ b 
 move-rest a z b r t own rest = omega (arith, ints)
 
 -- with a number of a bidder outside, a choice counts that bid and what it counts outside the set with the bidder
-pub sum-set : (s : ℕ → Bool) (counts : ℕ → ℕ → ℤ) (k : ℕ) (c : List ℕ) (i n j : ℕ) → j ≡ suc (k + i) → i < length c → s j ≡ false → sum_after (counts_outside s counts) k (set c i n) ≡ counts j n +ℤ sum_after (counts_outside (joined j s) counts) k c
+pub sum-set : (s : ℕ → Bool) (counts : ℕ → ℕ → ℤ) (k : ℕ) (c : List ℕ) (i n j : ℕ) → j ≡ suc (k + i) → i < length c → s j ≡ false
+    → sum_after (counts_outside s counts) k (set c i n) ≡ counts j n +ℤ sum_after (counts_outside (joined j s) counts) k c
 sum-set s counts k [] i n j e inside new = absurd (omega (arith, inside))
 sum-set s counts k (x ∷ c) zero n j e inside new =
     let at : suc k ≡ j = omega (arith, e) in
-    let own : counts_outside s counts (suc k) n ≡ counts j n = subst (λ h. counts_outside s counts h n ≡ counts j n) (sym at) (cond-false (s j) (pos 0) (counts j n) new) in
-    let none : counts_outside (joined j s) counts (suc k) x ≡ pos 0 = subst (λ h. counts_outside (joined j s) counts h x ≡ pos 0) (sym at) (ap (λ t. cond t (pos 0) (counts j x)) (joined-self j s)) in
-    let rest = sum-same (counts_outside s counts) (counts_outside (joined j s) counts) (suc k) c (λ h i low. ap (λ t. cond t (pos 0) (counts h i)) (sym (joined-other j s h (λ q. omega (arith, q, low, at))))) in
-    move-own (counts_outside s counts (suc k) n) (counts j n) (counts_outside (joined j s) counts (suc k) x) (sum_after (counts_outside s counts) (suc k) c) (sum_after (counts_outside (joined j s) counts) (suc k) c) own none rest
+    let own : counts_outside s counts (suc k) n ≡ counts j n = subst (λ h. counts_outside s counts h n ≡ counts j n) (sym at)
+    (cond-false (s j) (pos 0) (counts j n) new) in
+    let none : counts_outside (joined j s) counts (suc k) x ≡ pos 0 = subst (λ h. counts_outside (joined j s) counts h x ≡ pos 0) (sym at)
+    (ap (λ t. cond t (pos 0) (counts j x)) (joined-self j s)) in
+    let rest = sum-same (counts_outside s counts) (counts_outside (joined j s) counts) (suc k) c
+    (λ h i low. ap (λ t. cond t (pos 0) (counts h i)) (sym (joined-other j s h (λ q. omega (arith, q, low, at))))) in
+    move-own (counts_outside s counts (suc k) n) (counts j n) (counts_outside (joined j s) counts (suc k) x) (sum_after (counts_outside s counts) (suc k) c)
+    (sum_after (counts_outside (joined j s) counts) (suc k) c) own none rest
 sum-set s counts k (x ∷ c) (suc i) n j e inside new =
     let rest = sum-set s counts (suc k) c i n j (omega (arith, e)) (omega (arith, inside)) new in
-    let own : counts_outside (joined j s) counts (suc k) x ≡ counts_outside s counts (suc k) x = ap (λ t. cond t (pos 0) (counts (suc k) x)) (joined-other j s (suc k) (λ q. omega (arith, q, e))) in
-    move-rest (counts_outside s counts (suc k) x) (counts_outside (joined j s) counts (suc k) x) (counts j n) (sum_after (counts_outside s counts) (suc k) (set c i n)) (sum_after (counts_outside (joined j s) counts) (suc k) c) own rest
+    let own : counts_outside (joined j s) counts (suc k) x ≡ counts_outside s counts (suc k) x = ap (λ t. cond t (pos 0) (counts (suc k) x))
+    (joined-other j s (suc k) (λ q. omega (arith, q, e))) in
+    move-rest (counts_outside s counts (suc k) x) (counts_outside (joined j s) counts (suc k) x) (counts j n)
+    (sum_after (counts_outside s counts) (suc k) (set c i n)) (sum_after (counts_outside (joined j s) counts) (suc k) c) own rest
 
 set-twice : (c : List ℕ) (k n i : ℕ) → set (set c k n) k i ≡ set c k i
 set-twice [] k n i = refl
@@ -99,7 +109,8 @@ move-first : (own d e x y : ℤ) → x ≡ own +ℤ d → y ≡ own +ℤ e → e
 move-first own d e x y p q most = omega (arith, ints)
 
 -- Bidder j is placed next behind a set and is given number i, and the choice d of the others is the best behind the set with j.
-module _ (b : Board) (idle : (s : ℕ → Bool) (j : ℕ) → IsTrue (b.may s j 0)) (counts : ℕ → ℕ → ℤ) (s : ℕ → Bool) (j : ℕ) (some : 0 < j) (low : j ≤ b.bidders) (new : s j ≡ false) where
+module _ (b : Board) (idle : (s : ℕ → Bool) (j : ℕ) → IsTrue (b.may s j 0)) (counts : ℕ → ℕ → ℤ) (s : ℕ → Bool) (j : ℕ) (some : 0 < j) (low : j ≤ b.bidders)
+    (new : s j ≡ false) where
   -- the choice d with the number of j
   other-number : (c : List ℕ) (n h : ℕ) → 0 < h → (h ≡ j → ⊥) → number_of (set c (j - 1) n) h ≡ number_of c h
   other-number c n h positive other = get_or-set_other c (j - 1) (h - 1) n 0 (λ e. other (omega (arith, e, some, positive)))
@@ -111,7 +122,8 @@ module _ (b : Board) (idle : (s : ℕ → Bool) (j : ℕ) → IsTrue (b.may s j 
   known-with c n known t = let e : suc (0 + (j - 1)) ≡ j = omega (arith, some) in known-set (menu_of b) 0 c (j - 1) n (rw e known) t
 
   -- a choice that fits with j in the set fits with a number of j
-  pub fits-with : (d : List ℕ) (i : ℕ) → i ≤ b.bids j → IsTrue (b.may s j i) → IsTrue (fits_behind b (joined j s) d) → IsTrue (fits_behind b s (set d (j - 1) i))
+  pub fits-with : (d : List ℕ) (i : ℕ) → i ≤ b.bids j → IsTrue (b.may s j i) → IsTrue (fits_behind b (joined j s) d)
+      → IsTrue (fits_behind b s (set d (j - 1) i))
   fits-with d i known may t =
       let f = fits-says b (joined j s) d t in
       let count = fits-length b (joined j s) d t in
@@ -129,7 +141,8 @@ module _ (b : Board) (idle : (s : ℕ → Bool) (j : ℕ) → IsTrue (b.may s j 
             }));
       })
     where
-      own_idle : Fits b (joined j s) d → length d ≡ b.bidders → (h : ℕ) → h < length (set d (j - 1) i) → s (suc (0 + h)) ≡ true → get_or (set d (j - 1) i) h 0 ≡ 0
+      own_idle : Fits b (joined j s) d → length d ≡ b.bidders → (h : ℕ) → h < length (set d (j - 1) i) → s (suc (0 + h)) ≡ true
+          → get_or (set d (j - 1) i) h 0 ≡ 0
       own_idle f count h inside in_set =
           let other : suc (0 + h) ≡ j → ⊥ = λ e. false≢true (sym new ∙ subst (λ k. s k ≡ true) e in_set) in
           get_or-set_other d (j - 1) h i 0 (λ e. other (omega (arith, e, some)))
@@ -139,7 +152,8 @@ module _ (b : Board) (idle : (s : ℕ → Bool) (j : ℕ) → IsTrue (b.may s j 
       more h t positive out may = subst (λ n. IsTrue (b.may t h n)) (sym (other-number d i h positive (joined-differs j s h out))) may
 
   -- a choice that fits and for which j can be next fits with j in the set, without its number
-  pub fits-less : (c : List ℕ) → IsTrue (fits_behind b s c) → Next b c (outside (joined j s) b.bidders) s j → IsTrue (fits_behind b (joined j s) (set c (j - 1) 0))
+  pub fits-less : (c : List ℕ) → IsTrue (fits_behind b s c) → Next b c (outside (joined j s) b.bidders) s j
+      → IsTrue (fits_behind b (joined j s) (set c (j - 1) 0))
   fits-less c t n =
       let f = fits-says b s c t in
       let count = fits-length b s c t in
@@ -164,7 +178,8 @@ module _ (b : Board) (idle : (s : ℕ → Bool) (j : ℕ) → IsTrue (b.may s j 
       more h t positive out may = subst (λ n. IsTrue (b.may t h n)) (sym (other-number c 0 h positive (joined-differs j s h out))) may
 
   -- the best of the choices that give j the number i where j is next
-  pub step-bound : (d : List ℕ) (i : ℕ) → IsSetBest b counts (joined j s) d → (c : List ℕ) → IsTrue (fits_behind b s c) → Next b c (outside (joined j s) b.bidders) s j → number_of c j ≡ i → IsBefore (sum_outside s counts) (set d (j - 1) i) c
+  pub step-bound : (d : List ℕ) (i : ℕ) → IsSetBest b counts (joined j s) d → (c : List ℕ) → IsTrue (fits_behind b s c)
+      → Next b c (outside (joined j s) b.bidders) s j → number_of c j ≡ i → IsBefore (sum_outside s counts) (set d (j - 1) i) c
   step-bound d i best c t n is =
       let e = set c (j - 1) 0 in
       let less = fits-less c t n in
@@ -178,10 +193,13 @@ module _ (b : Board) (idle : (s : ℕ → Bool) (j : ℕ) → IsTrue (b.may s j 
       let none_d : get_or d (j - 1) 0 ≡ 0 = none_in d count_d (fits-says b (joined j s) d best.passed) in
       let none_e : get_or e (j - 1) 0 ≡ 0 = own-number c 0 count_c in
       let before : IsBefore (sum_outside s counts) (set d (j - 1) i) (set e (j - 1) i) = record {
-        most = move-most (counts j i) (sum_outside (joined j s) counts d) (sum_outside (joined j s) counts e) (sum_outside s counts (set d (j - 1) i)) (sum_outside s counts (set e (j - 1) i)) own_d own_e most;
+        most = move-most (counts j i) (sum_outside (joined j s) counts d) (sum_outside (joined j s) counts e) (sum_outside s counts (set d (j - 1) i))
+            (sum_outside s counts (set e (j - 1) i)) own_d own_e most;
         first = λ earlier.
-            let first : sum_outside (joined j s) counts e <ℤ sum_outside (joined j s) counts d = best.first e less (earlier-set d e (j - 1) i (omega (arith, count_d, some, low)) (omega (arith, count_e, count_c, count_d)) (none_d ∙ sym none_e) earlier) in
-            move-first (counts j i) (sum_outside (joined j s) counts d) (sum_outside (joined j s) counts e) (sum_outside s counts (set d (j - 1) i)) (sum_outside s counts (set e (j - 1) i)) own_d own_e first;
+            let first : sum_outside (joined j s) counts e <ℤ sum_outside (joined j s) counts d = best.first e less
+            (earlier-set d e (j - 1) i (omega (arith, count_d, some, low)) (omega (arith, count_e, count_c, count_d)) (none_d ∙ sym none_e) earlier) in
+            move-first (counts j i) (sum_outside (joined j s) counts d) (sum_outside (joined j s) counts e) (sum_outside s counts (set d (j - 1) i))
+            (sum_outside s counts (set e (j - 1) i)) own_d own_e first;
       } in
       subst (IsBefore (sum_outside s counts) (set d (j - 1) i)) back before
     where

@@ -17,12 +17,14 @@ use Rattle.slot_places.proofs.WholeLaws.{best-whole}
 use Rattle.slot_places.proofs.NumberLaws.{idle-always}
 
 -- the best of one set more, before those of the sets behind it
-pub bests-front : (l : Search) (n : ℕ) (bests : List Best) (best : Best) → 0 < n → AreBests l n bests → IsBestOf l (n - 1) best → AreBests l (n - 1) (best ∷ bests)
+pub bests-front : (l : Search) (n : ℕ) (bests : List Best) (best : Best) → 0 < n → AreBests l n bests → IsBestOf l (n - 1) best
+    → AreBests l (n - 1) (best ∷ bests)
 bests-front l n bests best some all own = record { count = omega (arith, some, all.count); each = each }
   where
     each : (x : ℕ) (other : Best) → x < length (best ∷ bests) → IsBestOf l (n - 1 + x) (get_or (best ∷ bests) x other)
     each zero other inside = let e : n - 1 + 0 ≡ n - 1 = omega arith in subst (λ m. IsBestOf l m best) (sym e) own
-    each (suc x) other inside = let e : n - 1 + suc x ≡ n + x = omega (arith, some) in subst (λ m. IsBestOf l m (get_or bests x other)) (sym e) (all.each x other (omega (arith, inside)))
+    each (suc x) other inside = let e : n - 1 + suc x ≡ n + x = omega (arith, some) in subst (λ m. IsBestOf l m (get_or bests x other)) (sym e)
+        (all.each x other (omega (arith, inside)))
 
 abbrev pub sum_of : Best → ℤ
 sum_of best = best.sum
@@ -30,7 +32,8 @@ sum_of best = best.sum
 entry : (l : Search) (set : ℕ) (best : Best) → IsBestOf l set best → IsSetEntry (searched l) (counted l) (holds set) best.sum
 entry l set best is = record {
   reached = (best.numbers.items, is.first.passed, sym is.sum);
-  bound = λ d t. let most : sum_outside (holds set) (counted l) d ≤ℤ sum_outside (holds set) (counted l) best.numbers.items = is.first.greatest d t in let e = is.sum in omega (arith, ints, most, e);
+  bound = λ d t. let most : sum_outside (holds set) (counted l) d ≤ℤ sum_outside (holds set) (counted l) best.numbers.items = is.first.greatest d t in let e =
+      is.sum in omega (arith, ints, most, e);
 }
 
 -- of some bests one is at hand
@@ -51,7 +54,8 @@ table-of l bests all =
           let other = some-best bests some in
           let inside : bits < length bests = omega (arith, low, count) in
           let same : get_or (map sum_of bests) bits (pos 0) ≡ sum_of (get_or bests bits other) = get_or-map sum_of bests bits other (pos 0) inside in
-          let own : IsBestOf l bits (get_or bests bits other) = let e : 0 + bits ≡ bits = omega arith in subst (λ m. IsBestOf l m (get_or bests bits other)) e (all.each bits other inside) in
+          let own : IsBestOf l bits (get_or bests bits other) = let e : 0 + bits ≡ bits = omega arith in
+          subst (λ m. IsBestOf l m (get_or bests bits other)) e (all.each bits other inside) in
           subst (IsSetEntry (searched l) (counted l) (holds bits)) (sym same) (entry l bits (get_or bests bits other) own);
     }
 
@@ -64,7 +68,8 @@ first-placed l best is =
 -- the sum of the best behind nobody is what its whole choice counts
 pub first-sum : (l : Search) (best : Best) → IsBestOf l 0 best → best.sum ≡ sum_after (counted l) 0 best.numbers.items
 first-sum l best is =
-    is.sum ∙ (sum_outside-same (counted l) (holds 0) nobody (λ i some. holds-nobody i) best.numbers.items ∙ sum-same (λ j i. counted l j i) (counted l) 0 best.numbers.items (λ j i some. refl))
+    is.sum ∙ (sum_outside-same (counted l) (holds 0) nobody (λ i some. holds-nobody i) best.numbers.items
+    ∙ sum-same (λ j i. counted l j i) (counted l) 0 best.numbers.items (λ j i some. refl))
 
 -- there is a best, that of nobody
 pub bests-some : (l : Search) (bests : List Best) → AreBests l 0 bests → 0 < length bests

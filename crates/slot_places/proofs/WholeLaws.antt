@@ -1,5 +1,6 @@
 -- The first entry that is filled, that of all bidders, and the last, that of nobody.
-use Rattle.std.specs.Prelude.{◌≡◌, ℕ, zero, suc, ◌+◌, ◌-◌, ◌≤◌, ◌<◌, Bool, true, false, cond, ◌&&◌, IsTrue, List, [], ◌∷◌, length, replicate, get_or, refl, ℤ, pos}
+use Rattle.std.specs.Prelude.{◌≡◌, ℕ, zero, suc, ◌+◌, ◌-◌, ◌≤◌, ◌<◌, Bool, true, false, cond, ◌&&◌, IsTrue, List, [], ◌∷◌, length, replicate, get_or, refl, ℤ}
+use Rattle.std.specs.Prelude.{pos}
 use Rattle.std.proofs.Common.{sym, ◌∙◌, ap, arith, subst}
 use Rattle.std.proofs.lemmas.Int.{ints}
 use Rattle.choices.specs.auction_model.specs.Market.{sum_after}
@@ -40,14 +41,18 @@ module _ (b : Board) (idle : (s : ℕ → Bool) (j : ℕ) → IsTrue (b.may s j 
       fits-from b s c (record {
         known = none-known (menu_of b) 0 b.bidders (omega arith);
         idle = idle-from s 0 c (λ i inside in_set. let e : suc i - 1 ≡ i = omega arith in subst (λ k. get_or c k 0 ≡ 0) e (none-number b.bidders (suc i)));
-        place = place-idle b c (outside s b.bidders) s (omega arith) (λ j t some new. subst (λ n. IsTrue (b.may t j n)) (sym (none-number b.bidders j)) (idle t j));
+        place = place-idle b c (outside s b.bidders) s (omega arith) (λ j t some new. subst (λ n. IsTrue (b.may t j n)) (sym (none-number b.bidders j))
+            (idle t j));
       })
 
   -- what is no worse than each choice by its next bidder is the best
-  pub best-by_next : (s : ℕ → Bool) (c : List ℕ) → 0 < outside s b.bidders → IsTrue (fits_behind b s c) → ((d : List ℕ) (j : ℕ) → IsTrue (fits_behind b s d) → Next b d (outside (joined j s) b.bidders) s j → IsBefore (sum_outside s counts) c d) → IsSetBest b counts s c
+  pub best-by_next : (s : ℕ → Bool) (c : List ℕ) → 0 < outside s b.bidders → IsTrue (fits_behind b s c)
+      → ((d : List ℕ) (j : ℕ) → IsTrue (fits_behind b s d) → Next b d (outside (joined j s) b.bidders) s j → IsBefore (sum_outside s counts) c d)
+      → IsSetBest b counts s c
   best-by_next s c some fits all = first-of (sum_outside s counts) (fits_behind b s) c fits each
     where
-      by : (d : List ℕ) (n : ℕ) → IsTrue (fits_behind b s d) → outside s b.bidders ≡ suc n → IsTrue (can_place b d (suc n) s) → IsBefore (sum_outside s counts) c d
+      by : (d : List ℕ) (n : ℕ) → IsTrue (fits_behind b s d) → outside s b.bidders ≡ suc n → IsTrue (can_place b d (suc n) s)
+          → IsBefore (sum_outside s counts) c d
       by d n t e place =
           let q = next-which b d n s place in
           let fewer = outside-joined q.0 s b.bidders q.1.some q.1.low q.1.new in
@@ -71,13 +76,15 @@ module _ (b : Board) (idle : (s : ℕ → Bool) (j : ℕ) → IsTrue (b.may s j 
       each d t =
           let f = fits-says b s d t in
           let count = fits-length b s d t in
-          let same : d ≡ replicate (length d) 0 = zeros-are d (λ i inside. idle-at s 0 d i f.idle inside (all (suc (0 + i)) (omega arith) (omega (arith, count, inside)))) in
+          let same : d ≡ replicate (length d) 0 = zeros-are d (λ i inside. idle-at s 0 d i f.idle inside
+          (all (suc (0 + i)) (omega arith) (omega (arith, count, inside)))) in
           let is : replicate b.bidders 0 ≡ d = ap (λ n. replicate n 0) (sym count) ∙ sym same in
           subst (IsBefore (sum_outside s counts) (replicate b.bidders 0)) is (before-same (sum_outside s counts) (replicate b.bidders 0))
 
   -- the best of all bidders is the best of the market
   pub best-whole : (c : List ℕ) → IsSetBest b counts nobody c → IsFirstGreatest (is_placed b) (sum_after counts 0) c
-  best-whole c best = IsFirstGreatest-same (fits_behind b nobody) (is_placed b) (sum_outside nobody counts) (sum_after counts 0) c tests (λ d. sum-same (counts_outside nobody counts) counts 0 d (λ j i some. refl)) best
+  best-whole c best = IsFirstGreatest-same (fits_behind b nobody) (is_placed b) (sum_outside nobody counts) (sum_after counts 0) c tests
+      (λ d. sum-same (counts_outside nobody counts) counts 0 d (λ j i some. refl)) best
     where
       true-right : (x : Bool) → x && true ≡ x
       true-right true = refl
@@ -86,4 +93,5 @@ module _ (b : Board) (idle : (s : ℕ → Bool) (j : ℕ) → IsTrue (b.may s j 
       tests : (d : List ℕ) → fits_behind b nobody d ≡ is_placed b d
       tests d =
           ap (λ x. (is_known b d && x) && can_place b d (outside nobody b.bidders) nobody) (idle-nobody 0 d)
-          ∙ (ap (λ x. x && can_place b d (outside nobody b.bidders) nobody) (true-right (is_known b d)) ∙ ap (λ n. is_known b d && can_place b d n nobody) (outside-nobody b.bidders))
+          ∙ (ap (λ x. x && can_place b d (outside nobody b.bidders) nobody) (true-right (is_known b d))
+          ∙ ap (λ n. is_known b d && can_place b d n nobody) (outside-nobody b.bidders))

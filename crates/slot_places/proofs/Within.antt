@@ -1,5 +1,6 @@
 -- What follows for slots from their form and the limits.
-use Rattle.std.proofs.Common.{◌≡◌, ◌≢◌, ℕ, zero, suc, ◌+◌, ◌-◌, ◌≤◌, ◌<◌, Option, None, List, [], ◌∷◌, ◌++◌, length, get_or, take, refl, sym, ap, subst, ◌∙◌, arith, append_assoc}
+use Rattle.std.proofs.Common.{◌≡◌, ◌≢◌, ℕ, zero, suc, ◌+◌, ◌-◌, ◌≤◌, ◌<◌, Option, None, List, [], ◌∷◌, ◌++◌, length, get_or, take, refl, sym, ap, subst, ◌∙◌}
+use Rattle.std.proofs.Common.{arith, append_assoc}
 use Rattle.std.specs.Prelude.{codes}
 use Rattle.std.specs.Option.{option_or}
 use Rattle.std.specs.List.{AllByRecursion}
@@ -12,7 +13,8 @@ use Rattle.choices.specs.bid_book.proofs.SupplyLaws.{none_first}
 use Rattle.choices.specs.bid_book.proofs.Within.{each_at, parts_none}
 use Rattle.slot_places.specs.Slots.{SlotBid, SlotBidder, SlotList, no_bid, no_bidder, bids_of, bid_of, width_of}
 use Rattle.choices.specs.book_form.specs.BookLines.{Excess}
-use Rattle.slot_places.specs.SlotForm.{IsSlotBid, AreSlotBids, IsSlotBidder, AreSlotBidders, width_together, band_excess, bidder_excess, bidder_line, place_lines, bidder_lines, head_lines, AreSlotsWithinLimits}
+use Rattle.slot_places.specs.SlotForm.{IsSlotBid, AreSlotBids, IsSlotBidder, AreSlotBidders, width_together, band_excess, bidder_excess, bidder_line}
+use Rattle.slot_places.specs.SlotForm.{place_lines, bidder_lines, head_lines, AreSlotsWithinLimits}
 use Rattle.slot_places.specs.Kept.{IsInBand, AreSlots}
 use Rattle.slot_places.specs.Stages.{Adds, excess_of, last_start, opened}
 use Rattle.slot_places.proofs.Growth.{listed, adds_one}
@@ -43,7 +45,8 @@ widths_room band earlier [] all low = subst (λ (l : List SlotBidder). width_tog
 widths_room band earlier (b ∷ bs) all low =
     let room = all.0.room in
     let more = together_push earlier b in
-    subst (λ (l : List SlotBidder). width_together l ≤ band) (append_assoc earlier (b ∷ []) bs) (widths_room band (earlier ++ b ∷ []) bs all.1 (omega (arith, room, more)))
+    subst (λ (l : List SlotBidder). width_together l ≤ band) (append_assoc earlier (b ∷ []) bs)
+    (widths_room band (earlier ++ b ∷ []) bs all.1 (omega (arith, room, more)))
 
 sum_take : (slots : SlotList) (k : ℕ) → k ≤ length slots.bidders → sum_to (width_of slots) k ≡ width_together (take k slots.bidders)
 sum_take slots zero low = refl
@@ -51,7 +54,9 @@ sum_take slots (suc k) low =
     let rest = sum_take slots k (omega (arith, low)) in
     let up : k + 1 ≡ suc k = omega arith in
     let down : suc k - 1 ≡ k = omega arith in
-    let grown : take (suc k) slots.bidders ≡ take k slots.bidders ++ get_or slots.bidders k no_bidder ∷ [] = subst (λ n. take n slots.bidders ≡ take k slots.bidders ++ get_or slots.bidders k no_bidder ∷ []) up (take_more slots.bidders k no_bidder (omega (arith, low))) in
+    let grown : take (suc k) slots.bidders ≡ take k slots.bidders ++ get_or slots.bidders k no_bidder ∷ [] =
+    subst (λ n. take n slots.bidders ≡ take k slots.bidders ++ get_or slots.bidders k no_bidder ∷ []) up
+    (take_more slots.bidders k no_bidder (omega (arith, low))) in
     let own : width_of slots (suc k) ≡ (get_or slots.bidders k no_bidder).width = ap (λ n. (get_or slots.bidders n no_bidder).width) down in
     let more = together_push (take k slots.bidders) (get_or slots.bidders k no_bidder) in
     let whole = ap width_together grown in
@@ -63,21 +68,26 @@ widths_are slots = sum_take slots (length slots.bidders) (omega arith) ∙ ap wi
 
 -- names
 
-unused_at : (band : ℕ) (earlier bs : List SlotBidder) (k : ℕ) → AreSlotBidders band earlier bs → k < length bs → AllByRecursion (λ b. b.name ≢ (get_or bs k no_bidder).name) (earlier ++ take k bs)
+unused_at : (band : ℕ) (earlier bs : List SlotBidder) (k : ℕ) → AreSlotBidders band earlier bs → k < length bs
+    → AllByRecursion (λ b. b.name ≢ (get_or bs k no_bidder).name) (earlier ++ take k bs)
 unused_at band earlier [] k all inside = absurd (omega (arith, inside))
 unused_at band earlier (b ∷ bs) zero all inside = subst (AllByRecursion (λ (x : SlotBidder). x.name ≢ b.name)) (sym (append-nil earlier)) all.0.unused
 unused_at band earlier (b ∷ bs) (suc k) all inside =
-    subst (AllByRecursion (λ (x : SlotBidder). x.name ≢ (get_or bs k no_bidder).name)) (append_assoc earlier (b ∷ []) (take k bs)) (unused_at band (earlier ++ b ∷ []) bs k all.1 (omega (arith, inside)))
+    subst (AllByRecursion (λ (x : SlotBidder). x.name ≢ (get_or bs k no_bidder).name)) (append_assoc earlier (b ∷ []) (take k bs))
+    (unused_at band (earlier ++ b ∷ []) bs k all.1 (omega (arith, inside)))
 
-names_differ : (band : ℕ) (bs : List SlotBidder) (i k : ℕ) → AreSlotBidders band [] bs → i < k → k < length bs → (get_or bs i no_bidder).name ≢ (get_or bs k no_bidder).name
+names_differ : (band : ℕ) (bs : List SlotBidder) (i k : ℕ) → AreSlotBidders band [] bs → i < k → k < length bs
+    → (get_or bs i no_bidder).name ≢ (get_or bs k no_bidder).name
 names_differ band bs i k all low inside =
     let unused = unused_at band [] bs k all inside in
     let count : length (take k bs) ≡ k = length-take-le k bs (omega (arith, inside)) in
-    subst (λ (x : SlotBidder). x.name ≢ (get_or bs k no_bidder).name) (get_or-take k bs i no_bidder low) (each_at (λ (x : SlotBidder). x.name ≢ (get_or bs k no_bidder).name) (take k bs) i no_bidder unused (omega (arith, count, low)))
+    subst (λ (x : SlotBidder). x.name ≢ (get_or bs k no_bidder).name) (get_or-take k bs i no_bidder low)
+    (each_at (λ (x : SlotBidder). x.name ≢ (get_or bs k no_bidder).name) (take k bs) i no_bidder unused (omega (arith, count, low)))
 
 -- the bids of one bidder
 
-bid_at : (band width before : ℕ) (bs : List SlotBid) (i : ℕ) → AreSlotBids band width before bs → i < length bs → IsSlotBid band width before (get_or bs i no_bid)
+bid_at : (band width before : ℕ) (bs : List SlotBid) (i : ℕ) → AreSlotBids band width before bs → i < length bs
+    → IsSlotBid band width before (get_or bs i no_bid)
 bid_at band width before [] i all inside = absurd (omega (arith, inside))
 bid_at band width before (b ∷ bs) zero all inside = all.0
 bid_at band width before (b ∷ bs) (suc i) all inside =
@@ -86,7 +96,8 @@ bid_at band width before (b ∷ bs) (suc i) all inside =
     let later = rest.after in
     record { after = omega (arith, own, later); within = rest.within; top = rest.top }
 
-bids_rise : (band width before : ℕ) (bs : List SlotBid) (i h : ℕ) → AreSlotBids band width before bs → i < h → h < length bs → (get_or bs i no_bid).start < (get_or bs h no_bid).start
+bids_rise : (band width before : ℕ) (bs : List SlotBid) (i h : ℕ) → AreSlotBids band width before bs → i < h → h < length bs
+    → (get_or bs i no_bid).start < (get_or bs h no_bid).start
 bids_rise band width before [] i h all low inside = absurd (omega (arith, inside))
 bids_rise band width before (b ∷ bs) i zero all low inside = absurd (omega (arith, low))
 bids_rise band width before (b ∷ bs) zero (suc h) all low inside = (bid_at band width b.start bs h all.1 (omega (arith, inside))).after
@@ -142,8 +153,10 @@ kept slots is =
       band = (is.form.band.0, low);
       few = omega (arith, few);
       widths = omega (arith, widths, same);
-      names = λ j h some less inside. names_differ slots.band slots.bidders (j - 1) (h - 1) is.form.bidders (omega (arith, some, less)) (omega (arith, some, less, inside));
-      bidders = λ j some inside. each_at (IsInBand slots.band) slots.bidders (j - 1) no_bidder (all_kept slots.band [] slots.bidders low is.form.bidders) (omega (arith, some, inside));
+      names = λ j h some less inside. names_differ slots.band slots.bidders (j - 1) (h - 1) is.form.bidders (omega (arith, some, less))
+          (omega (arith, some, less, inside));
+      bidders = λ j some inside. each_at (IsInBand slots.band) slots.bidders (j - 1) no_bidder (all_kept slots.band [] slots.bidders low is.form.bidders)
+          (omega (arith, some, inside));
     }
 
 -- a line more that exceeds nothing
@@ -152,9 +165,14 @@ grown old new line is adds none =
     let both = adds_one old new line is.form adds in
     let before = (parts_none (listed old) ((codes "end", None) ∷ []) is.limits).0 in
     let here : first_excess (listed new) ≡ None =
-    ap first_excess both.1 ∙ first_excess-append (listed old) ((line, excess_of new) ∷ []) ∙ ap (λ (o : Option Excess). option_or o (option_or (excess_of new) None)) before ∙ ap (λ (o : Option Excess). option_or o None) none in
+    ap first_excess both.1 ∙ first_excess-append (listed old) ((line, excess_of new) ∷ [])
+    ∙ ap (λ (o : Option Excess). option_or o (option_or (excess_of new) None)) before ∙ ap (λ (o : Option Excess). option_or o None) none in
     record { form = both.0; limits = first_excess-append (listed new) ((codes "end", None) ∷ []) ∙ ap (λ (o : Option Excess). option_or o None) here }
 
 -- the band before its first bidder
 pub opened_within : (band : ℕ) → 1 ≤ band → band ≤ 40 → AreSlotsWithinLimits (opened band)
-opened_within band some low = record { form = record { band = (some, omega (arith, low)); bidders = tt }; limits = ap (λ (o : Option Excess). option_or o None) (few_lots band low) }
+opened_within band some low = record {
+  form = record { band = (some, omega (arith, low)); bidders = tt };
+  limits =
+      ap (λ (o : Option Excess). option_or o None) (few_lots band low);
+}

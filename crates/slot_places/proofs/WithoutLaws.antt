@@ -1,5 +1,6 @@
 -- Boards without the bids of one bidder, or of nobody, and the range of a search for lowered worths.
-use Rattle.std.specs.Prelude.{◌≡◌, ℕ, zero, suc, ◌+◌, ◌-◌, ◌*◌, ◌≤◌, ◌<◌, Bool, ◌&&◌, not, IsTrue, List, [], ◌∷◌, length, get_or, refl, ℤ, pos, negsuc, ◌≤ℤ◌, unsigned_abs}
+use Rattle.std.specs.Prelude.{◌≡◌, ℕ, zero, suc, ◌+◌, ◌-◌, ◌*◌, ◌≤◌, ◌<◌, Bool, ◌&&◌, not, IsTrue, List, [], ◌∷◌, length, get_or, refl, ℤ, pos, negsuc, ◌≤ℤ◌}
+use Rattle.std.specs.Prelude.{unsigned_abs}
 use Rattle.std.proofs.Common.{sym, ◌∙◌, ap, arith, subst, eqb}
 use Rattle.std.proofs.lemmas.Bool.{ne_eqb, cond-false, and_parts}
 use Rattle.std.proofs.lemmas.Int.{ints}
@@ -20,14 +21,17 @@ use Rattle.slot_places.proofs.SameLaws.{some-same}
 known-none : (slots : SlotList) (k : ℕ) (c : List ℕ) → is_known_after (menu_of (board_without slots 0)) k c ≡ is_known_after (menu_of (board_of slots)) k c
 known-none slots k [] = refl
 known-none slots k (i ∷ c) =
-    let bids : (board_without slots 0).bids (suc k) ≡ length (bids_of slots (suc k)) = cond-false (eqb (suc k) 0) 0 (length (bids_of slots (suc k))) (ne_eqb (suc k) 0 (omega arith)) in
+    let bids : (board_without slots 0).bids (suc k) ≡ length (bids_of slots (suc k)) = cond-false (eqb (suc k) 0) 0 (length (bids_of slots (suc k)))
+    (ne_eqb (suc k) 0 (omega arith)) in
     rw (bids, known-none slots (suc k) c) refl
 
 -- the same bidders can be placed whether one bidder's bids are left out or not
-pub place-without : (slots : SlotList) (skip : ℕ) (c : List ℕ) (left : ℕ) (s : ℕ → Bool) → can_place (board_without slots skip) c left s ≡ can_place (board_of slots) c left s
+pub place-without : (slots : SlotList) (skip : ℕ) (c : List ℕ) (left : ℕ) (s : ℕ → Bool) → can_place (board_without slots skip) c left s ≡ can_place
+    (board_of slots) c left s
 place-without slots skip c zero s = refl
 place-without slots skip c (suc left) s =
-    some-same (λ j. not (s j) && ((board_without slots skip).may s j (number_of c j) && can_place (board_without slots skip) c left (joined j s))) (λ j. not (s j) && ((board_of slots).may s j (number_of c j) && can_place (board_of slots) c left (joined j s))) (length slots.bidders)
+    some-same (λ j. not (s j) && ((board_without slots skip).may s j (number_of c j) && can_place (board_without slots skip) c left (joined j s)))
+    (λ j. not (s j) && ((board_of slots).may s j (number_of c j) && can_place (board_of slots) c left (joined j s))) (length slots.bidders)
     (λ j some. ap (λ x. not (s j) && ((board_of slots).may s j (number_of c j) && x)) (place-without slots skip c left (joined j s)))
 
 -- where nobody is left out, the placed choices are those of the slots
@@ -42,14 +46,16 @@ sum-nonnegative slots k [] = omega (arith, ints)
 sum-nonnegative slots k (i ∷ c) = let rest = sum-nonnegative slots (suc k) c in omega (arith, ints, rest)
 
 -- the bid at a place of a choice is worth no more than the choice
-pub one-bid : (slots : SlotList) (k : ℕ) (c : List ℕ) (p j : ℕ) → j ≡ suc (k + p) → p < length c → amount_of slots j (get_or c p 0) ≤ℤ sum_after (amount_of slots) k c
+pub one-bid : (slots : SlotList) (k : ℕ) (c : List ℕ) (p j : ℕ) → j ≡ suc (k + p) → p < length c → amount_of slots j (get_or c p 0) ≤ℤ sum_after
+    (amount_of slots) k c
 one-bid slots k [] p j e inside = absurd (omega (arith, inside))
 one-bid slots k (i ∷ c) zero j e inside =
     let at : suc k ≡ j = omega (arith, e) in
     let rest = sum-nonnegative slots (suc k) c in
     subst (λ h. amount_of slots h i ≤ℤ sum_after (amount_of slots) k (i ∷ c)) at (omega (arith, ints, rest))
 one-bid slots k (i ∷ c) (suc p) j e inside =
-    let rest : amount_of slots j (get_or c p 0) ≤ℤ sum_after (amount_of slots) (suc k) c = one-bid slots (suc k) c p j (omega (arith, e)) (omega (arith, inside)) in
+    let rest : amount_of slots j (get_or c p 0) ≤ℤ sum_after (amount_of slots) (suc k) c = one-bid slots (suc k) c p j (omega (arith, e))
+    (omega (arith, inside)) in
     omega (arith, ints, rest)
 
 abs-above : (a : ℕ) (v : ℤ) → pos a ≤ℤ v → a ≤ unsigned_abs v
@@ -67,7 +73,8 @@ mul-assoc : (a b c : ℕ) → a * (b * c) ≡ a * b * c
 mul-assoc a b c = sym (mul_assoc a b c)
 
 -- where the amounts can be lowered, no sum of a placed choice leaves the range
-pub range-of : (slots : SlotList) (z : List ℕ) (den : ℤ) (surplus : List ℤ) → IsWinning (market_of slots) z → CanLower (market_of slots) z den surplus → StaysInRange (board_without slots 0) (amount_of slots) den surplus
+pub range-of : (slots : SlotList) (z : List ℕ) (den : ℤ) (surplus : List ℤ) → IsWinning (market_of slots) z → CanLower (market_of slots) z den surplus
+    → StaysInRange (board_without slots 0) (amount_of slots) den surplus
 range-of slots z den surplus winning can c t =
     let allowed : IsTrue (is_placed (board_of slots) c) = sym (placed-none slots c) ∙ t in
     let v = value_of (market_of slots) z in
@@ -75,13 +82,15 @@ range-of slots z den surplus winning can c t =
     let n = length slots.bidders in
     let most : sum_after (amount_of slots) 0 c ≤ℤ v = winning.greatest c allowed in
     let count = known-length (menu_of (board_of slots)) 0 c (and_parts (is_known (board_of slots) c) (can_place (board_of slots) c n nobody) allowed).0 in
-    let each : (j : ℕ) → 0 < j → j ≤ n → d * unsigned_abs (amount_of slots j (number_of c j)) + unsigned_abs (of_bidder surplus j) ≤ d * unsigned_abs v + unsigned_abs (of_bidder surplus j) = λ j some low.
+    let each : (j : ℕ) → 0 < j → j ≤ n → d * unsigned_abs (amount_of slots j (number_of c j)) + unsigned_abs
+    (of_bidder surplus j) ≤ d * unsigned_abs v + unsigned_abs (of_bidder surplus j) = λ j some low.
     let bid = one-bid slots 0 c (j - 1) j (omega (arith, some)) (omega (arith, count, some, low)) in
     let high : pos (bid_of slots j (number_of c j)).amount ≤ℤ v = omega (arith, ints, bid, most) in
     let small = abs-above (bid_of slots j (number_of c j)).amount v high in
     let more = mul-le-mul_left d small in
     omega (arith, more) in
-    let sum = sum-at_most (λ j. d * unsigned_abs (amount_of slots j (number_of c j)) + unsigned_abs (of_bidder surplus j)) (λ j. unsigned_abs (of_bidder surplus j)) (d * unsigned_abs v) n each in
+    let sum = sum-at_most (λ j. d * unsigned_abs (amount_of slots j (number_of c j)) + unsigned_abs (of_bidder surplus j))
+    (λ j. unsigned_abs (of_bidder surplus j)) (d * unsigned_abs v) n each in
     let range = can.range in
     let same : n * (d * unsigned_abs v) ≡ n * d * unsigned_abs v = mul-assoc n d (unsigned_abs v) in
     omega (arith, sum, range, same)
@@ -92,13 +101,17 @@ fits-none slots s c =
     ∙ ap (λ x. (is_known (board_of slots) c && is_idle_in s 0 c) && x) (place-without slots 0 c (outside s (length slots.bidders)) s)
 
 -- the exact table where nobody is left out is that of the slots
-pub table-none : (slots : SlotList) (counts : ℕ → ℕ → ℤ) (table : List (List ℤ)) → IsSetTable (board_without slots 0) counts table → IsSetTable (board_of slots) counts table
+pub table-none : (slots : SlotList) (counts : ℕ → ℕ → ℤ) (table : List (List ℤ)) → IsSetTable (board_without slots 0) counts table
+    → IsSetTable (board_of slots) counts table
 table-none slots counts table is = record {
   lines = is.lines;
   sets = is.sets;
-  exact = λ bits low. IsGreatestValue-same (fits_behind (board_without slots 0) (holds bits)) (fits_behind (board_of slots) (holds bits)) (sum_outside (holds bits) counts) (get_or (get_or table 0 []) bits (pos 0)) (fits-none slots (holds bits)) (is.exact bits low);
+  exact = λ bits low. IsGreatestValue-same (fits_behind (board_without slots 0) (holds bits)) (fits_behind (board_of slots) (holds bits))
+      (sum_outside (holds bits) counts) (get_or (get_or table 0 []) bits (pos 0)) (fits-none slots (holds bits)) (is.exact bits low);
 }
 
 -- the first of the greatest where nobody is left out is that of the slots
-pub first-none : (slots : SlotList) (value : List ℕ → ℤ) (c : List ℕ) → IsFirstGreatest (is_placed (board_without slots 0)) value c → IsFirstGreatest (is_placed (board_of slots)) value c
-first-none slots value c g = IsFirstGreatest-same (is_placed (board_without slots 0)) (is_placed (board_of slots)) value value c (placed-none slots) (λ d. refl) g
+pub first-none : (slots : SlotList) (value : List ℕ → ℤ) (c : List ℕ) → IsFirstGreatest (is_placed (board_without slots 0)) value c
+    → IsFirstGreatest (is_placed (board_of slots)) value c
+first-none slots value c g = IsFirstGreatest-same (is_placed (board_without slots 0)) (is_placed (board_of slots)) value value c (placed-none slots)
+    (λ d. refl) g

@@ -12,7 +12,8 @@ use Rattle.choices.specs.auction_model.specs.Steps.{raised}
 use Rattle.choices.specs.auction_model.specs.Table.{IsLine}
 use Rattle.choices.specs.auction_model.proofs.DominatedLaws.{less-within_self, fits-more}
 use Rattle.choices.specs.auction_model.proofs.LineLaws.{IsLineUpTo, int_max-left}
-use Rattle.choices.specs.auction_model.proofs.PlaceLaws.{states-positive, length-left_at, left_at-within, left_at-whole, left_at-less, place_of-left_at, place-less, place-less_below, place-below, within-within}
+use Rattle.choices.specs.auction_model.proofs.PlaceLaws.{states-positive, length-left_at, left_at-within, left_at-whole, left_at-less, place_of-left_at}
+use Rattle.choices.specs.auction_model.proofs.PlaceLaws.{place-less, place-less_below, place-below, within-within}
 use Rattle.choices.specs.auction_model.proofs.TableLaws.{fits_up_to, parts, from_parts}
 use Rattle.choices.specs.auction_model.proofs.TrimLaws.{trim-place, trim-within}
 use Rattle.choices.proofs.MoreLots.{less-more}
@@ -28,20 +29,24 @@ module _ (supply p : List ℕ) (s : ℕ) (low : s < states_of supply) where
       let t_is : left_at supply t ≡ less l p = left_at-less supply p s low in
       let inside : IsTrue (is_within (left_at supply t) l) = subst (λ (k : List ℕ). IsTrue (is_within k l)) (sym t_is) (less-within_self l p) in
       let back : place_of supply (less l (left_at supply t)) + place_of supply (left_at supply t) ≡ s = place-less supply (left_at supply t) s low inside in
-      let same : place_of supply (less l (left_at supply t)) ≡ place_of supply p = omega (arith, place-less supply p s low fits, back, place_of-left_at supply t t_low) in
+      let same : place_of supply (less l (left_at supply t)) ≡ place_of supply p =
+      omega (arith, place-less supply p s low fits, back, place_of-left_at supply t t_low) in
       subst (λ (k : ℕ). IsTrue (is_within (left_at supply k) l)) same
       (subst (λ (k : List ℕ). IsTrue (is_within k l)) (sym (left_at-less supply (left_at supply t) s low)) (less-within_self l (left_at supply t)))
 
   -- the highest place that a package leaves has no less than is left at s
-  high-within : IsTrue (is_within p supply) → IsTrue (is_within (left_at supply (place_of supply (less (left_at supply s) p))) (left_at supply (states_of supply - 1 - place_of supply p)))
+  high-within : IsTrue (is_within p supply) → IsTrue (is_within (left_at supply (place_of supply (less (left_at supply s) p)))
+      (left_at supply (states_of supply - 1 - place_of supply p)))
   high-within fits =
       let H = states_of supply - 1 in
       let top : H < states_of supply = omega (arith, states-positive supply) in
       let whole : left_at supply H ≡ supply = left_at-whole supply in
       let at_top : IsTrue (is_within p (left_at supply H)) = subst (λ (k : List ℕ). IsTrue (is_within p k)) (sym whole) fits in
       let place : place_of supply (less (left_at supply H) p) ≡ H - place_of supply p = omega (arith, place-less supply p H top at_top) in
-      let left : left_at supply (H - place_of supply p) ≡ less supply p = ap (left_at supply) (sym place) ∙ left_at-less supply p H top ∙ ap (λ (k : List ℕ). less k p) whole in
-      let more : IsTrue (is_within (less (left_at supply s) p) (less supply p)) = less-more (left_at supply s) supply p (length-left_at supply s) (left_at-within supply s low) in
+      let left : left_at supply (H - place_of supply p) ≡ less supply p = ap (left_at supply) (sym place) ∙ left_at-less supply p H top
+      ∙ ap (λ (k : List ℕ). less k p) whole in
+      let more : IsTrue (is_within (less (left_at supply s) p) (less supply p)) = less-more (left_at supply s) supply p (length-left_at supply s)
+      (left_at-within supply s low) in
       subst (λ (k : List ℕ). IsTrue (is_within k (left_at supply (H - place_of supply p)))) (sym (left_at-less supply p s low))
       (subst (λ (k : List ℕ). IsTrue (is_within (less (left_at supply s) p) k)) (sym left) more)
 
@@ -82,7 +87,8 @@ grows-part (b ∷ supply) line part q some high reads grows = λ s t s_low t_low
     rw (reads s s_low, reads t t_low) (grows (q * W + s) (q * W + t) s_in t_in same)
 
 -- the corners of a block, by those of the whole
-pub corners-part : (supply p : List ℕ) (first q S : ℕ) (line below part rest : List ℤ) → 0 < length p → length p ≤ length supply → S ≡ states_of (drop 1 supply) → get_or p 0 0 ≤ q → q ≤ get_or supply 0 0
+pub corners-part : (supply p : List ℕ) (first q S : ℕ) (line below part rest : List ℤ) → 0 < length p → length p ≤ length supply
+    → S ≡ states_of (drop 1 supply) → get_or p 0 0 ≤ q → q ≤ get_or supply 0 0
     → ((i : ℕ) → i < S → get_or part i (pos 0) ≡ get_or line (q * S + i) (pos 0))
     → ((i : ℕ) → i < S → get_or rest i (pos 0) ≡ get_or below ((q - get_or p 0 0) * S + i) (pos 0))
     → HasCorners supply p first line below → HasCorners (drop 1 supply) (drop 1 p) (first - get_or p 0 0 * S) part rest
@@ -103,7 +109,8 @@ module _ (m : Menu) (counts : ℕ → ℕ → ℤ) (supply : List ℕ) (k : ℕ)
       let most = (e.exact t t_low).bound own.0 (fits-more m k (left_at supply s) (left_at supply t) own.0 within own.1) in
       subst (λ (z : ℤ). z ≤ℤ get_or line t (pos 0)) own.2 most
 
-  more : (i : ℕ) (left larger c : List ℕ) → length left ≡ length larger → IsTrue (is_within left larger) → IsTrue (fits_up_to m k left i c) → IsTrue (fits_up_to m k larger i c)
+  more : (i : ℕ) (left larger c : List ℕ) → length left ≡ length larger → IsTrue (is_within left larger) → IsTrue (fits_up_to m k left i c)
+      → IsTrue (fits_up_to m k larger i c)
   more i left larger [] same within h = absurd (false≢true h)
   more i left larger (g ∷ c) same within h =
       let p = parts m k left i g c h in
@@ -123,7 +130,8 @@ module _ (m : Menu) (counts : ℕ → ℕ → ℤ) (supply : List ℕ) (k : ℕ)
       subst (λ (z : ℤ). z ≤ℤ get_or line t (pos 0)) own.2 most
 
 -- so a bid without its empty end has the same corners
-pub trim-corners : (n : ℕ) (supply p : List ℕ) (first : ℕ) (line below : List ℤ) → IsNothingFrom n p → HasCorners supply p first line below → HasCorners supply (take n p) first line below
+pub trim-corners : (n : ℕ) (supply p : List ℕ) (first : ℕ) (line below : List ℤ) → IsNothingFrom n p → HasCorners supply p first line below
+    → HasCorners supply (take n p) first line below
 trim-corners n supply p first line below h c = record {
   fits = trim-within n p supply h ∙ c.fits;
   place = c.place ∙ sym (trim-place n supply p h);

@@ -13,7 +13,8 @@ use Rattle.value_table.specs.Counted.{seat, net_at, counted_bids, IsNarrow}
 
 -- no more bids count than the bidder has
 pub counted-fewer : (l : Lowering) (j : ℕ) → (counted_bids l).bids j ≤ length (bids_of l.book.now (seat l j))
-counted-fewer l j = cond_both (j == l.skip) 0 (length (bids_of l.book.now (seat l j))) (λ n. n ≤ length (bids_of l.book.now (seat l j))) (λ _. omega arith) (λ _. omega arith)
+counted-fewer l j = cond_both (j == l.skip) 0 (length (bids_of l.book.now (seat l j))) (λ n. n ≤ length (bids_of l.book.now (seat l j))) (λ _. omega arith)
+    (λ _. omega arith)
 
 module _ (l : Lowering) where
   -- with a denominator up to 2^13 and surpluses up to 2^56, no sum leaves 62 bits
@@ -21,9 +22,16 @@ module _ (l : Lowering) where
   narrow-spread kept den surplus =
       let bids = (counted_bids l).bids in
       let top = λ (j : ℕ). greatest_size (net_at l j) (bids j) in
-      let small : (j : ℕ) → top j ≤ 2 ^ 42 = λ j. greatest-at_most (net_at l j) (bids j) (2 ^ 42) (λ i low. net-small l.book.now (seat l j) i kept (omega (arith, low, counted-fewer l j))) in
-      let one : (j : ℕ) → unsigned_abs l.den * top j + unsigned_abs (of_bidder l.surplus.now j) ≤ 2 ^ 55 + 2 ^ 56 = λ j. omega (arith, surplus (j - 1), mul-le (unsigned_abs l.den) (top j) (2 ^ 13) (2 ^ 42) den (small j)) in
-      omega (arith, kept.bidders, sum_to-at_most (λ j. unsigned_abs l.den * top j + unsigned_abs (of_bidder l.surplus.now j)) (length l.book.now.bidders) (2 ^ 55 + 2 ^ 56) one)
+      let small : (j : ℕ) → top j ≤ 2 ^ 42 = λ j. greatest-at_most (net_at l j) (bids j) (2 ^ 42)
+      (λ i low. net-small l.book.now (seat l j) i kept (omega (arith, low, counted-fewer l j))) in
+      let one : (j : ℕ) → unsigned_abs l.den * top j + unsigned_abs (of_bidder l.surplus.now j) ≤ 2 ^ 55 + 2 ^ 56 =
+      λ j. omega (arith, surplus (j - 1), mul-le (unsigned_abs l.den) (top j) (2 ^ 13) (2 ^ 42) den (small j)) in
+      omega (
+        arith,
+        kept.bidders,
+        sum_to-at_most (λ j. unsigned_abs l.den * top j + unsigned_abs (of_bidder l.surplus.now j)) (length l.book.now.bidders)
+            (2 ^ 55 + 2 ^ 56) one,
+      )
 
   -- so none does where bids count their net amounts
   pub plain-narrow : IsBidBook l.book.now → l.den ≡ pos 1 → ((k : ℕ) → get_or l.surplus.now k (pos 0) ≡ pos 0) → IsNarrow l

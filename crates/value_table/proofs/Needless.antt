@@ -9,13 +9,15 @@ use Rattle.choices.specs.bid_book.specs.Kept.{IsBidBook}
 use Rattle.value_table.specs.declared.lowering.Lowering.{Lowering}
 use Rattle.value_table.specs.Counted.{seat, net_at, counted_bids, counted, IsNeedless}
 
-counted-in_order : (l : Lowering) (j i h : ℕ) → 0 < h → h < i → pos 0 ≤ℤ l.den → pos 0 ≤ℤ net_at l j i → net_at l j i ≤ℤ net_at l j h → counted l j i ≤ℤ counted l j h
+counted-in_order : (l : Lowering) (j i h : ℕ) → 0 < h → h < i → pos 0 ≤ℤ l.den → pos 0 ≤ℤ net_at l j i → net_at l j i ≤ℤ net_at l j h
+    → counted l j i ≤ℤ counted l j h
 counted-in_order l j zero h some low den own le = absurd (omega (arith, low))
 counted-in_order l j (suc i) zero some low den own le = absurd (omega (arith, some))
 counted-in_order l j (suc i) (suc h) some low den own le = lowered-in_order l.den (net_at l j (suc i)) (net_at l j (suc h)) _ den own le
 
 -- a bid is needless where an earlier one asks for no more and is worth at least as much
-pub needless-better : (l : Lowering) (j i h : ℕ) → IsBidBook l.book.now → i ≤ length (bids_of l.book.now (seat l j)) → 0 < h → pos 0 ≤ℤ l.den → IsBetter l.book.now (seat l j) i h → IsNeedless l j i
+pub needless-better : (l : Lowering) (j i h : ℕ) → IsBidBook l.book.now → i ≤ length (bids_of l.book.now (seat l j)) → 0 < h → pos 0 ≤ℤ l.den
+    → IsBetter l.book.now (seat l j) i h → IsNeedless l j i
 needless-better l j i h kept known some den better = record {
   other = h;
   earlier = better.earlier;
@@ -28,10 +30,12 @@ pub needless-idle : (l : Lowering) (j i : ℕ) → 0 < i → counted l j i ≤�
 needless-idle l j i some le = record { other = 0; earlier = some; smaller = refl; worth = le }
 
 -- a line that counts the bids before such a bid counts it too
-pub line-needless : (l : Lowering) (j i : ℕ) (line : List ℤ) → 0 < j → IsNeedless l j (i + 1) → IsLineUpTo (counted_bids l) (counted l) l.book.now.supply (j - 1) i line → IsLineUpTo (counted_bids l) (counted l) l.book.now.supply (j - 1) (i + 1) line
+pub line-needless : (l : Lowering) (j i : ℕ) (line : List ℤ) → 0 < j → IsNeedless l j (i + 1) → IsLineUpTo (counted_bids l) (counted l) l.book.now.supply
+    (j - 1) i line → IsLineUpTo (counted_bids l) (counted l) l.book.now.supply (j - 1) (i + 1) line
 line-needless l j i line some n was =
     let next : j ≡ suc (j - 1) = omega arith in
     let up : i + 1 ≡ suc i = omega arith in
     let needless : IsNeedless l (suc (j - 1)) (suc i) = subst (λ (k : ℕ). IsNeedless l k (suc i)) next (subst (IsNeedless l j) up n) in
     subst (λ (k : ℕ). IsLineUpTo (counted_bids l) (counted l) l.book.now.supply (j - 1) k line) (sym up)
-    (line-dominated (counted_bids l) (counted l) l.book.now.supply (j - 1) i needless.other line (omega (arith, needless.earlier)) needless.smaller needless.worth was)
+    (line-dominated (counted_bids l) (counted l) l.book.now.supply (j - 1) i needless.other line (omega (arith, needless.earlier)) needless.smaller
+    needless.worth was)

@@ -44,5 +44,6 @@ module _ {A : Type 0} (f : A → ℤ) where
   read-first xs n i h = ap (λ l. get_or l i (pos 0)) (sym (take-map f n xs)) ∙ get_or-take n (map f xs) i (pos 0) h
 
   -- a part has no larger numbers
-  pub small-numbers : (xs : List A) (from n most : ℕ) → ((s : ℕ) → unsigned_abs (get_or (map f xs) s (pos 0)) ≤ most) → (s : ℕ) → unsigned_abs (get_or (map f (take n (drop from xs))) s (pos 0)) ≤ most
+  pub small-numbers : (xs : List A) (from n most : ℕ) → ((s : ℕ) → unsigned_abs (get_or (map f xs) s (pos 0)) ≤ most) → (s : ℕ)
+      → unsigned_abs (get_or (map f (take n (drop from xs))) s (pos 0)) ≤ most
   small-numbers xs from n most small s = rw (map-part xs from n) (small-part (map f xs) from n most small s)

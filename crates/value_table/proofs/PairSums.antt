@@ -27,14 +27,16 @@ module _ (states : ℕ) (before after : List ℤ) where
   pub pair-first : 0 < states → IsPairSoFar states before after 1 (get_or before 0 (pos 0) +ℤ get_or after (states - 1) (pos 0))
   pair-first some =
       let last : states - 1 ≡ states - 1 - 0 = omega arith in
-      let own : get_or before 0 (pos 0) +ℤ get_or after (states - 1) (pos 0) ≡ pair_at states before after 0 = ap (λ n. get_or before 0 (pos 0) +ℤ get_or after n (pos 0)) last in
+      let own : get_or before 0 (pos 0) +ℤ get_or after (states - 1) (pos 0) ≡ pair_at states before after 0 =
+      ap (λ n. get_or before 0 (pos 0) +ℤ get_or after n (pos 0)) last in
       record {
         reached = (0, some, own);
         bound = λ s h. let zeroth : s ≡ 0 = omega (arith, h) in rw zeroth (omega (arith, ints, own));
       }
 
   -- then the greater one at each place
-  pub pair-next : (k : ℕ) (most : ℤ) → k < states → IsPairSoFar states before after k most → IsPairSoFar states before after (k + 1) (int_max most (pair_at states before after k))
+  pub pair-next : (k : ℕ) (most : ℤ) → k < states → IsPairSoFar states before after k most → IsPairSoFar states before after (k + 1)
+      (int_max most (pair_at states before after k))
   pair-next k most inside was =
       let sum = pair_at states before after k in
       by_lt_z most sum

@@ -25,7 +25,8 @@ pub bids-fewer : (book : Book) (skip j : ℕ) → (menu_without book skip).bids 
 bids-fewer book skip j = cond_both (j == skip) 0 (length (bids_of book j)) (λ n. n ≤ length (bids_of book j)) (λ _. omega arith) (λ _. omega arith)
 
 -- over 1 and with no surplus, no lowered sum leaves the range
-pub plain-range : (book : Book) (skip : ℕ) (surplus : List ℤ) → IsBidBook book → ((k : ℕ) → get_or surplus k (pos 0) ≡ pos 0) → IsInRange book skip (pos 1) surplus
+pub plain-range : (book : Book) (skip : ℕ) (surplus : List ℤ) → IsBidBook book → ((k : ℕ) → get_or surplus k (pos 0) ≡ pos 0)
+    → IsInRange book skip (pos 1) surplus
 plain-range book skip surplus kept zeros =
     let few : length book.bidders ≤ 16 = kept.bidders in
     let h : (j i : ℕ) → i ≤ (menu_without book skip).bids j → unsigned_abs (net_of book j i) ≤ 2 ^ 42 =
@@ -33,9 +34,11 @@ plain-range book skip surplus kept zeros =
     omega (arith, few, spread-plain (menu_without book skip).bids (length book.bidders) (2 ^ 42) (net_of book) surplus h (λ j. zeros (j - 1)))
 
 -- over 1, with no surplus and nobody left out, the first of the greatest choices is the winning one
-pub plain-winning : (book : Book) (surplus : List ℤ) (c : List ℕ) → ((k : ℕ) → get_or surplus k (pos 0) ≡ pos 0) → IsFirstGreatest (fits_after (menu_without book 0) 0 book.supply) (sum_after (lowered (pos 1) (net_of book) surplus) 0) c → IsWinning (market_of book) c
+pub plain-winning : (book : Book) (surplus : List ℤ) (c : List ℕ) → ((k : ℕ) → get_or surplus k (pos 0) ≡ pos 0)
+    → IsFirstGreatest (fits_after (menu_without book 0) 0 book.supply) (sum_after (lowered (pos 1) (net_of book) surplus) 0) c → IsWinning (market_of book) c
 plain-winning book surplus c zeros g =
-    IsFirstGreatest-same (fits_after (menu_without book 0) 0 book.supply) (fits_after (menu_of book) 0 book.supply) (sum_after (lowered (pos 1) (net_of book) surplus) 0) (sum_after (net_of book) 0) c
+    IsFirstGreatest-same (fits_after (menu_without book 0) 0 book.supply) (fits_after (menu_of book) 0 book.supply)
+    (sum_after (lowered (pos 1) (net_of book) surplus) 0) (sum_after (net_of book) 0) c
     (λ d. fits-without_none (menu_of book) 0 book.supply d)
     (λ d. sum-plain (net_of book) surplus 0 d (λ j. refl) (λ j. zeros (j - 1)))
     g

@@ -1,5 +1,6 @@
 -- No bid is worth more than the winning choice, so no lowered sum leaves the range.
-use Rattle.std.specs.Prelude.{◌≡◌, ℕ, zero, suc, ◌+◌, ◌-◌, ◌*◌, ◌≤◌, ◌<◌, Bool, nat_le, IsTrue, List, [], ◌∷◌, length, replicate, set, ℤ, pos, negsuc, ◌+ℤ◌, ◌≤ℤ◌, unsigned_abs, refl}
+use Rattle.std.specs.Prelude.{◌≡◌, ℕ, zero, suc, ◌+◌, ◌-◌, ◌*◌, ◌≤◌, ◌<◌, Bool, nat_le, IsTrue, List, [], ◌∷◌, length, replicate, set, ℤ, pos, negsuc, ◌+ℤ◌}
+use Rattle.std.specs.Prelude.{◌≤ℤ◌, unsigned_abs, refl}
 use Rattle.std.proofs.Common.{sym, ◌∙◌, ap, arith}
 use Rattle.std.proofs.lemmas.Bool.{and_from, le-leb}
 use Rattle.std.proofs.lemmas.Int.{ints}
@@ -25,10 +26,12 @@ single-known : (m : Menu) (k n p i : ℕ) → k + n ≡ m.bidders → p < n → 
 single-known m k zero p i e h low = absurd (omega arith)
 single-known m k (suc n) zero i e h low =
     let same : suc k + 0 ≡ suc k = omega arith in
-    and_from (nat_le i (m.bids (suc k))) (is_known_after m (suc k) (replicate n 0)) (le-leb i (m.bids (suc k)) (rw same at low)) (none-known m (suc k) n (omega arith))
+    and_from (nat_le i (m.bids (suc k))) (is_known_after m (suc k) (replicate n 0)) (le-leb i (m.bids (suc k)) (rw same at low))
+    (none-known m (suc k) n (omega arith))
 single-known m k (suc n) (suc p) i e h low =
     let same : suc k + suc p ≡ suc (suc k) + p = omega arith in
-    and_from (nat_le 0 (m.bids (suc k))) (is_known_after m (suc k) (single n p i)) (le-leb 0 (m.bids (suc k)) (omega arith)) (single-known m (suc k) n p i (omega arith) (omega arith) (rw same at low))
+    and_from (nat_le 0 (m.bids (suc k))) (is_known_after m (suc k) (single n p i)) (le-leb 0 (m.bids (suc k)) (omega arith))
+    (single-known m (suc k) n p i (omega arith) (omega arith) (rw same at low))
 
 together-empty : (p : List ℕ) → together p [] ≡ p
 together-empty [] = refl
@@ -66,7 +69,8 @@ lots-within book kept j zero h = refl
 lots-within book kept j (suc i) h = kept.within j i h
 
 -- no bid is worth more than the winning choice
-pub net-at_most : (book : Book) (z : List ℕ) → IsBidBook book → IsWinning (market_of book) z → (j i : ℕ) → 0 < j → j ≤ length book.bidders → i ≤ length (bids_of book j) → net_of book j i ≤ℤ value_of (market_of book) z
+pub net-at_most : (book : Book) (z : List ℕ) → IsBidBook book → IsWinning (market_of book) z → (j i : ℕ) → 0 < j → j ≤ length book.bidders
+    → i ≤ length (bids_of book j) → net_of book j i ≤ℤ value_of (market_of book) z
 net-at_most book z kept first j i some inside known =
     let m = menu_of book in
     let n = length book.bidders in
@@ -76,7 +80,8 @@ net-at_most book z kept first j i some inside known =
     let low : i ≤ m.bids (suc 0 + p) = rw next known in
     let taken : packages_after m 0 c ≡ lots_of book (suc 0 + p) i = single-taken m 0 n p i (λ _. refl) (omega arith) in
     let own : IsTrue (is_within (lots_of book (suc 0 + p) i) book.supply) = rw next (lots-within book kept j i known) in
-    let fits : IsTrue (fits_after m 0 book.supply c) = and_from (is_known_after m 0 c) (is_within (packages_after m 0 c) book.supply) (single-known m 0 n p i (omega arith) (omega arith) low) (rw taken own) in
+    let fits : IsTrue (fits_after m 0 book.supply c) = and_from (is_known_after m 0 c) (is_within (packages_after m 0 c) book.supply)
+    (single-known m 0 n p i (omega arith) (omega arith) low) (rw taken own) in
     let worth : sum_after (net_of book) 0 c ≡ net_of book (suc 0 + p) i = single-sum (net_of book) 0 n p i (λ _. refl) (omega arith) in
     rw (sym (ap (λ x. net_of book x i) next)) (rw worth at (first.greatest c fits))
 
@@ -90,19 +95,22 @@ sum_to-below f s zero most h = omega arith
 sum_to-below f s (suc n) most h = omega (arith, sum_to-below f s n most (λ j p q. h j p (omega arith)), h (suc n) (omega arith) (omega arith))
 
 -- under the condition of a search with lowered worths, no lowered sum of the book leaves the range
-pub range-of : (book : Book) (z : List ℕ) (den : ℤ) (surplus : List ℤ) → IsBidBook book → IsWinning (market_of book) z → CanLower (market_of book) z den surplus → IsInRange book 0 den surplus
+pub range-of : (book : Book) (z : List ℕ) (den : ℤ) (surplus : List ℤ) → IsBidBook book → IsWinning (market_of book) z
+    → CanLower (market_of book) z den surplus → IsInRange book 0 den surplus
 range-of book z den surplus kept first can =
     let V = unsigned_abs (value_of (market_of book) z) in
     let D = unsigned_abs den in
     let n = length book.bidders in
     let bids = (menu_without book 0).bids in
-    let each : (j : ℕ) → 0 < j → j ≤ n → D * greatest_size (net_of book j) (bids j) + unsigned_abs (of_bidder surplus j) ≤ D * V + unsigned_abs (of_bidder surplus j) =
+    let each : (j : ℕ) → 0 < j → j ≤ n → D * greatest_size (net_of book j) (bids j) + unsigned_abs (of_bidder surplus j) ≤ D * V + unsigned_abs
+    (of_bidder surplus j) =
     λ j some inside.
     let top : greatest_size (net_of book j) (bids j) ≤ V = greatest-at_most (net_of book j) (bids j) V (λ i low.
     let known : i ≤ length (bids_of book j) = omega (arith, bids-fewer book 0 j) in
     abs-at_most (net_of book j i) (value_of (market_of book) z) (kept.not_negative j i known) (net-at_most book z kept first j i some inside known)) in
     omega (arith, mul-le-mul_left D top) in
-    let all = sum_to-below (λ j. D * greatest_size (net_of book j) (bids j) + unsigned_abs (of_bidder surplus j)) (λ j. unsigned_abs (of_bidder surplus j)) n (D * V) each in
+    let all = sum_to-below (λ j. D * greatest_size (net_of book j) (bids j) + unsigned_abs (of_bidder surplus j)) (λ j. unsigned_abs (of_bidder surplus j)) n
+    (D * V) each in
     omega (arith, all, can.range)
 
 -- the greatest value is the value of the first greatest choice

@@ -48,7 +48,8 @@ module _ (l : Lowering) where
   worth-small = worth-within (2 ^ 120) l.range
 
   -- den times a net amount and the surplus of its bidder, both by size, add up to at most 2^120
-  pub parts-small : (j i : ℕ) → zero < j → j ≤ length l.book.now.bidders → zero < i → i ≤ (counted_bids l).bids j → unsigned_abs l.den * unsigned_abs (net_at l j i) + unsigned_abs (of_bidder l.surplus.now j) ≤ 2 ^ 120
+  pub parts-small : (j i : ℕ) → zero < j → j ≤ length l.book.now.bidders → zero < i → i ≤ (counted_bids l).bids j
+      → unsigned_abs l.den * unsigned_abs (net_at l j i) + unsigned_abs (of_bidder l.surplus.now j) ≤ 2 ^ 120
   parts-small j zero p q r known = absurd (omega arith)
   parts-small j (suc i) p q r known = omega (arith, caps-small j p q, parts-capped (counted_bids l).bids (net_at l) l.den l.surplus.now j i known)
 
@@ -57,6 +58,7 @@ module _ (l : Lowering) where
   surplus-small j p q = omega (arith, caps-small j p q)
 
 -- a bid counts den times its worth, less the surplus of its bidder
-pub lowered-at : (den : ℤ) (worth : ℕ → ℕ → ℤ) (surplus : List ℤ) (j i : ℕ) → zero < i → lowered den worth surplus j i ≡ (den *ℤ worth j i) -ℤ of_bidder surplus j
+pub lowered-at : (den : ℤ) (worth : ℕ → ℕ → ℤ) (surplus : List ℤ) (j i : ℕ) → zero < i → lowered den worth surplus j i ≡
+    (den *ℤ worth j i) -ℤ of_bidder surplus j
 lowered-at den worth surplus j zero h = absurd (omega arith)
 lowered-at den worth surplus j (suc i) h = refl

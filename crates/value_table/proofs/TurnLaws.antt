@@ -67,7 +67,8 @@ sum-turned n counts [] back h = omega (arith, ints)
 sum-turned n counts (i ∷ front) back h =
     let k = length front in
     let turned = worths_in_order true n counts in
-    let was : sum_after counts 0 (onto front (i ∷ back)) ≡ sum_after turned (n - k) front +ℤ (counts (suc k) i +ℤ sum_after counts (suc k) back) = sum-turned n counts front (i ∷ back) (omega (arith, h)) in
+    let was : sum_after counts 0 (onto front (i ∷ back)) ≡ sum_after turned (n - k) front +ℤ (counts (suc k) i +ℤ sum_after counts (suc k) back) =
+    sum-turned n counts front (i ∷ back) (omega (arith, h)) in
     let own : turned (suc (n - suc k)) i ≡ counts (suc k) i = ap (λ j. counts j i) (turn-back n k h) in
     let rest : sum_after turned (suc (n - suc k)) front ≡ sum_after turned (n - k) front = ap (λ j. sum_after turned j front) (turn-next n k h) in
     omega (arith, ints, was, own, rest)
@@ -75,7 +76,8 @@ sum-turned n counts (i ∷ front) back h =
 -- such a choice is known where both parts are, and takes what both take
 pub record IsOfBoth (m : Menu) (front back : List ℕ) : Type 0 where
   pub known : is_known_after m 0 (onto front back) ≡ is_known_after (in_order true m) (m.bidders - length front) front && is_known_after m (length front) back
-  pub taken : packages_after m 0 (onto front back) ≡ together (packages_after (in_order true m) (m.bidders - length front) front) (packages_after m (length front) back)
+  pub taken : packages_after m 0 (onto front back) ≡ together (packages_after (in_order true m) (m.bidders - length front) front)
+      (packages_after m (length front) back)
 
 pub parts-turned : (m : Menu) (front back : List ℕ) → length front ≤ m.bidders → IsOfBoth m front back
 parts-turned m [] back h =
@@ -103,7 +105,8 @@ parts-turned m (i ∷ front) back h =
     }
 
 -- menus with the same bids for the bidders after k
-pub known-same : (m o : Menu) (k : ℕ) (c : List ℕ) → m.bidders ≡ o.bidders → ((j : ℕ) → k < j → m.bids j ≡ o.bids j) → is_known_after m k c ≡ is_known_after o k c
+pub known-same : (m o : Menu) (k : ℕ) (c : List ℕ) → m.bidders ≡ o.bidders → ((j : ℕ) → k < j → m.bids j ≡ o.bids j)
+    → is_known_after m k c ≡ is_known_after o k c
 known-same m o k [] e same = rw e refl
 known-same m o k (i ∷ c) e same = rw (same (suc k) (omega arith), known-same m o (suc k) c e (λ j h. same j (omega (arith, h)))) refl
 
@@ -125,24 +128,31 @@ sum-parts n counts k front back inside count =
 
 module _ (m : Menu) (bids : ℕ → ℕ) (k : ℕ) (inside : k ≤ m.bidders) (near : (j : ℕ) → j ≤ k → bids j ≡ m.bids j) where
   -- the first k bidders have the bids of all
-  known-near : (front : List ℕ) → is_known_after (in_order true (with_bids m bids)) (m.bidders - k) front ≡ is_known_after (in_order true m) (m.bidders - k) front
-  known-near front = known-same (in_order true (with_bids m bids)) (in_order true m) (m.bidders - k) front refl (λ j h. near (suc m.bidders - j) (omega (arith, h, inside)))
+  known-near : (front : List ℕ) → is_known_after (in_order true (with_bids m bids)) (m.bidders - k) front ≡ is_known_after (in_order true m)
+      (m.bidders - k) front
+  known-near front = known-same (in_order true (with_bids m bids)) (in_order true m) (m.bidders - k) front refl
+      (λ j h. near (suc m.bidders - j) (omega (arith, h, inside)))
 
   -- and their packages
-  taken-near : (front : List ℕ) → packages_after (in_order true (with_bids m bids)) (m.bidders - k) front ≡ packages_after (in_order true m) (m.bidders - k) front
+  taken-near : (front : List ℕ) → packages_after (in_order true (with_bids m bids)) (m.bidders - k) front ≡ packages_after (in_order true m)
+      (m.bidders - k) front
   taken-near front = taken-same (in_order true (with_bids m bids)) (in_order true m) (m.bidders - k) front (λ j i. refl)
 
   -- so where only their bids are the same, a choice is known where its parts are
-  pub known-parts : (front back : List ℕ) → length front ≡ k → is_known_after (with_bids m bids) 0 (onto front back) ≡ is_known_after (in_order true m) (m.bidders - k) front && is_known_after (with_bids m bids) k back
+  pub known-parts : (front back : List ℕ) → length front ≡ k → is_known_after (with_bids m bids) 0 (onto front back) ≡ is_known_after (in_order true m)
+      (m.bidders - k) front && is_known_after (with_bids m bids) k back
   known-parts front back count =
-      subst (λ h. is_known_after (with_bids m bids) 0 (onto front back) ≡ is_known_after (in_order true (with_bids m bids)) (m.bidders - h) front && is_known_after (with_bids m bids) h back) count
+      subst (λ h. is_known_after (with_bids m bids) 0 (onto front back) ≡ is_known_after (in_order true (with_bids m bids))
+      (m.bidders - h) front && is_known_after (with_bids m bids) h back) count
       (parts-turned (with_bids m bids) front back (omega (arith, count, inside))).known
       ∙ ap (λ b. b && is_known_after (with_bids m bids) k back) (known-near front)
 
   -- and takes what its parts take
-  pub taken-parts : (front back : List ℕ) → length front ≡ k → packages_after (with_bids m bids) 0 (onto front back) ≡ together (packages_after (in_order true m) (m.bidders - k) front) (packages_after (with_bids m bids) k back)
+  pub taken-parts : (front back : List ℕ) → length front ≡ k → packages_after (with_bids m bids) 0 (onto front back) ≡ together
+      (packages_after (in_order true m) (m.bidders - k) front) (packages_after (with_bids m bids) k back)
   taken-parts front back count =
-      subst (λ h. packages_after (with_bids m bids) 0 (onto front back) ≡ together (packages_after (in_order true (with_bids m bids)) (m.bidders - h) front) (packages_after (with_bids m bids) h back)) count
+      subst (λ h. packages_after (with_bids m bids) 0 (onto front back) ≡ together (packages_after (in_order true (with_bids m bids)) (m.bidders - h) front)
+      (packages_after (with_bids m bids) h back)) count
       (parts-turned (with_bids m bids) front back (omega (arith, count, inside))).taken
       ∙ ap (λ p. together p (packages_after (with_bids m bids) k back)) (taken-near front)
 

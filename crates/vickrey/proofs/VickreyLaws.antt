@@ -1,5 +1,6 @@
 -- Tables without a bidder give its Vickrey price and the first of the greatest choices without it.
-use Rattle.std.specs.Prelude.{◌≡◌, ◌≢◌, ◌⊎◌, ℕ, zero, suc, ◌+◌, ◌-◌, ◌^◌, ◌≤◌, ◌<◌, Bool, IsTrue, List, [], ◌∷◌, ◌++◌, length, replicate, get_or, take, ℤ, pos, ◌+ℤ◌, ◌-ℤ◌, unsigned_abs, refl, ◌==◌, not}
+use Rattle.std.specs.Prelude.{◌≡◌, ◌≢◌, ◌⊎◌, ℕ, zero, suc, ◌+◌, ◌-◌, ◌^◌, ◌≤◌, ◌<◌, Bool, IsTrue, List, [], ◌∷◌, ◌++◌, length, replicate, get_or, take, ℤ}
+use Rattle.std.specs.Prelude.{pos, ◌+ℤ◌, ◌-ℤ◌, unsigned_abs, refl, ◌==◌, not}
 use Rattle.std.specs.List.{AllByRecursion}
 use Rattle.std.proofs.Common.{inl, inr, sym, ◌∙◌, ap, subst, arith, append-nil, length-append}
 use Rattle.std.proofs.lemmas.Bool.{eq-eqb, false≢true, cases_eq, cases_lt}
@@ -36,21 +37,26 @@ module _ (book : Book) (surplus : List ℤ) (zeros : (k : ℕ) → get_or surplu
   sum-same c = sum-plain (net_of book) surplus 0 c (λ j. refl) (λ j. zeros (j - 1))
 
   -- the first entry of the table without bidder j is the greatest value of a choice without it
-  pub greatest-without : (j : ℕ) (most : ℤ) → zero < j → IsEntry (menu_without book j) (lowered (pos 1) (net_of book) surplus) 0 book.supply most → IsGreatestValue (allowed_without (market_of book) j) (value_of (market_of book)) most
+  pub greatest-without : (j : ℕ) (most : ℤ) → zero < j → IsEntry (menu_without book j) (lowered (pos 1) (net_of book) surplus) 0 book.supply most
+      → IsGreatestValue (allowed_without (market_of book) j) (value_of (market_of book)) most
   greatest-without j most some e =
       IsGreatestValue-value (allowed_without (market_of book) j) (sum_after (lowered (pos 1) (net_of book) surplus) 0) (value_of (market_of book)) most sum-same
       (entry-skip (menu_of book) (lowered (pos 1) (net_of book) surplus) book.supply j most some e)
 
   -- the first entry of the table of all bids is the greatest value of a choice
-  pub greatest-all : (most : ℤ) → IsEntry (menu_without book 0) (lowered (pos 1) (net_of book) surplus) 0 book.supply most → IsGreatestValue (market_of book).allowed (value_of (market_of book)) most
+  pub greatest-all : (most : ℤ) → IsEntry (menu_without book 0) (lowered (pos 1) (net_of book) surplus) 0 book.supply most
+      → IsGreatestValue (market_of book).allowed (value_of (market_of book)) most
   greatest-all most e =
       IsGreatestValue-value (market_of book).allowed (sum_after (lowered (pos 1) (net_of book) surplus) 0) (value_of (market_of book)) most sum-same
-      (IsGreatestValue-same (fits_after (menu_without book 0) 0 book.supply) (market_of book).allowed (sum_after (lowered (pos 1) (net_of book) surplus) 0) most (λ c. fits-without_none (menu_of book) 0 book.supply c) e)
+      (IsGreatestValue-same (fits_after (menu_without book 0) 0 book.supply) (market_of book).allowed
+      (sum_after (lowered (pos 1) (net_of book) surplus) 0) most (λ c. fits-without_none (menu_of book) 0 book.supply c) e)
 
   -- the first of the greatest choices of the bids without those of bidder j is that of the choices without it
-  pub first-without : (j : ℕ) (c : List ℕ) → zero < j → IsFirstGreatest (fits_after (menu_without book j) 0 book.supply) (sum_after (lowered (pos 1) (net_of book) surplus) 0) c → IsFirstGreatest (allowed_without (market_of book) j) (value_of (market_of book)) c
+  pub first-without : (j : ℕ) (c : List ℕ) → zero < j → IsFirstGreatest (fits_after (menu_without book j) 0 book.supply)
+      (sum_after (lowered (pos 1) (net_of book) surplus) 0) c → IsFirstGreatest (allowed_without (market_of book) j) (value_of (market_of book)) c
   first-without j c some g =
-      IsFirstGreatest-same (allowed_without (market_of book) j) (allowed_without (market_of book) j) (sum_after (lowered (pos 1) (net_of book) surplus) 0) (value_of (market_of book)) c (λ d. refl) sum-same
+      IsFirstGreatest-same (allowed_without (market_of book) j) (allowed_without (market_of book) j) (sum_after (lowered (pos 1) (net_of book) surplus) 0)
+      (value_of (market_of book)) c (λ d. refl) sum-same
       (first-skip (menu_of book) (lowered (pos 1) (net_of book) surplus) book.supply j c some g)
 
 -- a bidder that the choice uses has a number above 0
@@ -66,7 +72,8 @@ some-used z j used = by (cases_eq (number_of z j) 0)
 
 -- the greatest value without a winner, less what the others have in the winning choice, is its Vickrey price
 pub price-is : (book : Book) (z : List ℕ) (j : ℕ) (others all own : ℤ) → IsWinning (market_of book) z → IsTrue (uses z j) → own ≡ worth_in (market_of book) z j
-    → IsGreatestValue (market_of book).allowed (value_of (market_of book)) all → IsGreatestValue (allowed_without (market_of book) j) (value_of (market_of book)) others
+    → IsGreatestValue (market_of book).allowed (value_of (market_of book)) all → IsGreatestValue (allowed_without (market_of book) j)
+    (value_of (market_of book)) others
     → IsVickreyPrice (market_of book) z j (others -ℤ (all -ℤ own))
 price-is book z j others all own won used is e without =
     let m = market_of book in
@@ -78,13 +85,15 @@ price-is book z j others all own won used is e without =
     back others all own = omega (arith, ints)
 
 -- in a winning choice each number is known
-pub winner-known : (book : Book) (z : List ℕ) (j : ℕ) → IsWinning (market_of book) z → zero < j → j ≤ length book.bidders → number_of z j ≤ length (bids_of book j)
+pub winner-known : (book : Book) (z : List ℕ) (j : ℕ) → IsWinning (market_of book) z → zero < j → j ≤ length book.bidders
+    → number_of z j ≤ length (bids_of book j)
 winner-known book z j won some inside =
     let same : j - 1 + 1 ≡ j = omega arith in
     rw same at (known-of (menu_of book) z (j - 1) (fits-known (menu_of book) book.supply z won.passed) (omega (arith, winning-count book z won)))
 
 -- what a bidder wins is worth at most 2^42 in size
-pub own-small : (book : Book) (z : List ℕ) (j : ℕ) (own : ℤ) → IsBidBook book → IsWinning (market_of book) z → zero < j → j ≤ length book.bidders → own ≡ worth_in (market_of book) z j → unsigned_abs own ≤ 2 ^ 42
+pub own-small : (book : Book) (z : List ℕ) (j : ℕ) (own : ℤ) → IsBidBook book → IsWinning (market_of book) z → zero < j → j ≤ length book.bidders
+    → own ≡ worth_in (market_of book) z j → unsigned_abs own ≤ 2 ^ 42
 own-small book z j own kept won some inside is = rw is (net-small book j (number_of z j) kept (winner-known book z j won some inside))
 
 -- the surpluses of a table for the net amounts are all 0
@@ -104,7 +113,8 @@ newcomer : ℕ → ℕ → List ℕ
 newcomer j zero = []
 newcomer j (suc i) = j ∷ []
 
-winners-step : (c : List ℕ) (k off : ℕ) → k < length c → winners_after off (take (k + 1) c) ≡ winners_after off (take k c) ++ newcomer (suc (off + k)) (get_or c k 0)
+winners-step : (c : List ℕ) (k off : ℕ) → k < length c → winners_after off (take (k + 1) c) ≡ winners_after off (take k c)
+    ++ newcomer (suc (off + k)) (get_or c k 0)
 unfolding newcomer
 winners-step [] k off h = absurd (omega arith)
 winners-step (zero ∷ c) zero off h = refl
@@ -129,16 +139,19 @@ newcomer-one j (suc n) some = refl
 
 -- a bidder with no bid in the choice adds no winner
 pub winners-skip : (c : List ℕ) (k : ℕ) → k < length c → get_or c k 0 ≡ 0 → winners_after 0 (take (k + 1) c) ≡ winners_after 0 (take k c)
-winners-skip c k inside none = winners-step c k 0 inside ∙ ap (λ l. winners_after 0 (take k c) ++ l) (newcomer-none (suc (0 + k)) (get_or c k 0) none) ∙ append-nil (winners_after 0 (take k c))
+winners-skip c k inside none = winners-step c k 0 inside ∙ ap (λ l. winners_after 0 (take k c) ++ l) (newcomer-none (suc (0 + k)) (get_or c k 0) none)
+    ∙ append-nil (winners_after 0 (take k c))
 
 -- a bidder with a bid in the choice is one winner more
 pub winners-take : (c : List ℕ) (k : ℕ) → k < length c → get_or c k 0 ≢ 0 → winners_after 0 (take (k + 1) c) ≡ winners_after 0 (take k c) ++ (k + 1) ∷ []
 winners-take c k inside some =
     let next : suc (0 + k) ≡ k + 1 = omega arith in
-    winners-step c k 0 inside ∙ ap (λ l. winners_after 0 (take k c) ++ l) (newcomer-one (suc (0 + k)) (get_or c k 0) some) ∙ ap (λ j. winners_after 0 (take k c) ++ j ∷ []) next
+    winners-step c k 0 inside ∙ ap (λ l. winners_after 0 (take k c) ++ l) (newcomer-one (suc (0 + k)) (get_or c k 0) some)
+    ∙ ap (λ j. winners_after 0 (take k c) ++ j ∷ []) next
 
 -- one winner more
-pub tables-more : (book : Book) (bidders : List ℕ) (tables : List (List (List ℤ))) (j : ℕ) (table : List (List ℤ)) → AreTablesWithout book bidders tables → IsTableWithout book j table → AreTablesWithout book (bidders ++ j ∷ []) (tables ++ table ∷ [])
+pub tables-more : (book : Book) (bidders : List ℕ) (tables : List (List (List ℤ))) (j : ℕ) (table : List (List ℤ)) → AreTablesWithout book bidders tables
+    → IsTableWithout book j table → AreTablesWithout book (bidders ++ j ∷ []) (tables ++ table ∷ [])
 tables-more book bidders tables j table all one = record {
   count = omega (arith, all.count, length-append tables (table ∷ []), length-append bidders (j ∷ []));
   each = λ i inside. elim (cases_lt i (length bidders)) [
@@ -159,5 +172,6 @@ pub left-size : (all own : ℤ) → unsigned_abs all ≤ 2 ^ 120 → unsigned_ab
 left-size all own p q = omega (arith, ints)
 
 -- a price is below 2^127 in size
-pub price-size : (others all own : ℤ) → unsigned_abs others ≤ 2 ^ 121 → unsigned_abs all ≤ 2 ^ 120 → unsigned_abs own ≤ 2 ^ 42 → unsigned_abs (others -ℤ (all -ℤ own)) < 2 ^ 127
+pub price-size : (others all own : ℤ) → unsigned_abs others ≤ 2 ^ 121 → unsigned_abs all ≤ 2 ^ 120 → unsigned_abs own ≤ 2 ^ 42
+    → unsigned_abs (others -ℤ (all -ℤ own)) < 2 ^ 127
 price-size others all own p q r = omega (arith, ints)

@@ -13,11 +13,38 @@ use Rattle.bid_book.proofs.Spelled.{digits_line, name_line}
 use Rattle.weights_file.specs.WeightsForm.{IsWeight, Line, weight_line, weight_lines}
 
 weight_word : IsLine (codes "weight ")
-weight_word = ((λ is. absurd (omega arith)), ((λ is. absurd (omega arith)), ((λ is. absurd (omega arith)), ((λ is. absurd (omega arith)), ((λ is. absurd (omega arith)), ((λ is. absurd (omega arith)), ((λ is. absurd (omega arith)), tt)))))))
+weight_word = (
+  (λ is. absurd (omega arith)),
+  (
+    (λ is. absurd (omega arith)),
+    (
+      (λ is. absurd (omega arith)),
+      ((λ is. absurd (omega arith)), ((λ is. absurd (omega arith)), ((λ is. absurd (omega arith)), ((λ is. absurd (omega arith)), tt)))),
+    ),
+  ),
+)
 
 -- the first line has no line feed
 pub first_word : IsLine (codes "weights 1")
-first_word = ((λ is. absurd (omega arith)), ((λ is. absurd (omega arith)), ((λ is. absurd (omega arith)), ((λ is. absurd (omega arith)), ((λ is. absurd (omega arith)), ((λ is. absurd (omega arith)), ((λ is. absurd (omega arith)), ((λ is. absurd (omega arith)), ((λ is. absurd (omega arith)), tt)))))))))
+first_word = (
+  (λ is. absurd (omega arith)),
+  (
+    (λ is. absurd (omega arith)),
+    (
+      (λ is. absurd (omega arith)),
+      (
+        (λ is. absurd (omega arith)),
+        (
+          (λ is. absurd (omega arith)),
+          (
+            (λ is. absurd (omega arith)),
+            ((λ is. absurd (omega arith)), ((λ is. absurd (omega arith)), ((λ is. absurd (omega arith)), tt))),
+          ),
+        ),
+      ),
+    ),
+  ),
+)
 
 -- nor has the last one
 pub end_word : IsLine (codes "end")
@@ -27,7 +54,11 @@ end_word = ((λ is. absurd (omega arith)), ((λ is. absurd (omega arith)), ((λ 
 pub weight_feeds : (name : List ℕ) (w : ℕ) → IsName name → IsWeight w → IsLine (weight_line name w).0
 weight_feeds name w is weight =
     line_append (codes "weight ") (name ++ 32 ∷ decimal w) weight_word
-    (line_append name (32 ∷ decimal w) (name_line name is) ((λ feed. absurd (omega arith)), digits_line (decimal w) (numeral_decimal w (omega (arith, weight.1))).digits))
+    (line_append name (32 ∷ decimal w) (name_line name is) (
+      (λ feed. absurd (omega arith)),
+      digits_line (decimal w)
+          (numeral_decimal w (omega (arith, weight.1))).digits,
+    ))
 
 -- a line with a bidder's name says one weight
 pub weight_one : (name : List ℕ) (v w : ℕ) → IsWeight v → IsWeight w → (weight_line name v).0 ≡ (weight_line name w).0 → v ≡ w

@@ -1,5 +1,6 @@
 -- The stages read the form of a file of weights.
-use Rattle.std.proofs.Common.{inl, inr, ◌≡◌, ℕ, zero, suc, ◌+◌, ◌-◌, ◌≤◌, ◌<◌, None, List, [], ◌∷◌, ◌++◌, length, get_or, replicate, take, refl, sym, ap, subst, ◌∙◌, arith, append_assoc, length-append}
+use Rattle.std.proofs.Common.{inl, inr, ◌≡◌, ℕ, zero, suc, ◌+◌, ◌-◌, ◌≤◌, ◌<◌, None, List, [], ◌∷◌, ◌++◌, length, get_or, replicate, take, refl, sym, ap}
+use Rattle.std.proofs.Common.{subst, ◌∙◌, arith, append_assoc, length-append}
 use Rattle.std.specs.Prelude.{codes}
 use Rattle.std.specs.List.{AllByRecursion}
 use Rattle.std.proofs.lemmas.List.{append-nil, take_at, take_all, length-replicate}
@@ -23,7 +24,11 @@ finish weights = Ended weights
 -- weights of 1 to 20, told one by one
 all_weights : (ws : List ℕ) → ((k : ℕ) → k < length ws → 1 ≤ get_or ws k 0) → ((k : ℕ) → k < length ws → get_or ws k 0 ≤ 20) → AllByRecursion IsWeight ws
 all_weights [] some most = tt
-all_weights (w ∷ ws) some most = ((some 0 (omega arith), most 0 (omega arith)), all_weights ws (λ k lt. some (suc k) (omega (arith, lt))) (λ k lt. most (suc k) (omega (arith, lt))))
+all_weights (w ∷ ws) some most = (
+  (some 0 (omega arith), most 0 (omega arith)),
+  all_weights ws (λ k lt. some (suc k) (omega (arith, lt)))
+      (λ k lt. most (suc k) (omega (arith, lt))),
+)
 
 weight_at : (ws : List ℕ) → AllByRecursion IsWeight ws → (k : ℕ) → k < length ws → IsWeight (get_or ws k 0)
 weight_at [] all k lt = absurd (omega arith)
@@ -46,12 +51,14 @@ all_ones zero = tt
 all_ones (suc n) = ((omega arith, omega arith), all_ones n)
 
 -- where a bidder has no weight yet, the next line is its
-pub weighs-next : (book : Book) (given line : List ℕ) (t : Stage) → length given < length book.bidders → Step book (Listing given) line t → Weighs book given line t
+pub weighs-next : (book : Book) (given line : List ℕ) (t : Stage) → length given < length book.bidders → Step book (Listing given) line t
+    → Weighs book given line t
 weighs-next book given line t lt (inl step) = step
 weighs-next book given line t lt (inr step) = absurd (omega (arith, lt, step.0))
 
 -- the lines of the first weights are the first lines
-lines_append : (bidders : List Bidder) (xs ys : List ℕ) → length xs ≤ length bidders → (more : List Line) × (weight_lines bidders (xs ++ ys) ≡ weight_lines bidders xs ++ more)
+lines_append : (bidders : List Bidder) (xs ys : List ℕ) → length xs ≤ length bidders → (more : List Line)
+    × (weight_lines bidders (xs ++ ys) ≡ weight_lines bidders xs ++ more)
 lines_append bidders [] ys few = (weight_lines bidders ys, refl)
 lines_append [] (x ∷ xs) ys few = absurd (omega arith)
 lines_append (b ∷ bidders) (x ∷ xs) ys few =
@@ -94,7 +101,8 @@ module _ (book : Book) (rules : IsBook book) where
       by_stage (Listing given) sound (inl step) =
           move (behind (Listing given)) (weight_line (bidder_of book (length given + 1)).name step.1.0).0 (Listing (given ++ step.1.0 ∷ [])) step.1.2 step.1.3
           ((omega (arith, step.0, length-append given (step.1.0 ∷ [])), all_append given (step.1.0 ∷ []) sound.1 (step.1.1, tt)), weighed given step.1.0 step.0)
-      by_stage (Listing given) sound (inr step) = move (behind (Listing given)) (codes "end") (Ended given) step.1 step.2 ((omega (arith, step.0, sound.0), sound.1), refl)
+      by_stage (Listing given) sound (inr step) = move (behind (Listing given)) (codes "end") (Ended given) step.1 step.2
+          ((omega (arith, step.0, sound.0), sound.1), refl)
       by_stage (Ended given) sound step = absurd step
 
   all_one : AreWeights (length book.bidders) (replicate (length book.bidders) 1)
@@ -113,7 +121,8 @@ module _ (book : Book) (rules : IsBook book) where
       record {
         value = filled given;
         count = length (behind (Listing given));
-        valid = are_weights _ _ (length-append given (replicate (length book.bidders - length given) 1) ∙ omega (arith, sound.0, length-replicate {A = ℕ} (length book.bidders - length given) 1))
+        valid = are_weights _ _ (length-append given (replicate (length book.bidders - length given) 1)
+            ∙ omega (arith, sound.0, length-replicate {A = ℕ} (length book.bidders - length given) 1))
             (all_append given (replicate (length book.bidders - length given) 1) sound.1 (all_ones (length book.bidders - length given)));
         same = ap (take (length (behind (Listing given)))) whole ∙ take_at (behind (Listing given)) (more.0 ++ (codes "end", None) ∷ []) _ refl;
       }
@@ -125,7 +134,8 @@ module _ (book : Book) (rules : IsBook book) where
   }
 
   -- the stages go over the lines of weights
-  weighs_run : (front back : List Bidder) (had ws : List ℕ) → front ++ back ≡ book.bidders → AllByRecursion (λ b. IsName b.name) back → length had ≡ length front → length ws ≡ length back
+  weighs_run : (front back : List Bidder) (had ws : List ℕ) → front ++ back ≡ book.bidders → AllByRecursion (λ b. IsName b.name) back
+      → length had ≡ length front → length ws ≡ length back
       → AllByRecursion IsWeight ws → Runs (Step book) excess (Listing had) (weight_lines back ws) (Listing (had ++ ws))
   weighs_run front back had [] whole named long rest all = ap Listing (sym (append-nil had))
   weighs_run front [] had (w ∷ ws) whole named long rest all = absurd (omega (arith, rest))
@@ -146,7 +156,8 @@ module _ (book : Book) (rules : IsBook book) where
   complete weights valid =
       let all = all_weights weights (λ k lt. valid.some k (omega (arith, lt, valid.long))) (λ k lt. valid.most k (omega (arith, lt, valid.long))) in
       let body = weighs_run [] book.bidders [] weights refl (names book.supply book.reserves [] book.bidders rules.bidders) refl valid.long all in
-      let last : Runs (Step book) excess (Listing weights) ((codes "end", None) ∷ []) (finish weights) = (finish weights, end_word, inr (omega (arith, valid.long), refl, refl), refl, refl) in (
+      let last : Runs (Step book) excess (Listing weights) ((codes "end", None) ∷ []) (finish weights) =
+      (finish weights, end_word, inr (omega (arith, valid.long), refl, refl), refl, refl) in (
         Listing [],
         first_word,
         (refl, refl),
@@ -156,7 +167,8 @@ module _ (book : Book) (rules : IsBook book) where
 
   one_weight : (given l : List ℕ) (t u : Stage) → Weighs book given l t → Weighs book given l u → t ≡ u
   one_weight given l t u a b =
-      a.1.3 ∙ ap (λ (w : ℕ). Listing (given ++ w ∷ [])) (weight_one (bidder_of book (length given + 1)).name a.1.0 b.1.0 a.1.1 b.1.1 (sym a.1.2 ∙ b.1.2)) ∙ sym b.1.3
+      a.1.3 ∙ ap (λ (w : ℕ). Listing (given ++ w ∷ [])) (weight_one (bidder_of book (length given + 1)).name a.1.0 b.1.0 a.1.1 b.1.1 (sym a.1.2 ∙ b.1.2))
+      ∙ sym b.1.3
 
   one_step : (s t u : Stage) (l : List ℕ) → IsSound s → Step book s l t → Step book s l u → t ≡ u
   one_step s t u l = by_stage s

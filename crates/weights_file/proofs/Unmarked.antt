@@ -18,7 +18,8 @@ none_too : {O : Type 0} (P : Type 0) (ms : List (List ℕ × Option O)) → firs
 none_too P [] = refl
 none_too P (m ∷ ms) = none_too P ms
 
-runs_too : {S O : Type 0} (P : Type 0) (Step : S → List ℕ → S → Type 0) (s t : S) (ms : List (List ℕ × Option O)) → Runs {S = S} {O = O} Step none s ms t → Runs {S = S} {O = P} Step none s (unmarked ms) t
+runs_too : {S O : Type 0} (P : Type 0) (Step : S → List ℕ → S → Type 0) (s t : S) (ms : List (List ℕ × Option O)) → Runs {S = S} {O = O} Step none s ms t
+    → Runs {S = S} {O = P} Step none s (unmarked ms) t
 runs_too P Step s t [] run = run
 runs_too P Step s t (m ∷ ms) run = (run.0, run.1, run.2, refl, runs_too P Step run.0 t ms run.4)
 

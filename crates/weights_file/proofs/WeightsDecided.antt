@@ -13,7 +13,8 @@ use Rattle.weights_file.proofs.Reading.{IsSound, finish}
 
 -- that a line gives the bidder of a name a weight
 weight_known : (name line : List ℕ) → Decided ((w : ℕ) × (w ≤ MOST_WEIGHT) × ((1 ≤ w) × (line ≡ (weight_line name w).0)))
-weight_known name line = some_below MOST_WEIGHT (λ w. (1 ≤ w) × (line ≡ (weight_line name w).0)) (λ w. decided_both (decided_le 1 w) (decided_same line (weight_line name w).0))
+weight_known name line = some_below MOST_WEIGHT (λ w. (1 ≤ w) × (line ≡ (weight_line name w).0))
+    (λ w. decided_both (decided_le 1 w) (decided_same line (weight_line name w).0))
 
 weighs_known : (book : Book) (given line : List ℕ) → Decided ((t : Stage) × Weighs book given line t)
 weighs_known book given line =

@@ -28,7 +28,8 @@ take_turns-requires-clause-can g c =
     let lawful = g.met.C.Chooser.lawful c.args.chooser.now in
     let win = g.met.C.Chooser.winning c.args.chooser.now in
     let ws = c.args.weights.now in
-    rw (c.deref.ensures.value, c.in_ok-prices.ensures) (can-turn m lawful z win c.args.singles.now c.requires.singles c.requires.few.0 c.requires.worth c.requires.members ws c.requires.few (can-weigh m z ws (lawful.lengths z win.passed) c.requires.weights))
+    rw (c.deref.ensures.value, c.in_ok-prices.ensures) (can-turn m lawful z win c.args.singles.now c.requires.singles c.requires.few.0 c.requires.worth
+    c.requires.members ws c.requires.few (can-weigh m z ws (lawful.lengths z win.passed) c.requires.weights))
 
 pub take_turns-requires-clause-start : goal.take_turns-requires-clause-start
 take_turns-requires-clause-start g c =
@@ -36,7 +37,8 @@ take_turns-requires-clause-start g c =
     let z = g.C.Chooser.chosen c.args.chooser.now in
     let lawful = g.met.C.Chooser.lawful c.args.chooser.now in
     let win = g.met.C.Chooser.winning c.args.chooser.now in
-    rw (c.in_ok-asked.ensures.rows, c.in_ok-asked.ensures.choices) (start m lawful z win c.args.singles.now c.requires.singles c.requires.few.0 c.requires.worth c.args.weights.now)
+    rw (c.in_ok-asked.ensures.rows, c.in_ok-asked.ensures.choices) (start m lawful z win c.args.singles.now c.requires.singles c.requires.few.0
+    c.requires.worth c.args.weights.now)
 
 pub returns-clause-priced : goal.returns-clause-priced
 returns-clause-priced g c =
@@ -47,16 +49,19 @@ returns-clause-priced g c =
     let singles = c.args.singles.now in
     let ws = c.args.weights.now in
     let prices = prices_of singles in
-    let can : CanTurn m z prices ws = can-turn m lawful z win singles c.requires.singles c.requires.few.0 c.requires.worth c.requires.members ws c.requires.few (can-weigh m z ws (lawful.lengths z win.passed) c.requires.weights) in
+    let can : CanTurn m z prices ws = can-turn m lawful z win singles c.requires.singles c.requires.few.0 c.requires.worth c.requires.members ws
+    c.requires.few (can-weigh m z ws (lawful.lengths z win.passed) c.requires.weights) in
     let e = c.in_ok-near.field-0 in
     let rows = e.asked.rows.items in
     let choices = e.asked.choices.items in
     let d : to_z w128 (of_z w128 c.in_ok-near.field-0.near.den) ≡ c.in_ok-near.field-0.near.den = to_z-of_z w128 c.in_ok-near.field-0.near.den (search rules) in
-    let ended : HasEnded m z prices ws rows choices e.turns e.near.den e.near.at e.near.first e.near.second = rw (c.deref.ensures.value, c.in_ok-prices.ensures) at c.in_ok-near.ensures.ended in
+    let ended : HasEnded m z prices ws rows choices e.turns e.near.den e.near.at e.near.first e.near.second =
+    rw (c.deref.ensures.value, c.in_ok-prices.ensures) at c.in_ok-near.ensures.ended in
     let kept = c.in_ok-rows.rows in
     let is = c.in_ok-rows.ensures in
     let same : rows ≡ asked_rows singles e.turns = c.in_ok-near.ensures.rows ∙ ap (λ l. l ++ block_rows e.turns) c.in_ok-asked.ensures.rows in
-    let same_choices : choices ≡ asked_choices singles e.turns = c.in_ok-near.ensures.choices ∙ ap (λ l. l ++ block_choices e.turns) c.in_ok-asked.ensures.choices in
+    let same_choices : choices ≡ asked_choices singles e.turns = c.in_ok-near.ensures.choices ∙ ap (λ l. l ++ block_choices e.turns)
+    c.in_ok-asked.ensures.choices in
     rw d (record {
       prices = record {
         outcome = outcome m lawful z win prices ws can rows choices e.turns e.near.den e.near.at e.near.first e.near.second ended;
@@ -73,7 +78,8 @@ returns-clause-priced g c =
         distinct = subst (λ (l : List Row). IsDistinct eqb (map (λ r. r.members) l)) same ended.distinct;
       };
       shown = record {
-        order = in-order m lawful z win prices ws can rows choices e.turns e.near.den e.near.at e.near.first e.near.second ended kept is (asked_rows singles e.turns) (asked_choices singles e.turns) same same_choices;
+        order = in-order m lawful z win prices ws can rows choices e.turns e.near.den e.near.at e.near.first e.near.second ended kept is
+            (asked_rows singles e.turns) (asked_choices singles e.turns) same same_choices;
         few = few-kept m lawful z win prices ws can rows choices e.turns e.near.den e.near.at e.near.first e.near.second ended kept is;
         kept = are-kept m lawful z win prices ws can rows choices e.turns e.near.den e.near.at e.near.first e.near.second ended kept is;
         first = are-first m lawful z win prices ws can rows choices e.turns e.near.den e.near.at e.near.first e.near.second ended kept is;

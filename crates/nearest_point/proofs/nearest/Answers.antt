@@ -21,7 +21,8 @@ spread_out-requires-2-clause-few c =
     rw (c.deref-3.ensures.value, c.deref-4.ensures.value)
     (few_rows c.args.target.now c.args.weights.now c.args.rows.now h c.in_ok-held.ensures.near c.requires.coordinates.1, c.in_ok-held.ensures.parts.long_second)
 
-found : (c : goal.After-drop-held-5) → Answer (length c.args.target.now) (length c.args.rows.now) (coefficients c.args.rows.now) (bounds c.args.rows.now) (nth c.args.target.now) (weight_at c.args.weights.now)
+found : (c : goal.After-drop-held-5) → Answer (length c.args.target.now) (length c.args.rows.now) (coefficients c.args.rows.now) (bounds c.args.rows.now)
+    (nth c.args.target.now) (weight_at c.args.weights.now)
     (to_z w128 (of_z w128 c.in_ok-held.held.den)) (nth c.from_vec.result) (nth c.from_vec-2.result) (nth c.from_vec-3.result)
 found c =
     let h = c.in_ok-held.held in
@@ -29,12 +30,18 @@ found c =
     let small = p.small_den in
     let positive = p.parts.far.positive in
     let back : h.den ≡ to_z w128 (of_z w128 h.den) = omega (arith, ints) in
-    let by_row = answer_of c.args.target.now c.args.weights.now c.args.rows.now c.requires.weights c.requires.singles c.requires.bounds h c.in_ok-held.ensures.near p in
-    let same = answer_same (length c.args.target.now) (length c.args.rows.now) (coefficients c.args.rows.now) (bounds c.args.rows.now) (nth c.args.target.now) (weight_at c.args.weights.now) h.den (nth h.near.items)
-    (spread (length h.rows.items) (place h.rows.items) (nth h.first.items)) (spread (length h.rows.items) (place h.rows.items) (nth h.second.items)) (nth c.in_ok-first.first.items) (nth c.in_ok-second.second.items)
-    (λ i lt. c.in_ok-first.ensures.numbers i lt ∙ spread_same c.deref.result.now h.rows.items c.deref-2.result.now h.first.items i c.deref.ensures.value c.deref-2.ensures.value)
-    (λ i lt. c.in_ok-second.ensures.numbers i lt ∙ spread_same c.deref-3.result.now h.rows.items c.deref-4.result.now h.second.items i c.deref-3.ensures.value c.deref-4.ensures.value) by_row in
-    let den = subst (λ (d : ℤ). Answer (length c.args.target.now) (length c.args.rows.now) (coefficients c.args.rows.now) (bounds c.args.rows.now) (nth c.args.target.now) (weight_at c.args.weights.now)
+    let by_row = answer_of c.args.target.now c.args.weights.now c.args.rows.now c.requires.weights c.requires.singles c.requires.bounds h
+    c.in_ok-held.ensures.near p in
+    let same = answer_same (length c.args.target.now) (length c.args.rows.now) (coefficients c.args.rows.now) (bounds c.args.rows.now) (nth c.args.target.now)
+    (weight_at c.args.weights.now) h.den (nth h.near.items)
+    (spread (length h.rows.items) (place h.rows.items) (nth h.first.items)) (spread (length h.rows.items) (place h.rows.items) (nth h.second.items))
+    (nth c.in_ok-first.first.items) (nth c.in_ok-second.second.items)
+    (λ i lt. c.in_ok-first.ensures.numbers i lt ∙ spread_same c.deref.result.now h.rows.items c.deref-2.result.now h.first.items i c.deref.ensures.value
+    c.deref-2.ensures.value)
+    (λ i lt. c.in_ok-second.ensures.numbers i lt ∙ spread_same c.deref-3.result.now h.rows.items c.deref-4.result.now h.second.items i c.deref-3.ensures.value
+    c.deref-4.ensures.value) by_row in
+    let den = subst (λ (d : ℤ). Answer (length c.args.target.now) (length c.args.rows.now) (coefficients c.args.rows.now) (bounds c.args.rows.now)
+    (nth c.args.target.now) (weight_at c.args.weights.now)
     d (nth h.near.items) (nth c.in_ok-first.first.items) (nth c.in_ok-second.second.items)) back same in
     rw (c.from_vec.ensures, c.from_vec-2.ensures, c.from_vec-3.ensures) den
 
@@ -54,7 +61,8 @@ pub returns-clause-few : goal.returns-clause-few
 returns-clause-few c = let f = found c in f.few
 
 pub returns-clause-least : goal.returns-clause-least
-returns-clause-least c = has_least_sum c.args.target.now c.args.rows.now (weight_at c.args.weights.now) (to_z w128 (of_z w128 c.in_ok-held.held.den)) (nth c.from_vec.result) (nth c.from_vec-2.result) (nth c.from_vec-3.result) (found c)
+returns-clause-least c = has_least_sum c.args.target.now c.args.rows.now (weight_at c.args.weights.now) (to_z w128 (of_z w128 c.in_ok-held.held.den))
+    (nth c.from_vec.result) (nth c.from_vec-2.result) (nth c.from_vec-3.result) (found c)
 
 pub returns-clause-small : goal.returns-clause-small
 returns-clause-small c =
@@ -62,11 +70,13 @@ returns-clause-small c =
     let small = p.small_den in
     let positive = p.parts.far.positive in
     let den : to_z w128 (of_z w128 c.in_ok-held.held.den) ≤ℤ pos (320 ^ 4) = omega (arith, ints) in (
-      below_top c.args.target.now c.args.rows.now (weight_at c.args.weights.now) c.requires.coordinates.1 c.requires.members c.requires.singles c.requires.bounds (to_z w128 (of_z w128 c.in_ok-held.held.den)) c.from_vec.result (nth c.from_vec-2.result) (nth c.from_vec-3.result)
+      below_top c.args.target.now c.args.rows.now (weight_at c.args.weights.now) c.requires.coordinates.1 c.requires.members c.requires.singles
+          c.requires.bounds (to_z w128 (of_z w128 c.in_ok-held.held.den)) c.from_vec.result (nth c.from_vec-2.result) (nth c.from_vec-3.result)
           (ap length c.from_vec.ensures ∙ p.long_near) den (found c),
       rw c.from_vec-2.ensures c.in_ok-first.ensures.small,
       rw c.from_vec-3.ensures c.in_ok-second.ensures.small,
     )
 
 pub returns-clause-nearest : goal.returns-clause-nearest
-returns-clause-nearest c = is_nearest c.args.target.now c.args.weights.now c.args.rows.now c.requires.weights (to_z w128 (of_z w128 c.in_ok-held.held.den)) (nth c.from_vec.result) (nth c.from_vec-2.result) (nth c.from_vec-3.result) (found c)
+returns-clause-nearest c = is_nearest c.args.target.now c.args.weights.now c.args.rows.now c.requires.weights (to_z w128 (of_z w128 c.in_ok-held.held.den))
+    (nth c.from_vec.result) (nth c.from_vec-2.result) (nth c.from_vec-3.result) (found c)

@@ -9,7 +9,8 @@ pub returns-clause-given : goal.returns-clause-given
 returns-clause-given c = λ m z p f row excess positive taken members is. block-row m z p positive f row excess taken members is
 
 pub returns-clause-new : goal.returns-clause-new
-returns-clause-new c = λ m z den at bits old c f excess len positive given meets taken above. row-is_new m z len den at positive bits old c f excess given meets taken above
+returns-clause-new c = λ m z den at bits old c f excess len positive given meets taken above. row-is_new m z len den at positive bits old c f excess given
+    meets taken above
 
 pub returns-clause-met : goal.returns-clause-met
 returns-clause-met c = λ m z q row c lawful len core given. core-meets m lawful z len q core row c given

@@ -21,7 +21,8 @@ returns-in_err-supply-clause-err c =
     let p = c.args.parts.now in
     let e = err_from_is_err_and c.from_residual.result c.from_residual.ensures.1 in
     let are = ap counts c.deref.ensures.value ∙ sym (counts-are p.categories.items) in
-    let limit : IsLimit (supply_excess (terms_value p).supply) c.in_err-supply.field-0.0 = subst (λ (ns : List ℕ). IsLimit (supply_excess ns) c.in_err-supply.field-0.0) are c.in_err-supply.ensures.err in
+    let limit : IsLimit (supply_excess (terms_value p).supply) c.in_err-supply.field-0.0 =
+    subst (λ (ns : List ℕ). IsLimit (supply_excess ns) c.in_err-supply.field-0.0) are c.in_err-supply.ensures.err in
     rw (e.1, e.2) (first-limits (supply_excess (terms_value p).supply) (bidders_excess (length (terms_value p).bidders)) _ limit)
 
 pub returns-then-bidders-gt-MOST_BIDDERS-clause-err : goal.returns-then-bidders-gt-MOST_BIDDERS-clause-err
@@ -30,10 +31,12 @@ returns-then-bidders-gt-MOST_BIDDERS-clause-err c =
     let are = ap counts c.deref.ensures.value ∙ sym (counts-are p.categories.items) in
     let none : supply_excess (terms_value p).supply ≡ None = ap supply_excess (sym are) ∙ c.in_ok-supply.ensures.ok.1 in
     let count : c.count-bidders.result ≡ length (terms_value p).bidders = c.count-bidders.ensures.count in
-    rw count (bidders-exceed (supply_excess (terms_value p).supply) (length (terms_value p).bidders) none (omega (arith, count, c.if-bidders-gt-MOST_BIDDERS.true)))
+    rw count (bidders-exceed (supply_excess (terms_value p).supply) (length (terms_value p).bidders) none
+    (omega (arith, count, c.if-bidders-gt-MOST_BIDDERS.true)))
 
 pub new-requires : goal.new-requires
-new-requires c = subst (λ ts. IsSteps (steps_with c.args.parts.now.tick ts)) (sym c.deref-4.ensures.value) (steps-stated (terms_value c.args.parts.now) c.requires)
+new-requires c = subst (λ ts. IsSteps (steps_with c.args.parts.now.tick ts)) (sym c.deref-4.ensures.value)
+    (steps-stated (terms_value c.args.parts.now) c.requires)
 
 pub returns-clause-ok : goal.returns-clause-ok
 returns-clause-ok c =
@@ -42,7 +45,8 @@ returns-clause-ok c =
     let points = c.in_ok-points.ensures ∙ ap (λ (cs : List Read). map (λ c. c.points) cs) c.deref-2.ensures.value in
     let reserves = c.in_ok-reserves.ensures ∙ ap (λ (cs : List Read). map (λ c. c.reserve) cs) c.deref-3.ensures.value in
     let steps = c.in_ok-steps.ensures ∙ ap (λ ts. steps_with p.tick ts) c.deref-4.ensures.value in
-    let terms = parts-make p c.in_ok-supply.supply c.in_ok-points.points.items c.in_ok-reserves.reserves.items c.in_ok-steps.steps supply points reserves steps in
+    let terms = parts-make p c.in_ok-supply.supply c.in_ok-points.points.items c.in_ok-reserves.reserves.items c.in_ok-steps.steps supply points reserves
+    steps in
     let are = ap counts c.deref.ensures.value ∙ sym (counts-are p.categories.items) in
     let none : supply_excess (terms_value p).supply ≡ None = ap supply_excess (sym are) ∙ c.in_ok-supply.ensures.ok.1 in
     let count : c.count-bidders.result ≡ length (terms_value p).bidders = c.count-bidders.ensures.count in

@@ -16,8 +16,10 @@ returns-in_err-supply-clause-err c =
     let lots_are = c.deref.ensures.value ∙ c.in_ok-counts.ensures in
     let stop : IsLimit (supply_excess (counts c.args.categories.now)) (limit_stop c.in_err-supply.field-0.0) =
     ⊎_elim
-    (λ (none : c.in_err-supply.field-0.0 ≡ lots.Memory). subst (λ (s : LotStop). IsLimit (supply_excess (counts c.args.categories.now)) (limit_stop s)) (sym none) tt)
-    (λ (stops : supply_stop c.deref.result.now ≡ Some c.in_err-supply.field-0.0). stops-over (counts c.args.categories.now) c.in_err-supply.field-0.0 c.requires (ap supply_stop (sym lots_are) ∙ stops))
+    (λ (none : c.in_err-supply.field-0.0 ≡ lots.Memory). subst (λ (s : LotStop). IsLimit (supply_excess (counts c.args.categories.now)) (limit_stop s))
+    (sym none) tt)
+    (λ (stops : supply_stop c.deref.result.now ≡ Some c.in_err-supply.field-0.0). stops-over (counts c.args.categories.now) c.in_err-supply.field-0.0
+    c.requires (ap supply_stop (sym lots_are) ∙ stops))
     (c.in_err-supply.ensures.stopped c.in_err-supply.field-0.0 refl) in
     rw (p.1, p.2) stop
 

@@ -4,7 +4,8 @@ use Rattle.std.proofs.lemmas.Result.{err_from_is_err_and}
 use Rattle.toml.specs.View.{table_view}
 use Rattle.award_file.specs.Reading.{IsFault}
 use Rattle.award_file.specs.Stated.{has_other}
-use Rattle.award_file.specs.Walk.{category_count, version_at, tick_at, categories_fault, bidders_fault, steps_fault, caps_fault, top_keys, entrants_of, caps_of, unless}
+use Rattle.award_file.specs.Walk.{category_count, version_at, tick_at, categories_fault, bidders_fault, steps_fault, caps_fault, top_keys, entrants_of}
+use Rattle.award_file.specs.Walk.{caps_of, unless}
 use Rattle.award_file.proofs.PartLaws.{terms-same}
 use Rattle.award_file.proofs.ReadingLaws.{third-stops, fourth-stops, last-decides, count-is}
 use Rattle.award_file.proofs.read.read_parts.Goals as goal
@@ -15,9 +16,11 @@ returns-in_err-thresholds-clause-err c =
     let t = table_view c.args.table.now in
     let version : is_some (version_at t) ≡ true = ap is_some (sym c.in-Some.ensures.number) in
     let tick : is_some (tick_at t) ≡ true = ap is_some (sym c.in-Some-number_at.ensures.number) in
-    let count : c.len.result ≡ category_count t = c.len.ensures ∙ c.in_ok-categories.categories.ok.0 ∙ count-is c.in_ok-categories.categories.items t c.in_ok-categories.ensures.ok.1 in
+    let count : c.len.result ≡ category_count t = c.len.ensures ∙ c.in_ok-categories.categories.ok.0
+    ∙ count-is c.in_ok-categories.categories.items t c.in_ok-categories.ensures.ok.1 in
     let bidders : bidders_fault (category_count t) t ≡ None = subst (λ n. bidders_fault n t ≡ None) count c.in_ok-bidders.ensures.ok.0 in
-    rw (p.1, p.2) (third-stops (is_some (version_at t)) (is_some (tick_at t)) (categories_fault t) (bidders_fault (category_count t) t) (steps_fault t) (caps_fault (category_count t) t) (not (has_other top_keys t)) _
+    rw (p.1, p.2) (third-stops (is_some (version_at t)) (is_some (tick_at t)) (categories_fault t) (bidders_fault (category_count t) t) (steps_fault t)
+    (caps_fault (category_count t) t) (not (has_other top_keys t)) _
     version tick c.in_ok-categories.ensures.ok.0 bidders c.in_err-thresholds.ensures.err)
 
 pub returns-in_err-caps-clause-err : goal.returns-in_err-caps-clause-err
@@ -26,11 +29,15 @@ returns-in_err-caps-clause-err c =
     let t = table_view c.args.table.now in
     let version : is_some (version_at t) ≡ true = ap is_some (sym c.in-Some.ensures.number) in
     let tick : is_some (tick_at t) ≡ true = ap is_some (sym c.in-Some-number_at.ensures.number) in
-    let count : c.len.result ≡ category_count t = c.len.ensures ∙ c.in_ok-categories.categories.ok.0 ∙ count-is c.in_ok-categories.categories.items t c.in_ok-categories.ensures.ok.1 in
-    let count-2 : c.len-2.result ≡ category_count t = c.len-2.ensures ∙ c.in_ok-categories.categories.ok.0 ∙ count-is c.in_ok-categories.categories.items t c.in_ok-categories.ensures.ok.1 in
+    let count : c.len.result ≡ category_count t = c.len.ensures ∙ c.in_ok-categories.categories.ok.0
+    ∙ count-is c.in_ok-categories.categories.items t c.in_ok-categories.ensures.ok.1 in
+    let count-2 : c.len-2.result ≡ category_count t = c.len-2.ensures ∙ c.in_ok-categories.categories.ok.0
+    ∙ count-is c.in_ok-categories.categories.items t c.in_ok-categories.ensures.ok.1 in
     let bidders : bidders_fault (category_count t) t ≡ None = subst (λ n. bidders_fault n t ≡ None) count c.in_ok-bidders.ensures.ok.0 in
-    let caps : IsFault (caps_fault (category_count t) t) c.in_err-caps.field-0.0 = subst (λ n. IsFault (caps_fault n t) c.in_err-caps.field-0.0) count-2 c.in_err-caps.ensures.err in
-    rw (p.1, p.2) (fourth-stops (is_some (version_at t)) (is_some (tick_at t)) (categories_fault t) (bidders_fault (category_count t) t) (steps_fault t) (caps_fault (category_count t) t) (not (has_other top_keys t)) _
+    let caps : IsFault (caps_fault (category_count t) t) c.in_err-caps.field-0.0 = subst (λ n. IsFault (caps_fault n t) c.in_err-caps.field-0.0) count-2
+    c.in_err-caps.ensures.err in
+    rw (p.1, p.2) (fourth-stops (is_some (version_at t)) (is_some (tick_at t)) (categories_fault t) (bidders_fault (category_count t) t) (steps_fault t)
+    (caps_fault (category_count t) t) (not (has_other top_keys t)) _
     version tick c.in_ok-categories.ensures.ok.0 bidders c.in_ok-thresholds.ensures.ok.0 caps)
 
 pub returns-then-has_other-clause-err : goal.returns-then-has_other-clause-err
@@ -38,11 +45,14 @@ returns-then-has_other-clause-err c =
     let t = table_view c.args.table.now in
     let version : is_some (version_at t) ≡ true = ap is_some (sym c.in-Some.ensures.number) in
     let tick : is_some (tick_at t) ≡ true = ap is_some (sym c.in-Some-number_at.ensures.number) in
-    let count : c.len.result ≡ category_count t = c.len.ensures ∙ c.in_ok-categories.categories.ok.0 ∙ count-is c.in_ok-categories.categories.items t c.in_ok-categories.ensures.ok.1 in
-    let count-2 : c.len-2.result ≡ category_count t = c.len-2.ensures ∙ c.in_ok-categories.categories.ok.0 ∙ count-is c.in_ok-categories.categories.items t c.in_ok-categories.ensures.ok.1 in
+    let count : c.len.result ≡ category_count t = c.len.ensures ∙ c.in_ok-categories.categories.ok.0
+    ∙ count-is c.in_ok-categories.categories.items t c.in_ok-categories.ensures.ok.1 in
+    let count-2 : c.len-2.result ≡ category_count t = c.len-2.ensures ∙ c.in_ok-categories.categories.ok.0
+    ∙ count-is c.in_ok-categories.categories.items t c.in_ok-categories.ensures.ok.1 in
     let bidders : bidders_fault (category_count t) t ≡ None = subst (λ n. bidders_fault n t ≡ None) count c.in_ok-bidders.ensures.ok.0 in
     let caps : caps_fault (category_count t) t ≡ None = subst (λ n. caps_fault n t ≡ None) count-2 c.in_ok-caps.ensures.ok.0 in
-    let decided = last-decides (is_some (version_at t)) (is_some (tick_at t)) (categories_fault t) (bidders_fault (category_count t) t) (steps_fault t) (caps_fault (category_count t) t) (not (has_other top_keys t))
+    let decided = last-decides (is_some (version_at t)) (is_some (tick_at t)) (categories_fault t) (bidders_fault (category_count t) t) (steps_fault t)
+    (caps_fault (category_count t) t) (not (has_other top_keys t))
     version tick c.in_ok-categories.ensures.ok.0 bidders c.in_ok-thresholds.ensures.ok.0 caps in
     let other : has_other top_keys t ≡ true = sym c.has_other.ensures ∙ c.if-has_other.true in
     let fault = decided ∙ ap (λ b. unless (not b) 18 0) other in
@@ -53,17 +63,23 @@ returns-clause-ok c =
     let t = table_view c.args.table.now in
     let version : is_some (version_at t) ≡ true = ap is_some (sym c.in-Some.ensures.number) in
     let tick : is_some (tick_at t) ≡ true = ap is_some (sym c.in-Some-number_at.ensures.number) in
-    let count : c.len.result ≡ category_count t = c.len.ensures ∙ c.in_ok-categories.categories.ok.0 ∙ count-is c.in_ok-categories.categories.items t c.in_ok-categories.ensures.ok.1 in
-    let count-2 : c.len-2.result ≡ category_count t = c.len-2.ensures ∙ c.in_ok-categories.categories.ok.0 ∙ count-is c.in_ok-categories.categories.items t c.in_ok-categories.ensures.ok.1 in
+    let count : c.len.result ≡ category_count t = c.len.ensures ∙ c.in_ok-categories.categories.ok.0
+    ∙ count-is c.in_ok-categories.categories.items t c.in_ok-categories.ensures.ok.1 in
+    let count-2 : c.len-2.result ≡ category_count t = c.len-2.ensures ∙ c.in_ok-categories.categories.ok.0
+    ∙ count-is c.in_ok-categories.categories.items t c.in_ok-categories.ensures.ok.1 in
     let bidders : bidders_fault (category_count t) t ≡ None = subst (λ n. bidders_fault n t ≡ None) count c.in_ok-bidders.ensures.ok.0 in
     let other = c.has_other.ensures in
     let caps : caps_fault (category_count t) t ≡ None = subst (λ n. caps_fault n t ≡ None) count-2 c.in_ok-caps.ensures.ok.0 in
-    let decided = last-decides (is_some (version_at t)) (is_some (tick_at t)) (categories_fault t) (bidders_fault (category_count t) t) (steps_fault t) (caps_fault (category_count t) t) (not (has_other top_keys t))
+    let decided = last-decides (is_some (version_at t)) (is_some (tick_at t)) (categories_fault t) (bidders_fault (category_count t) t) (steps_fault t)
+    (caps_fault (category_count t) t) (not (has_other top_keys t))
     version tick c.in_ok-categories.ensures.ok.0 bidders c.in_ok-thresholds.ensures.ok.0 caps in
     let other : has_other top_keys t ≡ false = sym c.has_other.ensures ∙ c.if-has_other.false in
     let none = decided ∙ ap (λ b. unless (not b) 18 0) other in
     let version_is : unwrap_or (version_at t) 0 ≡ c.in-Some.version = ap (λ (o : Option ℕ). unwrap_or o 0) (sym c.in-Some.ensures.number) in
     let tick_is : unwrap_or (tick_at t) 0 ≡ c.in-Some-number_at.tick = ap (λ (o : Option ℕ). unwrap_or o 0) (sym c.in-Some-number_at.ensures.number) in
     let bidders_are = c.in_ok-bidders.ensures.ok.1 ∙ ap (λ n. entrants_of n t) count in
-    let caps_are = c.in_ok-caps.ensures.ok.1 ∙ ap (λ n. caps_of n t) count-2 in
-    (none, terms-same _ _ _ _ _ _ _ _ _ _ _ _ version_is tick_is (sym c.in_ok-categories.ensures.ok.1) (sym c.in_ok-thresholds.ensures.ok.1) (sym caps_are) (sym bidders_are))
+    let caps_are = c.in_ok-caps.ensures.ok.1 ∙ ap (λ n. caps_of n t) count-2 in (
+      none,
+      terms-same _ _ _ _ _ _ _ _ _ _ _ _ version_is tick_is (sym c.in_ok-categories.ensures.ok.1) (sym c.in_ok-thresholds.ensures.ok.1) (sym caps_are)
+          (sym bidders_are),
+    )

@@ -11,9 +11,11 @@ append-requires-2 g c =
 pub read_all-requires-2-clause-known : goal.read_all-requires-2-clause-known
 read_all-requires-2-clause-known g c =
     let before : IsTrue (is_some (known c.in_ok-files.files.counted.files.items c.as_str-name.result.now)) = search rules in
-    known_after _ _ _ _ _ _ _ c.in_ok-append-2.ensures.bytes (known_after _ _ _ _ _ _ _ c.in_ok-append.ensures.bytes (known_then _ _ _ c.read_all.ensures.kept before))
+    known_after _ _ _ _ _ _ _ c.in_ok-append-2.ensures.bytes (known_after _ _ _ _ _ _ _ c.in_ok-append.ensures.bytes
+    (known_then _ _ _ c.read_all.ensures.kept before))
 
 pub append_faults-requires : goal.append_faults-requires
 append_faults-requires g c =
     let before : IsTrue (is_some (known c.in_ok-files.files.counted.files.items c.as_str-name.result.now)) = search rules in
-    known_then _ _ _ c.read_all-2.ensures.kept (known_after _ _ _ _ _ _ _ c.in_ok-append-2.ensures.bytes (known_after _ _ _ _ _ _ _ c.in_ok-append.ensures.bytes (known_then _ _ _ c.read_all.ensures.kept before)))
+    known_then _ _ _ c.read_all-2.ensures.kept (known_after _ _ _ _ _ _ _ c.in_ok-append-2.ensures.bytes
+    (known_after _ _ _ _ _ _ _ c.in_ok-append.ensures.bytes (known_then _ _ _ c.read_all.ensures.kept before)))

@@ -9,7 +9,8 @@ pub loop-k-preserved : goal.loop-k-preserved
 loop-k-preserved c =
     let bidders = c.args.book.now.bidders in
     let k = c.loop-k.k in
-    next_bidder bidders k _ c.loop-k.text c.add_bidder.new.text (omega arith) c.loop-k.invariant (c.in_ok-add_bidder.ensures ∙ ap (λ (b : Bidder). c.loop-k.text ++ bidder_text b) (bidder_is c.args.book.now k))
+    next_bidder bidders k _ c.loop-k.text c.add_bidder.new.text (omega arith) c.loop-k.invariant
+    (c.in_ok-add_bidder.ensures ∙ ap (λ (b : Bidder). c.loop-k.text ++ bidder_text b) (bidder_is c.args.book.now k))
 
 pub returns : goal.returns
 returns c = all_added bidders_text c.args.book.now.bidders c.loop-k.k _ c.loop-k.text (omega arith) refl c.loop-k.invariant

@@ -8,6 +8,7 @@ use Rattle.bid_desk.proofs.book.put_clock_bid.Goals as goal
 
 pub returns-clause-kept : goal.returns-clause-kept
 returns-clause-kept c =
-    put-kept (categories_in c.args.history.now) c.package-held.result.now c.cost.result (map bid_value c.args.list.now.items) (map bid_value c.put_most.new.list.items) c.package-held.ensures.held
+    put-kept (categories_in c.args.history.now) c.package-held.result.now c.cost.result (map bid_value c.args.list.now.items)
+    (map bid_value c.put_most.new.list.items) c.package-held.ensures.held
     (omega (arith, c.cost.ensures, price-most c.prices.result.now c.package-held.result.now c.prices.ensures.most c.package-held.ensures.held.few))
     c.in_ok-put_most.ensures c.requires.kept

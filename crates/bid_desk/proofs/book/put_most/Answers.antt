@@ -10,8 +10,10 @@ use Rattle.bid_desk.proofs.book.put_most.Goals as goal
 
 pub amount_listed-requires-clause-list : goal.amount_listed-requires-clause-list
 amount_listed-requires-clause-list c =
-    subst (λ (list : List Bid). All (IsEntry (length c.args.«package».now)) list) (sym c.deref.ensures.value) (kept-entries (length c.args.«package».now) c.args.list.now.items c.requires)
+    subst (λ (list : List Bid). All (IsEntry (length c.args.«package».now)) list) (sym c.deref.ensures.value)
+    (kept-entries (length c.args.«package».now) c.args.list.now.items c.requires)
 
 pub amount_listed-requires-clause-order : goal.amount_listed-requires-clause-order
 amount_listed-requires-clause-order c =
-    subst (λ (list : List Bid). InOrder (map entry_lots list)) (sym c.deref.ensures.value) (kept-order (length c.args.«package».now) c.args.list.now.items c.requires)
+    subst (λ (list : List Bid). InOrder (map entry_lots list)) (sym c.deref.ensures.value)
+    (kept-order (length c.args.«package».now) c.args.list.now.items c.requires)

@@ -28,4 +28,5 @@ pub returns-in_ok-insert-in-Free-clause-put : goal.returns-in_ok-insert-in-Free-
 returns-in_ok-insert-in-Free-clause-put c =
     ap (map bid_value) c.in_ok-insert-in-Free.ensures.items
     ∙ put-free c.args.list.now.items c.args.«package».now c.in_ok-package-in-Free.«package» c.args.amount c.in-Free.place
-    (subst (λ (xs : List Bid). IsFreeAt (map bid_value xs) c.args.«package».now c.in-Free.place) c.deref.ensures.value c.in-Free.ensures) c.in_ok-package-in-Free.ensures
+    (subst (λ (xs : List Bid). IsFreeAt (map bid_value xs) c.args.«package».now c.in-Free.place) c.deref.ensures.value c.in-Free.ensures)
+    c.in_ok-package-in-Free.ensures

@@ -18,7 +18,8 @@ is_same-requires c =
 
 pub returns-then-is_same : goal.returns-then-is_same
 returns-then-is_same c =
-    slot-taken (length c.args.«package».now) c.args.list.now c.args.«package».now c.place_of-place.result c.requires c.place_of-place.ensures c.if-place-list.true
+    slot-taken (length c.args.«package».now) c.args.list.now c.args.«package».now c.place_of-place.result c.requires c.place_of-place.ensures
+    c.if-place-list.true
     (ap (λ (p : List ℕ). is_same p c.args.«package».now) (lots-read c.args.list.now c.place_of-place.result c.index-list-place.result c.if-place-list.true)
     ∙ sym c.is_same.ensures ∙ c.if-is_same.true)
 

@@ -10,9 +10,12 @@ use Rattle.std.proofs.Common.{subst}
 pub returns-clause-text : goal.returns-clause-text
 returns-clause-text c =
     subst (λ (e : Event). OnOk c.add_draft.result (c.add_draft.new.text ≡ c.args.text.now ++ event_text e))
-    (draft-same c.args.draws.now.state c.package-lots.new.self.state c.args.bidder.now.number (figures_of c.args.prices.now) (counts_of c.args.bidder.now.own) (counts_of c.args.bidder.now.last)
-    (counts_of c.package-lots.result) c.draw.result c.amount-amount.result c.package-lots.ensures.state c.package-lots.ensures.drawn c.draw.ensures.drawn c.amount-amount.ensures)
+    (draft-same c.args.draws.now.state c.package-lots.new.self.state c.args.bidder.now.number (figures_of c.args.prices.now) (counts_of c.args.bidder.now.own)
+    (counts_of c.args.bidder.now.last)
+    (counts_of c.package-lots.result) c.draw.result c.amount-amount.result c.package-lots.ensures.state c.package-lots.ensures.drawn c.draw.ensures.drawn
+    c.amount-amount.ensures)
     c.add_draft.ensures
 
 pub returns-clause-state : goal.returns-clause-state
-returns-clause-state c = next-next c.args.draws.now.state c.package-lots.new.self.state c.draw.new.self.state 4 c.package-lots.ensures.state c.draw.ensures.state
+returns-clause-state c = next-next c.args.draws.now.state c.package-lots.new.self.state c.draw.new.self.state 4 c.package-lots.ensures.state
+    c.draw.ensures.state

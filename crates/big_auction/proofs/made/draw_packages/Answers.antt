@@ -6,5 +6,6 @@ loop-bidder-init c = packed-none c.args.draws.now.state c.in_ok-packages.package
 
 pub loop-bidder-preserved : goal.loop-bidder-preserved
 loop-bidder-preserved c =
-    packed-more c.args.draws.now.state c.loop-bidder._bidder c.loop-bidder.draws.state c.package.new.self.state c.loop-bidder.packages.items c.push.new.self.items c.package.result
+    packed-more c.args.draws.now.state c.loop-bidder._bidder c.loop-bidder.draws.state c.package.new.self.state c.loop-bidder.packages.items
+    c.push.new.self.items c.package.result
     c.loop-bidder.invariant c.package.ensures.drawn c.package.ensures.state c.in_ok-push.ensures.items

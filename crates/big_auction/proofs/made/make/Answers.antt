@@ -17,12 +17,15 @@ returns-clause-log c =
     let twelve : length items ≡ 12 = sym (length-map items counts_of) ∙ ap (λ (ps : List (List ℕ)). length ps) pack in
     let price : figures_of c.in_ok-prices.prices ≡ prices_after made_terms (held_from (map counts_of items)) 9 =
     c.in_ok-prices.ensures.prices ∙ ap (λ (xs : List Lots). prices_after made_terms (held_from (map counts_of xs)) 9) c.deref.ensures.value in
-    log-made c.args.number s0 s (length items) (map counts_of items) (figures_of c.in_ok-prices.prices) c.new-log.result c.add_full_rounds.new.text c.add_last_bids.new.text c.add_close.new.text
+    log-made c.args.number s0 s (length items) (map counts_of items) (figures_of c.in_ok-prices.prices) c.new-log.result c.add_full_rounds.new.text
+    c.add_last_bids.new.text c.add_close.new.text
     c.add_sealed_lines.new.text c.add_close-2.new.text c.new-draws.ensures pack price c.in_ok-packages.ensures.state twelve c.new-log.ensures
     (c.in_ok-add_full_rounds.ensures ∙ ap (λ (xs : List Lots). c.new-log.result ++ log_text (full_rounds_for (map counts_of xs) 9)) c.deref-2.ensures.value)
-    (c.in_ok-add_last_bids.ensures ∙ ap (λ (xs : List Lots). c.add_full_rounds.new.text ++ log_text (last_bids_for (map counts_of xs) 4)) c.deref-3.ensures.value)
+    (c.in_ok-add_last_bids.ensures ∙ ap (λ (xs : List Lots). c.add_full_rounds.new.text ++ log_text (last_bids_for (map counts_of xs) 4))
+    c.deref-3.ensures.value)
     c.in_ok-add_close.ensures
-    (c.in_ok-add_sealed_lines.ensures ∙ ap (λ (xs : List Lots). c.add_close.new.text ++ log_text (sealed_for s (figures_of c.in_ok-prices.prices) (map counts_of xs) (length xs))) c.deref-4.ensures.value)
+    (c.in_ok-add_sealed_lines.ensures ∙ ap (λ (xs : List Lots). c.add_close.new.text
+    ++ log_text (sealed_for s (figures_of c.in_ok-prices.prices) (map counts_of xs) (length xs))) c.deref-4.ensures.value)
     c.in_ok-add_close-2.ensures
 
 pub returns-clause-lines : goal.returns-clause-lines

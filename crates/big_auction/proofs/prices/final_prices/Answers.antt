@@ -13,8 +13,10 @@ raised-prices-requires c =
 
 pub loop-round-preserved : goal.loop-round-preserved
 loop-round-preserved c =
-    prices-more c.args.packages.now c.loop-round._round c.loop-round.prices c.raised-prices.result c.demand-asked.result c.requires c.demand-asked.ensures c.loop-round.invariant
-    (c.raised-prices.ensures ∙ ap (λ (t : Steps). raised_prices t.tick t.thresholds (figures_of c.loop-round.prices) (figures_of c.demand-asked.result) made_terms.supply) c.in_ok-table.ensures)
+    prices-more c.args.packages.now c.loop-round._round c.loop-round.prices c.raised-prices.result c.demand-asked.result c.requires c.demand-asked.ensures
+    c.loop-round.invariant
+    (c.raised-prices.ensures ∙ ap (λ (t : Steps). raised_prices t.tick t.thresholds (figures_of c.loop-round.prices)
+    (figures_of c.demand-asked.result) made_terms.supply) c.in_ok-table.ensures)
 
 pub returns-clause-low : goal.returns-clause-low
 returns-clause-low c =

@@ -9,10 +9,12 @@ pub overflow_add-sum : goal.overflow_add-sum
 overflow_add-sum c =
     let n = c.loop-paid.paid-index in
     let at = c.args.at.now in
-    next-fits (to_z w128 c.loop-paid.sum-bits) (sum_over everyone (of_bidder at) n) (slice_index_or at n (pos 0)) c.loop-paid.invariant (c.requires.small n (omega arith)) (rw (over-step everyone at n) at (c.requires.small (n + 1) (omega arith)))
+    next-fits (to_z w128 c.loop-paid.sum-bits) (sum_over everyone (of_bidder at) n) (slice_index_or at n (pos 0)) c.loop-paid.invariant
+    (c.requires.small n (omega arith)) (rw (over-step everyone at n) at (c.requires.small (n + 1) (omega arith)))
 
 pub loop-paid-preserved : goal.loop-paid-preserved
 loop-paid-preserved c =
     let n = c.loop-paid.paid-index in
     let at = c.args.at.now in
-    next-is (to_z w128 c.loop-paid.sum-bits) (sum_over everyone (of_bidder at) n) (slice_index_or at n (pos 0)) c.loop-paid.invariant (c.requires.small n (omega arith)) (rw (over-step everyone at n) at (c.requires.small (n + 1) (omega arith))) ∙ sym (over-step everyone at n)
+    next-is (to_z w128 c.loop-paid.sum-bits) (sum_over everyone (of_bidder at) n) (slice_index_or at n (pos 0)) c.loop-paid.invariant
+    (c.requires.small n (omega arith)) (rw (over-step everyone at n) at (c.requires.small (n + 1) (omega arith))) ∙ sym (over-step everyone at n)

@@ -10,4 +10,5 @@ returns c = λ x e.
     let d : pos 1 ≤ℤ c.args.den = c.requires.den in
     let f : FitsSigned w128 c.args.total = search rules in
     let h : FitsSigned w128 c.args.den = search rules in
-    quot_is w128 c.args.total c.args.den f h (quot_fits w128 c.args.total c.args.den f (omega (arith, ints))) ∙ quotient-is c.args.total c.args.den x c.requires.total d e
+    quot_is w128 c.args.total c.args.den f h (quot_fits w128 c.args.total c.args.den f (omega (arith, ints)))
+    ∙ quotient-is c.args.total c.args.den x c.requires.total d e

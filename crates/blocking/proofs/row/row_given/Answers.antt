@@ -17,8 +17,10 @@ overflow_add-excess g c =
     let d : to_z w128 (of_z w128 c.args.den) ≡ c.args.den = to_z-of_z w128 c.args.den (search rules) in
     let x : to_z w128 (of_z w128 c.args.excess) ≡ c.args.excess = to_z-of_z w128 c.args.excess (search rules) in
     let r : to_z w128 (of_z w128 c.row_paid-paid.result) ≡ c.row_paid-paid.result = to_z-of_z w128 c.row_paid-paid.result (search rules) in
-    let is : c.row_paid-paid.result ≡ sum_over (idle_row m z (record { den = c.args.den; at = at }) c.args.choice.now) (of_bidder at) m.bidders = rw d at c.row_paid-paid.ensures.value in
-    let t = row-total m (g.met.C.Chooser.lawful c.args.chooser.now) z (g.met.C.Chooser.winning c.args.chooser.now) c.args.den at c.requires.look c.args.choice.now c.args.excess c.row_paid-paid.result c.requires.found is in
+    let is : c.row_paid-paid.result ≡ sum_over (idle_row m z (record { den = c.args.den; at = at }) c.args.choice.now) (of_bidder at) m.bidders =
+    rw d at c.row_paid-paid.ensures.value in
+    let t = row-total m (g.met.C.Chooser.lawful c.args.chooser.now) z (g.met.C.Chooser.winning c.args.chooser.now) c.args.den at c.requires.look
+    c.args.choice.now c.args.excess c.row_paid-paid.result c.requires.found is in
     rw (x, r) (small-fits (c.args.excess +ℤ c.row_paid-paid.result) (omega (arith, ints, t.0)) (omega (arith, ints, t.1)))
 
 pub exact_quotient-bound-requires-clause-total : goal.exact_quotient-bound-requires-clause-total
@@ -29,9 +31,13 @@ exact_quotient-bound-requires-clause-total g c =
     let d : to_z w128 (of_z w128 c.args.den) ≡ c.args.den = to_z-of_z w128 c.args.den (search rules) in
     let x : to_z w128 (of_z w128 c.args.excess) ≡ c.args.excess = to_z-of_z w128 c.args.excess (search rules) in
     let r : to_z w128 (of_z w128 c.row_paid-paid.result) ≡ c.row_paid-paid.result = to_z-of_z w128 c.row_paid-paid.result (search rules) in
-    let is : c.row_paid-paid.result ≡ sum_over (idle_row m z (record { den = c.args.den; at = at }) c.args.choice.now) (of_bidder at) m.bidders = rw d at c.row_paid-paid.ensures.value in
-    let t = row-total m (g.met.C.Chooser.lawful c.args.chooser.now) z (g.met.C.Chooser.winning c.args.chooser.now) c.args.den at c.requires.look c.args.choice.now c.args.excess c.row_paid-paid.result c.requires.found is in
-    let y : to_z w128 (of_z w128 (c.args.excess +ℤ c.row_paid-paid.result)) ≡ c.args.excess +ℤ c.row_paid-paid.result = to_z-of_z w128 (c.args.excess +ℤ c.row_paid-paid.result) (small-fits (c.args.excess +ℤ c.row_paid-paid.result) (omega (arith, ints, t.0)) (omega (arith, ints, t.1))) in
+    let is : c.row_paid-paid.result ≡ sum_over (idle_row m z (record { den = c.args.den; at = at }) c.args.choice.now) (of_bidder at) m.bidders =
+    rw d at c.row_paid-paid.ensures.value in
+    let t = row-total m (g.met.C.Chooser.lawful c.args.chooser.now) z (g.met.C.Chooser.winning c.args.chooser.now) c.args.den at c.requires.look
+    c.args.choice.now c.args.excess c.row_paid-paid.result c.requires.found is in
+    let y : to_z w128 (of_z w128 (c.args.excess +ℤ c.row_paid-paid.result)) ≡ c.args.excess +ℤ c.row_paid-paid.result =
+    to_z-of_z w128 (c.args.excess +ℤ c.row_paid-paid.result) (small-fits (c.args.excess +ℤ c.row_paid-paid.result) (omega (arith, ints, t.0))
+    (omega (arith, ints, t.1))) in
     rw (x, r, y) t.0
 
 pub returns-clause-bound : goal.returns-clause-bound
@@ -42,8 +48,13 @@ returns-clause-bound g c =
     let d : to_z w128 (of_z w128 c.args.den) ≡ c.args.den = to_z-of_z w128 c.args.den (search rules) in
     let x : to_z w128 (of_z w128 c.args.excess) ≡ c.args.excess = to_z-of_z w128 c.args.excess (search rules) in
     let r : to_z w128 (of_z w128 c.row_paid-paid.result) ≡ c.row_paid-paid.result = to_z-of_z w128 c.row_paid-paid.result (search rules) in
-    let is : c.row_paid-paid.result ≡ sum_over (idle_row m z (record { den = c.args.den; at = at }) c.args.choice.now) (of_bidder at) m.bidders = rw d at c.row_paid-paid.ensures.value in
-    let t = row-total m (g.met.C.Chooser.lawful c.args.chooser.now) z (g.met.C.Chooser.winning c.args.chooser.now) c.args.den at c.requires.look c.args.choice.now c.args.excess c.row_paid-paid.result c.requires.found is in
-    let y : to_z w128 (of_z w128 (c.args.excess +ℤ c.row_paid-paid.result)) ≡ c.args.excess +ℤ c.row_paid-paid.result = to_z-of_z w128 (c.args.excess +ℤ c.row_paid-paid.result) (small-fits (c.args.excess +ℤ c.row_paid-paid.result) (omega (arith, ints, t.0)) (omega (arith, ints, t.1))) in
-    let back : to_z w128 (of_z w128 c.exact_quotient-bound.result) ≡ c.exact_quotient-bound.result = to_z-of_z w128 c.exact_quotient-bound.result (search rules) in
+    let is : c.row_paid-paid.result ≡ sum_over (idle_row m z (record { den = c.args.den; at = at }) c.args.choice.now) (of_bidder at) m.bidders =
+    rw d at c.row_paid-paid.ensures.value in
+    let t = row-total m (g.met.C.Chooser.lawful c.args.chooser.now) z (g.met.C.Chooser.winning c.args.chooser.now) c.args.den at c.requires.look
+    c.args.choice.now c.args.excess c.row_paid-paid.result c.requires.found is in
+    let y : to_z w128 (of_z w128 (c.args.excess +ℤ c.row_paid-paid.result)) ≡ c.args.excess +ℤ c.row_paid-paid.result =
+    to_z-of_z w128 (c.args.excess +ℤ c.row_paid-paid.result) (small-fits (c.args.excess +ℤ c.row_paid-paid.result) (omega (arith, ints, t.0))
+    (omega (arith, ints, t.1))) in
+    let back : to_z w128 (of_z w128 c.exact_quotient-bound.result) ≡ c.exact_quotient-bound.result =
+    to_z-of_z w128 c.exact_quotient-bound.result (search rules) in
     back ∙ c.exact_quotient-bound.ensures _ (rw (d, x, r, y) t.2)

@@ -19,8 +19,11 @@ overflow_add-sum g c =
     let s : ℕ → Bool = idle_row m z (record { den = c.args.den; at = at }) c.args.choice.now in
     let lt = c.loop-k-test.true in
     let inv : to_z w128 c.loop-k.sum-bits ≡ sum_over s (of_bidder at) n = rw d at c.loop-k.invariant in
-    let own : c.part-sum.result ≡ if s (n + 1) then slice_index_or at n (pos 0) else pos 0 = part-is c.is_idle.result (s (n + 1)) (slice_index_or at n (pos 0)) c.part-sum.result c.part-sum.ensures (rw d at c.is_idle.ensures) (paid-at m z c.args.den at c.requires.look n lt) in
-    next-fits (to_z w128 c.loop-k.sum-bits) (sum_over s (of_bidder at) n) c.part-sum.result inv (row-range m z c.args.den at c.requires.look s n (omega arith)) (rw (own, ← over-step s at n) (row-range m z c.args.den at c.requires.look s (n + 1) (omega arith)))
+    let own : c.part-sum.result ≡ if s (n + 1) then slice_index_or at n (pos 0) else pos 0 = part-is c.is_idle.result (s (n + 1))
+    (slice_index_or at n (pos 0)) c.part-sum.result c.part-sum.ensures (rw d at c.is_idle.ensures) (paid-at m z c.args.den at c.requires.look n lt) in
+    next-fits (to_z w128 c.loop-k.sum-bits) (sum_over s (of_bidder at) n) c.part-sum.result inv
+    (row-range m z c.args.den at c.requires.look s n (omega arith)) (rw (own, ← over-step s at n)
+    (row-range m z c.args.den at c.requires.look s (n + 1) (omega arith)))
 
 pub loop-k-preserved : goal.loop-k-preserved
 loop-k-preserved g c =
@@ -32,8 +35,11 @@ loop-k-preserved g c =
     let s : ℕ → Bool = idle_row m z (record { den = c.args.den; at = at }) c.args.choice.now in
     let lt = c.loop-k-test.true in
     let inv : to_z w128 c.loop-k.sum-bits ≡ sum_over s (of_bidder at) n = rw d at c.loop-k.invariant in
-    let own : c.part-sum.result ≡ if s (n + 1) then slice_index_or at n (pos 0) else pos 0 = part-is c.is_idle.result (s (n + 1)) (slice_index_or at n (pos 0)) c.part-sum.result c.part-sum.ensures (rw d at c.is_idle.ensures) (paid-at m z c.args.den at c.requires.look n lt) in
-    rw d (next-is (to_z w128 c.loop-k.sum-bits) (sum_over s (of_bidder at) n) c.part-sum.result inv (row-range m z c.args.den at c.requires.look s n (omega arith)) (rw (own, ← over-step s at n) (row-range m z c.args.den at c.requires.look s (n + 1) (omega arith))) ∙ ap (λ (t : ℤ). sum_over s (of_bidder at) n +ℤ t) own ∙ sym (over-step s at n))
+    let own : c.part-sum.result ≡ if s (n + 1) then slice_index_or at n (pos 0) else pos 0 = part-is c.is_idle.result (s (n + 1))
+    (slice_index_or at n (pos 0)) c.part-sum.result c.part-sum.ensures (rw d at c.is_idle.ensures) (paid-at m z c.args.den at c.requires.look n lt) in
+    rw d (next-is (to_z w128 c.loop-k.sum-bits) (sum_over s (of_bidder at) n) c.part-sum.result inv
+    (row-range m z c.args.den at c.requires.look s n (omega arith)) (rw (own, ← over-step s at n)
+    (row-range m z c.args.den at c.requires.look s (n + 1) (omega arith))) ∙ ap (λ (t : ℤ). sum_over s (of_bidder at) n +ℤ t) own ∙ sym (over-step s at n))
 
 pub returns-clause-value : goal.returns-clause-value
 returns-clause-value g c =

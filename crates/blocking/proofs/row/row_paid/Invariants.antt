@@ -5,4 +5,5 @@ use Rattle.row_laws.specs.Winners.{idle_row}
 use Rattle.blocking.proofs.row.row_paid.Given as goal
 
 abbrev pub invariant-loop-k : goal.invariant-loop-k
-invariant-loop-k g l = l.sum ≡ sum_over (idle_row (g.C.Chooser.market l.chooser) (g.C.Chooser.chosen l.chooser) (record { den = l.den; at = l.at }) l.choice) (of_bidder l.at) l.k
+invariant-loop-k g l = l.sum ≡ sum_over (idle_row (g.C.Chooser.market l.chooser) (g.C.Chooser.chosen l.chooser) (record { den = l.den; at = l.at }) l.choice)
+    (of_bidder l.at) l.k

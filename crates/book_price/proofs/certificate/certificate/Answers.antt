@@ -21,8 +21,10 @@ invariant_of-result c =
     let v : to_z w128 (of_z w128 c.most-value.result) ≡ c.most-value.result = to_z-of_z w128 c.most-value.result (search rules) in
     let kept = c.kept.ensures in
     record {
-      rules = made_shape c.args.book.now z c.args.whole.now c.args.alone.now c.requires.0 c.args.priced.now kept c.requires.1 _ _ c.in_ok-table.table c.in_ok-withouts.withouts c.from_vec-pay.result c.in_ok-rows.rows c.in_ok-lowered.lowered
-          d (v ∙ value_found c.args.book.now z c.args.whole.now c.args.alone.now c.requires.0 c.args.priced.now kept c.requires.1 c.most-value.result c.most-value.ensures.most) (c.in_ok-table.ensures ∙ c.grid.ensures) c.in_ok-withouts.ensures
+      rules = made_shape c.args.book.now z c.args.whole.now c.args.alone.now c.requires.0 c.args.priced.now kept c.requires.1 _ _ c.in_ok-table.table
+          c.in_ok-withouts.withouts c.from_vec-pay.result c.in_ok-rows.rows c.in_ok-lowered.lowered
+          d (v ∙ value_found c.args.book.now z c.args.whole.now c.args.alone.now c.requires.0 c.args.priced.now kept c.requires.1 c.most-value.result
+          c.most-value.ensures.most) (c.in_ok-table.ensures ∙ c.grid.ensures) c.in_ok-withouts.ensures
           (c.from_vec-pay.ensures ∙ c.in_ok-for_bidders.ensures ∙ ap (for_bidders z) c.items-at.ensures)
           (c.in_ok-rows.ensures ∙ ap (λ (rows : List PricedRow). map (row_from z) rows) c.items-kept.ensures) c.in_ok-lowered.ensures;
     }
@@ -33,8 +35,10 @@ returns-clause-value c =
     let d : to_z w128 (of_z w128 c.args.priced.now.den) ≡ c.args.priced.now.den = to_z-of_z w128 c.args.priced.now.den (search rules) in
     let v : to_z w128 (of_z w128 c.most-value.result) ≡ c.most-value.result = to_z-of_z w128 c.most-value.result (search rules) in
     let kept = c.kept.ensures in
-    made_is c.args.book.now z c.args.whole.now c.args.alone.now c.requires.0 c.args.priced.now kept c.requires.1 _ _ c.in_ok-table.table c.in_ok-withouts.withouts c.from_vec-pay.result c.in_ok-rows.rows c.in_ok-lowered.lowered
-    d (v ∙ value_found c.args.book.now z c.args.whole.now c.args.alone.now c.requires.0 c.args.priced.now kept c.requires.1 c.most-value.result c.most-value.ensures.most) (c.in_ok-table.ensures ∙ c.grid.ensures) c.in_ok-withouts.ensures
+    made_is c.args.book.now z c.args.whole.now c.args.alone.now c.requires.0 c.args.priced.now kept c.requires.1 _ _ c.in_ok-table.table
+    c.in_ok-withouts.withouts c.from_vec-pay.result c.in_ok-rows.rows c.in_ok-lowered.lowered
+    d (v ∙ value_found c.args.book.now z c.args.whole.now c.args.alone.now c.requires.0 c.args.priced.now kept c.requires.1 c.most-value.result
+    c.most-value.ensures.most) (c.in_ok-table.ensures ∙ c.grid.ensures) c.in_ok-withouts.ensures
     (c.from_vec-pay.ensures ∙ c.in_ok-for_bidders.ensures ∙ ap (for_bidders z) c.items-at.ensures)
     (c.in_ok-rows.ensures ∙ ap (λ (rows : List PricedRow). map (row_from z) rows) c.items-kept.ensures) c.in_ok-lowered.ensures
 
@@ -48,5 +52,6 @@ returns-clause-shape c =
     let kept = c.kept.ensures in
     record {
       bidders_are = long c.args.book.now c.args.winners c.args.whole.now c.args.alone.now c.requires.0 c.args.priced.now kept c.requires.1;
-      states_are = rw (c.in_ok-table.ensures, c.grid.ensures) (width c.args.book.now c.args.winners c.args.whole.now c.args.alone.now c.requires.0 c.args.priced.now kept c.requires.1);
+      states_are = rw (c.in_ok-table.ensures, c.grid.ensures) (width c.args.book.now c.args.winners c.args.whole.now c.args.alone.now c.requires.0
+          c.args.priced.now kept c.requires.1);
     }

@@ -23,7 +23,8 @@ returns c =
     let few = kept.few in
     let count : length c.args.surplus.now ≡ m.bidders = omega (arith, c.if-surplus-members.false, c.members.ensures) in
     let value = value-small s.slots.now s.winners kept s.winning.passed in
-    let sum = sum-most (λ j. unsigned_abs (of_bidder c.args.surplus.now j)) 1000000 m.bidders (λ j some inside. c.loop-k.invariant.small (j - 1) (omega (arith, count, some, inside))) in
+    let sum = sum-most (λ j. unsigned_abs (of_bidder c.args.surplus.now j)) 1000000 m.bidders
+    (λ j some inside. c.loop-k.invariant.small (j - 1) (omega (arith, count, some, inside))) in
     let product = mul-le (m.bidders * 1) (unsigned_abs (value_of m s.winners)) 6 (6 * 2 ^ 42) (omega (arith, few)) value in
     λ _. record {
       bidders = count;

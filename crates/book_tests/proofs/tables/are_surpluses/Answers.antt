@@ -1,4 +1,5 @@
-use Rattle.std.proofs.Common.{Bool, true, false, not, ◌==◌, refl, rules, ◌≡◌, ◌-◌, ◌*◌, ◌<◌, ◌≤◌, ℕ, zero, suc, arith, get_or, length, pos, ℤ, negsuc, ◌≤ℤ◌, unsigned_abs}
+use Rattle.std.proofs.Common.{Bool, true, false, not, ◌==◌, refl, rules, ◌≡◌, ◌-◌, ◌*◌, ◌<◌, ◌≤◌, ℕ, zero, suc, arith, get_or, length, pos, ℤ, negsuc, ◌≤ℤ◌}
+use Rattle.std.proofs.Common.{unsigned_abs}
 use Rattle.std.proofs.lemmas.Int.{ints, to_z-of_z}
 use Rattle.std.specs.Int.Signed.{lt_z, lt_z_no}
 use Rattle.std.proofs.lemmas.Nat.{mul-le}
@@ -41,9 +42,11 @@ returns c =
     let count : length c.args.surplus.now ≡ m.bidders = omega (arith, c.if-surplus-members.false, c.members.ensures) in
     let value_fits : SFits w128 c.value-all.result = search rules in
     let low : pos 0 ≤ℤ c.value-all.result = at_most c.value-all.result (pos 0) (rw (to_z-of_z w128 c.value-all.result value_fits) at c.if-all-lt0.false) in
-    let high : c.value-all.result ≤ℤ pos 1000000 = at_most (pos 1000000) c.value-all.result (rw (to_z-of_z w128 c.value-all.result value_fits) at c.if-all-gt1000000.false) in
+    let high : c.value-all.result ≤ℤ pos 1000000 = at_most (pos 1000000) c.value-all.result
+    (rw (to_z-of_z w128 c.value-all.result value_fits) at c.if-all-gt1000000.false) in
     let all : unsigned_abs V ≤ 1000000 = rw (← c.value-all.ensures.value) (size c.value-all.result low high) in
-    let sum = small-sum (λ j. unsigned_abs (of_bidder c.args.surplus.now j)) m.bidders 1000000 (λ j some inside. c.loop-k.invariant.small (j - 1) (omega (arith, count))) in
+    let sum = small-sum (λ j. unsigned_abs (of_bidder c.args.surplus.now j)) m.bidders 1000000
+    (λ j some inside. c.loop-k.invariant.small (j - 1) (omega (arith, count))) in
     λ _. record {
       bidders = count;
       losers = λ j some inside lost. c.loop-k.invariant.losers (j - 1) (omega (arith, count)) (none (get_or s.winners (j - 1) 0) lost);

@@ -1,4 +1,5 @@
-use Rattle.std.proofs.Common.{rules, ◌≡◌, ◌<◌, ◌++◌, ◌+◌, ℕ, List, All, take, length, string_bytes, [], ◌∷◌, get_or, true, false, String, Global, Vec, sym, ap, subst, ◌∙◌}
+use Rattle.std.proofs.Common.{rules, ◌≡◌, ◌<◌, ◌++◌, ◌+◌, ℕ, List, All, take, length, string_bytes, [], ◌∷◌, get_or, true, false, String, Global, Vec, sym}
+use Rattle.std.proofs.Common.{ap, subst, ◌∙◌}
 use Rattle.std.specs.List.{list_any}
 use Rattle.std.proofs.lemmas.List.{take_all}
 use Rattle.std.proofs.lemmas.List.Elements.{All-push}
@@ -16,15 +17,19 @@ loop-name-preserved g c =
     let kept = c.loop-name.invariant in
     let lt : c.loop-name.name-index < length c.args.names.now = search rules in
     let text_is : c.as_str.result.now ≡ text_of (get_or c.args.names.now c.loop-name.name-index c.name-item.result) = search rules in
-    let known : c.knows.result ≡ list_any (named name_of (text_of (get_or c.args.names.now c.loop-name.name-index c.name-item.result))) c.loop-name.files.items = search rules in
+    let known : c.knows.result ≡ list_any (named name_of (text_of (get_or c.args.names.now c.loop-name.name-index c.name-item.result)))
+    c.loop-name.files.items = search rules in
     elim c.if-not-knows.branch [
       | then-not-knows+in_ok-name+in_ok-with_name+in_ok-push w ↦
           let file = w.in_ok-with_name.field-0 in
-          let same : c.if-not-knows.files.items ≡ c.loop-name.files.items ++ file ∷ [] = ap (λ (v : Vec _ Global). v.items) w.files-is ∙ w.in_ok-push.ensures.items in
+          let same : c.if-not-knows.files.items ≡ c.loop-name.files.items ++ file ∷ [] = ap (λ (v : Vec _ Global). v.items) w.files-is
+          ∙ w.in_ok-push.ensures.items in
           let name_is : name_of file ≡ text_of (get_or c.args.names.now c.loop-name.name-index c.name-item.result) = search rules in
           let new_fresh : fresh file = search rules in
-          let none : list_any (named name_of (text_of (get_or c.args.names.now c.loop-name.name-index c.name-item.result))) c.loop-name.files.items ≡ false = search rules in
-          let new_name : list_any (named name_of (name_of file)) c.loop-name.files.items ≡ false = ap (λ (n : List ℕ). list_any (named name_of n) c.loop-name.files.items) name_is ∙ none in
+          let none : list_any (named name_of (text_of (get_or c.args.names.now c.loop-name.name-index c.name-item.result))) c.loop-name.files.items ≡ false =
+          search rules in
+          let new_name : list_any (named name_of (name_of file)) c.loop-name.files.items ≡ false = ap
+          (λ (n : List ℕ). list_any (named name_of n) c.loop-name.files.items) name_is ∙ none in
           record {
             names = subst (λ (xs : List _). AreNames name_of text_of xs (take (c.loop-name.name-index + 1) c.args.names.now)) (sym same)
                 (names_more name_of text_of c.loop-name.files.items file c.args.names.now c.loop-name.name-index c.name-item.result lt kept.names name_is);
@@ -32,7 +37,8 @@ loop-name-preserved g c =
             fresh = subst (λ (xs : List _). All fresh xs) (sym same) (All-push fresh c.loop-name.files.items file kept.fresh new_fresh);
           }
       | else-not-knows w ↦
-          let there : list_any (named name_of (text_of (get_or c.args.names.now c.loop-name.name-index c.name-item.result))) c.loop-name.files.items ≡ true = search rules in
+          let there : list_any (named name_of (text_of (get_or c.args.names.now c.loop-name.name-index c.name-item.result))) c.loop-name.files.items ≡ true =
+          search rules in
           let same : c.if-not-knows.files.items ≡ c.loop-name.files.items = ap (λ (v : Vec _ Global). v.items) w.files-is in
           record {
             names = subst (λ (xs : List _). AreNames name_of text_of xs (take (c.loop-name.name-index + 1) c.args.names.now)) (sym same)

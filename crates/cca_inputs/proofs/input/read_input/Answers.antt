@@ -11,7 +11,8 @@ returns-in-Ok-clause-stop g c =
     let new = g.F.Files.folder c.read_all.new.files in
     let all : GaveAll c.args.name.now old new c.deref.result.now = rw c.deref.ensures.value c.in-Ok.ensures.all in
     let short : length c.deref.result.now ≤ g.I.Input.room c.args.what.now = search rules in
-    stops-value (g.I.Input.part c.args.what.now) (g.I.Input.room c.args.what.now) (g.I.Input.halts c.args.what.now) c.args.name.now old new c.deref.result.now c.read.result c.read.ensures.stop all short
+    stops-value (g.I.Input.part c.args.what.now) (g.I.Input.room c.args.what.now) (g.I.Input.halts c.args.what.now) c.args.name.now old new c.deref.result.now
+    c.read.result c.read.ensures.stop all short
 
 pub returns-in-Err-clause-stop : goal.returns-in-Err-clause-stop
 returns-in-Err-clause-stop g c =
@@ -22,5 +23,6 @@ returns-in-Err-clause-stop g c =
     let halts = g.I.Input.halts c.args.what.now in
     let is : c.status_of_read.result ≡ read_status kind most c.in-Err.stop = search rules in
     subst (InputStops kind most halts c.args.name.now old new) (sym is)
-    (stops-read kind most halts c.args.name.now old new c.in-Err.stop (λ e. c.in-Err.ensures.fault (ap Err e)) (λ some e. c.in-Err.ensures.no_fault some (ap Err e))
+    (stops-read kind most halts c.args.name.now old new c.in-Err.stop (λ e. c.in-Err.ensures.fault (ap Err e))
+    (λ some e. c.in-Err.ensures.no_fault some (ap Err e))
     (λ e. subst (GaveMore c.args.name.now old new) c.most.ensures.most (c.in-Err.ensures.too_long (ap Err e))))

@@ -12,7 +12,8 @@ returns c =
 pub returns-then-number-gt-MOST_NUMBER : goal.returns-then-number-gt-MOST_NUMBER
 returns-then-number-gt-MOST_NUMBER c =
     let same : c.as_bytes.result.now ≡ c.args.word.now = search rules in
-    too-large c.args.word.now c.in_ok-number.number c.in_ok-number.ensures.found.0 (omega arith) (subst (λ (w : List ℕ). w ≡ decimal c.in_ok-number.number) same c.in_ok-number.ensures.found.1)
+    too-large c.args.word.now c.in_ok-number.number c.in_ok-number.ensures.found.0 (omega arith)
+    (subst (λ (w : List ℕ). w ≡ decimal c.in_ok-number.number) same c.in_ok-number.ensures.found.1)
 
 pub returns-in_err-number : goal.returns-in_err-number
 returns-in_err-number c =

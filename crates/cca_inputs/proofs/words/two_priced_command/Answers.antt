@@ -12,7 +12,8 @@ returns-clause-among c =
         among-at string_bytes words 1 c.second-item.result c.as_str-2.result.now (omega (arith, c.in-len3-up.len_at_least)) c.second-item.is
             (sym c.as_str-2.ensures.value),
         (
-          among-at string_bytes words 2 c.cert-item.result c.as_str-3.result.now (omega (arith, c.in-len3-up.len_at_least)) c.cert-item.is (sym c.as_str-3.ensures.value),
+          among-at string_bytes words 2 c.cert-item.result c.as_str-3.result.now (omega (arith, c.in-len3-up.len_at_least)) c.cert-item.is
+              (sym c.as_str-3.ensures.value),
           tt,
         ),
       ),

@@ -12,7 +12,8 @@ returns-in-Err-clause-ends g c =
     let part = rw c.items.ensures at (c.in-Err.ensures.part e.0 (ap Err e.1)) in
     let room = rw c.items.ensures at c.in-Err.ensures.room in
     let output : output_as (command_value c.args.command) c.args.text.now.kind ≡ Some c.unwrap-name.result.now = search rules in
-    part-one (command_value c.args.command) c.args.text.now c.unwrap-name.result.now (g.F.Files.folder c.args.files.now) (g.F.Files.folder c.write_file.new.files) e.0 output c.in-Err.ensures.cause part.0 part.1
+    part-one (command_value c.args.command) c.args.text.now c.unwrap-name.result.now (g.F.Files.folder c.args.files.now)
+    (g.F.Files.folder c.write_file.new.files) e.0 output c.in-Err.ensures.cause part.0 part.1
     (λ has. true≢false (sym (room has)))
 
 pub returns-in-Ok-clause-ends : goal.returns-in-Ok-clause-ends

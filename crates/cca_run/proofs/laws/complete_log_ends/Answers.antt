@@ -5,4 +5,5 @@ use Rattle.cca_run.proofs.laws.complete_log_ends.Goals as goal
 pub returns : goal.returns
 returns c =
     complete-ends
-    (one_log-answer c.one_reading.ensures.log c.one_reading.ensures.fault c.one_reading.ensures.no_fault c.one_reading.ensures.not_many c.one_reading.ensures.few_before)
+    (one_log-answer c.one_reading.ensures.log c.one_reading.ensures.fault c.one_reading.ensures.no_fault c.one_reading.ensures.not_many
+    c.one_reading.ensures.few_before)

@@ -22,7 +22,8 @@ pub returns-in_ok-facts-in-Ok-Yes : goal.returns-in_ok-facts-in-Ok-Yes
 returns-in_ok-facts-in-Ok-Yes c = λ text stands.
     let k = c.args.checker.now in
     let is : c.in-Ok-Yes.field-0 ≡ verdict.Yes = search rules in
-    judged-yes c.one_cert.ensures k.book.now k.weights.now text c.in-Ok-Yes.field-0 c.in_ok-facts-in-Ok-Yes.facts is (c.in-Ok-Yes.ensures.verdict text stands) (c.in_ok-facts-in-Ok-Yes.ensures text stands)
+    judged-yes c.one_cert.ensures k.book.now k.weights.now text c.in-Ok-Yes.field-0 c.in_ok-facts-in-Ok-Yes.facts is (c.in-Ok-Yes.ensures.verdict text stands)
+    (c.in_ok-facts-in-Ok-Yes.ensures text stands)
 
 pub returns-in-Ok-No : goal.returns-in-Ok-No
 returns-in-Ok-No c = λ text stands.

@@ -26,7 +26,8 @@ returns-in_err-book g c =
     let old = g.F.Files.folder c.args.files.now in
     let new = g.F.Files.folder c.logged.new.files in
     let command = audit terms log cert in
-    let stopped = logged-stops command (λ contents b. CertGives b (contents Cert) (VerdictGives b (ones b))) terms log old (first terms log cert) (second terms log cert)
+    let stopped = logged-stops command (λ contents b. CertGives b (contents Cert) (VerdictGives b (ones b))) terms log old (first terms log cert)
+    (second terms log cert)
     (begins command old) new c.in_err-book.field-0.0 c.in_err-book.ensures in
     let is = err_from_is_err_and c.from_residual.result c.from_residual.ensures.1 in
     subst (Works command old new) (sym (is.1 ∙ ap (λ (s : Stop). Err s) is.2)) stopped
@@ -39,7 +40,8 @@ returns-in_err-weights g c =
     let old = g.F.Files.folder c.args.files.now in
     let new = g.F.Files.folder c.logged.new.files in
     let command = audit terms log cert in
-    let at = logged-at command (λ contents b. CertGives b (contents Cert) (VerdictGives b (ones b))) terms log old (first terms log cert) (second terms log cert)
+    let at = logged-at command (λ contents b. CertGives b (contents Cert) (VerdictGives b (ones b))) terms log old (first terms log cert)
+    (second terms log cert)
     (begins command old) new c.in_ok-book.book c.in_ok-book.ensures in
     let is = err_from_is_err_and c.from_residual-in_err-weights.result c.from_residual-in_err-weights.ensures.1 in
     subst (Works command old new) (sym (is.1 ∙ ap (λ (s : Stop). Err s) is.2)) (no-memory command old new _ _ at)
@@ -61,8 +63,10 @@ returns g c =
     let mid = g.F.Files.folder c.logged.new.files in
     let new = g.F.Files.folder c.checked.new.files in
     let command = audit terms log cert in
-    let at = logged-at command (λ contents b. CertGives b (contents Cert) (VerdictGives b (ones b))) terms log old (first terms log cert) (second terms log cert)
+    let at = logged-at command (λ contents b. CertGives b (contents Cert) (VerdictGives b (ones b))) terms log old (first terms log cert)
+    (second terms log cert)
     (begins command old) mid book c.in_ok-book.ensures in
     let work = same-weights book _ (ones book) cert mid new c.checked.result (c.deref.ensures.value ∙ c.in_ok-weights.ensures) c.checked.ensures in
-    works-from command old mid new (Log ∷ Award ∷ []) Cert cert (λ content. CertGives book content (VerdictGives book (ones book))) (third terms log cert) at refl
+    works-from command old mid new (Log ∷ Award ∷ []) Cert cert (λ content. CertGives book content (VerdictGives book (ones book)))
+    (third terms log cert) at refl
     c.checked.result work

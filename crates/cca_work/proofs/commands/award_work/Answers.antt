@@ -23,7 +23,8 @@ returns-in_err-book g c = λ cert.
     let old = g.F.Files.folder c.args.files.now in
     let new = g.F.Files.folder c.logged.new.files in
     let command = award terms log cert form in
-    let stopped = logged-stops command (λ contents b. PriceGives b (ones b) form) terms log old (first terms log cert form) (second terms log cert form) (begins command old)
+    let stopped = logged-stops command (λ contents b. PriceGives b (ones b) form) terms log old (first terms log cert form) (second terms log cert form)
+    (begins command old)
     new c.in_err-book.field-0.0 c.in_err-book.ensures in
     let is = err_from_is_err_and c.from_residual.result c.from_residual.ensures.1 in
     subst (Works command old new) (sym (is.1 ∙ ap (λ (s : Stop). Err s) is.2)) stopped
@@ -36,6 +37,7 @@ returns g c = λ cert.
     let old = g.F.Files.folder c.args.files.now in
     let new = g.F.Files.folder c.logged.new.files in
     let command = award terms log cert form in
-    let at = logged-at command (λ contents b. PriceGives b (ones b) form) terms log old (first terms log cert form) (second terms log cert form) (begins command old)
+    let at = logged-at command (λ contents b. PriceGives b (ones b) form) terms log old (first terms log cert form) (second terms log cert form)
+    (begins command old)
     new c.in_ok-book.book c.in_ok-book.ensures in
     works command old new _ _ at (Cert ∷ []) (refl, tt) c.price_alike.result (λ files. c.price_alike.ensures)

@@ -16,7 +16,8 @@ returns-in_err-slots g c =
     let command = place_check c.args.slots.now c.args.cert.now in
     let old = g.F.Files.folder c.args.files.now in
     let new = g.F.Files.folder c.read_input.new.files in
-    let stopped = stops-next command old old new [] Slots SLOTS_BYTES SlotsAnswers (λ contents s. PlaceCertGives s (contents Cert) (PlaceVerdictGives s)) c.args.slots.now refl (0, omega arith, refl) refl (begins command old)
+    let stopped = stops-next command old old new [] Slots SLOTS_BYTES SlotsAnswers (λ contents s. PlaceCertGives s (contents Cert) (PlaceVerdictGives s))
+    c.args.slots.now refl (0, omega arith, refl) refl (begins command old)
     c.in_err-slots.ensures.loads _ (λ bytes s x. x) (λ files. refl) (λ files. tt) c.in_err-slots.field-0.0 c.in_err-slots.ensures.stop in
     let is = err_from_is_err_and c.from_residual.result c.from_residual.ensures.1 in
     subst (Works command old new) (sym (is.1 ∙ ap (λ (s : Stop). Err s) is.2)) stopped
@@ -29,9 +30,11 @@ returns-in_err-cert g c =
     let new = g.F.Files.folder c.read_input-2.new.files in
     let read = c.in_ok-slots.ensures.value in
     let slots = c.in_ok-slots.slots in
-    let at = reads-next command old old mid [] Slots SLOTS_BYTES SlotsAnswers (λ contents s. PlaceCertGives s (contents Cert) (PlaceVerdictGives s)) c.args.slots.now refl (0, omega arith, refl) refl (begins command old)
+    let at = reads-next command old old mid [] Slots SLOTS_BYTES SlotsAnswers (λ contents s. PlaceCertGives s (contents Cert) (PlaceVerdictGives s))
+    c.args.slots.now refl (0, omega arith, refl) refl (begins command old)
     c.in_ok-slots.ensures.loads slots read.bytes read.short read.says read.here in
-    let stopped = stops-next command old mid new _ Cert CERT_BYTES (PlaceCertAnswers (length slots.bidders)) (λ contents. PlaceVerdictGives slots) c.args.cert.now refl (1, omega arith, refl) refl at
+    let stopped = stops-next command old mid new _ Cert CERT_BYTES (PlaceCertAnswers (length slots.bidders))
+    (λ contents. PlaceVerdictGives slots) c.args.cert.now refl (1, omega arith, refl) refl at
     c.in_err-cert.ensures.loads _ (λ bytes s x. x) (λ files. refl) (λ files. (refl, tt)) c.in_err-cert.field-0.0 c.in_err-cert.ensures.stop in
     let is = err_from_is_err_and c.from_residual-in_err-cert.result c.from_residual-in_err-cert.ensures.1 in
     subst (Works command old new) (sym (is.1 ∙ ap (λ (s : Stop). Err s) is.2)) stopped
@@ -44,10 +47,12 @@ returns g c =
     let new = g.F.Files.folder c.read_input-2.new.files in
     let read = c.in_ok-slots.ensures.value in
     let slots = c.in_ok-slots.slots in
-    let at = reads-next command old old mid [] Slots SLOTS_BYTES SlotsAnswers (λ contents s. PlaceCertGives s (contents Cert) (PlaceVerdictGives s)) c.args.slots.now refl (0, omega arith, refl) refl (begins command old)
+    let at = reads-next command old old mid [] Slots SLOTS_BYTES SlotsAnswers (λ contents s. PlaceCertGives s (contents Cert) (PlaceVerdictGives s))
+    c.args.slots.now refl (0, omega arith, refl) refl (begins command old)
     c.in_ok-slots.ensures.loads slots read.bytes read.short read.says read.here in
     let tested = c.in_ok-cert.ensures.value in
     let cert = place_cert_value c.in_ok-cert.cert in
-    let last = reads-next command old mid new _ Cert CERT_BYTES (PlaceCertAnswers (length slots.bidders)) (λ contents. PlaceVerdictGives slots) c.args.cert.now refl (1, omega arith, refl) refl at
+    let last = reads-next command old mid new _ Cert CERT_BYTES (PlaceCertAnswers (length slots.bidders))
+    (λ contents. PlaceVerdictGives slots) c.args.cert.now refl (1, omega arith, refl) refl at
     c.in_ok-cert.ensures.loads cert tested.bytes tested.short tested.says.0 tested.here in
     works command old new _ _ last [] tt c.place_verdict.result (λ files. c.place_verdict.ensures)

@@ -20,17 +20,20 @@ returns-in-Two g c =
 
 pub returns-in-Three : goal.returns-in-Three
 returns-in-Three g c =
-    subst (λ (command : Command). Works (command_value command) (g.F.Files.folder c.args.files.now) (g.F.Files.folder c.three_work.new.files) c.three_work.result)
+    subst (λ (command : Command). Works (command_value command) (g.F.Files.folder c.args.files.now) (g.F.Files.folder c.three_work.new.files)
+    c.three_work.result)
     (sym c.in-Three.is) c.three_work.ensures
 
 pub returns-in-OnePriced : goal.returns-in-OnePriced
 returns-in-OnePriced g c =
-    subst (λ (command : Command). Works (command_value command) (g.F.Files.folder c.args.files.now) (g.F.Files.folder c.one_priced_work.new.files) c.one_priced_work.result)
+    subst (λ (command : Command). Works (command_value command) (g.F.Files.folder c.args.files.now) (g.F.Files.folder c.one_priced_work.new.files)
+    c.one_priced_work.result)
     (sym c.in-OnePriced.is) (c.one_priced_work.ensures c.in-OnePriced.cert.now)
 
 pub returns-in-TwoPriced : goal.returns-in-TwoPriced
 returns-in-TwoPriced g c =
-    subst (λ (command : Command). Works (command_value command) (g.F.Files.folder c.args.files.now) (g.F.Files.folder c.two_priced_work.new.files) c.two_priced_work.result)
+    subst (λ (command : Command). Works (command_value command) (g.F.Files.folder c.args.files.now) (g.F.Files.folder c.two_priced_work.new.files)
+    c.two_priced_work.result)
     (sym c.in-TwoPriced.is) (c.two_priced_work.ensures c.in-TwoPriced.cert.now)
 
 pub returns-in-Make : goal.returns-in-Make

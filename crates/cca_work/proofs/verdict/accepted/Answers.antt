@@ -9,7 +9,8 @@ use Rattle.cca_work.proofs.verdict.accepted.Goals as goal
 pub returns : goal.returns
 returns c =
     let none : c.new.result.items ≡ [] = search rules in
-    λ weights cert holds sound are. accepts c.args.book.now weights cert c.in_ok-printed.printed c.new.result.items none holds sound (c.in_ok-printed.ensures cert are)
+    λ weights cert holds sound are. accepts c.args.book.now weights cert c.in_ok-printed.printed c.new.result.items none holds sound
+    (c.in_ok-printed.ensures cert are)
 
 pub returns-in_err-printed : goal.returns-in_err-printed
 returns-in_err-printed c = λ weights cert holds sound are.

@@ -14,7 +14,8 @@ use Rattle.cert_check.proofs.checking.first_failing.Goals as goal
 pub value_test-requires-clause-allowed : goal.value_test-requires-clause-allowed
 value_test-requires-clause-allowed c =
     subst (λ (l : List ℕ). IsTrue ((market_of c.args.book.now).allowed l)) (sym c.numbers-in-3.ensures)
-    (allowed-by c.args.book.now (cert_value c.args.cert.now) c.requires.shape.bidders_are (held-C2 c.args.book.now (weight_of c.args.weights.now) (cert_value c.args.cert.now) c.args.test c.requires.before (omega arith)))
+    (allowed-by c.args.book.now (cert_value c.args.cert.now) c.requires.shape.bidders_are
+    (held-C2 c.args.book.now (weight_of c.args.weights.now) (cert_value c.args.cert.now) c.args.test c.requires.before (omega arith)))
 
 pub value_test-requires-clause-table : goal.value_test-requires-clause-table
 value_test-requires-clause-table c = (cert-kept (bidders_of c.args.book.now) (states c.args.book.now) c.args.cert.now c.requires.shape).table

@@ -16,7 +16,8 @@ pub put_values-requires-clause-parts : goal.put_values-requires-clause-parts
 put_values-requires-clause-parts c = λ j some inside wins.
     let a = c.args.claim.now in
     let used = subst (λ (l : List ℕ). IsTrue (uses l j)) (sym c.requires.claim.choice_is) wins in
-    subst (λ (l : List WithoutPart). IsPart a.book.now j (part_of (map without_value l) j)) (sym c.items-parts.ensures) ((c.requires.parts j).part some inside used)
+    subst (λ (l : List WithoutPart). IsPart a.book.now j (part_of (map without_value l) j)) (sym c.items-parts.ensures)
+    ((c.requires.parts j).part some inside used)
 
 pub second_test-requires-clause-values : goal.second_test-requires-clause-values
 second_test-requires-clause-values c =
@@ -24,14 +25,16 @@ second_test-requires-clause-values c =
     values-range a c.bidders-bidders.ensures.kept (map without_value c.items-parts.result.now) c.put_values.new.values
     (λ j some inside wins.
     let used = subst (λ (l : List ℕ). IsTrue (uses l j)) (sym c.requires.claim.choice_is) wins in
-    subst (λ (l : List WithoutPart). IsPart a.book.now j (part_of (map without_value l) j)) (sym c.items-parts.ensures) ((c.requires.parts j).part some inside used))
+    subst (λ (l : List WithoutPart). IsPart a.book.now j (part_of (map without_value l) j)) (sym c.items-parts.ensures)
+    ((c.requires.parts j).part some inside used))
     c.put_values.ensures.values
 
 pub returns : goal.returns
 returns c =
     let a = c.args.claim.now in
     let cert = cert_value c.args.cert.now in
-    let values = subst (λ (l : List WithoutPart). AreValuesWithout a.book.now a.choice.now (map without_value l) c.put_values.new.values) c.items-parts.ensures c.put_values.ensures.values in
+    let values = subst (λ (l : List WithoutPart). AreValuesWithout a.book.now a.choice.now (map without_value l) c.put_values.new.values)
+    c.items-parts.ensures c.put_values.ensures.values in
     c.second_test.ensures cert c.requires.claim (sym c.items-pay.ensures)
     (subst (λ (l : List ℕ). AreValuesWithout a.book.now l cert.withouts c.put_values.new.values) (sym c.requires.claim.choice_is) values)
     (subst (λ (l : List CertRow). AreFirsts (map row_value l) c.put_multipliers.new.numbers) c.items-rows.ensures c.put_multipliers.ensures)

@@ -4,7 +4,8 @@ use Rattle.cert_check.proofs.PlaceLaws.{known-before, fits-C2}
 use Rattle.cert_check.proofs.choice.choice_holds.Goals as goal
 
 pub are_within-requires : goal.are_within-requires
-are_within-requires c = known-before c.args.book.now (cert_of (pos 0) c.args.claimed c.args.choice.now [] [] []) c.args.place c.requires.count (omega (arith, c.bidders-bidders.ensures.bidders)) c.requires.before
+are_within-requires c = known-before c.args.book.now (cert_of (pos 0) c.args.claimed c.args.choice.now [] [] []) c.args.place c.requires.count
+    (omega (arith, c.bidders-bidders.ensures.bidders)) c.requires.before
 
 pub returns-then-place-bidders-2 : goal.returns-then-place-bidders-2
 returns-then-place-bidders-2 c =
@@ -13,4 +14,5 @@ returns-then-place-bidders-2 c =
     fits-C2 c.args.book.now cert c.args.place c.are_within.result (omega (arith, c.bidders-bidders.ensures.bidders)) known c.are_within.ensures
 
 pub value_among-requires : goal.value_among-requires
-value_among-requires c = known-before c.args.book.now (cert_of (pos 0) c.args.claimed c.args.choice.now [] [] []) c.args.place c.requires.count (omega (arith, c.bidders-bidders.ensures.bidders)) c.requires.before
+value_among-requires c = known-before c.args.book.now (cert_of (pos 0) c.args.claimed c.args.choice.now [] [] []) c.args.place c.requires.count
+    (omega (arith, c.bidders-bidders.ensures.bidders)) c.requires.before

@@ -17,15 +17,21 @@ loop-k-preserved c =
     let own = to_z-of_z w128 c.args.multiplier own_fits in
     let same = c.loop-k.invariant.rest k (omega arith) in
     let before = c.requires.sizes k in
-    let added = c.counted.ensures ∙ counted-same c.is_among.result (is_member c.args.members.now (k + 1)) _ (to_z w128 (of_z w128 c.args.multiplier)) c.is_among.ensures refl in
-    let small = subst (λ (z : ℤ). unsigned_abs z ≤ 2 ^ 120) (sym c.counted.ensures) (counted-size c.is_among.result _ (2 ^ 120) (rw own c.requires.multiplier)) in
+    let added = c.counted.ensures ∙ counted-same c.is_among.result (is_member c.args.members.now (k + 1)) _
+    (to_z w128 (of_z w128 c.args.multiplier)) c.is_among.ensures refl in
+    let small = subst (λ (z : ℤ). unsigned_abs z ≤ 2 ^ 120) (sym c.counted.ensures)
+    (counted-size c.is_among.result _ (2 ^ 120) (rw own c.requires.multiplier)) in
     let bound : unsigned_abs (get_or c.loop-k.sums c.loop-k.k (pos 0)) ≤ 15 * 2 ^ 120 = subst (λ (z : ℤ). unsigned_abs z ≤ 15 * 2 ^ 120) (sym same) before in
-    let sum : to_z w128 (of_z w128 (to_z w128 (of_z w128 (get_or c.loop-k.sums c.loop-k.k (pos 0))) +ℤ to_z w128 (of_z w128 c.counted.result))) ≡ get_or c.loop-k.sums c.loop-k.k (pos 0) +ℤ c.counted.result = omega (arith, ints, bound, small) in
-    added-more (λ (j : ℕ). if is_member c.args.members.now j then to_z w128 (of_z w128 c.args.multiplier) else pos 0) c.args.sums.now c.loop-k.sums k _ (omega arith) c.loop-k.invariant
+    let sum : to_z w128 (of_z w128 (to_z w128 (of_z w128 (get_or c.loop-k.sums c.loop-k.k (pos 0))) +ℤ to_z w128 (of_z w128 c.counted.result))) ≡ get_or
+    c.loop-k.sums c.loop-k.k (pos 0) +ℤ c.counted.result = omega (arith, ints, bound, small) in
+    added-more (λ (j : ℕ). if is_member c.args.members.now j then to_z w128 (of_z w128 c.args.multiplier) else pos 0) c.args.sums.now c.loop-k.sums k _
+    (omega arith) c.loop-k.invariant
     (sum ∙ ap (λ (z : ℤ). old +ℤ z) added)
 
 pub returns-clause-sums : goal.returns-clause-sums
 returns-clause-sums c = λ j some inside.
     let own_fits : SFits w128 c.args.multiplier = search rules in
     let back : j - 1 + 1 ≡ j = omega (arith, some) in
-    rw (to_z-of_z w128 c.args.multiplier own_fits) at (subst (λ (x : ℕ). of_bidder c.loop-k.sums j ≡ of_bidder c.args.sums.now j +ℤ (if is_member c.args.members.now x then to_z w128 (of_z w128 c.args.multiplier) else pos 0)) back (c.loop-k.invariant.done (j - 1) (omega (arith, some, inside))))
+    rw (to_z-of_z w128 c.args.multiplier own_fits) at (subst (λ (x : ℕ). of_bidder c.loop-k.sums j ≡ of_bidder c.args.sums.now j +ℤ
+    (if is_member c.args.members.now x then to_z w128 (of_z w128 c.args.multiplier) else pos 0)) back
+    (c.loop-k.invariant.done (j - 1) (omega (arith, some, inside))))

@@ -12,10 +12,12 @@ use Rattle.cert_check.proofs.columns.put_sums.Goals as goal
 pub loop-k-preserved : goal.loop-k-preserved
 loop-k-preserved c =
     let sum_fits : SFits w128 c.sum_of.result = search rules in
-    written-more (λ (j : ℕ). sum_holding (map row_value c.args.rows.now) j (multiplier_of c.args.which) (length c.args.rows.now)) c.loop-k.sums c.loop-k.k _ (omega arith) c.loop-k.invariant
+    written-more (λ (j : ℕ). sum_holding (map row_value c.args.rows.now) j (multiplier_of c.args.which) (length c.args.rows.now)) c.loop-k.sums c.loop-k.k _
+    (omega arith) c.loop-k.invariant
     (to_z-of_z w128 c.sum_of.result sum_fits ∙ c.sum_of.ensures)
 
 pub returns-clause-sums : goal.returns-clause-sums
 returns-clause-sums c = λ j some inside.
-    written-all (λ (j : ℕ). sum_holding (map row_value c.args.rows.now) j (multiplier_of c.args.which) (length c.args.rows.now)) c.loop-k.sums c.loop-k.k j (omega (arith, inside)) c.loop-k.invariant j some (omega arith)
+    written-all (λ (j : ℕ). sum_holding (map row_value c.args.rows.now) j (multiplier_of c.args.which) (length c.args.rows.now)) c.loop-k.sums c.loop-k.k j
+    (omega (arith, inside)) c.loop-k.invariant j some (omega arith)
     ∙ ap (λ (n : ℕ). sum_holding (map row_value c.args.rows.now) j (multiplier_of c.args.which) n) (sym (length-map c.args.rows.now row_value))

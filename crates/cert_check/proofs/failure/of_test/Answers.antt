@@ -5,7 +5,9 @@ use Rattle.cert_check.proofs.PartwayLaws.{test-fails, test-holds}
 use Rattle.cert_check.proofs.failure.of_test.Goals as goal
 
 pub returns-in-Some-clause-judged : goal.returns-in-Some-clause-judged
-returns-in-Some-clause-judged c = λ book w cert before f. test-fails book w cert c.args.test c.in-Some.place before (subst (IsFirstFailing (Asks book w cert c.args.test)) c.in-Some.is f)
+returns-in-Some-clause-judged c = λ book w cert before f. test-fails book w cert c.args.test c.in-Some.place before
+    (subst (IsFirstFailing (Asks book w cert c.args.test)) c.in-Some.is f)
 
 pub returns-in-None-clause-judged : goal.returns-in-None-clause-judged
-returns-in-None-clause-judged c = λ book w cert before f. test-holds book w cert c.args.test before (subst (IsFirstFailing (Asks book w cert c.args.test)) c.in-None.is f)
+returns-in-None-clause-judged c = λ book w cert before f. test-holds book w cert c.args.test before
+    (subst (IsFirstFailing (Asks book w cert c.args.test)) c.in-None.is f)

@@ -10,13 +10,15 @@ pub loop-place-preserved : goal.loop-place-preserved
 loop-place-preserved c = λ rows numbers sums.
     let passed : c.first_holds.result ≡ true = search rules in
     let a = c.args.claim.now in
-    before-next (C7 a.book.now (cert_with a [] [] rows)) c.loop-place.place c.first_holds.result (c.loop-place.invariant rows numbers sums) (c.first_holds.ensures rows numbers sums) passed
+    before-next (C7 a.book.now (cert_with a [] [] rows)) c.loop-place.place c.first_holds.result (c.loop-place.invariant rows numbers sums)
+    (c.first_holds.ensures rows numbers sums) passed
 
 pub returns-then-not-first_holds : goal.returns-then-not-first_holds
 returns-then-not-first_holds c = λ cert is numbers sums.
     let a = c.args.claim.now in
     first-of a.book.now a cert cert.rows (Some c.loop-place.place) is refl
-    (fails-here (C7 a.book.now (cert_with a [] [] cert.rows)) c.loop-place.place c.first_holds.result (c.loop-place.invariant cert.rows numbers sums) (c.first_holds.ensures cert.rows numbers sums) c.if-not-first_holds.true)
+    (fails-here (C7 a.book.now (cert_with a [] [] cert.rows)) c.loop-place.place c.first_holds.result (c.loop-place.invariant cert.rows numbers sums)
+    (c.first_holds.ensures cert.rows numbers sums) c.if-not-first_holds.true)
 
 pub returns : goal.returns
 returns c = λ cert is numbers sums.

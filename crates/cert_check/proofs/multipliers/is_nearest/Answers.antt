@@ -19,7 +19,8 @@ times-requires c =
     let price_fits : SFits w128 c.vickrey.result = search rules in
     let without_fits : SFits w128 c.args.without = search rules in
     let price = rw (to_z-of_z w128 c.args.without without_fits) at c.vickrey.ensures.price in
-    let own = vickrey-times c.args.claim.now c.vickrey.ensures.kept c.args.without c.args.j c.requires.without.0 c.requires.without.1 c.requires.bidder.0 c.requires.bidder.1 in
+    let own = vickrey-times c.args.claim.now c.vickrey.ensures.kept c.args.without c.args.j c.requires.without.0 c.requires.without.1 c.requires.bidder.0
+    c.requires.bidder.1 in
     rw (to_z-of_z w128 c.args.claim.now.den den_fits, to_z-of_z w128 c.vickrey.result price_fits)
     (subst (λ (z : ℤ). unsigned_abs (c.args.claim.now.den *ℤ z) < 2 ^ 120) (sym price) own)
 
@@ -28,7 +29,8 @@ overflow_sub-above c =
     let den_fits : SFits w128 c.args.claim.now.den = search rules in
     let price_fits : SFits w128 c.vickrey.result = search rules in
     let product = rw (to_z-of_z w128 c.args.claim.now.den den_fits, to_z-of_z w128 c.vickrey.result price_fits) at c.times.ensures in
-    let own = vickrey-times c.args.claim.now c.vickrey.ensures.kept c.args.without c.args.j c.requires.without.0 c.requires.without.1 c.requires.bidder.0 c.requires.bidder.1 in
+    let own = vickrey-times c.args.claim.now c.vickrey.ensures.kept c.args.without c.args.j c.requires.without.0 c.requires.without.1 c.requires.bidder.0
+    c.requires.bidder.1 in
     let without_fits : SFits w128 c.args.without = search rules in
     let price = rw (to_z-of_z w128 c.args.without without_fits) at c.vickrey.ensures.price in
     let times = product ∙ ap (λ (z : ℤ). c.args.claim.now.den *ℤ z) price in
@@ -40,7 +42,8 @@ returns c =
     let price_fits : SFits w128 c.vickrey.result = search rules in
     let sum_fits : SFits w128 c.args.sum = search rules in
     let product = rw (to_z-of_z w128 c.args.claim.now.den den_fits, to_z-of_z w128 c.vickrey.result price_fits) at c.times.ensures in
-    let own = vickrey-times c.args.claim.now c.vickrey.ensures.kept c.args.without c.args.j c.requires.without.0 c.requires.without.1 c.requires.bidder.0 c.requires.bidder.1 in
+    let own = vickrey-times c.args.claim.now c.vickrey.ensures.kept c.args.without c.args.j c.requires.without.0 c.requires.without.1 c.requires.bidder.0
+    c.requires.bidder.1 in
     let without_fits : SFits w128 c.args.without = search rules in
     let price = rw (to_z-of_z w128 c.args.without without_fits) at c.vickrey.ensures.price in
     let times = product ∙ ap (λ (z : ℤ). c.args.claim.now.den *ℤ z) price in
@@ -50,5 +53,6 @@ returns c =
     let sum = to_z-of_z w128 c.args.sum sum_fits in (
       λ t _. sym above ∙ c.is_times.ensures.0 t ∙ ap (λ (z : ℤ). pos c.args.weight *ℤ z) sum,
       λ h. c.is_times.ensures.1
-          (above ∙ h (wins-some c.args.claim.now.choice.now c.args.j c.number.result c.number.ensures c.if-number-eq0.false) ∙ ap (λ (z : ℤ). pos c.args.weight *ℤ z) (sym sum)),
+          (above ∙ h (wins-some c.args.claim.now.choice.now c.args.j c.number.result c.number.ensures c.if-number-eq0.false)
+          ∙ ap (λ (z : ℤ). pos c.args.weight *ℤ z) (sym sum)),
     )

@@ -25,7 +25,8 @@ returns-then-place-count c = λ withouts rows values firsts seconds sums.
     let row = row_of rows c.args.place in
     sign-C8 a.book.now (cert_with a withouts c.args.pay.now rows) (weight_of c.args.weights.now) c.args.place row c.is_signed.result c.requires.place.0 le refl
     (subst (λ (z : ℤ). IsTrue c.is_signed.result ↔ ((pos 0 <ℤ z) ⊎ (pos 0 ≤ℤ row.second))) first
-    (subst (λ (z : ℤ). IsTrue c.is_signed.result ↔ ((pos 0 <ℤ to_z w128 (of_z w128 (get_or c.args.firsts.now (c.args.place - 1) (pos 0)))) ⊎ (pos 0 ≤ℤ z))) second c.is_signed.ensures))
+    (subst (λ (z : ℤ). IsTrue c.is_signed.result ↔ ((pos 0 <ℤ to_z w128 (of_z w128 (get_or c.args.firsts.now (c.args.place - 1) (pos 0)))) ⊎ (pos 0 ≤ℤ z)))
+    second c.is_signed.ensures))
 
 pub is_nearest-requires-clause-payment : goal.is_nearest-requires-clause-payment
 is_nearest-requires-clause-payment c =
@@ -56,7 +57,9 @@ returns c = λ withouts rows values firsts seconds sums.
     let sum_fits : SFits w128 (get_or c.args.second.now.sums.now (c.args.place - length c.args.firsts.now - 1) (pos 0)) = search rules in
     let other = value_of (market_of a.book.now) (part_of withouts j).choice in
     sum-C8 a.book.now (cert_with a withouts c.args.pay.now rows) (weight_of c.args.weights.now) c.args.place j _ here (omega arith) le
-    (nearest-same c.is_nearest.result (uses a.choice.now j) a.den a.value (worth_in (market_of a.book.now) a.choice.now j) (pos (weight_of c.args.weights.now j)) _ (get_or c.args.pay.now (j - 1) (pos 0)) _ other _ (sum_holding rows j (λ (row : RowValue). row.second) (length rows))
+    (nearest-same c.is_nearest.result (uses a.choice.now j) a.den a.value (worth_in (market_of a.book.now) a.choice.now j)
+    (pos (weight_of c.args.weights.now j)) _ (get_or c.args.pay.now (j - 1) (pos 0)) _ other _
+    (sum_holding rows j (λ (row : RowValue). row.second) (length rows))
     (to_z-of_z w128 _ pay_fits)
     (λ wins. to_z-of_z w128 _ value_fits ∙ values j (omega arith) le ∙ cond-true (uses a.choice.now j) other (pos 0) wins)
     (to_z-of_z w128 _ sum_fits ∙ sums j (omega arith) le) c.is_nearest.ensures)

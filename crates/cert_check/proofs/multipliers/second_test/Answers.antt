@@ -20,12 +20,15 @@ returns-then-not-second_holds c = λ cert is pay_is values firsts seconds sums.
     let own = subst (λ (l : List ℕ). AreValuesWithout a.book.now l cert.withouts c.args.values.now) is.choice_is values in
     second-of a.book.now (weight_of c.args.weights.now) a cert c.args.pay.now cert.rows (Some c.loop-place.place) is pay_is refl
     (fails-here (C8 a.book.now (weight_of c.args.weights.now) (cert_with a cert.withouts c.args.pay.now cert.rows)) c.loop-place.place c.second_holds.result
-    (c.loop-place.invariant cert.withouts cert.rows own firsts seconds sums) (c.second_holds.ensures cert.withouts cert.rows own firsts seconds sums) c.if-not-second_holds.true)
+    (c.loop-place.invariant cert.withouts cert.rows own firsts seconds sums) (c.second_holds.ensures cert.withouts cert.rows own firsts seconds sums)
+    c.if-not-second_holds.true)
 
 pub returns : goal.returns
 returns c = λ cert is pay_is values firsts seconds sums.
     let a = c.args.claim.now in
     let own = subst (λ (l : List ℕ). AreValuesWithout a.book.now l cert.withouts c.args.values.now) is.choice_is values in
     second-of a.book.now (weight_of c.args.weights.now) a cert c.args.pay.now cert.rows None is pay_is refl
-    (holds-everywhere (C8 a.book.now (weight_of c.args.weights.now) (cert_with a cert.withouts c.args.pay.now cert.rows)) c.loop-place.place (c.loop-place.invariant cert.withouts cert.rows own firsts seconds sums)
-    (λ place past. past-C8 a.book.now (cert_with a cert.withouts c.args.pay.now cert.rows) (weight_of c.args.weights.now) place (omega (arith, firsts.count, c.bidders.ensures.bidders))))
+    (holds-everywhere (C8 a.book.now (weight_of c.args.weights.now) (cert_with a cert.withouts c.args.pay.now cert.rows)) c.loop-place.place
+    (c.loop-place.invariant cert.withouts cert.rows own firsts seconds sums)
+    (λ place past. past-C8 a.book.now (cert_with a cert.withouts c.args.pay.now cert.rows) (weight_of c.args.weights.now) place
+    (omega (arith, firsts.count, c.bidders.ensures.bidders))))

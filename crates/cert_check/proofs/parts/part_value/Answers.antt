@@ -11,7 +11,8 @@ use Rattle.cert_check.proofs.PartLaws.{wins-some}
 use Rattle.cert_check.proofs.parts.part_value.Goals as goal
 
 pub found_value-requires : goal.found_value-requires
-found_value-requires c = c.requires.parts c.args.j c.requires.bidder.0 c.requires.bidder.1 (wins-some c.args.claim.now.choice.now c.args.j c.number.result c.number.ensures c.if-number-eq0.false)
+found_value-requires c = c.requires.parts c.args.j c.requires.bidder.0 c.requires.bidder.1
+    (wins-some c.args.claim.now.choice.now c.args.j c.number.result c.number.ensures c.if-number-eq0.false)
 
 pub returns-then-number-eq0 : goal.returns-then-number-eq0
 returns-then-number-eq0 c =

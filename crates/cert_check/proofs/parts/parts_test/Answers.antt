@@ -29,11 +29,13 @@ pub returns-then-not-has_part : goal.returns-then-not-has_part
 returns-then-not-has_part c = λ cert choice_is withouts_is.
     let a = c.args.claim.now in
     parts-of a cert (map without_value c.args.parts.now) (Some (c.loop-k.k + 1)) choice_is withouts_is
-    (parts-fail a.book.now (cert_with a (map without_value c.args.parts.now) [] []) c.loop-k.k (omega (arith, c.loop-k-test.true, c.bidders-k-end.ensures.bidders)) c.loop-k.invariant
+    (parts-fail a.book.now (cert_with a (map without_value c.args.parts.now) [] []) c.loop-k.k
+    (omega (arith, c.loop-k-test.true, c.bidders-k-end.ensures.bidders)) c.loop-k.invariant
     (wins-some a.choice.now (c.loop-k.k + 1) c.number.result c.number.ensures c.if-number-ne0.true) (iff_false c.has_part.ensures c.if-not-has_part.true))
 
 pub returns : goal.returns
 returns c = λ cert choice_is withouts_is.
     let a = c.args.claim.now in
     parts-of a cert (map without_value c.args.parts.now) None choice_is withouts_is
-    (parts-all a.book.now (cert_with a (map without_value c.args.parts.now) [] []) c.loop-k.k (omega (arith, c.loop-k-test.false, c.bidders-k-end.ensures.bidders)) c.loop-k.invariant)
+    (parts-all a.book.now (cert_with a (map without_value c.args.parts.now) [] []) c.loop-k.k
+    (omega (arith, c.loop-k-test.false, c.bidders-k-end.ensures.bidders)) c.loop-k.invariant)

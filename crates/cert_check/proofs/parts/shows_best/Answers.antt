@@ -14,7 +14,8 @@ use mir.Syntax.{w128}
 use Rattle.cert_check.proofs.parts.shows_best.Goals as goal
 
 pub value_among-most-requires : goal.value_among-most-requires
-value_among-most-requires c = fits-known (menu_of c.args.book.now) c.args.book.now.supply c.numbers-choice.result.now (c.is_allowed_without.ensures.0 c.if-not-is_allowed_without.false).0
+value_among-most-requires c = fits-known (menu_of c.args.book.now) c.args.book.now.supply c.numbers-choice.result.now
+    (c.is_allowed_without.ensures.0 c.if-not-is_allowed_without.false).0
 
 pub returns-then-not-is_allowed_without : goal.returns-then-not-is_allowed_without
 returns-then-not-is_allowed_without c = (
@@ -34,9 +35,12 @@ returns c =
     let value_fits : SFits w128 c.value_among-most.result = search rules in
     let own = c.is_allowed_without.ensures.0 c.if-not-is_allowed_without.false in
     part-answer c.args.book.now c.args.j (without_value c.args.part.now) (to_z w128 (of_z w128 c.value_among-most.result)) c.table_test.result c.is_none.result
-    (to_z-of_z w128 c.value_among-most.result value_fits ∙ c.value_among-most.ensures.value ∙ ap (λ (l : List ℕ). value_of (market_of c.args.book.now) l) c.numbers-choice.ensures)
-    (subst (λ (l : List ℕ). IsTrue ((market_of c.args.book.now).allowed l)) c.numbers-choice.ensures own.0) (sym (ap (λ (l : List ℕ). number_of l c.args.j) c.numbers-choice.ensures) ∙ own.1) c.is_none.ensures
-    (table-same (without (menu_of c.args.book.now) c.args.j) (worth_with c.args.book.now (pos 1) (replicate 16 (pos 0))) (net_of c.args.book.now) c.args.book.now.supply c.args.part.now.table (to_z w128 (of_z w128 c.value_among-most.result)) c.table_test.result
+    (to_z-of_z w128 c.value_among-most.result value_fits ∙ c.value_among-most.ensures.value ∙ ap (λ (l : List ℕ). value_of (market_of c.args.book.now) l)
+    c.numbers-choice.ensures)
+    (subst (λ (l : List ℕ). IsTrue ((market_of c.args.book.now).allowed l)) c.numbers-choice.ensures own.0)
+    (sym (ap (λ (l : List ℕ). number_of l c.args.j) c.numbers-choice.ensures) ∙ own.1) c.is_none.ensures
+    (table-same (without (menu_of c.args.book.now) c.args.j) (worth_with c.args.book.now (pos 1) (replicate 16 (pos 0)))
+    (net_of c.args.book.now) c.args.book.now.supply c.args.part.now.table (to_z w128 (of_z w128 c.value_among-most.result)) c.table_test.result
     (λ j i some inside. plain-worth c.args.book.now (replicate 16 (pos 0)) 16 refl j i) c.table_test.ensures)
 
 pub table_test-requires-clause-shape : goal.table_test-requires-clause-shape
@@ -44,6 +48,7 @@ table_test-requires-clause-shape c = c.requires.shape
 
 pub table_test-requires-clause-whole : goal.table_test-requires-clause-whole
 table_test-requires-clause-whole c = λ _.
-    all-obey (menu_of c.args.book.now) (net_of c.args.book.now) (worth_with c.args.book.now (pos 1) (replicate 16 (pos 0))) c.args.book.now.supply c.args.whole.now
+    all-obey (menu_of c.args.book.now) (net_of c.args.book.now) (worth_with c.args.book.now (pos 1) (replicate 16 (pos 0))) c.args.book.now.supply
+    c.args.whole.now
     (λ j i some inside. sym (plain-worth c.args.book.now (replicate 16 (pos 0)) 16 refl j i))
     c.requires.rules

@@ -19,7 +19,8 @@ pub overflow_sub-rest : goal.overflow_sub-rest
 overflow_sub-rest c =
     let a = c.args.claim.now in
     let others = λ (j : ℕ). not (is_member c.args.members.now j) in
-    let total : c.won_beside.result ≡ sum_over (λ j. not (is_member c.args.members.now j)) (worth_in (market_of c.args.claim.now.book.now) c.args.claim.now.choice.now) (bidders_of c.args.claim.now.book.now) = c.won_beside.ensures.sum in
+    let total : c.won_beside.result ≡ sum_over (λ j. not (is_member c.args.members.now j))
+    (worth_in (market_of c.args.claim.now.book.now) c.args.claim.now.choice.now) (bidders_of c.args.claim.now.book.now) = c.won_beside.ensures.sum in
     let beside = some-won a c.won_beside.ensures.kept others in
     let value = allowed-value a c.won_beside.ensures.kept c.args.choice.now c.requires.allowed in
     let value_fits : SFits w128 c.args.claim.now.value = search rules in
@@ -32,14 +33,17 @@ pub times-requires : goal.times-requires
 times-requires c =
     let a = c.args.claim.now in
     let others = λ (j : ℕ). not (is_member c.args.members.now j) in
-    let total : c.won_beside.result ≡ sum_over (λ j. not (is_member c.args.members.now j)) (worth_in (market_of c.args.claim.now.book.now) c.args.claim.now.choice.now) (bidders_of c.args.claim.now.book.now) = c.won_beside.ensures.sum in
+    let total : c.won_beside.result ≡ sum_over (λ j. not (is_member c.args.members.now j))
+    (worth_in (market_of c.args.claim.now.book.now) c.args.claim.now.choice.now) (bidders_of c.args.claim.now.book.now) = c.won_beside.ensures.sum in
     let beside = some-won a c.won_beside.ensures.kept others in
     let value = allowed-value a c.won_beside.ensures.kept c.args.choice.now c.requires.allowed in
     let value_fits : SFits w128 c.args.claim.now.value = search rules in
     let den_fits : SFits w128 c.args.claim.now.den = search rules in
-    let rest : to_z w128 (of_z w128 (to_z w128 (of_z w128 c.value_among.result) -ℤ to_z w128 (of_z w128 c.won_beside.result))) ≡ c.value_among.result -ℤ c.won_beside.result =
+    let rest : to_z w128 (of_z w128 (to_z w128 (of_z w128 c.value_among.result) -ℤ to_z w128 (of_z w128 c.won_beside.result))) ≡ c.value_among.result -ℤ
+    c.won_beside.result =
     omega (arith, ints, total, beside.0, beside.1, value.0, value.1, c.value_among.ensures.value, value_fits) in
-    let low : unsigned_abs (c.value_among.result -ℤ c.won_beside.result) ≤ unsigned_abs c.args.claim.now.value = omega (arith, ints, total, beside.0, beside.1, value.0, value.1, c.value_among.ensures.value) in
+    let low : unsigned_abs (c.value_among.result -ℤ c.won_beside.result) ≤ unsigned_abs c.args.claim.now.value =
+    omega (arith, ints, total, beside.0, beside.1, value.0, value.1, c.value_among.ensures.value) in
     rw (to_z-of_z w128 c.args.claim.now.den den_fits, rest)
     (times-small a (c.value_among.result -ℤ c.won_beside.result) low)
 
@@ -49,12 +53,14 @@ returns c =
     let book = a.book.now in
     let members = c.args.members.now in
     let others = λ (j : ℕ). not (is_member c.args.members.now j) in
-    let total : c.won_beside.result ≡ sum_over (λ j. not (is_member c.args.members.now j)) (worth_in (market_of c.args.claim.now.book.now) c.args.claim.now.choice.now) (bidders_of c.args.claim.now.book.now) = c.won_beside.ensures.sum in
+    let total : c.won_beside.result ≡ sum_over (λ j. not (is_member c.args.members.now j))
+    (worth_in (market_of c.args.claim.now.book.now) c.args.claim.now.choice.now) (bidders_of c.args.claim.now.book.now) = c.won_beside.ensures.sum in
     let beside = some-won a c.won_beside.ensures.kept others in
     let value = allowed-value a c.won_beside.ensures.kept c.args.choice.now c.requires.allowed in
     let value_fits : SFits w128 c.args.claim.now.value = search rules in
     let den_fits : SFits w128 c.args.claim.now.den = search rules in
-    let rest : to_z w128 (of_z w128 (to_z w128 (of_z w128 c.value_among.result) -ℤ to_z w128 (of_z w128 c.won_beside.result))) ≡ c.value_among.result -ℤ c.won_beside.result =
+    let rest : to_z w128 (of_z w128 (to_z w128 (of_z w128 c.value_among.result) -ℤ to_z w128 (of_z w128 c.won_beside.result))) ≡ c.value_among.result -ℤ
+    c.won_beside.result =
     omega (arith, ints, total, beside.0, beside.1, value.0, value.1, c.value_among.ensures.value, value_fits) in
     let times_fits : SFits w128 c.times.result = search rules in
     let paid_fits : SFits w128 c.paid_by.result = search rules in

@@ -23,6 +23,8 @@ returns c = λ cert is pay_is table_is.
     let den_fits : SFits w128 c.args.claim.now.den = search rules in
     let paid_fits : SFits w128 c.sum_paid-paid.result = search rules in
     let paid = c.sum_paid-paid.ensures ∙ ap (λ (n : ℕ). sum_over everyone (of_bidder c.args.pay.now) n) c.requires.pay.0 in
-    lowered-answer a cert c.args.pay.now c.put_gains.new.gains c.args.table.now (to_z w128 (of_z w128 c.sum_paid-paid.result)) c.table_test.result is pay_is table_is c.put_gains.ensures.gains (to_z-of_z w128 c.sum_paid-paid.result paid_fits ∙ paid)
-    (subst (λ (z : ℤ). IsFirstFailing (TableAt (without (menu_of a.book.now) 0) (worth_with a.book.now z c.put_gains.new.gains) a.book.now.supply c.args.table.now (to_z w128 (of_z w128 c.sum_paid-paid.result))) c.table_test.result)
+    lowered-answer a cert c.args.pay.now c.put_gains.new.gains c.args.table.now (to_z w128 (of_z w128 c.sum_paid-paid.result)) c.table_test.result is pay_is
+    table_is c.put_gains.ensures.gains (to_z-of_z w128 c.sum_paid-paid.result paid_fits ∙ paid)
+    (subst (λ (z : ℤ). IsFirstFailing (TableAt (without (menu_of a.book.now) 0) (worth_with a.book.now z c.put_gains.new.gains) a.book.now.supply
+    c.args.table.now (to_z w128 (of_z w128 c.sum_paid-paid.result))) c.table_test.result)
     (to_z-of_z w128 c.args.claim.now.den den_fits) c.table_test.ensures)

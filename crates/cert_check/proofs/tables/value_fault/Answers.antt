@@ -11,13 +11,17 @@ use Rattle.cert_check.proofs.ValueLaws.{value-plain, value-table, value-bidder, 
 use Rattle.cert_check.proofs.tables.value_fault.Goals as goal
 
 pub invariant_of-offers : goal.invariant_of-offers
-invariant_of-offers c = record { sizes = plain-small c.args.book.now (replicate 16 (pos 0)) 16 c.bidders-bidders.ensures.kept refl (omega (arith, c.bidders-bidders.ensures.bidders, c.bidders-bidders.ensures.most)) }
+invariant_of-offers c = record {
+  sizes = plain-small c.args.book.now (replicate 16 (pos 0)) 16 c.bidders-bidders.ensures.kept refl
+      (omega (arith, c.bidders-bidders.ensures.bidders, c.bidders-bidders.ensures.most));
+}
 
 pub returns-in-Some : goal.returns-in-Some
 returns-in-Some c =
     let value_fits : SFits w128 c.args.value = search rules in
     let cert = cert_headed c.args.value c.args.choice.now c.args.table.now in
-    value-table c.args.book.now cert c.in-Some.place (value-plain c.args.book.now cert (replicate 16 (pos 0)) 16 (Some c.in-Some.place) refl (simp to_z-of_z at c.in-Some.ensures))
+    value-table c.args.book.now cert c.in-Some.place (value-plain c.args.book.now cert (replicate 16 (pos 0)) 16 (Some c.in-Some.place) refl
+    (simp to_z-of_z at c.in-Some.ensures))
 
 pub returns-in_err-bidder : goal.returns-in_err-bidder
 returns-in_err-bidder c =
@@ -25,7 +29,8 @@ returns-in_err-bidder c =
     let value_fits : SFits w128 c.args.value = search rules in
     let cert = cert_headed c.args.value c.args.choice.now c.args.table.now in
     subst (IsFirstFailing (C3 book (cert_headed c.args.value c.args.choice.now c.args.table.now))) (sym c.from_residual.ensures)
-    (value-holds book cert (value-plain book cert (replicate 16 (pos 0)) 16 None refl (simp to_z-of_z at c.in_default.ensures)) (simp to_z-of_z at (c.in_err-bidder.ensures {u = tt})))
+    (value-holds book cert (value-plain book cert (replicate 16 (pos 0)) 16 None refl (simp to_z-of_z at c.in_default.ensures))
+    (simp to_z-of_z at (c.in_err-bidder.ensures {u = tt})))
 
 pub returns : goal.returns
 returns c =
@@ -35,4 +40,5 @@ returns c =
     let same : c.states.result ≡ states book = c.states.ensures.states ∙ ap states_of c.supply.ensures.supply in
     let number : (c.bidders-bidders.result + 1) * c.states.result ≡ (bidders_of book + 1) * states book = rw (c.bidders-bidders.ensures.bidders, same) refl in
     subst (λ (n : ℕ). IsFirstFailing (C3 book (cert_headed c.args.value c.args.choice.now c.args.table.now)) (Some (n + c.in_ok-bidder.bidder))) (sym number)
-    (value-bidder book cert c.in_ok-bidder.bidder (value-plain book cert (replicate 16 (pos 0)) 16 None refl (simp to_z-of_z at c.in_default.ensures)) (simp to_z-of_z at c.in_ok-bidder.ensures))
+    (value-bidder book cert c.in_ok-bidder.bidder (value-plain book cert (replicate 16 (pos 0)) 16 None refl (simp to_z-of_z at c.in_default.ensures))
+    (simp to_z-of_z at c.in_ok-bidder.ensures))

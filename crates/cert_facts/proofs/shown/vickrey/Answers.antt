@@ -16,16 +16,25 @@ value-requires c =
 pub worth-requires-clause-bid : goal.worth-requires-clause-bid
 worth-requires-clause-bid c =
     let part = c.requires.part in
-    omega (arith, c.number-bid.ensures, number-in c.args.book.now (cert_value c.args.cert.now) c.requires.cert c.args.part.now.winner part.bidder.0 part.bidder.1 part.wins)
+    omega (
+      arith,
+      c.number-bid.ensures,
+      number-in c.args.book.now (cert_value c.args.cert.now) c.requires.cert c.args.part.now.winner part.bidder.0
+          part.bidder.1 part.wins,
+    )
 
 pub overflow_add-result : goal.overflow_add-result
 overflow_add-result c =
     let part = c.requires.part in
-    price-fits c.args.book.now (cert_value c.args.cert.now) c.requires.cert c.args.part.now.winner part.bidder.0 part.bidder.1 part.wins c.kept.ensures c.value.result c.worth.result
-    (c.value.ensures.value ∙ ap (λ (w : WithoutValue). value_of (market_of c.args.book.now) w.choice) (sym part.found)) (c.worth.ensures.worth ∙ ap (net_of c.args.book.now c.args.part.now.winner) c.number-bid.ensures)
+    price-fits c.args.book.now (cert_value c.args.cert.now) c.requires.cert c.args.part.now.winner part.bidder.0 part.bidder.1 part.wins c.kept.ensures
+    c.value.result c.worth.result
+    (c.value.ensures.value ∙ ap (λ (w : WithoutValue). value_of (market_of c.args.book.now) w.choice) (sym part.found))
+    (c.worth.ensures.worth ∙ ap (net_of c.args.book.now c.args.part.now.winner) c.number-bid.ensures)
 
 pub returns : goal.returns
 returns c =
     let part = c.requires.part in
-    price-is c.args.book.now (cert_value c.args.cert.now) c.requires.cert c.args.part.now.winner part.bidder.0 part.bidder.1 part.wins c.kept.ensures c.value.result c.worth.result
-    (c.value.ensures.value ∙ ap (λ (w : WithoutValue). value_of (market_of c.args.book.now) w.choice) (sym part.found)) (c.worth.ensures.worth ∙ ap (net_of c.args.book.now c.args.part.now.winner) c.number-bid.ensures)
+    price-is c.args.book.now (cert_value c.args.cert.now) c.requires.cert c.args.part.now.winner part.bidder.0 part.bidder.1 part.wins c.kept.ensures
+    c.value.result c.worth.result
+    (c.value.ensures.value ∙ ap (λ (w : WithoutValue). value_of (market_of c.args.book.now) w.choice) (sym part.found))
+    (c.worth.ensures.worth ∙ ap (net_of c.args.book.now c.args.part.now.winner) c.number-bid.ensures)

@@ -17,7 +17,8 @@ none-more choice from k none own q low high =
     ]
 
 -- the part at this place is the next
-next-there : (choice : List ℤ) (from k : ℕ) → from ≤ k → (get_or choice k (pos 0) ≡ pos 0 → ⊥) → NoneFrom choice from k → (from < k + 1) × (get_or choice (k + 1 - 1) (pos 0) ≢ pos 0) × NoneFrom choice from (k + 1 - 1)
+next-there : (choice : List ℤ) (from k : ℕ) → from ≤ k → (get_or choice k (pos 0) ≡ pos 0 → ⊥) → NoneFrom choice from k
+    → (from < k + 1) × (get_or choice (k + 1 - 1) (pos 0) ≢ pos 0) × NoneFrom choice from (k + 1 - 1)
 next-there choice from k le some none =
     let back : k ≡ k + 1 - 1 = omega arith in
     (omega (arith, le), subst (λ (x : ℕ). get_or choice x (pos 0) ≢ pos 0) back some, subst (λ (x : ℕ). NoneFrom choice from x) back none)
@@ -30,7 +31,8 @@ loop-k-preserved c =
     let none : get_or c.args.choice.now c.loop-k.k (pos 0) ≡ pos 0 = simp to_z-of_z at (c.is_zero.ensures.0 c.if-not-is_zero.false) in
     record {
       plan = c.loop-k.invariant.plan ∙ no_part b s c.args.choice.now c.loop-k.k (omega (arith, c.requires.choice, c.loop-k-test.true)) none;
-      left = λ cert is known. c.loop-k.invariant.left cert is known ∙ skips b s cert is c.args.choice.now known c.loop-k.k (omega (arith, c.requires.choice, c.loop-k-test.true)) none;
+      left = λ cert is known. c.loop-k.invariant.left cert is known ∙ skips b s cert is c.args.choice.now known c.loop-k.k
+          (omega (arith, c.requires.choice, c.loop-k-test.true)) none;
       low = omega (arith, c.loop-k.invariant.low);
       none = none-more c.args.choice.now c.args.from c.loop-k.k c.loop-k.invariant.none none;
     }
@@ -38,7 +40,8 @@ loop-k-preserved c =
 pub returns-then-not-is_zero-clause-order : goal.returns-then-not-is_zero-clause-order
 returns-then-not-is_zero-clause-order c =
     let f : FitsSigned w128 (get_or c.args.choice.now c.loop-k.k (pos 0)) = search rules in
-    let some : get_or c.args.choice.now c.loop-k.k (pos 0) ≡ pos 0 → ⊥ = λ none. let yes = c.is_zero.ensures.1 (simp to_z-of_z none) in cc (yes, c.if-not-is_zero.true) in
+    let some : get_or c.args.choice.now c.loop-k.k (pos 0) ≡ pos 0 → ⊥ = λ none. let yes = c.is_zero.ensures.1 (simp to_z-of_z none) in
+    cc (yes, c.if-not-is_zero.true) in
     next-there c.args.choice.now c.args.from c.loop-k.k c.loop-k.invariant.low some c.loop-k.invariant.none
 
 pub returns-clause-order : goal.returns-clause-order
@@ -47,7 +50,8 @@ returns-clause-order c = λ q from low. c.loop-k.invariant.none q from (omega (a
 pub returns-then-not-is_zero-clause-plan : goal.returns-then-not-is_zero-clause-plan
 returns-then-not-is_zero-clause-plan c =
     let f : FitsSigned w128 (get_or c.args.choice.now c.loop-k.k (pos 0)) = search rules in
-    c.loop-k.invariant.plan ∙ a_part c.args.shape.bidders c.args.shape.states c.args.choice.now c.loop-k.k (omega (arith, c.requires.choice, c.loop-k-test.true))
+    c.loop-k.invariant.plan ∙ a_part c.args.shape.bidders c.args.shape.states c.args.choice.now c.loop-k.k
+    (omega (arith, c.requires.choice, c.loop-k-test.true))
     (λ none. let yes = c.is_zero.ensures.1 (simp to_z-of_z none) in cc (yes, c.if-not-is_zero.true))
 
 pub returns-then-not-is_zero-clause-left : goal.returns-then-not-is_zero-clause-left
@@ -58,10 +62,12 @@ returns-then-not-is_zero-clause-left c = λ cert is known.
     (c.loop-k.invariant.left cert is known ∙ found.0, found.1)
 
 pub returns-clause-plan : goal.returns-clause-plan
-returns-clause-plan c = c.loop-k.invariant.plan ∙ last_part c.args.shape.bidders c.args.shape.states c.args.choice.now c.loop-k.k (omega (arith, c.requires.choice, c.requires.from, c.loop-k-test.false))
+returns-clause-plan c = c.loop-k.invariant.plan ∙ last_part c.args.shape.bidders c.args.shape.states c.args.choice.now c.loop-k.k
+    (omega (arith, c.requires.choice, c.requires.from, c.loop-k-test.false))
 
 pub returns-clause-left : goal.returns-clause-left
 returns-clause-left c = λ cert is known. (
-  c.loop-k.invariant.left cert is known ∙ pays c.args.shape.bidders c.args.shape.states cert is c.args.choice.now known c.loop-k.k (omega (arith, c.requires.choice, c.requires.from, c.loop-k-test.false)),
+  c.loop-k.invariant.left cert is known ∙ pays c.args.shape.bidders c.args.shape.states cert is c.args.choice.now known c.loop-k.k
+      (omega (arith, c.requires.choice, c.requires.from, c.loop-k-test.false)),
   tt,
 )

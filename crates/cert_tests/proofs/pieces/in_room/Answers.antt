@@ -7,7 +7,13 @@ pub feed-requires-clause-stands : goal.feed-requires-clause-stands
 feed-requires-clause-stands c = (
   take c.loop-at.at c.args.text.now,
   c.loop-at.invariant.stands,
-  omega (arith, c.loop-at-test.true, length-take c.loop-at.at c.args.text.now, length-take (c.min-end.result - c.loop-at.at) (drop c.loop-at.at c.args.text.now)),
+  omega (
+    arith,
+    c.loop-at-test.true,
+    length-take c.loop-at.at c.args.text.now,
+    length-take (c.min-end.result - c.loop-at.at)
+        (drop c.loop-at.at c.args.text.now),
+  ),
 )
 
 joined : (text : List ℕ) (at end : ℕ) → at ≤ end → take at text ++ take (end - at) (drop at text) ≡ take end text
@@ -17,7 +23,8 @@ pub loop-at-preserved : goal.loop-at-preserved
 loop-at-preserved c =
     let le : c.loop-at.at ≤ c.min-end.result = omega (arith, c.loop-at-test.true) in
     record {
-      stands = subst (StandsFor c.feed.new.self c.feed.new.room) (joined c.args.text.now c.loop-at.at c.min-end.result le) (c.feed.ensures.stands (take c.loop-at.at c.args.text.now) c.loop-at.invariant.stands);
+      stands = subst (StandsFor c.feed.new.self c.feed.new.room) (joined c.args.text.now c.loop-at.at c.min-end.result le)
+          (c.feed.ensures.stands (take c.loop-at.at c.args.text.now) c.loop-at.invariant.stands);
       shape = c.feed.ensures.shape ∙ c.loop-at.invariant.shape;
       room = c.feed.ensures.room ∙ c.loop-at.invariant.room;
       within = omega (arith, c.loop-at-test.true);

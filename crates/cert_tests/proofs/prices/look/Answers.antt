@@ -20,5 +20,7 @@ find_block-requires g c =
     let few : winners_in z ≤ 6 = search rules in
     let each = c.are_payments.ensures (search rules) in
     let bidders = c.bidders-bidders.ensures in
-    rw (c.deref.ensures.value ∙ c.in_ok-at.ensures) (can-look (market_of book) chooser.lawful z chooser.winning (omega (arith, bidders.bidders, bidders.most)) few (value-most book z bidders.kept.most chooser.winning.passed) (pos 1) paid long
-    (omega (arith, ints)) (omega (arith, ints)) (λ i inside. (each i (omega (arith, long, inside))).0) (λ i inside. (let own = each i inside in small-size (slice_index_or paid i (pos 0)) own.0 own.1)))
+    rw (c.deref.ensures.value ∙ c.in_ok-at.ensures) (can-look (market_of book) chooser.lawful z chooser.winning
+    (omega (arith, bidders.bidders, bidders.most)) few (value-most book z bidders.kept.most chooser.winning.passed) (pos 1) paid long
+    (omega (arith, ints)) (omega (arith, ints)) (λ i inside. (each i (omega (arith, long, inside))).0)
+    (λ i inside. (let own = each i inside in small-size (slice_index_or paid i (pos 0)) own.0 own.1)))

@@ -7,13 +7,20 @@ use Rattle.piece_check.specs.Standing.{StandsFor}
 use Rattle.cert_tests.proofs.streams.fed.Goals as goal
 
 pub feed-requires-clause-room : goal.feed-requires-clause-room
-feed-requires-clause-room c = subst (λ (b : Book). length c.loop-at.room ≡ room_size (bidders_of b) (states b)) (sym c.loop-at.invariant.book) c.loop-at.invariant.room
+feed-requires-clause-room c = subst (λ (b : Book). length c.loop-at.room ≡ room_size (bidders_of b) (states b))
+    (sym c.loop-at.invariant.book) c.loop-at.invariant.room
 
 pub feed-requires-clause-stands : goal.feed-requires-clause-stands
 feed-requires-clause-stands c = (
   take c.loop-at.at c.args.text.now,
   c.loop-at.invariant.stands,
-  omega (arith, c.loop-at-test.true, length-take c.loop-at.at c.args.text.now, length-take (c.min-end.result - c.loop-at.at) (drop c.loop-at.at c.args.text.now)),
+  omega (
+    arith,
+    c.loop-at-test.true,
+    length-take c.loop-at.at c.args.text.now,
+    length-take (c.min-end.result - c.loop-at.at)
+        (drop c.loop-at.at c.args.text.now),
+  ),
 )
 
 joined : (text : List ℕ) (at end : ℕ) → at ≤ end → take at text ++ take (end - at) (drop at text) ≡ take end text
@@ -23,7 +30,8 @@ pub loop-at-preserved : goal.loop-at-preserved
 loop-at-preserved c =
     let le : c.loop-at.at ≤ c.min-end.result = omega (arith, c.loop-at-test.true) in
     record {
-      stands = subst (StandsFor c.feed.new.self c.feed.new.room) (joined c.args.text.now c.loop-at.at c.min-end.result le) (c.feed.ensures.stands (take c.loop-at.at c.args.text.now) c.loop-at.invariant.stands);
+      stands = subst (StandsFor c.feed.new.self c.feed.new.room) (joined c.args.text.now c.loop-at.at c.min-end.result le)
+          (c.feed.ensures.stands (take c.loop-at.at c.args.text.now) c.loop-at.invariant.stands);
       book = c.feed.ensures.book ∙ c.loop-at.invariant.book;
       room = c.feed.ensures.room ∙ c.loop-at.invariant.room;
       within = omega (arith, c.loop-at-test.true);

@@ -10,18 +10,23 @@ use Rattle.cert_text.proofs.read.read_cert.Goals as goal
 
 pub returns-in_err-begin-clause-stops : goal.returns-in_err-begin-clause-stops
 returns-in_err-begin-clause-stops c =
-    let stops : StopsAt c.args.shape.bidders c.args.shape.states c.args.bytes.now c.in_err-begin.field-0.0 = version_stops c.args.shape.bidders c.args.shape.states c.args.bytes.now c.in_err-begin.field-0.0 c.in_err-begin.ensures.halts in
+    let stops : StopsAt c.args.shape.bidders c.args.shape.states c.args.bytes.now c.in_err-begin.field-0.0 =
+    version_stops c.args.shape.bidders c.args.shape.states c.args.bytes.now c.in_err-begin.field-0.0 c.in_err-begin.ensures.halts in
     search rules
 
 pub returns-in_err-opening-clause-stops : goal.returns-in_err-opening-clause-stops
 returns-in_err-opening-clause-stops c =
-    let stops : StopsAt c.args.shape.bidders c.args.shape.states c.args.bytes.now c.in_err-opening.field-0.0 = opening_stops c.args.shape.bidders c.args.shape.states c.args.bytes.now c.in_ok-begin.begin c.in_ok-begin.ensures.leads c.in_err-opening.field-0.0 c.in_err-opening.ensures.halts in
+    let stops : StopsAt c.args.shape.bidders c.args.shape.states c.args.bytes.now c.in_err-opening.field-0.0 =
+    opening_stops c.args.shape.bidders c.args.shape.states c.args.bytes.now c.in_ok-begin.begin c.in_ok-begin.ensures.leads c.in_err-opening.field-0.0
+    c.in_err-opening.ensures.halts in
     search rules
 
 pub returns-in_err-winning-clause-stops : goal.returns-in_err-winning-clause-stops
 returns-in_err-winning-clause-stops c =
     let o = c.in_ok-opening.opening in
-    let stops : StopsAt c.args.shape.bidders c.args.shape.states c.args.bytes.now c.in_err-winning.field-0.0 = winning_stops c.args.shape.bidders c.args.shape.states c.args.bytes.now c.in_ok-begin.begin c.in_ok-begin.ensures.leads o.den o.value o.next c.in_ok-opening.ensures.leads
+    let stops : StopsAt c.args.shape.bidders c.args.shape.states c.args.bytes.now c.in_err-winning.field-0.0 =
+    winning_stops c.args.shape.bidders c.args.shape.states c.args.bytes.now c.in_ok-begin.begin c.in_ok-begin.ensures.leads o.den o.value o.next
+    c.in_ok-opening.ensures.leads
     c.in_err-winning.field-0.0 c.in_err-winning.ensures.halts in
     search rules
 
@@ -29,7 +34,9 @@ pub returns-in_err-payments-clause-stops : goal.returns-in_err-payments-clause-s
 returns-in_err-payments-clause-stops c =
     let o = c.in_ok-opening.opening in
     let w = c.in_ok-winning.winning in
-    let stops : StopsAt c.args.shape.bidders c.args.shape.states c.args.bytes.now c.in_err-payments.field-0.0 = payment_stops c.args.shape.bidders c.args.shape.states c.args.bytes.now c.in_ok-begin.begin c.in_ok-begin.ensures.leads o.den o.value o.next c.in_ok-opening.ensures.leads
+    let stops : StopsAt c.args.shape.bidders c.args.shape.states c.args.bytes.now c.in_err-payments.field-0.0 =
+    payment_stops c.args.shape.bidders c.args.shape.states c.args.bytes.now c.in_ok-begin.begin c.in_ok-begin.ensures.leads o.den o.value o.next
+    c.in_ok-opening.ensures.leads
     w.choice w.table w.withouts w.next c.in_ok-winning.ensures.leads c.in_err-payments.field-0.0 c.in_err-payments.ensures.halts in
     search rules
 
@@ -38,8 +45,11 @@ returns-in_err-closing-clause-stops c =
     let o = c.in_ok-opening.opening in
     let w = c.in_ok-winning.winning in
     let p = c.in_ok-payments.payments in
-    let stops : StopsAt c.args.shape.bidders c.args.shape.states c.args.bytes.now c.in_err-closing.field-0.0 = closing_stops c.args.shape.bidders c.args.shape.states c.args.bytes.now c.in_ok-begin.begin c.in_ok-begin.ensures.leads o.den o.value o.next c.in_ok-opening.ensures.leads
-    w.choice w.table w.withouts w.next c.in_ok-winning.ensures.leads p.pay p.rows p.next c.in_ok-payments.ensures.leads c.in_err-closing.field-0.0 c.in_err-closing.ensures.halts in
+    let stops : StopsAt c.args.shape.bidders c.args.shape.states c.args.bytes.now c.in_err-closing.field-0.0 =
+    closing_stops c.args.shape.bidders c.args.shape.states c.args.bytes.now c.in_ok-begin.begin c.in_ok-begin.ensures.leads o.den o.value o.next
+    c.in_ok-opening.ensures.leads
+    w.choice w.table w.withouts w.next c.in_ok-winning.ensures.leads p.pay p.rows p.next c.in_ok-payments.ensures.leads c.in_err-closing.field-0.0
+    c.in_err-closing.ensures.halts in
     search rules
 
 pub returns-in_err-end_at-clause-stops : goal.returns-in_err-end_at-clause-stops
@@ -47,8 +57,11 @@ returns-in_err-end_at-clause-stops c =
     let o = c.in_ok-opening.opening in
     let w = c.in_ok-winning.winning in
     let p = c.in_ok-payments.payments in
-    let stops : StopsAt c.args.shape.bidders c.args.shape.states c.args.bytes.now c.in_err-end_at.field-0.0 = end_stops c.args.shape.bidders c.args.shape.states c.args.bytes.now c.in_ok-begin.begin c.in_ok-begin.ensures.leads o.den o.value o.next c.in_ok-opening.ensures.leads
-    w.choice w.table w.withouts w.next c.in_ok-winning.ensures.leads p.pay p.rows p.next c.in_ok-payments.ensures.leads c.in_ok-closing.closing.table c.in_ok-closing.closing.next c.in_ok-closing.ensures.leads
+    let stops : StopsAt c.args.shape.bidders c.args.shape.states c.args.bytes.now c.in_err-end_at.field-0.0 =
+    end_stops c.args.shape.bidders c.args.shape.states c.args.bytes.now c.in_ok-begin.begin c.in_ok-begin.ensures.leads o.den o.value o.next
+    c.in_ok-opening.ensures.leads
+    w.choice w.table w.withouts w.next c.in_ok-winning.ensures.leads p.pay p.rows p.next c.in_ok-payments.ensures.leads c.in_ok-closing.closing.table
+    c.in_ok-closing.closing.next c.in_ok-closing.ensures.leads
     c.in_err-end_at.field-0.0 c.in_err-end_at.ensures.halts in
     search rules
 
@@ -59,10 +72,13 @@ returns-clause-says c =
     let p = c.in_ok-payments.payments in
     let l = c.in_ok-closing.closing in
     let is : IsCertificate c.args.shape.bidders c.args.shape.states (cert_from o.den o.value w.choice w.table w.withouts p.pay p.rows l.table) =
-    made c.args.shape.bidders c.args.shape.states o.den o.value w.choice w.table w.withouts p.pay p.rows l.table c.in_ok-opening.ensures.range c.in_ok-winning.ensures.choice c.in_ok-winning.ensures.table c.in_ok-winning.ensures.parts
+    made c.args.shape.bidders c.args.shape.states o.den o.value w.choice w.table w.withouts p.pay p.rows l.table c.in_ok-opening.ensures.range
+    c.in_ok-winning.ensures.choice c.in_ok-winning.ensures.table c.in_ok-winning.ensures.parts
     c.in_ok-payments.ensures.pay c.in_ok-payments.ensures.few c.in_ok-payments.ensures.rows c.in_ok-closing.ensures.table in
     subst (λ (v : CertValue). CertSays c.args.shape.bidders c.args.shape.states c.args.bytes.now (stated v)) (sym c.certificate.ensures) (
       is,
-      text_read c.args.shape.bidders c.args.shape.states c.args.bytes.now c.in_ok-begin.begin c.in_ok-begin.ensures.leads o.den o.value o.next c.in_ok-opening.ensures.leads
-          w.choice w.table w.withouts w.next c.in_ok-winning.ensures.leads p.pay p.rows p.next c.in_ok-payments.ensures.leads l.table l.next c.in_ok-closing.ensures.leads is c.in_ok-end_at.ensures.ok,
+      text_read c.args.shape.bidders c.args.shape.states c.args.bytes.now c.in_ok-begin.begin c.in_ok-begin.ensures.leads o.den o.value o.next
+          c.in_ok-opening.ensures.leads
+          w.choice w.table w.withouts w.next c.in_ok-winning.ensures.leads p.pay p.rows p.next c.in_ok-payments.ensures.leads l.table l.next
+          c.in_ok-closing.ensures.leads is c.in_ok-end_at.ensures.ok,
     )

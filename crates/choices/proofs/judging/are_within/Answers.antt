@@ -25,7 +25,11 @@ bounds-numbers-k c = omega (arith, known-length (menu_of c.args.book.now) 0 c.ar
 
 pub place_after-requires-clause-bid : goal.place_after-requires-clause-bid
 place_after-requires-clause-bid c =
-    let inside : c.loop-k.k < length c.args.numbers.now = omega (arith, known-length (menu_of c.args.book.now) 0 c.args.numbers.now c.requires, c.bidders-k-end.ensures.bidders) in
+    let inside : c.loop-k.k < length c.args.numbers.now = omega (
+      arith,
+      known-length (menu_of c.args.book.now) 0 c.args.numbers.now c.requires,
+      c.bidders-k-end.ensures.bidders,
+    ) in
     known-of (menu_of c.args.book.now) c.args.numbers.now c.loop-k.k c.requires inside
 
 pub returns-in-None : goal.returns-in-None
@@ -34,7 +38,8 @@ returns-in-None c =
     let numbers = c.args.numbers.now in
     let k = c.loop-k.k in
     let inside : k < length numbers = omega (arith, known-length m 0 numbers c.requires, c.bidders-k-end.ensures.bidders) in
-    sym (fits-fails m numbers k inside (left_at c.args.book.now.supply c.loop-k.place) (known-of m numbers k c.requires inside) c.in-None.ensures.exceeds) ∙ c.loop-k.invariant.rest
+    sym (fits-fails m numbers k inside (left_at c.args.book.now.supply c.loop-k.place) (known-of m numbers k c.requires inside) c.in-None.ensures.exceeds)
+    ∙ c.loop-k.invariant.rest
 
 pub loop-k-preserved : goal.loop-k-preserved
 loop-k-preserved c =

@@ -13,7 +13,11 @@ bounds-numbers-k c = omega (arith, known-length (menu_of c.args.book.now) 0 c.ar
 
 pub worth-value-requires-clause-bid : goal.worth-value-requires-clause-bid
 worth-value-requires-clause-bid c =
-    let inside : c.loop-k.k < length c.args.numbers.now = omega (arith, known-length (menu_of c.args.book.now) 0 c.args.numbers.now c.requires, c.bidders-k-end.ensures.bidders) in
+    let inside : c.loop-k.k < length c.args.numbers.now = omega (
+      arith,
+      known-length (menu_of c.args.book.now) 0 c.args.numbers.now c.requires,
+      c.bidders-k-end.ensures.bidders,
+    ) in
     known-of (menu_of c.args.book.now) c.args.numbers.now c.loop-k.k c.requires inside
 
 pub loop-k-preserved : goal.loop-k-preserved

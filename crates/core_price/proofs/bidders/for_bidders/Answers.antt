@@ -15,9 +15,11 @@ loop-number-preserved c =
     let k = c.loop-number.number-index in
     let w = c.loop-number.winner in
     elim c.if-number-eq0.branch [
-      | then-number-eq0+in_ok-push b ↦ rw (b.list-is, b.winner-is, b.in_ok-push.ensures.items) (spread-loser z at list k w c.loop-number.invariant c.loop-number-test.true b.if-number-eq0.true)
+      | then-number-eq0+in_ok-push b ↦ rw (b.list-is, b.winner-is, b.in_ok-push.ensures.items)
+          (spread-loser z at list k w c.loop-number.invariant c.loop-number-test.true b.if-number-eq0.true)
       | else-number-eq0+in_ok-push-2 b ↦
           let inside : w < length at = spread-inside z at list k w c.loop-number.invariant c.loop-number-test.true b.if-number-eq0.false in
           let d : to_z w128 (of_z w128 (nth at w)) ≡ nth at w = to_z-of_z w128 (nth at w) (search rules) in
-          rw (b.list-is, b.winner-is, b.in_ok-push-2.ensures.items, d) (spread-winner z at list k w c.loop-number.invariant c.loop-number-test.true b.if-number-eq0.false)
+          rw (b.list-is, b.winner-is, b.in_ok-push-2.ensures.items, d) (spread-winner z at list k w c.loop-number.invariant c.loop-number-test.true
+          b.if-number-eq0.false)
     ]

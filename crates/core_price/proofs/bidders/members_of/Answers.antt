@@ -16,13 +16,17 @@ loop-k-preserved c =
           let wins : get_or z k 0 ≢ 0 = λ e. w.if-number-ne0.true (number ∙ e) in
           let some : get_or z k 0 ≡ suc (get_or z k 0 - 1) = omega (arith, wins) in
           record {
-            made = winner-made z c.args.bits k c.loop-k.rest c.loop-k.invariant.others c.loop-k.list c.if-number-ne0.list c.loop-k.invariant.made (get_or z k 0 - 1) inside some (w.list-is ∙ w.in_ok-add_lowest.ensures);
-            others = λ i. ap (λ (r : ℕ). has_bit (drop (k + 1) z) r i) w.rest-is ∙ winner-others z c.args.bits k c.loop-k.rest c.loop-k.invariant.others (get_or z k 0 - 1) inside some i;
+            made = winner-made z c.args.bits k c.loop-k.rest c.loop-k.invariant.others c.loop-k.list c.if-number-ne0.list c.loop-k.invariant.made
+                (get_or z k 0 - 1) inside some (w.list-is ∙ w.in_ok-add_lowest.ensures);
+            others = λ i. ap (λ (r : ℕ). has_bit (drop (k + 1) z) r i) w.rest-is ∙ winner-others z c.args.bits k c.loop-k.rest c.loop-k.invariant.others
+                (get_or z k 0 - 1) inside some i;
           }
       | else-number-ne0 w ↦
           let none : get_or z k 0 ≡ 0 = sym number ∙ w.if-number-ne0.false in
           record {
-            made = loser-made z c.args.bits k c.loop-k.rest c.loop-k.invariant.others c.loop-k.list c.if-number-ne0.list c.loop-k.invariant.made inside none w.list-is;
-            others = λ i. ap (λ (r : ℕ). has_bit (drop (k + 1) z) r i) w.rest-is ∙ loser-others z c.args.bits k c.loop-k.rest c.loop-k.invariant.others inside none i;
+            made = loser-made z c.args.bits k c.loop-k.rest c.loop-k.invariant.others c.loop-k.list c.if-number-ne0.list c.loop-k.invariant.made inside none
+                w.list-is;
+            others = λ i. ap (λ (r : ℕ). has_bit (drop (k + 1) z) r i) w.rest-is ∙ loser-others z c.args.bits k c.loop-k.rest c.loop-k.invariant.others inside
+                none i;
           }
     ]

@@ -25,7 +25,8 @@ loop-i-preserved c =
     elim c.if-is_used.branch [
       | then-is_used+in_ok-choice+in_ok-push w ↦
           let choice : w.in_ok-choice.choice ≡ get_or choices i [] = w.in_ok-choice.ensures ∙ w.index.ensures ∙ any-default choices i w.index.result.now [] k in
-          let row : get_or c.deref-row-items.result.now i (record { members = 0; bound = pos 0 }) ≡ get_or rows i (record { members = 0; bound = pos 0 }) = ap (λ l. get_or l i (record { members = 0; bound = pos 0 })) c.deref-row-items.ensures.value in
+          let row : get_or c.deref-row-items.result.now i (record { members = 0; bound = pos 0 }) ≡ get_or rows i (record { members = 0; bound = pos 0 }) =
+          ap (λ l. get_or l i (record { members = 0; bound = pos 0 })) c.deref-row-items.ensures.value in
           rw (w.kept-is, w.in_ok-push.ensures.pushed)
           (kept-one rows choices first second c.loop-i.kept _ i r k f s c.loop-i.invariant _ w.in_ok-choice.choice _ _ row choice
           (rw c.items.ensures d) (rw c.items-in-loop-i.ensures e) (sym c.is_used.ensures ∙ w.if-is_used.true))

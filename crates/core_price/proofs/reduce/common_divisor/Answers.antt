@@ -15,7 +15,8 @@ loop-number-preserved c =
     let x = nth c.args.numbers.now k in
     let d : to_z w128 (of_z w128 x) ≡ x = to_z-of_z w128 x (search rules) in
     let r : to_z w128 (of_z w128 c.gcd-divisor.result) ≡ c.gcd-divisor.result = to_z-of_z w128 c.gcd-divisor.result (search rules) in
-    rw r (common-more (to_z w128 (of_z w128 c.args.start)) c.args.numbers.now k (to_z w128 c.loop-number.divisor-bits) c.gcd-divisor.result c.loop-number.invariant c.loop-number-test.true c.gcd-divisor.ensures.sign (rw d at c.gcd-divisor.ensures.greatest) c.gcd-divisor.ensures.range)
+    rw r (common-more (to_z w128 (of_z w128 c.args.start)) c.args.numbers.now k (to_z w128 c.loop-number.divisor-bits) c.gcd-divisor.result
+    c.loop-number.invariant c.loop-number-test.true c.gcd-divisor.ensures.sign (rw d at c.gcd-divisor.ensures.greatest) c.gcd-divisor.ensures.range)
 
 pub returns-clause-positive : goal.returns-clause-positive
 returns-clause-positive c = (c.loop-number.invariant.positive, c.loop-number.invariant.range)

@@ -9,22 +9,26 @@ use Rattle.core_price.proofs.reduce.reduced.Goals as goal
 
 pub quotients-requires-clause-apart : goal.quotients-requires-clause-apart
 quotients-requires-clause-apart c =
-    let d : to_z w128 (of_z w128 c.greatest_divisor-divisor.result) ≡ c.greatest_divisor-divisor.result = to_z-of_z w128 c.greatest_divisor-divisor.result (search rules) in
+    let d : to_z w128 (of_z w128 c.greatest_divisor-divisor.result) ≡ c.greatest_divisor-divisor.result =
+    to_z-of_z w128 c.greatest_divisor-divisor.result (search rules) in
     rw d (not-zero c.greatest_divisor-divisor.result c.greatest_divisor-divisor.ensures.positive)
 
 pub quotients-requires-clause-divides : goal.quotients-requires-clause-divides
 quotients-requires-clause-divides c =
-    let d : to_z w128 (of_z w128 c.greatest_divisor-divisor.result) ≡ c.greatest_divisor-divisor.result = to_z-of_z w128 c.greatest_divisor-divisor.result (search rules) in
+    let d : to_z w128 (of_z w128 c.greatest_divisor-divisor.result) ≡ c.greatest_divisor-divisor.result =
+    to_z-of_z w128 c.greatest_divisor-divisor.result (search rules) in
     rw (d, c.items.ensures) c.greatest_divisor-divisor.ensures.divides.at_is
 
 pub quotients-requires-2-clause-divides : goal.quotients-requires-2-clause-divides
 quotients-requires-2-clause-divides c =
-    let d : to_z w128 (of_z w128 c.greatest_divisor-divisor.result) ≡ c.greatest_divisor-divisor.result = to_z-of_z w128 c.greatest_divisor-divisor.result (search rules) in
+    let d : to_z w128 (of_z w128 c.greatest_divisor-divisor.result) ≡ c.greatest_divisor-divisor.result =
+    to_z-of_z w128 c.greatest_divisor-divisor.result (search rules) in
     rw (d, c.items-2.ensures) c.greatest_divisor-divisor.ensures.divides.first_is
 
 pub quotients-requires-3-clause-divides : goal.quotients-requires-3-clause-divides
 quotients-requires-3-clause-divides c =
-    let d : to_z w128 (of_z w128 c.greatest_divisor-divisor.result) ≡ c.greatest_divisor-divisor.result = to_z-of_z w128 c.greatest_divisor-divisor.result (search rules) in
+    let d : to_z w128 (of_z w128 c.greatest_divisor-divisor.result) ≡ c.greatest_divisor-divisor.result =
+    to_z-of_z w128 c.greatest_divisor-divisor.result (search rules) in
     rw (d, c.items-3.ensures) c.greatest_divisor-divisor.ensures.divides.second_is
 
 pub returns-clause-same : goal.returns-clause-same
@@ -57,4 +61,5 @@ returns-clause-lowest c =
       first_is = rw (d, c.items-2.ensures) at c.in_ok-first.ensures;
       second_is = rw (d, c.items-3.ensures) at c.in_ok-second.ensures;
     } in
-    rw q (lowest-of c.div_exact.result c.in_ok-at.at c.in_ok-first.first c.in_ok-second.second p.den p.at p.first p.second g h c.greatest_divisor-divisor.ensures.greatest)
+    rw q (lowest-of c.div_exact.result c.in_ok-at.at c.in_ok-first.first c.in_ok-second.second p.den p.at p.first p.second g h
+    c.greatest_divisor-divisor.ensures.greatest)

@@ -23,7 +23,8 @@ turn_point-requires g c =
     let m = g.C.Chooser.market c.args.chooser.now in
     let z = g.C.Chooser.chosen c.args.chooser.now in
     let ws = c.args.weights.now in
-    rw (c.deref.ensures.value, c.deref-in-turns.ensures.value, c.in_ok-own.ensures, c.winners.ensures) (can-solve m z c.args.prices.now ws c.requires.can c.turns.rows.items c.turns.choices.items c.turns.turns c.turns.invariant.far)
+    rw (c.deref.ensures.value, c.deref-in-turns.ensures.value, c.in_ok-own.ensures, c.winners.ensures)
+    (can-solve m z c.args.prices.now ws c.requires.can c.turns.rows.items c.turns.choices.items c.turns.turns c.turns.invariant.far)
 
 pub find_block-requires : goal.find_block-requires
 find_block-requires g c =
@@ -40,11 +41,14 @@ find_block-requires g c =
     let far : IsSoFar m z ws rows choices past = c.turns.invariant.far in
     let near = c.in_ok-near.near in
     let d : to_z w128 (of_z w128 c.in_ok-near.near.den) ≡ c.in_ok-near.near.den = to_z-of_z w128 c.in_ok-near.near.den (search rules) in
-    let answer : IsAnswer prices (weights_in z ws) rows near.den near.at near.first near.second = rw (c.deref.ensures.value, c.deref-in-turns.ensures.value, c.in_ok-own.ensures, c.winners.ensures) at c.in_ok-near.ensures.answer in
-    let spread : c.deref-in-turns-2.result.now ≡ for_bidders z near.at = c.deref-in-turns-2.ensures.value ∙ c.in_ok-at.ensures ∙ ap (λ l. for_bidders l c.items.result.now) c.winners-in-turns.ensures ∙ ap (for_bidders z) c.items.ensures in
+    let answer : IsAnswer prices (weights_in z ws) rows near.den near.at near.first near.second =
+    rw (c.deref.ensures.value, c.deref-in-turns.ensures.value, c.in_ok-own.ensures, c.winners.ensures) at c.in_ok-near.ensures.answer in
+    let spread : c.deref-in-turns-2.result.now ≡ for_bidders z near.at = c.deref-in-turns-2.ensures.value ∙ c.in_ok-at.ensures
+    ∙ ap (λ l. for_bidders l c.items.result.now) c.winners-in-turns.ensures ∙ ap (for_bidders z) c.items.ensures in
     let low = at-nonneg m lawful z win prices ws can rows choices past far near.den near.at near.first near.second answer in
     let dp = den-positive m lawful z win prices ws can rows choices past far near.den near.at near.first near.second answer in
-    rw (d, spread) (can-look m lawful z win can.members can.few.0 can.worth near.den near.at (answer.long_at ∙ can.long) dp answer.small_den low answer.small_at)
+    rw (d, spread) (can-look m lawful z win can.members can.few.0 can.worth near.den near.at (answer.long_at ∙ can.long) dp answer.small_den low
+    answer.small_at)
 
 pub returns-in-Free-clause-ended : goal.returns-in-Free-clause-ended
 returns-in-Free-clause-ended g c =
@@ -61,24 +65,31 @@ returns-in-Free-clause-ended g c =
     let far : IsSoFar m z ws rows choices past = c.turns.invariant.far in
     let near = c.in_ok-near.near in
     let d : to_z w128 (of_z w128 c.in_ok-near.near.den) ≡ c.in_ok-near.near.den = to_z-of_z w128 c.in_ok-near.near.den (search rules) in
-    let answer : IsAnswer prices (weights_in z ws) rows near.den near.at near.first near.second = rw (c.deref.ensures.value, c.deref-in-turns.ensures.value, c.in_ok-own.ensures, c.winners.ensures) at c.in_ok-near.ensures.answer in
-    let spread : c.deref-in-turns-2.result.now ≡ for_bidders z near.at = c.deref-in-turns-2.ensures.value ∙ c.in_ok-at.ensures ∙ ap (λ l. for_bidders l c.items.result.now) c.winners-in-turns.ensures ∙ ap (for_bidders z) c.items.ensures in
+    let answer : IsAnswer prices (weights_in z ws) rows near.den near.at near.first near.second =
+    rw (c.deref.ensures.value, c.deref-in-turns.ensures.value, c.in_ok-own.ensures, c.winners.ensures) at c.in_ok-near.ensures.answer in
+    let spread : c.deref-in-turns-2.result.now ≡ for_bidders z near.at = c.deref-in-turns-2.ensures.value ∙ c.in_ok-at.ensures
+    ∙ ap (λ l. for_bidders l c.items.result.now) c.winners-in-turns.ensures ∙ ap (for_bidders z) c.items.ensures in
     let free : IsUnblocked m z (point_of z near.den near.at) = rw (c.in-Free.is, d, spread) at c.in_ok-last.ensures.free in
     let same : c.in_ok-at-in-Free.at ≡ near.at = c.in_ok-at-in-Free.ensures ∙ c.items-in-Free.ensures in
-    rw (c.in_ok-push-in-Free.ensures.pushed, same, d) (ends m lawful z win prices ws can rows choices past far near.den near.at near.first near.second answer c.in_ok-near.ensures.lowest free)
+    rw (c.in_ok-push-in-Free.ensures.pushed, same, d) (ends m lawful z win prices ws can rows choices past far near.den near.at near.first near.second answer
+    c.in_ok-near.ensures.lowest free)
 
 pub returns-in-Free-clause-rows : goal.returns-in-Free-clause-rows
-returns-in-Free-clause-rows g c = rw (c.in_ok-push-in-Free.ensures.pushed) (c.turns.invariant.rows ∙ ap (λ l. c.args.asked.rows.items ++ l) (sym (rows-last c.turns.turns _ refl)))
+returns-in-Free-clause-rows g c = rw (c.in_ok-push-in-Free.ensures.pushed) (c.turns.invariant.rows ∙ ap (λ l. c.args.asked.rows.items ++ l)
+    (sym (rows-last c.turns.turns _ refl)))
 
 pub returns-in-Free-clause-choices : goal.returns-in-Free-clause-choices
-returns-in-Free-clause-choices g c = rw (c.in_ok-push-in-Free.ensures.pushed) (c.turns.invariant.choices ∙ ap (λ l. c.args.asked.choices.items ++ l) (sym (choices-last c.turns.turns _ refl)))
+returns-in-Free-clause-choices g c = rw (c.in_ok-push-in-Free.ensures.pushed) (c.turns.invariant.choices
+    ∙ ap (λ l. c.args.asked.choices.items ++ l) (sym (choices-last c.turns.turns _ refl)))
 
 pub turns-smaller : goal.turns-smaller
 turns-smaller g c =
     let m = g.C.Chooser.market c.args.chooser.now in
     let z = g.C.Chooser.chosen c.args.chooser.now in
-    let few : length c.turns.turns < 2 ^ winners_in z = turns-few m z c.args.weights.now c.turns.rows.items c.turns.choices.items c.turns.turns c.turns.invariant.far in
-    let more : length c.push-in-Block-3.new.self ≡ length c.turns.turns + 1 = ap length c.in_ok-push-in-Block-3.ensures.pushed ∙ length-append c.turns.turns (_ ∷ []) in
+    let few : length c.turns.turns < 2 ^ winners_in z = turns-few m z c.args.weights.now c.turns.rows.items c.turns.choices.items c.turns.turns
+    c.turns.invariant.far in
+    let more : length c.push-in-Block-3.new.self ≡ length c.turns.turns + 1 = ap length c.in_ok-push-in-Block-3.ensures.pushed
+    ∙ length-append c.turns.turns (_ ∷ []) in
     omega (arith, few, more)
 
 pub turns-preserved : goal.turns-preserved
@@ -96,12 +107,20 @@ turns-preserved g c =
     let far : IsSoFar m z ws rows choices past = c.turns.invariant.far in
     let near = c.in_ok-near.near in
     let d : to_z w128 (of_z w128 c.in_ok-near.near.den) ≡ c.in_ok-near.near.den = to_z-of_z w128 c.in_ok-near.near.den (search rules) in
-    let answer : IsAnswer prices (weights_in z ws) rows near.den near.at near.first near.second = rw (c.deref.ensures.value, c.deref-in-turns.ensures.value, c.in_ok-own.ensures, c.winners.ensures) at c.in_ok-near.ensures.answer in
-    let spread : c.deref-in-turns-2.result.now ≡ for_bidders z near.at = c.deref-in-turns-2.ensures.value ∙ c.in_ok-at.ensures ∙ ap (λ l. for_bidders l c.items.result.now) c.winners-in-turns.ensures ∙ ap (for_bidders z) c.items.ensures in
+    let answer : IsAnswer prices (weights_in z ws) rows near.den near.at near.first near.second =
+    rw (c.deref.ensures.value, c.deref-in-turns.ensures.value, c.in_ok-own.ensures, c.winners.ensures) at c.in_ok-near.ensures.answer in
+    let spread : c.deref-in-turns-2.result.now ≡ for_bidders z near.at = c.deref-in-turns-2.ensures.value ∙ c.in_ok-at.ensures
+    ∙ ap (λ l. for_bidders l c.items.result.now) c.winners-in-turns.ensures ∙ ap (for_bidders z) c.items.ensures in
     let block : IsBlock m z near.den (for_bidders z near.at) c.in-Block.block = rw (c.in-Block.is, d, spread) at c.in_ok-last.ensures.block in
     let b : Block = c.in-Block.block in
     let turn : Turn = record { den = near.den; at = near.at; block = Some b } in
-    rw (c.in_ok-push-in-Block.ensures.items, c.in_ok-push-in-Block-2.ensures.items, c.in_ok-push-in-Block-3.ensures.pushed, c.in_ok-copied-in-Block.ensures, d) record {
+    rw (
+      c.in_ok-push-in-Block.ensures.items,
+      c.in_ok-push-in-Block-2.ensures.items,
+      c.in_ok-push-in-Block-3.ensures.pushed,
+      c.in_ok-copied-in-Block.ensures,
+      d,
+    ) record {
       far = next m lawful z win prices ws can rows choices past far near.den near.at near.first near.second answer b block turn refl;
       rows = rows-block rows c.args.asked.rows.items past turn b refl c.turns.invariant.rows;
       choices = choices-block choices c.args.asked.choices.items past turn b refl c.turns.invariant.choices;

@@ -11,6 +11,7 @@ loop-k-preserved c =
     let long : length ws ≡ length z = c.requires ∙ ap length (search rules) in
     let list = c.loop-k.list.items in
     elim c.if-numbers-k-ne0.branch [
-      | then-numbers-k-ne0+in_ok-push b ↦ rw (b.list-is, b.in_ok-push.ensures.items) (more-winner z ws list c.loop-k.k long c.loop-k-test.true b.if-numbers-k-ne0.true c.loop-k.invariant)
+      | then-numbers-k-ne0+in_ok-push b ↦ rw (b.list-is, b.in_ok-push.ensures.items)
+          (more-winner z ws list c.loop-k.k long c.loop-k-test.true b.if-numbers-k-ne0.true c.loop-k.invariant)
       | else-numbers-k-ne0 b ↦ rw b.list-is (more-loser z ws list c.loop-k.k long c.loop-k-test.true (search rules) c.loop-k.invariant)
     ]

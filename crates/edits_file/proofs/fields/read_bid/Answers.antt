@@ -13,8 +13,10 @@ returns-in_err-bidder-clause-form c = λ err bidder lots amount is.
 
 pub returns-in_default-clause-form : goal.returns-in_default-clause-form
 returns-in_default-clause-form c = λ err bidder lots amount is.
-    no_bid c.args.book.now c.args.fields.now c.in_ok-bidder.bidder c.in_ok-bidder.package c.in_ok-bidder.rest.now c.in_ok-bidder.ensures.ok c.in_default.ensures.none bidder lots amount is
+    no_bid c.args.book.now c.args.fields.now c.in_ok-bidder.bidder c.in_ok-bidder.package c.in_ok-bidder.rest.now c.in_ok-bidder.ensures.ok
+    c.in_default.ensures.none bidder lots amount is
 
 pub returns-clause-ok : goal.returns-clause-ok
 returns-clause-ok c =
-    made_bid c.args.book.now c.args.fields.now c.in_ok-bidder.bidder c.in_ok-bidder.package c.in_ok-bidder.rest.now c.in-Some.amount c.in_ok-bidder.ensures.ok c.in-Some.ensures.found
+    made_bid c.args.book.now c.args.fields.now c.in_ok-bidder.bidder c.in_ok-bidder.package c.in_ok-bidder.rest.now c.in-Some.amount c.in_ok-bidder.ensures.ok
+    c.in-Some.ensures.found

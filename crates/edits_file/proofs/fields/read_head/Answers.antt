@@ -12,4 +12,5 @@ returns-in_err-counts-clause-form c = λ err bidder lots rest head.
     let found = c.in-Some.ensures.found in
     let same : c.categories.result ≡ length c.args.book.now.supply = c.categories.ensures.count ∙ ap length c.supply.ensures.supply in
     c.in_err-counts.ensures.form (ap Err form) lots rest
-    (subst (λ (k : ℕ). BeginsWithCounts k c.in-Some.behind.now lots rest) (sym same) (head_counts c.args.book.now c.args.fields.now found.0 c.in-Some.behind.now bidder lots rest found.1 found.2 found.3 head))
+    (subst (λ (k : ℕ). BeginsWithCounts k c.in-Some.behind.now lots rest) (sym same)
+    (head_counts c.args.book.now c.args.fields.now found.0 c.in-Some.behind.now bidder lots rest found.1 found.2 found.3 head))

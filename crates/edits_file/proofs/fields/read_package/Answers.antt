@@ -13,4 +13,5 @@ returns-in_err-bidder-clause-form c = λ err bidder lots is.
 pub returns-then-not-is_empty-clause-form : goal.returns-then-not-is_empty-clause-form
 returns-then-not-is_empty-clause-form c = λ err bidder lots is.
     let some : 0 < length c.in_ok-bidder.rest.now = grind (arith, c.is_empty.ensures, c.if-not-is_empty.true, c.if-not-is_empty.ensures) in
-    no_package c.args.book.now c.args.fields.now c.in_ok-bidder.bidder c.in_ok-bidder.package c.in_ok-bidder.rest.now c.in_ok-bidder.ensures.ok some bidder lots is
+    no_package c.args.book.now c.args.fields.now c.in_ok-bidder.bidder c.in_ok-bidder.package c.in_ok-bidder.rest.now c.in_ok-bidder.ensures.ok some bidder
+    lots is

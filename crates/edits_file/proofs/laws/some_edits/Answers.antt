@@ -6,4 +6,5 @@ use Rattle.edits_file.proofs.laws.some_edits.Goals as goal
 
 pub returns : goal.returns
 returns c = λ categories bytes.
-    some_answer (IsSound categories) (NamedStep categories) named_excess begin finish (AreNamedEdits categories) lines (reads categories) (leads categories) ends bytes
+    some_answer (IsSound categories) (NamedStep categories) named_excess begin finish (AreNamedEdits categories) lines (reads categories)
+    (leads categories) ends bytes

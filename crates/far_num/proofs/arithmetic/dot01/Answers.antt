@@ -11,6 +11,7 @@ loop-entry-preserved c =
     elim c.if-left-eq1.branch [
       | then-left-eq1+in_ok-sum w ↦
           rw (add-one, w.sum-is)
-          (passed_member c.args.members xs n c.loop-entry.sum w.in_ok-sum.sum _ c.loop-entry.left c.loop-entry.invariant w.if-left-eq1.true (get_or_default xs n _ _ c.loop-entry-test.true) w.in_ok-sum.ensures.0 w.in_ok-sum.ensures.1)
+          (passed_member c.args.members xs n c.loop-entry.sum w.in_ok-sum.sum _ c.loop-entry.left c.loop-entry.invariant w.if-left-eq1.true
+          (get_or_default xs n _ _ c.loop-entry-test.true) w.in_ok-sum.ensures.0 w.in_ok-sum.ensures.1)
       | else-left-eq1 w ↦ rw (add-one, w.sum-is) (passed_other c.args.members xs n c.loop-entry.sum c.loop-entry.left c.loop-entry.invariant (omega arith))
     ]

@@ -11,7 +11,9 @@ pub quotient-far-requires-clause-room : goal.quotient-far-requires-clause-room
 quotient-far-requires-clause-room c =
     let d = c.ranges.den in
     let f : FitsSigned w128 (pivot c.args.pivots.now c.loop-pivot.pivot-index).far = search rules in
-    simp to_z-of_z (room_by c.args.den (pivot c.args.pivots.now c.loop-pivot.pivot-index).far (unsigned_abs c.requires.common.k) (den_common c.args.pivots.now c.args.den c.requires.common c.requires.den.least) (c.requires.common.fars c.loop-pivot.pivot-index c.loop-pivot-test.true))
+    simp to_z-of_z (room_by c.args.den (pivot c.args.pivots.now c.loop-pivot.pivot-index).far (unsigned_abs c.requires.common.k)
+    (den_common c.args.pivots.now c.args.den c.requires.common c.requires.den.least)
+    (c.requires.common.fars c.loop-pivot.pivot-index c.loop-pivot-test.true))
 
 pub quotient-far-requires-clause-whole : goal.quotient-far-requires-clause-whole
 quotient-far-requires-clause-whole c =
@@ -24,7 +26,9 @@ pub quotient-near-requires-clause-room : goal.quotient-near-requires-clause-room
 quotient-near-requires-clause-room c =
     let d = c.ranges.den in
     let f : FitsSigned w128 (pivot c.args.pivots.now c.loop-pivot.pivot-index).near = search rules in
-    simp to_z-of_z (room_by c.args.den (pivot c.args.pivots.now c.loop-pivot.pivot-index).near (unsigned_abs c.requires.common.k) (den_common c.args.pivots.now c.args.den c.requires.common c.requires.den.least) (c.requires.common.nears c.loop-pivot.pivot-index c.loop-pivot-test.true))
+    simp to_z-of_z (room_by c.args.den (pivot c.args.pivots.now c.loop-pivot.pivot-index).near (unsigned_abs c.requires.common.k)
+    (den_common c.args.pivots.now c.args.den c.requires.common c.requires.den.least)
+    (c.requires.common.nears c.loop-pivot.pivot-index c.loop-pivot-test.true))
 
 pub quotient-near-requires-clause-whole : goal.quotient-near-requires-clause-whole
 quotient-near-requires-clause-whole c =
@@ -42,9 +46,12 @@ loop-pivot-preserved c =
     let m : FitsSigned w128 c.quotient-far.result = search rules in
     let n : FitsSigned w128 c.quotient-near.result = search rules in
     let f : Far = record { far = c.quotient-far.result; near = c.quotient-near.result } in
-    let pushed : c.push.new.self ≡ c.loop-pivot.out ++ record { far = c.quotient-far.result; near = c.quotient-near.result } ∷ [] = simp to_z-of_z at c.in_ok-push.ensures in
+    let pushed : c.push.new.self ≡ c.loop-pivot.out ++ record { far = c.quotient-far.result; near = c.quotient-near.result } ∷ [] =
+    simp to_z-of_z at c.in_ok-push.ensures in
     simp to_z-of_z (record {
-      long = ap length pushed ∙ length_push c.loop-pivot.out (record { far = c.quotient-far.result; near = c.quotient-near.result }) ∙ ap (λ (k : ℕ). k + 1) c.loop-pivot.invariant.long;
-      values = values_more c.args.pivots.now c.args.den c.loop-pivot.pivot-index c.loop-pivot.out c.push.new.self (record { far = c.quotient-far.result; near = c.quotient-near.result }) pushed c.loop-pivot.invariant.long
+      long = ap length pushed ∙ length_push c.loop-pivot.out (record { far = c.quotient-far.result; near = c.quotient-near.result })
+          ∙ ap (λ (k : ℕ). k + 1) c.loop-pivot.invariant.long;
+      values = values_more c.args.pivots.now c.args.den c.loop-pivot.pivot-index c.loop-pivot.out c.push.new.self
+          (record { far = c.quotient-far.result; near = c.quotient-near.result }) pushed c.loop-pivot.invariant.long
           (simp to_z-of_z at c.loop-pivot.invariant.values) (simp to_z-of_z at c.quotient-far.ensures) (simp to_z-of_z at c.quotient-near.ensures);
     })

@@ -13,7 +13,8 @@ pub loop-x-preserved : goal.loop-x-preserved
 loop-x-preserved c =
     let item : FitsSigned w128 (slice_index_or c.args.xs.now c.loop-x.x-index (pos 0)) = search rules in
     let shared : FitsSigned w128 c.gcd-shared.result = search rules in
-    let g : IsGcd (unsigned_abs (to_z w128 c.loop-x.shared-bits)) (unsigned_abs (nth c.args.xs.now c.loop-x.x-index)) (unsigned_abs c.gcd-shared.result) = simp to_z-of_z at c.gcd-shared.ensures.greatest in
+    let g : IsGcd (unsigned_abs (to_z w128 c.loop-x.shared-bits)) (unsigned_abs (nth c.args.xs.now c.loop-x.x-index)) (unsigned_abs c.gcd-shared.result) =
+    simp to_z-of_z at c.gcd-shared.ensures.greatest in
     let more : ContentOf (suc c.loop-x.x-index) (nth c.args.xs.now) c.gcd-shared.result =
     content_more c.loop-x.x-index (nth c.args.xs.now) (to_z w128 c.loop-x.shared-bits) c.gcd-shared.result c.loop-x.invariant.is
     (gcd_parts (to_z w128 c.loop-x.shared-bits) (nth c.args.xs.now c.loop-x.x-index) c.gcd-shared.result c.gcd-shared.ensures.sign g) in

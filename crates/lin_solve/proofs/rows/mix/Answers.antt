@@ -11,9 +11,12 @@ loop-i-preserved c =
     let v : FitsSigned w128 (slice_index_or c.args.v.now c.loop-i.i (pos 0)) = search rules in
     let w : FitsSigned w128 (slice_index_or c.args.w.now c.loop-i.i (pos 0)) = search rules in
     let x : FitsSigned w128 c.minus_products.result = search rules in
-    let pushed : c.push.new.self ≡ c.loop-i.out ++ c.minus_products.result ∷ [] = c.in_ok-push.ensures ∙ ap (λ (y : ℤ). c.loop-i.out ++ y ∷ []) (to_z-of_z w128 c.minus_products.result x) in
-    let here : c.minus_products.result ≡ c.args.s *ℤ nth c.args.v.now c.loop-i.i -ℤ c.args.t *ℤ nth c.args.w.now c.loop-i.i = simp to_z-of_z at c.minus_products.ensures in
+    let pushed : c.push.new.self ≡ c.loop-i.out ++ c.minus_products.result ∷ [] = c.in_ok-push.ensures
+    ∙ ap (λ (y : ℤ). c.loop-i.out ++ y ∷ []) (to_z-of_z w128 c.minus_products.result x) in
+    let here : c.minus_products.result ≡ c.args.s *ℤ nth c.args.v.now c.loop-i.i -ℤ c.args.t *ℤ nth c.args.w.now c.loop-i.i =
+    simp to_z-of_z at c.minus_products.ensures in
     simp to_z-of_z (record {
       long = grown_length c.loop-i.out c.push.new.self c.minus_products.result c.loop-i.i pushed c.loop-i.invariant.long;
-      is = grown (λ (k : ℕ) (y : ℤ). y ≡ c.args.s *ℤ nth c.args.v.now k -ℤ c.args.t *ℤ nth c.args.w.now k) c.loop-i.out c.push.new.self c.minus_products.result c.loop-i.i pushed c.loop-i.invariant.long (simp to_z-of_z at c.loop-i.invariant.is) here;
+      is = grown (λ (k : ℕ) (y : ℤ). y ≡ c.args.s *ℤ nth c.args.v.now k -ℤ c.args.t *ℤ nth c.args.w.now k) c.loop-i.out c.push.new.self
+          c.minus_products.result c.loop-i.i pushed c.loop-i.invariant.long (simp to_z-of_z at c.loop-i.invariant.is) here;
     })

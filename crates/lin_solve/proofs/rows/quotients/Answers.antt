@@ -16,9 +16,11 @@ loop-x-preserved c =
     let g = c.ranges.g in
     let v : FitsSigned w128 (slice_index_or c.args.v.now c.loop-x.x-index (pos 0)) = search rules in
     let x : FitsSigned w128 c.div_exact.result = search rules in
-    let pushed : c.push.new.self ≡ c.loop-x.out ++ c.div_exact.result ∷ [] = c.in_ok-push.ensures ∙ ap (λ (y : ℤ). c.loop-x.out ++ y ∷ []) (to_z-of_z w128 c.div_exact.result x) in
+    let pushed : c.push.new.self ≡ c.loop-x.out ++ c.div_exact.result ∷ [] = c.in_ok-push.ensures ∙ ap (λ (y : ℤ). c.loop-x.out ++ y ∷ [])
+    (to_z-of_z w128 c.div_exact.result x) in
     let here : c.args.g *ℤ c.div_exact.result ≡ nth c.args.v.now c.loop-x.x-index = simp to_z-of_z at c.div_exact.ensures in
     simp to_z-of_z (record {
       long = grown_length c.loop-x.out c.push.new.self c.div_exact.result c.loop-x.x-index pushed c.loop-x.invariant.long;
-      is = grown (λ (k : ℕ) (y : ℤ). c.args.g *ℤ y ≡ nth c.args.v.now k) c.loop-x.out c.push.new.self c.div_exact.result c.loop-x.x-index pushed c.loop-x.invariant.long (simp to_z-of_z at c.loop-x.invariant.is) here;
+      is = grown (λ (k : ℕ) (y : ℤ). c.args.g *ℤ y ≡ nth c.args.v.now k) c.loop-x.out c.push.new.self c.div_exact.result c.loop-x.x-index pushed
+          c.loop-x.invariant.long (simp to_z-of_z at c.loop-x.invariant.is) here;
     })

@@ -20,8 +20,12 @@ primitive-requires-clause-room c =
 
 pub primitive-requires-clause-apart : goal.primitive-requires-clause-apart
 primitive-requires-clause-apart c =
-    let m : IsMix c.args.s c.args.t c.args.v.now c.args.w.now c.items.result.now = mixed c in
-    (c.requires.apart.0, subst (λ (n : ℕ). c.requires.apart.0 < n) (sym m.long) c.requires.apart.1, λ e. c.requires.apart.2 (sym (m.is c.requires.apart.0 c.requires.apart.1) ∙ e))
+    let m : IsMix c.args.s c.args.t c.args.v.now c.args.w.now c.items.result.now = mixed c in (
+      c.requires.apart.0,
+      subst (λ (n : ℕ). c.requires.apart.0 < n) (sym m.long) c.requires.apart.1,
+      λ e. c.requires.apart.2
+          (sym (m.is c.requires.apart.0 c.requires.apart.1) ∙ e),
+    )
 
 pub returns : goal.returns
 returns c =

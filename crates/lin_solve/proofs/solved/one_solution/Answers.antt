@@ -7,12 +7,14 @@ use Rattle.lin_solve.proofs.solved.one_solution.Goals as goal
 pub common_den-den-requires : goal.common_den-den-requires
 common_den-den-requires c =
     rw c.deref.ensures.value
-    (have_common c.args.lines.now c.args.fars.now c.args.nears.now c.in_ok-pivots.pivots.items c.requires.system c.requires.only c.in_ok-pivots.ensures.long c.in_ok-pivots.ensures.pivots)
+    (have_common c.args.lines.now c.args.fars.now c.args.nears.now c.in_ok-pivots.pivots.items c.requires.system c.requires.only c.in_ok-pivots.ensures.long
+    c.in_ok-pivots.ensures.pivots)
 
 pub values-requires-clause-common : goal.values-requires-clause-common
 values-requires-clause-common c =
     rw c.deref-2.ensures.value
-    (have_common c.args.lines.now c.args.fars.now c.args.nears.now c.in_ok-pivots.pivots.items c.requires.system c.requires.only c.in_ok-pivots.ensures.long c.in_ok-pivots.ensures.pivots)
+    (have_common c.args.lines.now c.args.fars.now c.args.nears.now c.in_ok-pivots.pivots.items c.requires.system c.requires.only c.in_ok-pivots.ensures.long
+    c.in_ok-pivots.ensures.pivots)
 
 pub returns-clause-answer : goal.returns-clause-answer
 returns-clause-answer c =
@@ -21,7 +23,8 @@ returns-clause-answer c =
     let lv = rw c.deref-2.ensures.value at c.in_ok-values.ensures.long in
     let av = simp to_z-of_z at (rw c.deref-2.ensures.value at c.in_ok-values.ensures.values) in
     simp to_z-of_z
-    (one_solution c.args.lines.now c.args.fars.now c.args.nears.now c.in_ok-pivots.pivots.items c.requires.system c.requires.only c.in_ok-pivots.ensures.long c.in_ok-pivots.ensures.pivots
+    (one_solution c.args.lines.now c.args.fars.now c.args.nears.now c.in_ok-pivots.pivots.items c.requires.system c.requires.only c.in_ok-pivots.ensures.long
+    c.in_ok-pivots.ensures.pivots
     c.common_den-den.result c.in_ok-values.values cd lv av)
 
 pub returns-clause-small : goal.returns-clause-small
@@ -31,5 +34,6 @@ returns-clause-small c = λ limit edge w.
     let lv = rw c.deref-2.ensures.value at c.in_ok-values.ensures.long in
     let av = simp to_z-of_z at (rw c.deref-2.ensures.value at c.in_ok-values.ensures.values) in
     simp to_z-of_z
-    (small_answer c.args.lines.now c.args.fars.now c.args.nears.now c.in_ok-pivots.pivots.items c.requires.system c.requires.only c.in_ok-pivots.ensures.long c.in_ok-pivots.ensures.pivots
+    (small_answer c.args.lines.now c.args.fars.now c.args.nears.now c.in_ok-pivots.pivots.items c.requires.system c.requires.only c.in_ok-pivots.ensures.long
+    c.in_ok-pivots.ensures.pivots
     c.common_den-den.result c.in_ok-values.values cd lv av limit edge w)

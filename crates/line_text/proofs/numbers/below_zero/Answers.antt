@@ -13,8 +13,12 @@ pub returns-in-Beyond : goal.returns-in-Beyond
 returns-in-Beyond c =
     let n = c.in-Beyond.ensures.0 in
     let large = c.in-Beyond.ensures.2 in
-    let back : c.in-Beyond.ensures.0 ≡ suc (c.in-Beyond.ensures.0 - 1) = omega (arith, large) in
-    (negsuc (c.in-Beyond.ensures.0 - 1), minus_field c.args.rest.now (c.in-Beyond.ensures.0 - 1) c.in-Beyond.stop (subst (λ (x : ℕ). IsField c.args.rest.now x c.in-Beyond.stop) back c.in-Beyond.ensures.1), omega (arith, large, back))
+    let back : c.in-Beyond.ensures.0 ≡ suc (c.in-Beyond.ensures.0 - 1) = omega (arith, large) in (
+      negsuc (c.in-Beyond.ensures.0 - 1),
+      minus_field c.args.rest.now (c.in-Beyond.ensures.0 - 1) c.in-Beyond.stop
+          (subst (λ (x : ℕ). IsField c.args.rest.now x c.in-Beyond.stop) back c.in-Beyond.ensures.1),
+      omega (arith, large, back),
+    )
 
 pub returns-in-NoNumber : goal.returns-in-NoNumber
 returns-in-NoNumber c = minus_text c.args.rest.now (λ n r ends some e. c.in-NoNumber.ensures n r ends e)

@@ -11,4 +11,8 @@ returns-in-Within c =
     rw same (plain_field c.args.text.now c.in-Within.n c.in-Within.stop c.in-Within.ensures.0, small)
 
 pub returns-in-Beyond : goal.returns-in-Beyond
-returns-in-Beyond c = (pos c.in-Beyond.ensures.0, plain_field c.args.text.now c.in-Beyond.ensures.0 c.in-Beyond.stop c.in-Beyond.ensures.1, c.in-Beyond.ensures.2)
+returns-in-Beyond c = (
+  pos c.in-Beyond.ensures.0,
+  plain_field c.args.text.now c.in-Beyond.ensures.0 c.in-Beyond.stop c.in-Beyond.ensures.1,
+  c.in-Beyond.ensures.2,
+)

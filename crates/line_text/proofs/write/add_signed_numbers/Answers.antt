@@ -7,6 +7,7 @@ add_run-requires-clause-range c = tail_range c.args.numbers.now c.loop-done.done
 
 pub loop-done-preserved : goal.loop-done-preserved
 loop-done-preserved c = record {
-  written = next_run c.args.numbers.now c.loop-done.done c.in_ok-done.field-0 _ c.loop-done.text c.add_run.new.text c.loop-done.invariant.written c.in_ok-done.ensures.added;
+  written = next_run c.args.numbers.now c.loop-done.done c.in_ok-done.field-0 _ c.loop-done.text c.add_run.new.text c.loop-done.invariant.written
+      c.in_ok-done.ensures.added;
   within = search rules;
 }

@@ -4,7 +4,8 @@ use Rattle.lots.proofs.counts.states_among.Goals as goal
 
 pub overflow_mul-states : goal.overflow_mul-states
 overflow_mul-states c =
-    let most = states-so_far c.args.counts.now c.loop-count.count-index c.loop-count.states (omega arith) c.requires.lots c.requires.categories c.loop-count.invariant in
+    let most = states-so_far c.args.counts.now c.loop-count.count-index c.loop-count.states (omega arith) c.requires.lots c.requires.categories
+    c.loop-count.invariant in
     search rules
 
 pub loop-count-preserved : goal.loop-count-preserved

@@ -17,5 +17,6 @@ loop-i-preserved c = record {
   weight = weight-step c.args.supply.now c.loop-i.i c.loop-i.weight (omega arith) c.loop-i.invariant.weight;
   below = mod_below _ _ (weight-positive c.args.supply.now c.loop-i.i c.loop-i.weight (omega arith) c.loop-i.invariant.weight);
   size = search rules;
-  made = rw c.in_ok-push.ensures.items (sym (made-step c.args.supply.now c.loop-i.counts.items c.loop-i.i c.loop-i.weight c.loop-i.rest (omega arith) c.loop-i.invariant.weight) ∙ c.loop-i.invariant.made);
+  made = rw c.in_ok-push.ensures.items (sym (made-step c.args.supply.now c.loop-i.counts.items c.loop-i.i c.loop-i.weight c.loop-i.rest
+      (omega arith) c.loop-i.invariant.weight) ∙ c.loop-i.invariant.made);
 }

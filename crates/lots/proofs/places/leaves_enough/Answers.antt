@@ -5,11 +5,13 @@ use Rattle.lots.proofs.places.leaves_enough.Goals as goal
 
 pub returns-then-rest-weight : goal.returns-then-rest-weight
 returns-then-rest-weight c =
-    sym (within-fails c.args.supply.now c.args.counts.now c.loop-i.i c.loop-i.weight c.loop-i.rest (omega arith) c.requires.categories c.loop-i.invariant.weight (omega arith)) ∙ c.loop-i.invariant.rest
+    sym (within-fails c.args.supply.now c.args.counts.now c.loop-i.i c.loop-i.weight c.loop-i.rest (omega arith) c.requires.categories
+    c.loop-i.invariant.weight (omega arith)) ∙ c.loop-i.invariant.rest
 
 pub loop-i-preserved : goal.loop-i-preserved
 loop-i-preserved c = record {
   weight = weight-step c.args.supply.now c.loop-i.i c.loop-i.weight (omega arith) c.loop-i.invariant.weight;
   below = mod_below _ _ (weight-positive c.args.supply.now c.loop-i.i c.loop-i.weight (omega arith) c.loop-i.invariant.weight);
-  rest = sym (within-goes_on c.args.supply.now c.args.counts.now c.loop-i.i c.loop-i.weight c.loop-i.rest (omega arith) c.requires.categories c.loop-i.invariant.weight (omega arith)) ∙ c.loop-i.invariant.rest;
+  rest = sym (within-goes_on c.args.supply.now c.args.counts.now c.loop-i.i c.loop-i.weight c.loop-i.rest
+      (omega arith) c.requires.categories c.loop-i.invariant.weight (omega arith)) ∙ c.loop-i.invariant.rest;
 }

@@ -8,7 +8,8 @@ use Rattle.lots.proofs.places.place_less.Goals.{After-place_among}
 pub place_among-requires-clause-fits : goal.place_among-requires-clause-fits
 place_among-requires-clause-fits c =
     let fits : IsTrue (is_within c.args.counts.now (left_at c.args.supply.now c.args.place)) = sym c.leaves_enough.ensures ∙ c.if-leaves_enough.true in
-    within-within c.args.counts.now (left_at c.args.supply.now c.args.place) c.args.supply.now fits (left_at-within c.args.supply.now c.args.place (omega arith))
+    within-within c.args.counts.now (left_at c.args.supply.now c.args.place) c.args.supply.now fits
+    (left_at-within c.args.supply.now c.args.place (omega arith))
 
 pub overflow_sub-result : goal.overflow_sub-result
 overflow_sub-result c =

@@ -21,7 +21,8 @@ returns-clause-below c = λ yes.
     let n = c.sum_over-near_sum.ensures.small in
     less_is _ _ _ c.sum_over-far_sum.result c.sum_over-near_sum.result _ _
     (back c.sum_over-far_sum.result (omega (arith, ints))) (back c.sum_over-near_sum.result (omega (arith, ints)))
-    (product_back c.args.den c.args.row.bound c.requires.den.0 c.requires.den.1 c.requires.bound.0 c.requires.bound.1) (sum_at_t c) (c.is_less.ensures.below yes)
+    (product_back c.args.den c.args.row.bound c.requires.den.0 c.requires.den.1 c.requires.bound.0 c.requires.bound.1) (sum_at_t c)
+    (c.is_less.ensures.below yes)
 
 pub returns-clause-above : goal.returns-clause-above
 returns-clause-above c = λ no.

@@ -22,6 +22,7 @@ loop-j-preserved c =
     let back : to_z w128 (of_z w128 (nth c.args.list.now c.loop-j.j)) ≡ nth c.args.list.now c.loop-j.j = omega (arith, ints) in
     let part = c.member_part-sum.ensures.value ∙ ap (λ (z : ℤ). holds c.args.members c.loop-j.j *ℤ z) back in
     record {
-      value = added _ (to_z w128 c.loop-j.sum-bits) _ c.member_part-sum.result _ c.loop-j.invariant.value part (omega (arith, ints)) ∙ sym (total_more c.loop-j.j (λ j. holds c.args.members j *ℤ nth c.args.list.now j));
+      value = added _ (to_z w128 c.loop-j.sum-bits) _ c.member_part-sum.result _ c.loop-j.invariant.value part (omega (arith, ints))
+          ∙ sym (total_more c.loop-j.j (λ j. holds c.args.members j *ℤ nth c.args.list.now j));
       small = omega (arith, ints);
     }

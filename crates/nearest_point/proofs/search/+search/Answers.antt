@@ -11,7 +11,8 @@ search_from-force-requires t c = (
     (
       omega arith,
       (
-        force_owed c.args.target.now c.args.weights.now c.args.rows.now c.args.forced.now c.args.from (c.loop-k.k - 1) c.loop-k.k c.loop-k.best (omega arith) (omega arith) (omega arith)
+        force_owed c.args.target.now c.args.weights.now c.args.rows.now c.args.forced.now c.args.from (c.loop-k.k - 1) c.loop-k.k c.loop-k.best (omega arith)
+            (omega arith) (omega arith)
             c.requires.owed c.loop-k.invariant.near c.loop-k.invariant.parts (c.is_violated.ensures.below c.if-is_violated.true),
         c.requires.within,
       ),
@@ -23,7 +24,8 @@ pub search_from-loop-k-preserved-then-is_violated : goal.search_from-loop-k-pres
 search_from-loop-k-preserved-then-is_violated t c = record {
   low = omega arith;
   high = omega arith;
-  near = force_near c.args.target.now c.args.weights.now c.args.rows.now c.args.forced.now (c.loop-k.k - 1) c.loop-k.k c.loop-k.best c.in_ok-best-2.best (omega arith) (omega arith)
+  near = force_near c.args.target.now c.args.weights.now c.args.rows.now c.args.forced.now (c.loop-k.k - 1) c.loop-k.k c.loop-k.best c.in_ok-best-2.best
+      (omega arith) (omega arith)
       c.requires.problem c.loop-k.invariant.near c.loop-k.invariant.parts (c.is_violated.ensures.below c.if-is_violated.true) c.in_ok-best-2.ensures.near;
   parts = c.in_ok-best-2.ensures.parts;
 }

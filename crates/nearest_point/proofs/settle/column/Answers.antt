@@ -21,6 +21,7 @@ loop-i-preserved c =
     let part : c.member_part-sum.result ≡ x *ℤ a = c.member_part-sum.ensures.value ∙ ap (λ (z : ℤ). a *ℤ z) back ∙ *ℤ_comm a x in
     let either = c.member_part-sum.ensures.either in
     record {
-      value = added _ (to_z w128 c.loop-i.sum-bits) _ c.member_part-sum.result _ c.loop-i.invariant.value part (omega (arith, ints)) ∙ sym (total_more c.loop-i.i (λ i. nth c.args.multipliers.now i *ℤ row_of c.args.rows.now c.args.forced.now i c.args.j));
+      value = added _ (to_z w128 c.loop-i.sum-bits) _ c.member_part-sum.result _ c.loop-i.invariant.value part (omega (arith, ints))
+          ∙ sym (total_more c.loop-i.i (λ i. nth c.args.multipliers.now i *ℤ row_of c.args.rows.now c.args.forced.now i c.args.j));
       small = omega (arith, ints);
     }

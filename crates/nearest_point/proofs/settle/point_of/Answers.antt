@@ -42,16 +42,19 @@ returns c =
       long = c.requires.lowered.long ∙ c.requires.problem.weighed.long;
       solved = solved;
       far = part_same c.args.rows.now c.args.forced.now (weight_at c.args.weights.now) d c.args.found.den
-          c.args.lowered.now c.args.lowered.now c.deref.result.now c.args.found.first.items c.in_ok-far.far.items den refl c.deref.ensures.value c.in_ok-far.ensures.part;
+          c.args.lowered.now c.args.lowered.now c.deref.result.now c.args.found.first.items c.in_ok-far.far.items den refl c.deref.ensures.value
+          c.in_ok-far.ensures.part;
       near = part_same c.args.rows.now c.args.forced.now (weight_at c.args.weights.now) d c.args.found.den
-          c.args.target.now c.args.target.now c.deref-2.result.now c.args.found.second.items c.in_ok-near.near.items den refl c.deref-2.ensures.value c.in_ok-near.ensures.part;
+          c.args.target.now c.args.target.now c.deref-2.result.now c.args.found.second.items c.in_ok-near.near.items den refl c.deref-2.ensures.value
+          c.in_ok-near.ensures.part;
       den_is = den;
       rows_are = c.in_ok-rows.ensures.items;
       first_is = refl;
       second_is = refl;
     } in
     record {
-      near = settled_near c.args.target.now c.args.weights.now c.args.rows.now c.args.forced.now c.args.lowered.now c.args.found held settled c.requires.solved.independent;
+      near = settled_near c.args.target.now c.args.weights.now c.args.rows.now c.args.forced.now c.args.lowered.now c.args.found held settled
+          c.requires.solved.independent;
       parts = settled_parts c.args.target.now c.args.weights.now c.args.rows.now c.args.forced.now c.args.lowered.now c.args.found held
           settled c.requires.within c.in_ok-far.ensures.small c.in_ok-near.ensures.small;
     }

@@ -26,7 +26,9 @@ loop-j-preserved c =
     ∙ ap (λ (z : ℤ). d *ℤ nth c.args.target.now j +ℤ weight_at c.args.weights.now j *ℤ z) moved in
     record {
       long = grown_length c.loop-j.out.items c.push.new.self.items x j c.in_ok-push.ensures.items c.loop-j.invariant.long;
-      at = grown (λ j z. z ≡ d *ℤ nth c.args.target.now j +ℤ weight_at c.args.weights.now j *ℤ total (length c.args.forced.now) (λ i. nth c.args.multipliers.now i *ℤ row_of c.args.rows.now c.args.forced.now i j))
+      at = grown (λ j z. z ≡ d *ℤ nth c.args.target.now j +ℤ weight_at c.args.weights.now j *ℤ total (length c.args.forced.now)
+          (λ i. nth c.args.multipliers.now i *ℤ row_of c.args.rows.now c.args.forced.now i j))
           c.loop-j.out.items c.push.new.self.items x j c.in_ok-push.ensures.items c.loop-j.invariant.long c.loop-j.invariant.at here;
-      small = grown (λ j z. unsigned_abs z < 2 ^ 113) c.loop-j.out.items c.push.new.self.items x j c.in_ok-push.ensures.items c.loop-j.invariant.long c.loop-j.invariant.small (omega (arith, ints));
+      small = grown (λ j z. unsigned_abs z < 2 ^ 113) c.loop-j.out.items c.push.new.self.items x j c.in_ok-push.ensures.items c.loop-j.invariant.long
+          c.loop-j.invariant.small (omega (arith, ints));
     }

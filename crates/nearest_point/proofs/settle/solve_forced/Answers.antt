@@ -23,7 +23,8 @@ gram_matrix-requires-clause-lowered c = below_of c.args.target.now c.args.weight
 pub right_sides-requires-clause-lowered : goal.right_sides-requires-clause-lowered
 right_sides-requires-clause-lowered c = below_of c.args.target.now c.args.weights.now c.args.rows.now c.args.lowered.now c.requires.problem c.requires.lowered
 
-sides : (c : goal.After-items) → AreSides c.args.target.now c.args.rows.now c.args.lowered.now (length c.args.forced.now) c.in_ok-matrix.matrix c.items.result.now
+sides : (c : goal.After-items) → AreSides c.args.target.now c.args.rows.now c.args.lowered.now (length c.args.forced.now) c.in_ok-matrix.matrix
+    c.items.result.now
 sides c = record {
   long = c.in_ok-matrix.ensures.long;
   few = c.requires.few;
@@ -35,16 +36,19 @@ sides c = record {
 
 pub solve-requires-clause-small : goal.solve-requires-clause-small
 solve-requires-clause-small c =
-    either_system c.args.target.now c.args.weights.now c.args.rows.now c.args.lowered.now (length c.args.forced.now) c.in_ok-matrix.matrix c.items.result.now c.requires.problem c.requires.lowered (sides c)
+    either_system c.args.target.now c.args.weights.now c.args.rows.now c.args.lowered.now (length c.args.forced.now) c.in_ok-matrix.matrix c.items.result.now
+    c.requires.problem c.requires.lowered (sides c)
 
 pub returns : goal.returns
 returns c =
     let p = c.requires.problem in
     let low = c.requires.lowered in
     let len : length c.args.lowered.now ≡ length c.args.target.now = low.long ∙ p.weighed.long in
-    λ ind. never (length c.args.target.now) (length c.args.forced.now) (row_of c.args.rows.now c.args.forced.now) (weight_at c.args.weights.now) (have_weights (length c.args.target.now) c.args.weights.now p.weighed)
+    λ ind. never (length c.args.target.now) (length c.args.forced.now) (row_of c.args.rows.now c.args.forced.now) (weight_at c.args.weights.now)
+    (have_weights (length c.args.target.now) c.args.weights.now p.weighed)
     c.in_ok-matrix.matrix c.in-Dependent.combination (far_at c.items.result.now) (near_at c.items.result.now) c.in_ok-den.field-0
-    (is_gram c.args.target.now c.args.weights.now c.args.rows.now c.args.forced.now c.args.lowered.now low len c.in_ok-matrix.matrix c.in_ok-matrix.ensures.long c.in_ok-matrix.ensures.entries)
+    (is_gram c.args.target.now c.args.weights.now c.args.rows.now c.args.forced.now c.args.lowered.now low len c.in_ok-matrix.matrix
+    c.in_ok-matrix.ensures.long c.in_ok-matrix.ensures.entries)
     ind c.in_ok-den.ensures.answer c.in-Dependent.is
 
 pub returns-in-One : goal.returns-in-One
@@ -67,18 +71,22 @@ returns-in-One c =
     let second = c.in_ok-second-in-One.ensures in
     let e = c.items-in-One.ensures in
     let d = c.items-in-One-2.ensures in
-    let square = is_gram c.args.target.now c.args.weights.now c.args.rows.now c.args.forced.now c.args.lowered.now low len c.in_ok-matrix.matrix c.in_ok-matrix.ensures.long c.in_ok-matrix.ensures.entries in
+    let square = is_gram c.args.target.now c.args.weights.now c.args.rows.now c.args.forced.now c.args.lowered.now low len c.in_ok-matrix.matrix
+    c.in_ok-matrix.ensures.long c.in_ok-matrix.ensures.entries in
     record {
-      independent = independent_of (length c.args.target.now) (length c.args.forced.now) (row_of c.args.rows.now c.args.forced.now) (weight_at c.args.weights.now) c.in_ok-matrix.matrix
+      independent = independent_of (length c.args.target.now) (length c.args.forced.now) (row_of c.args.rows.now c.args.forced.now)
+          (weight_at c.args.weights.now) c.in_ok-matrix.matrix
           (far_at right) (near_at right) c.in-One.den values c.in_ok-den.field-0 square c.in_ok-den.ensures.answer c.in-One.is;
       multipliers = multipliers_of c.args.target.now c.args.weights.now c.args.rows.now c.args.forced.now c.args.lowered.now low len
           c.in_ok-matrix.matrix right values c.in-One.den f square
           (λ i lt. ap (λ (xs : List Far). far_at xs i) c.items.ensures ∙ c.in_ok-right.ensures.far i lt)
           (λ i lt. ap (λ (xs : List Far). near_at xs i) c.items.ensures ∙ c.in_ok-right.ensures.near i lt)
           c.in_ok-den.field-0 c.in_ok-den.ensures.answer c.in_ok-den.ensures.bounds
-          (λ ones. c.in_ok-den.ensures.smaller (first_system c.args.target.now c.args.weights.now c.args.rows.now c.args.lowered.now (length c.args.forced.now) c.in_ok-matrix.matrix right p low sides ones)) c.in-One.is
+          (λ ones. c.in_ok-den.ensures.smaller (first_system c.args.target.now c.args.weights.now c.args.rows.now c.args.lowered.now
+          (length c.args.forced.now) c.in_ok-matrix.matrix right p low sides ones)) c.in-One.is
           (record {
-            den_is = den_back c.in_ok-matrix.matrix (far_at right) (near_at right) c.in-One.den values c.in_ok-den.field-0 c.in_ok-den.ensures.answer c.in_ok-den.ensures.bounds c.in-One.is;
+            den_is = den_back c.in_ok-matrix.matrix (far_at right) (near_at right) c.in-One.den values c.in_ok-den.field-0 c.in_ok-den.ensures.answer
+                c.in_ok-den.ensures.bounds c.in-One.is;
             long_first = first.long ∙ ap length e;
             long_second = second.long ∙ ap length d;
             first = λ i lt. first.parts i (rw e lt) ∙ ap (λ (xs : List Far). far_at xs i) e;

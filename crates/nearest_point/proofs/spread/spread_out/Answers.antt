@@ -20,6 +20,7 @@ loop-i-preserved c =
     let e : v ≡ nth list r +ℤ x = omega (arith, ints) in
     record {
       lengths = length_step list r v ∙ c.loop-i.invariant.lengths;
-      numbers = numbers_step list c.args.count n r (place c.args.rows.now) (nth c.args.multipliers.now) v c.loop-i.invariant.lengths refl within e c.loop-i.invariant.numbers;
+      numbers = numbers_step list c.args.count n r (place c.args.rows.now) (nth c.args.multipliers.now) v c.loop-i.invariant.lengths refl within e
+          c.loop-i.invariant.numbers;
       small = small_step list n r v x (omega arith) e w c.loop-i.invariant.small;
     }

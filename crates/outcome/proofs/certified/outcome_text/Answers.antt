@@ -8,4 +8,5 @@ printed-requires c = printable c.args.book.now c.requires.facts.0 c.args.facts.n
 
 pub returns : goal.returns
 returns c = λ cert are.
-    IfOk-weaker c.printed.result _ _ (λ text all. of-certificate c.args.book.now cert c.args.facts.now are (λ z v p. IsPriceText c.args.book.now z v p text) all) c.printed.ensures
+    IfOk-weaker c.printed.result _ _ (λ text all. of-certificate c.args.book.now cert c.args.facts.now are
+    (λ z v p. IsPriceText c.args.book.now z v p text) all) c.printed.ensures

@@ -18,7 +18,8 @@ revenue-requires-clause-den c =
 pub revenue-requires-clause-few : goal.revenue-requires-clause-few
 revenue-requires-clause-few c =
     let facts = c.requires.facts in
-    let most = few c.args.book.now c.args.facts.now.choice (point_of c.args.facts.now) c.args.facts.now.singles c.args.prices.now facts.known facts.payments facts.winners c.requires.prices in
+    let most = few c.args.book.now c.args.facts.now.choice (point_of c.args.facts.now) c.args.facts.now.singles c.args.prices.now facts.known facts.payments
+    facts.winners c.requires.prices in
     omega (arith, most, c.kept.ensures.bidders)
 
 pub revenue-requires-clause-not_negative : goal.revenue-requires-clause-not_negative
@@ -38,5 +39,7 @@ returns c =
     let den : to_z w128 (of_z w128 facts.den) ≡ facts.den = to_z-of_z w128 facts.den den-fits in
     let revenue : IsFractionOf (total (length facts.pay) (nth facts.pay) +ℤ (facts.den *ℤ pos (reserves_of prices))) facts.den c.revenue.result =
     subst (λ (at : List ℤ). IsFractionOf (total (length at) (nth at) +ℤ (facts.den *ℤ pos (reserves_of prices))) facts.den c.revenue.result) c.items.ensures
-    (subst (λ (d : ℤ). IsFractionOf (total (length c.items.result.now) (nth c.items.result.now) +ℤ (d *ℤ pos (reserves_of prices))) d c.revenue.result) den c.revenue.ensures) in
-    subst (λ (x : ℤ). IsFractionOf x facts.den c.revenue.result) (revenue-is c.args.book.now facts.choice (point_of facts) facts.singles prices is.known is.payments is.winners c.requires.prices) revenue
+    (subst (λ (d : ℤ). IsFractionOf (total (length c.items.result.now) (nth c.items.result.now) +ℤ (d *ℤ pos (reserves_of prices))) d c.revenue.result) den
+    c.revenue.ensures) in
+    subst (λ (x : ℤ). IsFractionOf x facts.den c.revenue.result) (revenue-is c.args.book.now facts.choice
+    (point_of facts) facts.singles prices is.known is.payments is.winners c.requires.prices) revenue

@@ -20,12 +20,14 @@ add_prices-requires c =
     let z = c.args.facts.now.choice in
     let singles = c.args.facts.now.singles in
     subst (λ (l : List WinnerPrice). AllByRecursion (CanPrintPrice book) l) (sym c.deref.ensures.value)
-    (have-bids book z (point_of c.args.facts.now) c.requires.known singles c.in_ok-prices.prices.items (singles-win z singles c.requires.winners) c.in_ok-prices.ensures)
+    (have-bids book z (point_of c.args.facts.now) c.requires.known singles c.in_ok-prices.prices.items
+    (singles-win z singles c.requires.winners) c.in_ok-prices.ensures)
 
 pub paid_in_all-requires-clause-prices : goal.paid_in_all-requires-clause-prices
 paid_in_all-requires-clause-prices c =
     let facts = c.args.facts.now in
-    subst (λ (l : List WinnerPrice). AreWinnerPrices c.args.book.now facts.choice (point_of facts) facts.singles l) (sym c.deref-2.ensures.value) c.in_ok-prices.ensures
+    subst (λ (l : List WinnerPrice). AreWinnerPrices c.args.book.now facts.choice (point_of facts) facts.singles l)
+    (sym c.deref-2.ensures.value) c.in_ok-prices.ensures
 
 pub returns : goal.returns
 returns c =
@@ -36,7 +38,10 @@ returns c =
     let lines : c.add_prices.new.text ≡ lines_of book prices =
     c.in_ok-add_prices.ensures ∙ ap (λ (l : List ℕ). l ++ lines_of book c.deref.result.now) c.new-text.ensures ∙ ap (lines_of book) c.deref.ensures.value in
     let net : c.add_net.new.text ≡ lines_of book prices ++ net_line (value_of (market_of book) facts.choice) =
-    c.in_ok-add_net.ensures ∙ ap (λ (x : ℤ). c.add_prices.new.text ++ net_line x) (to_z-of_z w128 facts.value value-fits ∙ sym c.requires.value) ∙ ap (λ (l : List ℕ). l ++ net_line (value_of (market_of book) facts.choice)) lines in
-    let whole : c.add_revenue.new.text ≡ (lines_of book prices ++ net_line (value_of (market_of book) facts.choice)) ++ codes "revenue " ++ fraction_text c.paid_in_all.result ++ codes "\n" =
+    c.in_ok-add_net.ensures ∙ ap (λ (x : ℤ). c.add_prices.new.text ++ net_line x) (to_z-of_z w128 facts.value value-fits ∙ sym c.requires.value)
+    ∙ ap (λ (l : List ℕ). l ++ net_line (value_of (market_of book) facts.choice)) lines in
+    let whole : c.add_revenue.new.text ≡ (lines_of book prices ++ net_line (value_of (market_of book) facts.choice)) ++ codes "revenue "
+    ++ fraction_text c.paid_in_all.result ++ codes "\n" =
     c.in_ok-add_revenue.ensures ∙ ap (λ (l : List ℕ). l ++ codes "revenue " ++ fraction_text c.paid_in_all.result ++ codes "\n") net in
-    price-text book facts.choice (point_of facts) facts.singles prices c.requires.known c.requires.payments c.requires.winners c.in_ok-prices.ensures c.paid_in_all.result c.add_revenue.new.text c.paid_in_all.ensures whole
+    price-text book facts.choice (point_of facts) facts.singles prices c.requires.known c.requires.payments c.requires.winners c.in_ok-prices.ensures
+    c.paid_in_all.result c.add_revenue.new.text c.paid_in_all.ensures whole

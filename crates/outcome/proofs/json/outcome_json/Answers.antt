@@ -11,4 +11,5 @@ json_line-requires-clause-facts c = printable c.args.book.now c.requires.facts.0
 pub returns : goal.returns
 returns c = λ cert are.
     IfOk-weaker c.json_line.result _ _
-    (λ text all. of-certificate c.args.book.now cert c.args.facts.now are (λ z v p. IsOutcomeJson c.args.book.now z v p (option_map (λ t. turns_of z t.now) c.args.turns) text) all) c.json_line.ensures
+    (λ text all. of-certificate c.args.book.now cert c.args.facts.now are (λ z v p. IsOutcomeJson c.args.book.now z v p
+    (option_map (λ t. turns_of z t.now) c.args.turns) text) all) c.json_line.ensures

@@ -25,14 +25,16 @@ winner_values-requires c =
     let z = c.args.facts.now.choice in
     let singles = c.args.facts.now.singles in
     subst (λ (l : List WinnerPrice). AllByRecursion (CanPrintPrice book) l) (sym c.deref-2.ensures.value)
-    (have-bids book z (point_of c.args.facts.now) c.requires.facts.known singles c.in_ok-prices.prices.items (singles-win z singles c.requires.facts.winners) c.in_ok-prices.ensures)
+    (have-bids book z (point_of c.args.facts.now) c.requires.facts.known singles c.in_ok-prices.prices.items
+    (singles-win z singles c.requires.facts.winners) c.in_ok-prices.ensures)
 
 pub amount_value-net-requires : goal.amount_value-net-requires
 amount_value-net-requires c =
     let facts = c.args.facts.now in
     let fits : FitsSigned w128 c.args.facts.now.value = search rules in
     let between = value-between c.args.book.now c.kept.ensures facts.choice c.requires.facts.known in
-    net-small (to_z w128 (of_z w128 facts.value)) (value_of (market_of c.args.book.now) facts.choice) (to_z-of_z w128 facts.value fits ∙ sym c.requires.facts.value) between.0 between.1
+    net-small (to_z w128 (of_z w128 facts.value)) (value_of (market_of c.args.book.now) facts.choice)
+    (to_z-of_z w128 facts.value fits ∙ sym c.requires.facts.value) between.0 between.1
 
 pub outcome_object-requires-clause-few : goal.outcome_object-requires-clause-few
 outcome_object-requires-clause-few c =
@@ -44,8 +46,11 @@ returns c =
     let facts = c.args.facts.now in
     let prices = c.in_ok-prices.prices.items in
     let fits : FitsSigned w128 c.args.facts.now.value = search rules in
-    let winners : view c.in_ok-winners.winners ≡ array (items_of (map (winner_data book) prices)) = c.in_ok-winners.ensures ∙ ap (λ (l : List WinnerPrice). array (items_of (map (winner_data book) l))) c.deref-2.ensures.value in
-    let net : view c.amount_value-net.result ≡ amount_json (value_of (market_of book) facts.choice) = c.amount_value-net.ensures ∙ ap amount_json (to_z-of_z w128 facts.value fits ∙ sym c.requires.facts.value) in
+    let winners : view c.in_ok-winners.winners ≡ array (items_of (map (winner_data book) prices)) = c.in_ok-winners.ensures
+    ∙ ap (λ (l : List WinnerPrice). array (items_of (map (winner_data book) l))) c.deref-2.ensures.value in
+    let net : view c.amount_value-net.result ≡ amount_json (value_of (market_of book) facts.choice) =
+    c.amount_value-net.ensures ∙ ap amount_json (to_z-of_z w128 facts.value fits ∙ sym c.requires.facts.value) in
     IfOk-weaker c.outcome_object.result _ _
-    (λ x h. whole-outcome book facts.choice (point_of facts) facts.singles prices c.requires.facts.winners c.in_ok-prices.ensures c.paid_in_all.result c.paid_in_all.ensures _ h.0 h.1 (view c.amount_value-net.result) (view c.in_ok-revenue.revenue) net c.in_ok-revenue.ensures (view x) h.2)
+    (λ x h. whole-outcome book facts.choice (point_of facts) facts.singles prices c.requires.facts.winners c.in_ok-prices.ensures c.paid_in_all.result
+    c.paid_in_all.ensures _ h.0 h.1 (view c.amount_value-net.result) (view c.in_ok-revenue.revenue) net c.in_ok-revenue.ensures (view x) h.2)
     (c.outcome_object.ensures (map (winner_data book) prices) winners)

@@ -8,5 +8,6 @@ pub returns : goal.returns
 returns c =
     let wide : FitsSigned w128 c.args.amount = search rules in
     let fits : FitsSigned w64 c.args.amount = omega (arith, ints, c.requires) in
-    let same : to_z w64 (of_z w64 (to_z w128 (of_z w128 c.args.amount))) ≡ c.args.amount = ap (λ (x : ℤ). to_z w64 (of_z w64 x)) (to_z-of_z w128 c.args.amount wide) ∙ to_z-of_z w64 c.args.amount fits in
+    let same : to_z w64 (of_z w64 (to_z w128 (of_z w128 c.args.amount))) ≡ c.args.amount = ap (λ (x : ℤ). to_z w64 (of_z w64 x))
+    (to_z-of_z w128 c.args.amount wide) ∙ to_z-of_z w64 c.args.amount fits in
     c.from.ensures ∙ ap amount_json same

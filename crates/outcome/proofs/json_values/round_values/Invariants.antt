@@ -6,4 +6,5 @@ use Rattle.print_form.specs.Json.{AreRounds}
 use Rattle.outcome.proofs.json_values.round_values.Given as goal
 
 abbrev pub invariant-loop-i : goal.invariant-loop-i
-invariant-loop-i l = (rest : List Data) → AreRounds l.winners l.i (turns_of l.winners (drop l.i l.turns)) rest → AreRounds l.winners 0 (turns_of l.winners l.turns) (map view l.values.items ++ rest)
+invariant-loop-i l = (rest : List Data) → AreRounds l.winners l.i (turns_of l.winners (drop l.i l.turns)) rest
+    → AreRounds l.winners 0 (turns_of l.winners l.turns) (map view l.values.items ++ rest)

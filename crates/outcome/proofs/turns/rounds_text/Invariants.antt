@@ -4,4 +4,5 @@ use Rattle.print_form.specs.Turns.{AreTurnLines}
 use Rattle.outcome.proofs.turns.rounds_text.Given as goal
 
 abbrev pub invariant-loop-i : goal.invariant-loop-i
-invariant-loop-i l = (rest : List ℕ) → AreTurnLines l.winners l.i (turns_of l.winners (drop l.i l.turns)) rest → AreTurnLines l.winners 0 (turns_of l.winners l.turns) (l.text ++ rest)
+invariant-loop-i l = (rest : List ℕ) → AreTurnLines l.winners l.i (turns_of l.winners (drop l.i l.turns)) rest
+    → AreTurnLines l.winners 0 (turns_of l.winners l.turns) (l.text ++ rest)

@@ -18,8 +18,11 @@ use Rattle.piece_check.proofs.facts.single_in.Goals as goal
 pub choice_in-requires-clause-choice : goal.choice_in-requires-clause-choice
 choice_in-requires-clause-choice c =
     let (cert, all, number_is) = c.requires.some in
-    let wins = wins-some cert.choice c.args.j c.args.number (sym number_is) (λ none. omega (arith, none, c.requires.wins)) in
-    ((part_of cert.withouts c.args.j).choice, all.parts c.args.j c.requires.bidder.0 c.requires.bidder.1 wins, part-choice (bidders_of c.args.book.now) (states c.args.book.now) cert all.of.certificate c.args.j c.requires.bidder.0 c.requires.bidder.1 wins)
+    let wins = wins-some cert.choice c.args.j c.args.number (sym number_is) (λ none. omega (arith, none, c.requires.wins)) in (
+      (part_of cert.withouts c.args.j).choice,
+      all.parts c.args.j c.requires.bidder.0 c.requires.bidder.1 wins,
+      part-choice (bidders_of c.args.book.now) (states c.args.book.now) cert all.of.certificate c.args.j c.requires.bidder.0 c.requires.bidder.1 wins,
+    )
 
 pub number_in-value-requires-clause-one : goal.number_in-value-requires-clause-one
 number_in-value-requires-clause-one c =
@@ -48,8 +51,10 @@ price-requires-clause-bid c =
     subst (λ (n : ℕ). n ≤ length (bids_of c.args.book.now c.args.j)) number_is ((all.of.choice c.args.j).known c.requires.bidder.0 c.requires.bidder.1)
 
 -- a winner alone, with an equal price and an equal choice
-same : (j : ℕ) (x y : ℤ) (d e : List ℕ) → x ≡ y → d ≡ e → ◌≡◌ {A = Single} (record { winner = j; price = x; choice = d }) (record { winner = j; price = y; choice = e })
-same j x y d e price choice = ap (λ (z : ℤ). record { winner = j; price = z; choice = d }) price ∙ ap (λ (l : List ℕ). record { winner = j; price = y; choice = l }) choice
+same : (j : ℕ) (x y : ℤ) (d e : List ℕ) → x ≡ y → d ≡ e → ◌≡◌ {A = Single} (record { winner = j; price = x; choice = d })
+    (record { winner = j; price = y; choice = e })
+same j x y d e price choice = ap (λ (z : ℤ). record { winner = j; price = z; choice = d }) price ∙ ap
+    (λ (l : List ℕ). record { winner = j; price = y; choice = l }) choice
 
 pub returns : goal.returns
 returns c = λ cert all number_is.
@@ -63,7 +68,8 @@ returns c = λ cert all number_is.
     let value_is = to_z-of_z w128 c.number_in-value.result value_fits ∙ c.number_in-value.ensures cert.value all.value in
     same c.args.j _ _ c.in_ok-choice.choice part
     (to_z-of_z w128 c.price.result price_fits ∙ c.price.ensures
-    ∙ ap (λ (l : List ℕ). (value_of (market_of c.args.book.now) l -ℤ to_z w128 (of_z w128 c.number_in-value.result)) +ℤ net_of c.args.book.now c.args.j c.args.number) (c.numbers.ensures ∙ there)
+    ∙ ap (λ (l : List ℕ). (value_of (market_of c.args.book.now) l -ℤ to_z w128 (of_z w128 c.number_in-value.result)) +ℤ net_of c.args.book.now c.args.j
+    c.args.number) (c.numbers.ensures ∙ there)
     ∙ ap (λ (z : ℤ). (value_of (market_of c.args.book.now) part -ℤ z) +ℤ net_of c.args.book.now c.args.j c.args.number) value_is
     ∙ ap (λ (n : ℕ). (value_of (market_of c.args.book.now) part -ℤ cert.value) +ℤ net_of c.args.book.now c.args.j n) (sym number_is))
     there

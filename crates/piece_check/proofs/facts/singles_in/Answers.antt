@@ -5,4 +5,5 @@ use Rattle.piece_check.proofs.facts.singles_in.Goals as goal
 
 pub returns : goal.returns
 returns c = λ cert all is.
-    singles-done c.args.book.now cert (bidders_of c.args.book.now) (states c.args.book.now) all.of.certificate c.args.choice.now is c.loop-k.singles c.loop-k.k (omega (arith, c.loop-k-test.false)) (c.loop-k.invariant cert all is)
+    singles-done c.args.book.now cert (bidders_of c.args.book.now) (states c.args.book.now) all.of.certificate c.args.choice.now is c.loop-k.singles
+    c.loop-k.k (omega (arith, c.loop-k-test.false)) (c.loop-k.invariant cert all is)

@@ -5,4 +5,5 @@ use Rattle.piece_check.proofs.FactLaws.{singles_behind}
 use Rattle.piece_check.proofs.facts.singles_in.Given as goal
 
 abbrev pub invariant-loop-k : goal.invariant-loop-k
-invariant-loop-k l = (c : CertValue) → HasAll l.book c l.room → c.choice ≡ l.choice → l.singles ++ singles_behind l.book c l.k (drop l.k l.choice) ≡ singles_behind l.book c 0 l.choice
+invariant-loop-k l = (c : CertValue) → HasAll l.book c l.room → c.choice ≡ l.choice → l.singles ++ singles_behind l.book c l.k
+    (drop l.k l.choice) ≡ singles_behind l.book c 0 l.choice

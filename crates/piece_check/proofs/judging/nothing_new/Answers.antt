@@ -3,4 +3,5 @@ use Rattle.piece_check.proofs.NextLaws.{plain}
 use Rattle.piece_check.proofs.judging.nothing_new.Goals as goal
 
 pub returns : goal.returns
-returns c = λ cert next is follows. plain c.args.at.now.book.now (weight_of c.args.at.now.weights.now) cert c.args.at.now.due next c.args.at.now.late c.requires follows is.known.tested
+returns c = λ cert next is follows. plain c.args.at.now.book.now (weight_of c.args.at.now.weights.now) cert c.args.at.now.due next c.args.at.now.late
+    c.requires follows is.known.tested

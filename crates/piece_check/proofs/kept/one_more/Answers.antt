@@ -18,8 +18,15 @@ put_members-count-requires-clause-due c = inl c.requires.due
 pub with_row-requires-clause-some : goal.with_row-requires-clause-some
 with_row-requires-clause-some c =
     let cert = c.requires.some.0 in
-    let is = c.requires.some.1 in
-    (cert, bidders_of c.args.at.now.book.now, length cert.rows - c.args.left, pair-totals c.args.at.now cert is c.args.left c.requires.due, is.kept.rows, pair-inside c.args.at.now cert is c.args.left c.requires.due, is.kept.few)
+    let is = c.requires.some.1 in (
+      cert,
+      bidders_of c.args.at.now.book.now,
+      length cert.rows - c.args.left,
+      pair-totals c.args.at.now cert is c.args.left c.requires.due,
+      is.kept.rows,
+      pair-inside c.args.at.now cert is c.args.left c.requires.due,
+      is.kept.few,
+    )
 
 pub with_row-requires-clause-range : goal.with_row-requires-clause-range
 with_row-requires-clause-range c =
@@ -31,7 +38,12 @@ with_row-requires-clause-range c =
     let range = (row-whole c.args.at.now cert is c.args.left (inl c.requires.due)).range in
     let first : get_or c.numbers_in-pair.result.now 0 (pos 0) ≡ (row_at cert c.args.left).first = ap (λ (l : List ℤ). get_or l 0 (pos 0)) pair_is in
     let second : get_or c.numbers_in-pair.result.now 1 (pos 0) ≡ (row_at cert c.args.left).second = ap (λ (l : List ℤ). get_or l 1 (pos 0)) pair_is in
-    rw (to_z-of_z w128 (get_or c.numbers_in-pair.result.now 0 (pos 0)) first_fits, to_z-of_z w128 (get_or c.numbers_in-pair.result.now 1 (pos 0)) second_fits, first, second) range
+    rw (
+      to_z-of_z w128 (get_or c.numbers_in-pair.result.now 0 (pos 0)) first_fits,
+      to_z-of_z w128 (get_or c.numbers_in-pair.result.now 1 (pos 0)) second_fits,
+      first,
+      second,
+    ) range
 
 pub returns : goal.returns
 returns c = λ cert next is follows.

@@ -13,7 +13,8 @@ put_numbers-requires-clause-numbers c =
     let is = c.requires.some.1 in
     let whole = row-whole c.args.at.now cert is c.args.left c.requires.due in (
       (row_at cert c.args.left).members,
-      ap (λ (n : ℕ). take n c.numbers_in-in_room.result.now) c.min-count.ensures ∙ take-few at.members c.numbers_in-in_room.result.now ∙ ap (λ (l : List ℤ). take c.args.at.now.members l) c.numbers_in-in_room.ensures ∙ members-there c.args.at.now cert is c.args.left c.requires.due,
+      ap (λ (n : ℕ). take n c.numbers_in-in_room.result.now) c.min-count.ensures ∙ take-few at.members c.numbers_in-in_room.result.now
+          ∙ ap (λ (l : List ℤ). take c.args.at.now.members l) c.numbers_in-in_room.ensures ∙ members-there c.args.at.now cert is c.args.left c.requires.due,
       members-most (bidders_of at.book.now) 0 (row_at cert c.args.left).members (omega (arith, c.kept.ensures.bidders)) whole.members,
     )
 
@@ -21,7 +22,22 @@ pub returns-clause-members : goal.returns-clause-members
 returns-clause-members c = λ cert is.
     let at = c.args.at.now in
     let same = c.put_numbers.ensures.numbers (row_at cert c.args.left).members
-    (ap (λ (n : ℕ). take n c.numbers_in-in_room.result.now) c.min-count.ensures ∙ take-few at.members c.numbers_in-in_room.result.now ∙ ap (λ (l : List ℤ). take c.args.at.now.members l) c.numbers_in-in_room.ensures ∙ members-there c.args.at.now cert is c.args.left c.requires.due) in
-    let few : length c.numbers_in-in_room.result.now ≤ bidders_of c.args.at.now.book.now = omega (arith, ap (λ (l : List ℤ). length l) c.numbers_in-in_room.ensures, segment-few (bidders_of at.book.now) (states at.book.now) c.args.left at.room.now) in
-    let long : length c.put_numbers.new.to ≡ c.min-count.result = omega (arith, c.put_numbers.ensures.count, length-take c.min-count.result c.args.to.now, c.min-count.ensures, few, c.kept.ensures.bidders, c.requires.to) in
+    (ap (λ (n : ℕ). take n c.numbers_in-in_room.result.now) c.min-count.ensures ∙ take-few at.members c.numbers_in-in_room.result.now
+    ∙ ap (λ (l : List ℤ). take c.args.at.now.members l) c.numbers_in-in_room.ensures ∙ members-there c.args.at.now cert is c.args.left c.requires.due) in
+    let few : length c.numbers_in-in_room.result.now ≤ bidders_of c.args.at.now.book.now =
+    omega (
+      arith,
+      ap (λ (l : List ℤ). length l) c.numbers_in-in_room.ensures,
+      segment-few (bidders_of at.book.now)
+          (states at.book.now) c.args.left at.room.now,
+    ) in
+    let long : length c.put_numbers.new.to ≡ c.min-count.result = omega (
+      arith,
+      c.put_numbers.ensures.count,
+      length-take c.min-count.result c.args.to.now,
+      c.min-count.ensures,
+      few,
+      c.kept.ensures.bidders,
+      c.requires.to,
+    ) in
     take-front c.min-count.result c.put_numbers.new.to _ long ∙ same

@@ -37,9 +37,14 @@ returns c = λ cert n are members_is first_is second_is.
     let four : length c.args.totals.first_sums ≡ 16 = search rules in
     let five : length c.args.totals.second_sums ≡ 16 = search rules in
     let some = c.requires.some in
-    totals-more cert n c.args.totals _ c.args.members.now c.args.first c.args.second are members_is first_is second_is (inside n c.args.totals.count some.2 (length some.0.rows) (length c.args.totals.firsts) are.count c.requires.some.3.count c.requires.some.5 c.requires.some.6 long)
-    (inside n c.args.totals.count some.2 (length some.0.rows) (length c.args.totals.seconds) are.count c.requires.some.3.count c.requires.some.5 c.requires.some.6 long2) (ap (λ (x : ℕ). x + 1) are.count)
-    (c.put_at.ensures ∙ ap (λ (x : ℕ). set c.args.totals.firsts x (to_z w128 (of_z w128 c.args.first))) are.count ∙ ap (λ (z : ℤ). set c.args.totals.firsts n z) (to_z-of_z w128 c.args.first first_fits))
-    (c.put_at-2.ensures ∙ ap (λ (x : ℕ). set c.args.totals.seconds x (to_z w128 (of_z w128 c.args.second))) are.count ∙ ap (λ (z : ℤ). set c.args.totals.seconds n z) (to_z-of_z w128 c.args.second second_fits))
+    totals-more cert n c.args.totals _ c.args.members.now c.args.first c.args.second are members_is first_is second_is
+    (inside n c.args.totals.count some.2 (length some.0.rows) (length c.args.totals.firsts) are.count c.requires.some.3.count c.requires.some.5
+    c.requires.some.6 long)
+    (inside n c.args.totals.count some.2 (length some.0.rows) (length c.args.totals.seconds) are.count c.requires.some.3.count c.requires.some.5
+    c.requires.some.6 long2) (ap (λ (x : ℕ). x + 1) are.count)
+    (c.put_at.ensures ∙ ap (λ (x : ℕ). set c.args.totals.firsts x (to_z w128 (of_z w128 c.args.first))) are.count
+    ∙ ap (λ (z : ℤ). set c.args.totals.firsts n z) (to_z-of_z w128 c.args.first first_fits))
+    (c.put_at-2.ensures ∙ ap (λ (x : ℕ). set c.args.totals.seconds x (to_z w128 (of_z w128 c.args.second))) are.count
+    ∙ ap (λ (z : ℤ). set c.args.totals.seconds n z) (to_z-of_z w128 c.args.second second_fits))
     (λ j few most. rw (to_z-of_z w128 c.args.first first_fits) at (c.add_row.ensures.sums j few (omega (arith, most, four))))
     (λ j few most. rw (to_z-of_z w128 c.args.second second_fits) at (c.add_row-2.ensures.sums j few (omega (arith, most, five))))

@@ -28,6 +28,7 @@ returns c =
     c.in_ok-add_table.ensures
     (subst (λ (l : List PlaceWithout). Adds c.add_table.new.text c.add_parts.new.text (part_lines l)) c.items.ensures c.in_ok-add_parts.ensures)
     (subst (λ (l : List PlaceRow). Adds c.add_parts.new.text c.add_payments.new.text (payment_lines cert.pay l)) c.items-3.ensures
-    (subst (λ (l : List ℤ). Adds c.add_parts.new.text c.add_payments.new.text (payment_lines l c.items-3.result.now)) c.items-2.ensures c.in_ok-add_payments.ensures))
+    (subst (λ (l : List ℤ). Adds c.add_parts.new.text c.add_payments.new.text (payment_lines l c.items-3.result.now)) c.items-2.ensures
+    c.in_ok-add_payments.ensures))
     c.in_ok-add_table-2.ensures
     c.in_ok-add_signed_line.ensures

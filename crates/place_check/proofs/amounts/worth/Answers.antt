@@ -24,7 +24,14 @@ loop-k-preserved c =
     record {
       whole = rw (own_same, sum_same) (omega (arith, ints, step, c.loop-k.invariant.whole, c.amount-sum.ensures.amount));
       not_negative = rw (own_same, sum_same) (omega (arith, ints, c.loop-k.invariant.not_negative, c.amount-sum.ensures.least));
-      size = rw (own_same, sum_same) (omega (arith, ints, c.loop-k.invariant.size, c.loop-k.invariant.not_negative, c.amount-sum.ensures.least, c.amount-sum.ensures.most));
+      size = rw (own_same, sum_same) (omega (
+        arith,
+        ints,
+        c.loop-k.invariant.size,
+        c.loop-k.invariant.not_negative,
+        c.amount-sum.ensures.least,
+        c.amount-sum.ensures.most,
+      ));
     }
 
 pub returns-clause-value : goal.returns-clause-value

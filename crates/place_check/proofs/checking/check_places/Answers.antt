@@ -9,7 +9,8 @@ pub loop-test-init : goal.loop-test-init
 loop-test-init c = λ test place low. asks-none c.args.slots.now (place_cert_value c.args.cert.now) test place (omega (arith, low))
 
 pub returns-in-Some-clause-verdict : goal.returns-in-Some-clause-verdict
-returns-in-Some-clause-verdict c = fails-first c.args.slots.now (place_cert_value c.args.cert.now) c.loop-test.test c.loop-test.invariant c.in-Some.place c.in-Some.ensures
+returns-in-Some-clause-verdict c = fails-first c.args.slots.now (place_cert_value c.args.cert.now) c.loop-test.test c.loop-test.invariant c.in-Some.place
+    c.in-Some.ensures
 
 pub returns-in-Some-clause-priced : goal.returns-in-Some-clause-priced
 returns-in-Some-clause-priced c = λ priced.

@@ -10,11 +10,13 @@ loop-place-init c = λ place low. absurd (omega (arith, low))
 pub loop-place-preserved : goal.loop-place-preserved
 loop-place-preserved c =
     let passed : c.test_holds.result ≡ true = search rules in
-    before-next (Asks c.args.slots.now (place_cert_value c.args.cert.now) c.args.test) c.loop-place.place c.test_holds.result c.loop-place.invariant c.test_holds.ensures passed
+    before-next (Asks c.args.slots.now (place_cert_value c.args.cert.now) c.args.test) c.loop-place.place c.test_holds.result c.loop-place.invariant
+    c.test_holds.ensures passed
 
 pub returns-then-not-test_holds : goal.returns-then-not-test_holds
 returns-then-not-test_holds c =
-    fails-here (Asks c.args.slots.now (place_cert_value c.args.cert.now) c.args.test) c.loop-place.place c.test_holds.result c.loop-place.invariant c.test_holds.ensures c.if-not-test_holds.true
+    fails-here (Asks c.args.slots.now (place_cert_value c.args.cert.now) c.args.test) c.loop-place.place c.test_holds.result c.loop-place.invariant
+    c.test_holds.ensures c.if-not-test_holds.true
 
 pub returns : goal.returns
 returns c =

@@ -36,11 +36,15 @@ returns-then-not-uses_none c = never (λ row. false≢true (sym c.if-not-uses_no
     subst (λ (l : List ℕ). number_of l j ≡ 0) (sym c.numbers-choice.ensures) (row.tight.unused j in_row))))
 
 pub returns-then-not-allows : goal.returns-then-not-allows
-returns-then-not-allows c = never (λ row. false≢true (sym c.if-not-allows.true ∙ c.allows.ensures ∙ subst (λ (l : List ℕ). IsTrue (allows c.args.slots.now l c.args.row.now.choice)) (sym c.items.ensures) row.order_allows))
+returns-then-not-allows c = never (λ row. false≢true (sym c.if-not-allows.true ∙ c.allows.ensures ∙ subst
+    (λ (l : List ℕ). IsTrue (allows c.args.slots.now l c.args.row.now.choice)) (sym c.items.ensures) row.order_allows))
 
 pub returns : goal.returns
 returns c =
-    let all = λ (j : ℕ) (member : IsTrue (is_member c.items-members.result.now j)). subst (λ (l : List ℕ). IsTrue (uses l j)) c.numbers-winning.ensures (c.uses_all.ensures.0 c.if-not-uses_all.false j member) in
-    let none = λ (j : ℕ) (member : IsTrue (is_member c.items-members.result.now j)). subst (λ (l : List ℕ). number_of l j ≡ 0) c.numbers-choice.ensures (c.uses_none.ensures.0 c.if-not-uses_none.false j member) in
-    tight-by c.args.slots.now (place_cert_value c.args.cert.now).cert (row_value c.args.row.now) (row_order c.args.row.now) c.items-members.result.now c.items.result.now c.pays_just.result
+    let all = λ (j : ℕ) (member : IsTrue (is_member c.items-members.result.now j)). subst (λ (l : List ℕ). IsTrue (uses l j)) c.numbers-winning.ensures
+    (c.uses_all.ensures.0 c.if-not-uses_all.false j member) in
+    let none = λ (j : ℕ) (member : IsTrue (is_member c.items-members.result.now j)). subst (λ (l : List ℕ). number_of l j ≡ 0) c.numbers-choice.ensures
+    (c.uses_none.ensures.0 c.if-not-uses_none.false j member) in
+    tight-by c.args.slots.now (place_cert_value c.args.cert.now).cert (row_value c.args.row.now) (row_order c.args.row.now) c.items-members.result.now
+    c.items.result.now c.pays_just.result
     c.items-members.ensures c.items.ensures all none (sym c.allows.ensures ∙ c.if-not-allows.false) c.pays_just.ensures

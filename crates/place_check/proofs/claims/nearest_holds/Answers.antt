@@ -24,7 +24,8 @@ returns-then-place-count c =
     let is = c.index-rows-place.is ∙ ap (λ (l : List PlaceRow). get_or l (c.args.place - 1) c.index-rows-place.result) c.items-rows.ensures in
     let first_fits : SFits w128 c.index-rows-place.result.first = search rules in
     let second_fits : SFits w128 c.index-rows-place.result.second = search rules in
-    second-sign (market_of c.args.slots.now) (place_cert_value c.args.cert.now).cert alike c.args.place (row_value row) c.is_signed.result inside.0 le (row-place rows c.args.place row inside.0 low is)
+    second-sign (market_of c.args.slots.now) (place_cert_value c.args.cert.now).cert alike c.args.place (row_value row) c.is_signed.result inside.0 le
+    (row-place rows c.args.place row inside.0 low is)
     (rw (to_z-of_z w128 c.index-rows-place.result.first first_fits, to_z-of_z w128 c.index-rows-place.result.second second_fits) at c.is_signed.ensures)
 
 pub returns : goal.returns
@@ -32,6 +33,8 @@ returns c =
     let inside = c.is_one_of.ensures.0 c.if-not-is_one_of.false in
     let count = count-rows c.args.cert.now.rows c.items-rows.result.now c.items-rows.ensures in
     let j = c.args.place - length c.items-rows.result.now in
-    let here : c.args.place ≡ length (map row_value c.args.cert.now.rows) + (c.args.place - length c.items-rows.result.now) = omega (arith, count, c.if-place-count.false) in
+    let here : c.args.place ≡ length (map row_value c.args.cert.now.rows) + (c.args.place - length c.items-rows.result.now) =
+    omega (arith, count, c.if-place-count.false) in
     let low : c.args.place - length c.items-rows.result.now ≤ length c.args.slots.now.bidders = omega (arith, inside.1, c.bidders.ensures.bidders) in
-    second-sum (market_of c.args.slots.now) (place_cert_value c.args.cert.now).cert alike c.args.place j c.is_nearest.result here (omega (arith, c.if-place-count.false)) low c.is_nearest.ensures
+    second-sum (market_of c.args.slots.now) (place_cert_value c.args.cert.now).cert alike c.args.place j c.is_nearest.result here
+    (omega (arith, c.if-place-count.false)) low c.is_nearest.ensures

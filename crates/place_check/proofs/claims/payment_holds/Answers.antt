@@ -25,7 +25,8 @@ returns c =
     let paid_fits : SFits w128 (get_or c.items-pay.result.now (c.args.place - 1) (pos 0)) = search rules in
     let small : unsigned_abs (c.args.cert.now.den *ℤ c.won.result) < 2 ^ 120 =
     subst (λ (z : ℤ). unsigned_abs (c.args.cert.now.den *ℤ z) < 2 ^ 120) (sym c.won.ensures.won) (c.requires.small c.args.place inside.0 low).1 in
-    let paid = to_z-of_z w128 (get_or c.items-pay.result.now (c.args.place - 1) (pos 0)) paid_fits ∙ ap (λ (l : List ℤ). get_or l (c.args.place - 1) (pos 0)) c.items-pay.ensures in
+    let paid = to_z-of_z w128 (get_or c.items-pay.result.now (c.args.place - 1) (pos 0)) paid_fits ∙ ap
+    (λ (l : List ℤ). get_or l (c.args.place - 1) (pos 0)) c.items-pay.ensures in
     let most = product-is c.args.cert.now.den c.won.result den_fits won_fits small ∙ ap (λ (z : ℤ). c.args.cert.now.den *ℤ z) c.won.ensures.won in
     pays-winner (market_of c.args.slots.now) (place_cert_value c.args.cert.now).cert c.args.place _ _ c.is_between.result inside.0 low
     (wins-some c.args.cert.now.choice c.args.place c.number.result c.number.ensures c.if-number-eq0.false) paid most c.is_between.ensures

@@ -19,7 +19,8 @@ returns c =
     let kept = cert-kept c.args.slots.now c.args.cert.now c.requires.shape in
     let den_fits : SFits w128 c.args.cert.now.den = search rules in
     let paid_fits : SFits w128 c.paid_by.result = search rules in
-    let rest : to_z w128 (of_z w128 (to_z w128 (of_z w128 c.worth.result) -ℤ to_z w128 (of_z w128 c.won_beside.result))) ≡ c.worth.result -ℤ c.won_beside.result =
+    let rest : to_z w128 (of_z w128 (to_z w128 (of_z w128 c.worth.result) -ℤ to_z w128 (of_z w128 c.won_beside.result))) ≡ c.worth.result -ℤ
+    c.won_beside.result =
     omega (arith, ints, c.worth.ensures.least, c.worth.ensures.most, c.won_beside.ensures.least, c.won_beside.ensures.most) in
     let test = rw (to_z-of_z w128 c.args.cert.now.den den_fits) at c.is_product.ensures in
     let paid = to_z-of_z w128 c.paid_by.result paid_fits ∙ c.paid_by.ensures
@@ -27,5 +28,6 @@ returns c =
     ∙ ap (λ (n : ℕ). sum_over (is_member c.items-members.result.now) (of_bidder c.args.cert.now.pay) n) kept.pay.0
     ∙ ap (λ (l : List ℕ). sum_over (is_member l) (of_bidder c.args.cert.now.pay) b) c.items-members.ensures in
     let whole = c.worth.ensures.value ∙ ap (λ (l : List ℕ). value_of m l) c.numbers.ensures in
-    let beside = c.won_beside.ensures.sum ∙ ap (λ (l : List ℕ). sum_over (λ j. not (is_member l j)) (worth_in m c.args.cert.now.choice) b) c.items-members.ensures in
+    let beside = c.won_beside.ensures.sum ∙ ap (λ (l : List ℕ). sum_over (λ j. not (is_member l j)) (worth_in m c.args.cert.now.choice) b)
+    c.items-members.ensures in
     times-same c.is_product.result c.args.cert.now.den _ _ _ _ paid (rest ∙ less-same c.worth.result c.won_beside.result _ _ whole beside) test

@@ -43,12 +43,14 @@ returns c =
     let kept = cert-kept slots c.args.cert.now c.requires.shape in
     let den_fits : SFits w128 c.args.cert.now.den = search rules in
     let total_fits : SFits w128 c.sum_paid.result = search rules in
-    let total = to_z-of_z w128 c.sum_paid.result total_fits ∙ c.sum_paid.ensures ∙ ap (λ (l : List ℤ). sum_over everyone (of_bidder l) (length l)) c.items.ensures
+    let total = to_z-of_z w128 c.sum_paid.result total_fits ∙ c.sum_paid.ensures ∙ ap (λ (l : List ℤ). sum_over everyone (of_bidder l) (length l))
+    c.items.ensures
     ∙ ap (λ (n : ℕ). sum_over everyone (of_bidder c.args.cert.now.pay) n) kept.pay.0 in
     let f = worth_with slots c.args.cert.now.den c.put_gains.new.gains in
     let g = lowered_in (market_of slots) p.cert in
     let same = lowered-worth slots p c.requires.lower c.put_gains.new.gains c.put_gains.ensures.gains in
-    let test = subst (λ (z : ℤ). IsTrue c.table_holds.result ↔ SetTableAt (board_without slots 0) (worth_with slots z c.put_gains.new.gains) c.args.cert.now.lowered (to_z w128 (of_z w128 c.sum_paid.result)) c.args.place)
+    let test = subst (λ (z : ℤ). IsTrue c.table_holds.result ↔ SetTableAt (board_without slots 0) (worth_with slots z c.put_gains.new.gains)
+    c.args.cert.now.lowered (to_z w128 (of_z w128 c.sum_paid.result)) c.args.place)
     (to_z-of_z w128 c.args.cert.now.den den_fits) c.table_holds.ensures in
     let whole = whole-table slots f g c.args.cert.now.lowered _ _ c.args.place same total in (
       λ t. (let own = whole.0 (test.0 t) in record { rules = own.rules; top = own.top }),

@@ -8,7 +8,8 @@ use Rattle.place_check.proofs.parts.has_part.Goals as goal
 use Rattle.place_check.proofs.parts.has_part.Goals.{Then-part-j}
 
 form : (c : Then-part-j) → HasForm (length c.args.slots.now.bidders) c.part-item.result
-form c = part-form c.args.slots.now c.args.cert.now c.requires.shape c.items-part-items.result.now c.loop-part.part-index c.part-item.result c.items-part-items.ensures c.loop-part-test.true c.part-item.is
+form c = part-form c.args.slots.now c.args.cert.now c.requires.shape c.items-part-items.result.now c.loop-part.part-index c.part-item.result
+    c.items-part-items.ensures c.loop-part-test.true c.part-item.is
 
 pub loop-part-init : goal.loop-part-init
 loop-part-init c = from-start c.args.cert.now.withouts c.args.j
@@ -22,7 +23,8 @@ shows_best-requires-clause-table c = (form c).table
 pub returns-then-part-j : goal.returns-then-part-j
 returns-then-part-j c =
     let same = c.items-part-items.ensures in
-    let lt : c.loop-part.part-index < length c.args.cert.now.withouts = subst (λ (l : List PlaceWithout). c.loop-part.part-index < length l) same c.loop-part-test.true in
+    let lt : c.loop-part.part-index < length c.args.cert.now.withouts = subst (λ (l : List PlaceWithout). c.loop-part.part-index < length l) same
+    c.loop-part-test.true in
     let is = c.part-item.is ∙ ap (λ (l : List PlaceWithout). get_or l c.loop-part.part-index c.part-item.result) same in
     let part = found-part c.args.cert.now.withouts c.loop-part.part-index c.args.j c.part-item.result lt is c.loop-part.invariant c.if-part-j.true in
     let order = found-order c.args.cert.now.withouts c.loop-part.part-index c.args.j c.part-item.result lt is c.loop-part.invariant c.if-part-j.true in
@@ -31,11 +33,17 @@ returns-then-part-j c =
 pub loop-part-preserved : goal.loop-part-preserved
 loop-part-preserved c =
     let same = c.items-part-items.ensures in
-    let lt : c.loop-part.part-index < length c.args.cert.now.withouts = subst (λ (l : List PlaceWithout). c.loop-part.part-index < length l) same c.loop-part-test.true in
+    let lt : c.loop-part.part-index < length c.args.cert.now.withouts = subst (λ (l : List PlaceWithout). c.loop-part.part-index < length l) same
+    c.loop-part-test.true in
     let is = c.part-item.is ∙ ap (λ (l : List PlaceWithout). get_or l c.loop-part.part-index c.part-item.result) same in
     from-next c.args.cert.now.withouts c.loop-part.part-index c.args.j c.part-item.result lt is c.loop-part.invariant c.if-part-j.false
 
 pub returns : goal.returns
 returns c =
-    let all : length c.args.cert.now.withouts ≤ c.loop-part.part-index = omega (arith, ap (λ (l : List PlaceWithout). length l) c.items-part-items.ensures, c.loop-part-test.false) in
-    never (no-part c.args.slots.now c.args.cert.now.withouts c.loop-part.part-index c.args.j c.requires.bidder.0 c.requires.bidder.1 (drop_all c.loop-part.part-index c.args.cert.now.withouts all) c.loop-part.invariant)
+    let all : length c.args.cert.now.withouts ≤ c.loop-part.part-index = omega (
+      arith,
+      ap (λ (l : List PlaceWithout). length l) c.items-part-items.ensures,
+      c.loop-part-test.false,
+    ) in
+    never (no-part c.args.slots.now c.args.cert.now.withouts c.loop-part.part-index c.args.j c.requires.bidder.0 c.requires.bidder.1
+    (drop_all c.loop-part.part-index c.args.cert.now.withouts all) c.loop-part.invariant)

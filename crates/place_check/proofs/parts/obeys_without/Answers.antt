@@ -13,6 +13,8 @@ pub returns : goal.returns
 returns c =
     let slots = c.args.slots.now in
     let b = board_without slots c.args.j in (
-      λ t bits low. set-same b (worth_with slots (pos 1) (replicate 6 (pos 0))) (amount_of slots) c.args.part.now.table bits (λ j i some inside. plain-worth slots 6 j i) (c.obeys_sets.ensures.0 t bits low),
-      λ h. c.obeys_sets.ensures.1 (λ bits low. set-same b (amount_of slots) (worth_with slots (pos 1) (replicate 6 (pos 0))) c.args.part.now.table bits (λ j i some inside. sym (plain-worth slots 6 j i)) (h bits low)),
+      λ t bits low. set-same b (worth_with slots (pos 1) (replicate 6 (pos 0))) (amount_of slots) c.args.part.now.table bits
+          (λ j i some inside. plain-worth slots 6 j i) (c.obeys_sets.ensures.0 t bits low),
+      λ h. c.obeys_sets.ensures.1 (λ bits low. set-same b (amount_of slots) (worth_with slots (pos 1) (replicate 6 (pos 0))) c.args.part.now.table bits
+          (λ j i some inside. sym (plain-worth slots 6 j i)) (h bits low)),
     )

@@ -11,7 +11,8 @@ pub returns-then-number-ne0 : goal.returns-then-number-ne0
 returns-then-number-ne0 c = never (λ part. c.if-number-ne0.true (c.number.ensures ∙ part.unused))
 
 pub returns-then-not-allows : goal.returns-then-not-allows
-returns-then-not-allows c = never (λ part. false≢true (sym c.if-not-allows.true ∙ c.allows.ensures ∙ subst (λ (l : List ℕ). IsTrue (allows c.args.slots.now l c.args.part.now.choice)) (sym c.items.ensures) part.allowed))
+returns-then-not-allows c = never (λ part. false≢true (sym c.if-not-allows.true ∙ c.allows.ensures ∙ subst
+    (λ (l : List ℕ). IsTrue (allows c.args.slots.now l c.args.part.now.choice)) (sym c.items.ensures) part.allowed))
 
 pub entry-requires-clause-place : goal.entry-requires-clause-place
 entry-requires-clause-place c =

@@ -18,13 +18,15 @@ add_row-requires-in-loop-row-clause-sizes c = λ k. omega (arith, c.loop-row.inv
 pub add_row-requires-clause-multiplier : goal.add_row-requires-clause-multiplier
 add_row-requires-clause-multiplier c =
     let fits : SFits w128 c.row-item.result.first = search rules in
-    let sizes = multipliers-size c.requires.range.0 c.args.rows.now c.loop-row.row-index c.row-item.result c.requires.range.1 c.loop-row-test.true c.row-item.is in
+    let sizes = multipliers-size c.requires.range.0 c.args.rows.now c.loop-row.row-index c.row-item.result c.requires.range.1 c.loop-row-test.true
+    c.row-item.is in
     subst (λ (z : ℤ). unsigned_abs z ≤ 2 ^ 120) (sym (to_z-of_z w128 c.row-item.result.first fits)) sizes.0
 
 pub add_row-requires-in-loop-row-clause-multiplier : goal.add_row-requires-in-loop-row-clause-multiplier
 add_row-requires-in-loop-row-clause-multiplier c =
     let fits : SFits w128 c.row-item.result.second = search rules in
-    let sizes = multipliers-size c.requires.range.0 c.args.rows.now c.loop-row.row-index c.row-item.result c.requires.range.1 c.loop-row-test.true c.row-item.is in
+    let sizes = multipliers-size c.requires.range.0 c.args.rows.now c.loop-row.row-index c.row-item.result c.requires.range.1 c.loop-row-test.true
+    c.row-item.is in
     subst (λ (z : ℤ). unsigned_abs z ≤ 2 ^ 120) (sym (to_z-of_z w128 c.row-item.result.second fits)) sizes.1
 
 pub loop-row-preserved : goal.loop-row-preserved
@@ -40,10 +42,12 @@ loop-row-preserved c =
     let firsts_long : length c.loop-row.sums.firsts ≡ 6 = search rules in
     let seconds_long : length c.loop-row.sums.seconds ≡ 6 = search rules in
     record {
-      firsts = sums-more (λ (r : RowValue). r.first) rows k row c.items-members.result.now c.loop-row.sums.firsts _ _ c.loop-row-test.true c.row-item.is c.items-members.ensures first
+      firsts = sums-more (λ (r : RowValue). r.first) rows k row c.items-members.result.now c.loop-row.sums.firsts _ _ c.loop-row-test.true c.row-item.is
+          c.items-members.ensures first
           (subst (λ (z : ℤ). unsigned_abs z ≤ 2 ^ 120) (sym first) sizes.0) (c.add_row.ensures.room ∙ firsts_long)
           (λ j some low. c.add_row.ensures.sums j some (omega (arith, low, firsts_long))) c.loop-row.invariant.firsts;
-      seconds = sums-more (λ (r : RowValue). r.second) rows k row c.items-members.result.now c.loop-row.sums.seconds _ _ c.loop-row-test.true c.row-item.is c.items-members.ensures second
+      seconds = sums-more (λ (r : RowValue). r.second) rows k row c.items-members.result.now c.loop-row.sums.seconds _ _ c.loop-row-test.true c.row-item.is
+          c.items-members.ensures second
           (subst (λ (z : ℤ). unsigned_abs z ≤ 2 ^ 120) (sym second) sizes.1) (c.add_row-in-loop-row.ensures.room ∙ seconds_long)
           (λ j some low. c.add_row-in-loop-row.ensures.sums j some (omega (arith, low, seconds_long))) c.loop-row.invariant.seconds;
     }

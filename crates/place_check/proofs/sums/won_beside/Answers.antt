@@ -16,14 +16,17 @@ loop-k-preserved c =
     let won_is = to_z-of_z w128 c.won.result won_fits in
     let others = λ (j : ℕ). not (is_member c.args.members.now j) in
     let old = to_z w128 c.loop-k.sum-bits in
-    let item = c.counted-sum.ensures ∙ counted-same (not c.is_among.result) (others (k + 1)) _ (worth_in (market_of c.args.slots.now) c.args.choice.now (k + 1)) (ap not c.is_among.ensures) (won_is ∙ c.won.ensures.won) in
+    let item = c.counted-sum.ensures ∙ counted-same (not c.is_among.result) (others (k + 1)) _
+    (worth_in (market_of c.args.slots.now) c.args.choice.now (k + 1)) (ap not c.is_among.ensures) (won_is ∙ c.won.ensures.won) in
     let least = counted-least (not c.is_among.result) c.won.result c.won.ensures.least in
     let most = counted-most (not c.is_among.result) c.won.result c.won.ensures.least c.won.ensures.most in
-    let same : c.counted-sum.result ≡ cond (not c.is_among.result) c.won.result (pos 0) = c.counted-sum.ensures ∙ ap (λ (z : ℤ). cond (not c.is_among.result) z (pos 0)) won_is in
+    let same : c.counted-sum.result ≡ cond (not c.is_among.result) c.won.result (pos 0) = c.counted-sum.ensures
+    ∙ ap (λ (z : ℤ). cond (not c.is_among.result) z (pos 0)) won_is in
     let own_fits : SFits w128 c.counted-sum.result = search rules in
     let own_same = to_z-of_z w128 c.counted-sum.result own_fits in
     let few : c.loop-k.k ≤ 6 = omega (arith, c.bidders-k-end.ensures.most) in
-    let sum_fits : SFits w128 (to_z w128 c.loop-k.sum-bits +ℤ c.counted-sum.result) = omega (arith, ints, few, same, least, most, c.loop-k.invariant.least, c.loop-k.invariant.size) in
+    let sum_fits : SFits w128 (to_z w128 c.loop-k.sum-bits +ℤ c.counted-sum.result) =
+    omega (arith, ints, few, same, least, most, c.loop-k.invariant.least, c.loop-k.invariant.size) in
     let sum_same = to_z-of_z w128 (to_z w128 c.loop-k.sum-bits +ℤ c.counted-sum.result) sum_fits in
     let more = over-next others (worth_in (market_of c.args.slots.now) c.args.choice.now) k in
     record {

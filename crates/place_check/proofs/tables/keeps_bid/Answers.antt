@@ -26,7 +26,8 @@ returns c =
     let worth_fits : SFits w128 c.worth.result = search rules in
     let behind_fits : SFits w128 c.entry-behind.result = search rules in
     let entry_fits : SFits w128 c.entry.result = search rules in
-    let test = rw (to_z-of_z w128 c.worth.result worth_fits, to_z-of_z w128 c.entry-behind.result behind_fits, to_z-of_z w128 c.entry.result entry_fits) at c.covers.ensures in
+    let test = rw (to_z-of_z w128 c.worth.result worth_fits, to_z-of_z w128 c.entry-behind.result behind_fits, to_z-of_z w128 c.entry.result entry_fits)
+    at c.covers.ensures in
     let behind = c.entry-behind.ensures ∙ ap (λ (n : ℕ). entry_at c.args.table.now 0 (c.args.set + n)) c.weight.ensures in
     let worth = c.worth.ensures.worth in
     let own = c.entry.ensures in

@@ -21,4 +21,5 @@ entry-requires-clause-place c =
 pub loop-i-preserved : goal.loop-i-preserved
 loop-i-preserved c =
     let o = c.args.offers.now in
-    bids-next (board_without o.slots.now o.skip) (worth_with o.slots.now o.den o.gains.now) c.args.table.now c.args.set c.args.j c.loop-i.i c.loop-i.invariant (c.keeps_bid.ensures.0 c.if-not-keeps_bid.false)
+    bids-next (board_without o.slots.now o.skip) (worth_with o.slots.now o.den o.gains.now) c.args.table.now c.args.set c.args.j c.loop-i.i c.loop-i.invariant
+    (c.keeps_bid.ensures.0 c.if-not-keeps_bid.false)

@@ -22,11 +22,13 @@ pub returns-then-not-keeps_bidder : goal.returns-then-not-keeps_bidder
 returns-then-not-keeps_bidder c =
     let o = c.args.offers.now in
     let b = board_without o.slots.now o.skip in
-    never (λ h. iff_false c.keeps_bidder.ensures c.if-not-keeps_bidder.true (obeys-one b (worth_with o.slots.now o.den o.gains.now) c.args.table.now c.args.set c.loop-j.j (omega arith) (omega (arith, c.bidders-bidders.ensures.bidders)) h))
+    never (λ h. iff_false c.keeps_bidder.ensures c.if-not-keeps_bidder.true (obeys-one b (worth_with o.slots.now o.den o.gains.now) c.args.table.now
+    c.args.set c.loop-j.j (omega arith) (omega (arith, c.bidders-bidders.ensures.bidders)) h))
 
 pub returns : goal.returns
 returns c =
     let o = c.args.offers.now in
     let b = board_without o.slots.now o.skip in
     let kept : c.is_last_kept.result ≡ true = search rules in
-    always (obeys-all b (worth_with o.slots.now o.den o.gains.now) c.args.table.now c.args.set c.loop-j.j (omega (arith, c.bidders-bidders.ensures.bidders)) (c.is_last_kept.ensures.0 kept) c.loop-j.invariant)
+    always (obeys-all b (worth_with o.slots.now o.den o.gains.now) c.args.table.now c.args.set c.loop-j.j (omega (arith, c.bidders-bidders.ensures.bidders))
+    (c.is_last_kept.ensures.0 kept) c.loop-j.invariant)

@@ -13,7 +13,8 @@ pub loop-set-preserved : goal.loop-set-preserved
 loop-set-preserved c =
     let o = c.args.offers.now in
     let passed : c.obeys_set.result ≡ true = search rules in
-    sets-next (board_without o.slots.now o.skip) (worth_with o.slots.now o.den o.gains.now) c.args.table.now c.loop-set.set c.loop-set.invariant (c.obeys_set.ensures.0 passed)
+    sets-next (board_without o.slots.now o.skip) (worth_with o.slots.now o.den o.gains.now) c.args.table.now c.loop-set.set c.loop-set.invariant
+    (c.obeys_set.ensures.0 passed)
 
 pub returns-then-not-obeys_set : goal.returns-then-not-obeys_set
 returns-then-not-obeys_set c =

@@ -11,4 +11,5 @@ returns-then-place-sets c =
     let n = length c.args.offers.now.slots.now.bidders in
     let few : 2 ^ length c.args.offers.now.slots.now.bidders ≤ 64 = power-most n (omega (arith, c.bidders-sets.ensures.bidders, c.bidders-sets.ensures.most)) in
     let same : 2 ^ c.bidders-sets.result ≡ 2 ^ length c.args.offers.now.slots.now.bidders = ap (λ (k : ℕ). 2 ^ k) c.bidders-sets.ensures.bidders in
-    table-set (board_without o.slots.now o.skip) (worth_with o.slots.now o.den o.gains.now) c.args.table.now _ c.args.place c.obeys_set.result (omega (arith, few, same)) c.obeys_set.ensures
+    table-set (board_without o.slots.now o.skip) (worth_with o.slots.now o.den o.gains.now) c.args.table.now _ c.args.place c.obeys_set.result
+    (omega (arith, few, same)) c.obeys_set.ensures

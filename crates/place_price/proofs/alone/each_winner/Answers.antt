@@ -29,7 +29,8 @@ loop-k-preserved c =
           let singles : c.if-number-ne0.singles.items ≡ c.loop-k.singles.items ++ one.single ∷ [] = rw w.singles-is w.in_ok-push.ensures.items in
           let parts : c.if-number-ne0.parts ≡ c.loop-k.parts ++ one.part ∷ [] = w.parts-is ∙ w.in_ok-push-2.ensures.pushed in
           record {
-            winners = ap (map winner) singles ∙ map-append winner c.loop-k.singles.items (one.single ∷ []) ∙ ap (λ l. l ++ one.single.winner ∷ []) was.winners ∙ ap (λ n. winners_after 0 (take k z) ++ n ∷ []) w.in_ok-one.ensures.winner ∙ sym more;
+            winners = ap (map winner) singles ∙ map-append winner c.loop-k.singles.items (one.single ∷ []) ∙ ap (λ l. l ++ one.single.winner ∷ []) was.winners
+                ∙ ap (λ n. winners_after 0 (take k z) ++ n ∷ []) w.in_ok-one.ensures.winner ∙ sym more;
             each = rw singles (each-push (IsSingle (market_of slots) z) c.loop-k.singles.items one.single was.each w.in_ok-one.ensures.single);
             parts = rw (singles, parts) (more-parts slots c.loop-k.singles.items c.loop-k.parts one.single one.part was.parts w.in_ok-one.ensures.part);
           }

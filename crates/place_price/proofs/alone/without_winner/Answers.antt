@@ -24,7 +24,8 @@ overflow_sub-single c =
     let all = c.args.value in
     let own = c.winner_value-own.result in
     let passed = c.args.chooser.now.winning.passed in
-    let own_small : unsigned_abs own ≤ 2 ^ 42 = subst (λ (x : ℤ). unsigned_abs x ≤ 2 ^ 42) (sym c.winner_value-own.ensures) (own-small slots kept z passed c.args.j c.requires.bidder.0 c.requires.bidder.1) in
+    let own_small : unsigned_abs own ≤ 2 ^ 42 = subst (λ (x : ℤ). unsigned_abs x ≤ 2 ^ 42) (sym c.winner_value-own.ensures)
+    (own-small slots kept z passed c.args.j c.requires.bidder.0 c.requires.bidder.1) in
     let all_small : unsigned_abs all ≤ 6 * 2 ^ 42 = subst (λ (x : ℤ). unsigned_abs x ≤ 6 * 2 ^ 42) (sym c.requires.value) (value-small slots z kept passed) in
     let all_fits : SFits w128 all = search rules in
     let own_fits : SFits w128 own = search rules in
@@ -43,14 +44,17 @@ overflow_sub-single-2 c =
     let own = c.winner_value-own.result in
     let passed = c.args.chooser.now.winning.passed in
     let allowed = (and_parts (m.allowed found.choice) (not (uses found.choice c.args.j)) c.in_ok-found.ensures.choice.passed).0 in
-    let own_small : unsigned_abs own ≤ 2 ^ 42 = subst (λ (x : ℤ). unsigned_abs x ≤ 2 ^ 42) (sym c.winner_value-own.ensures) (own-small slots kept z passed c.args.j c.requires.bidder.0 c.requires.bidder.1) in
+    let own_small : unsigned_abs own ≤ 2 ^ 42 = subst (λ (x : ℤ). unsigned_abs x ≤ 2 ^ 42) (sym c.winner_value-own.ensures)
+    (own-small slots kept z passed c.args.j c.requires.bidder.0 c.requires.bidder.1) in
     let all_small : unsigned_abs all ≤ 6 * 2 ^ 42 = subst (λ (x : ℤ). unsigned_abs x ≤ 6 * 2 ^ 42) (sym c.requires.value) (value-small slots z kept passed) in
-    let others_small : unsigned_abs others ≤ 6 * 2 ^ 42 = subst (λ (x : ℤ). unsigned_abs x ≤ 6 * 2 ^ 42) (sym c.in_ok-found.ensures.sum) (value-small slots found.choice kept allowed) in
+    let others_small : unsigned_abs others ≤ 6 * 2 ^ 42 = subst (λ (x : ℤ). unsigned_abs x ≤ 6 * 2 ^ 42) (sym c.in_ok-found.ensures.sum)
+    (value-small slots found.choice kept allowed) in
     let others_fits : SFits w128 others = search rules in
     let all_fits : SFits w128 all = search rules in
     let own_fits : SFits w128 own = search rules in
     let left_fits : SFits w128 (all -ℤ own) = fits_signed_from_abs w128 (all -ℤ own) (left-small all own all_small own_small) in
-    let price_fits : SFits w128 (others -ℤ (all -ℤ own)) = fits_signed_from_abs w128 (others -ℤ (all -ℤ own)) (price-small others all own others_small all_small own_small) in
+    let price_fits : SFits w128 (others -ℤ (all -ℤ own)) = fits_signed_from_abs w128 (others -ℤ (all -ℤ own))
+    (price-small others all own others_small all_small own_small) in
     simp to_z-of_z price_fits
 
 pub returns-clause-single : goal.returns-clause-single
@@ -65,16 +69,20 @@ returns-clause-single c =
     let own = c.winner_value-own.result in
     let passed = c.args.chooser.now.winning.passed in
     let allowed = (and_parts (m.allowed found.choice) (not (uses found.choice c.args.j)) c.in_ok-found.ensures.choice.passed).0 in
-    let own_small : unsigned_abs own ≤ 2 ^ 42 = subst (λ (x : ℤ). unsigned_abs x ≤ 2 ^ 42) (sym c.winner_value-own.ensures) (own-small slots kept z passed c.args.j c.requires.bidder.0 c.requires.bidder.1) in
+    let own_small : unsigned_abs own ≤ 2 ^ 42 = subst (λ (x : ℤ). unsigned_abs x ≤ 2 ^ 42) (sym c.winner_value-own.ensures)
+    (own-small slots kept z passed c.args.j c.requires.bidder.0 c.requires.bidder.1) in
     let all_small : unsigned_abs all ≤ 6 * 2 ^ 42 = subst (λ (x : ℤ). unsigned_abs x ≤ 6 * 2 ^ 42) (sym c.requires.value) (value-small slots z kept passed) in
-    let others_small : unsigned_abs others ≤ 6 * 2 ^ 42 = subst (λ (x : ℤ). unsigned_abs x ≤ 6 * 2 ^ 42) (sym c.in_ok-found.ensures.sum) (value-small slots found.choice kept allowed) in
+    let others_small : unsigned_abs others ≤ 6 * 2 ^ 42 = subst (λ (x : ℤ). unsigned_abs x ≤ 6 * 2 ^ 42) (sym c.in_ok-found.ensures.sum)
+    (value-small slots found.choice kept allowed) in
     let others_fits : SFits w128 others = search rules in
     let all_fits : SFits w128 all = search rules in
     let own_fits : SFits w128 own = search rules in
     let left_fits : SFits w128 (all -ℤ own) = fits_signed_from_abs w128 (all -ℤ own) (left-small all own all_small own_small) in
-    let price_fits : SFits w128 (others -ℤ (all -ℤ own)) = fits_signed_from_abs w128 (others -ℤ (all -ℤ own)) (price-small others all own others_small all_small own_small) in
+    let price_fits : SFits w128 (others -ℤ (all -ℤ own)) = fits_signed_from_abs w128 (others -ℤ (all -ℤ own))
+    (price-small others all own others_small all_small own_small) in
     let price : IsVickreyPrice m z c.args.j (others -ℤ (all -ℤ own)) =
-    price-is m z c.args.j others all own found.choice c.requires.used c.in_ok-found.ensures.choice c.in_ok-found.ensures.sum c.requires.value c.winner_value-own.ensures in
+    price-is m z c.args.j others all own found.choice c.requires.used c.in_ok-found.ensures.choice c.in_ok-found.ensures.sum c.requires.value
+    c.winner_value-own.ensures in
     record {
       used = c.requires.used;
       price = simp to_z-of_z price;

@@ -32,7 +32,8 @@ invariant_of-cert c =
     let d : to_z w128 (of_z w128 c.args.priced.den) ≡ c.args.priced.den = to_z-of_z w128 c.args.priced.den (search rules) in
     let v : to_z w128 (of_z w128 c.args.whole.sum) ≡ c.args.whole.sum = to_z-of_z w128 c.args.whole.sum (search rules) in
     record {
-      rules = made_shape c.args.slots.now c.kept.ensures c.args.whole c.requires.0 c.args.parts c.args.priced found c.in_ok-order.order c.in_ok-order.ensures c.in_ok-rows.rows
+      rules = made_shape c.args.slots.now c.kept.ensures c.args.whole c.requires.0 c.args.parts c.args.priced found c.in_ok-order.order c.in_ok-order.ensures
+          c.in_ok-rows.rows
           (c.in_ok-rows.ensures.rows ∙ ap (λ (rows : List PricedRow). map (row_from z) rows) c.items-kept.ensures) c.in_ok-rows.ensures.placed
           _ _ z c.args.whole.table c.from_vec-pay.result c.args.priced.last.table d (v ∙ found.value) refl refl
           (c.from_vec-pay.ensures ∙ c.in_ok-for_bidders.ensures ∙ ap (for_bidders z) c.items-paid.ensures) refl;
@@ -42,7 +43,8 @@ pub returns-clause-point : goal.returns-clause-point
 returns-clause-point c =
     let z = c.args.whole.choice in
     let d : to_z w128 (of_z w128 c.args.priced.den) ≡ c.args.priced.den = to_z-of_z w128 c.args.priced.den (search rules) in
-    let pay : c.from_vec-pay.result ≡ for_bidders z c.args.priced.at = c.from_vec-pay.ensures ∙ c.in_ok-for_bidders.ensures ∙ ap (for_bidders z) c.items-paid.ensures in
+    let pay : c.from_vec-pay.result ≡ for_bidders z c.args.priced.at = c.from_vec-pay.ensures ∙ c.in_ok-for_bidders.ensures
+    ∙ ap (for_bidders z) c.items-paid.ensures in
     λ t. record { den = d t; at = pay t }
 
 pub returns-clause-cert : goal.returns-clause-cert

@@ -10,7 +10,8 @@ use Rattle.place_price.proofs.pricing.priced_alike.Goals as goal
 pub price-requires-clause-weights : goal.price-requires-clause-weights
 price-requires-clause-weights c =
     let slots = c.args.chooser.now.slots.now in
-    let ones_are : c.deref.result.now ≡ ones slots = c.deref.ensures.value ∙ c.in_ok-weights.ensures.items_if_clones_equal (λ y e. e) ∙ ap (λ n. replicate n 1) c.bidders.ensures.bidders in
+    let ones_are : c.deref.result.now ≡ ones slots = c.deref.ensures.value ∙ c.in_ok-weights.ensures.items_if_clones_equal (λ y e. e)
+    ∙ ap (λ n. replicate n 1) c.bidders.ensures.bidders in
     subst (AreWeights (length slots.bidders)) (sym ones_are) (ones-weigh (length slots.bidders))
 
 pub price-requires-clause-worth : goal.price-requires-clause-worth
@@ -23,6 +24,8 @@ want_of_memory-requires c =
     let kept = c.bidders.ensures.kept in
     let long = (lawful slots kept).lengths z c.args.chooser.now.winning.passed in
     let few = kept.few in
-    let ones_are : c.deref.result.now ≡ ones slots = c.deref.ensures.value ∙ c.in_ok-weights.ensures.items_if_clones_equal (λ y e. e) ∙ ap (λ n. replicate n 1) c.bidders.ensures.bidders in
+    let ones_are : c.deref.result.now ≡ ones slots = c.deref.ensures.value ∙ c.in_ok-weights.ensures.items_if_clones_equal (λ y e. e)
+    ∙ ap (λ n. replicate n 1) c.bidders.ensures.bidders in
     stop-memory z c.deref.result.now c.in-Err.stop
-    (subst (λ (weights : List ℕ). ManyWin z weights → ⊥) (sym ones_are) (none-many z (length slots.bidders) (omega (arith, long)) (omega (arith, few)))) c.in-Err.ensures.stops
+    (subst (λ (weights : List ℕ). ManyWin z weights → ⊥) (sym ones_are) (none-many z (length slots.bidders) (omega (arith, long)) (omega (arith, few))))
+    c.in-Err.ensures.stops

@@ -15,8 +15,10 @@ returns-clause-run c =
     let made = c.in_ok-priced-2.priced in
     let same_slots : c.new-chooser.result.slots.now ≡ c.args.slots.now = c.new-chooser.ensures.slots in
     let same_choice : c.new-chooser.result.winners ≡ whole.choice = c.new-chooser.ensures.winners ∙ c.in_ok-copied.ensures in
-    let own : IsPriced (market_of c.args.slots.now) whole.choice (ones c.args.slots.now) c.deref.result.now c.in_ok-priced.priced = rw (same_slots, same_choice) at c.in_ok-priced.ensures.priced in
-    run-of c.args.slots.now whole.choice made.cert.choice c.deref.result.now c.in_ok-priced.priced made.turns own c.in_ok-priced-2.ensures.choice c.in_ok-priced-2.ensures.turns
+    let own : IsPriced (market_of c.args.slots.now) whole.choice (ones c.args.slots.now) c.deref.result.now c.in_ok-priced.priced =
+    rw (same_slots, same_choice) at c.in_ok-priced.ensures.priced in
+    run-of c.args.slots.now whole.choice made.cert.choice c.deref.result.now c.in_ok-priced.priced made.turns own c.in_ok-priced-2.ensures.choice
+    c.in_ok-priced-2.ensures.turns
 
 pub returns-clause-last_turn : goal.returns-clause-last_turn
 returns-clause-last_turn c =
@@ -25,7 +27,9 @@ returns-clause-last_turn c =
     let p = c.in_ok-priced.priced in
     let same_slots : c.new-chooser.result.slots.now ≡ c.args.slots.now = c.new-chooser.ensures.slots in
     let same_choice : c.new-chooser.result.winners ≡ whole.choice = c.new-chooser.ensures.winners ∙ c.in_ok-copied.ensures in
-    let own : IsPriced (market_of c.args.slots.now) whole.choice (ones c.args.slots.now) c.deref.result.now p = rw (same_slots, same_choice) at c.in_ok-priced.ensures.priced in
+    let own : IsPriced (market_of c.args.slots.now) whole.choice (ones c.args.slots.now) c.deref.result.now p =
+    rw (same_slots, same_choice) at c.in_ok-priced.ensures.priced in
     let cert = (place_cert_value made.cert).cert in
-    let ends : EndsWith made.turns (last_turn p.den p.at) = subst (λ (turns : List Turn). EndsWith turns (last_turn p.den p.at)) (sym c.in_ok-priced-2.ensures.turns) own.turns.last in
+    let ends : EndsWith made.turns (last_turn p.den p.at) = subst (λ (turns : List Turn). EndsWith turns (last_turn p.den p.at))
+    (sym c.in_ok-priced-2.ensures.turns) own.turns.last in
     point-is_last whole.choice p.den p.at made.turns cert cert ends c.in_ok-priced-2.ensures.point c.in_ok-priced-2.ensures.choice refl

@@ -10,7 +10,8 @@ loop-low-preserved-then-is_before c =
     let middle : ℕ = c.loop-low.low + (c.loop-low.high - c.loop-low.low) / 2 in
     let inside : middle < length c.args.list.now = omega (arith, c.loop-low-test.true, c.loop-low.invariant.high) in
     let own : is_before (lots_at c.args.list.now middle) c.args.«package».now ≡ true
-    = ap (λ (p : List ℕ). is_before p c.args.«package».now) (lots-read c.args.list.now middle c.index-list-middle.result inside) ∙ sym c.is_before.ensures ∙ c.if-is_before.true in
+    = ap (λ (p : List ℕ). is_before p c.args.«package».now) (lots-read c.args.list.now middle c.index-list-middle.result inside) ∙ sym c.is_before.ensures
+    ∙ c.if-is_before.true in
     record {
       low = omega (arith, c.loop-low-test.true);
       high = c.loop-low.invariant.high;
@@ -23,7 +24,8 @@ loop-low-preserved c =
     let middle : ℕ = c.loop-low.low + (c.loop-low.high - c.loop-low.low) / 2 in
     let inside : middle < length c.args.list.now = omega (arith, c.loop-low-test.true, c.loop-low.invariant.high) in
     let own : is_before (lots_at c.args.list.now middle) c.args.«package».now ≡ false
-    = ap (λ (p : List ℕ). is_before p c.args.«package».now) (lots-read c.args.list.now middle c.index-list-middle.result inside) ∙ sym c.is_before.ensures ∙ c.if-is_before.false in
+    = ap (λ (p : List ℕ). is_before p c.args.«package».now) (lots-read c.args.list.now middle c.index-list-middle.result inside) ∙ sym c.is_before.ensures
+    ∙ c.if-is_before.false in
     record {
       low = omega arith;
       high = omega (arith, inside);

@@ -7,11 +7,13 @@ use Rattle.relative_cap.proofs.caps.cap_by.Goals as goal
 
 pub cap_from-requires-clause-least : goal.cap_from-requires-clause-least
 cap_from-requires-clause-least c =
-    let is : c.highest-high.result ≡ highest (rounds_of c.args.j c.args.history.now) (map bid_value c.args.list.now) (own_in c.args.history.now c.args.j c.args.r).held
+    let is : c.highest-high.result ≡ highest (rounds_of c.args.j c.args.history.now) (map bid_value c.args.list.now)
+    (own_in c.args.history.now c.args.j c.args.r).held
     = c.highest-high.ensures.highest ∙ ap (highest (rounds_of c.args.j c.args.history.now) (map bid_value c.args.list.now)) c.package.ensures.package in
     omega (
       arith,
       is,
-      price-least c.args.history.now (map bid_value c.args.list.now) c.args.j c.args.r (own_in c.args.history.now c.args.j c.args.r).prices (own_in c.args.history.now c.args.j c.args.r).held
+      price-least c.args.history.now (map bid_value c.args.list.now) c.args.j c.args.r (own_in c.args.history.now c.args.j c.args.r).prices
+          (own_in c.args.history.now c.args.j c.args.r).held
           c.requires.round.0 c.requires.round.1 refl refl,
     )

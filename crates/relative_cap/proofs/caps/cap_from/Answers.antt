@@ -7,7 +7,12 @@ use Rattle.relative_cap.proofs.caps.cap_from.Goals as goal
 
 pub overflow_add-result : goal.overflow_add-result
 overflow_add-result c =
-    let price : c.cost.result ≤ 2 ^ 42 = omega (arith, c.cost.ensures, price-most c.prices-prices.result.now c.args.«package».now c.prices-prices.ensures.most c.requires.categories.few) in
+    let price : c.cost.result ≤ 2 ^ 42 = omega (
+      arith,
+      c.cost.ensures,
+      price-most c.prices-prices.result.now c.args.«package».now c.prices-prices.ensures.most
+          c.requires.categories.few,
+    ) in
     search rules
 
 pub overflow_sub-result : goal.overflow_sub-result

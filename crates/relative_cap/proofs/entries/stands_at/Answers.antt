@@ -10,5 +10,6 @@ pub returns-then-place-entries : goal.returns-then-place-entries
 returns-then-place-entries c = λ same. (
   c.if-place-entries.true,
   get_or-map tested_lots c.args.entries.now c.args.place c.index-entries-place.result [] c.if-place-entries.true
-      ∙ is_same-true (slice_index_or c.args.entries.now c.args.place c.index-entries-place.result).bid.«package» c.args.«package».now (sym c.is_same.ensures ∙ same),
+      ∙ is_same-true (slice_index_or c.args.entries.now c.args.place c.index-entries-place.result).bid.«package» c.args.«package».now
+      (sym c.is_same.ensures ∙ same),
 )

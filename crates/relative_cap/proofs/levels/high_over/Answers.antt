@@ -11,5 +11,7 @@ returns-then-is_empty c =
 
 pub returns : goal.returns
 returns c =
-    high-some c.args.history.now c.args.j (map bid_value c.args.list.now) c.args.r c.args.clock c.amount_listed.result c.max.result c.package-held.result.now c.requires.round.0
-    c.package-held.ensures.package (sym c.is_empty.ensures ∙ c.if-is_empty.false) c.requires.clock c.amount_listed.ensures.greatest c.amount_listed.ensures.most c.max.ensures
+    high-some c.args.history.now c.args.j (map bid_value c.args.list.now) c.args.r c.args.clock c.amount_listed.result c.max.result c.package-held.result.now
+    c.requires.round.0
+    c.package-held.ensures.package (sym c.is_empty.ensures ∙ c.if-is_empty.false) c.requires.clock c.amount_listed.ensures.greatest
+    c.amount_listed.ensures.most c.max.ensures

@@ -13,9 +13,11 @@ loop-entry-init c = λ history points j clock each. subst (AreHighs history j []
 
 pub loop-entry-preserved : goal.loop-entry-preserved
 loop-entry-preserved c = λ history points j clock each.
-    entries-more history points j c.args.entries.now c.loop-entry.entry-index c.entry-item.result c.loop-entry.highs.items c.raise.new.highs.items c.loop-entry-test.true c.entry-item.is each
+    entries-more history points j c.args.entries.now c.loop-entry.entry-index c.entry-item.result c.loop-entry.highs.items c.raise.new.highs.items
+    c.loop-entry-test.true c.entry-item.is each
     (c.loop-entry.invariant history points j clock each) c.raise.ensures
 
 pub returns : goal.returns
 returns c = λ history points j clock each.
-    entries-all history j c.args.entries.now c.loop-entry.entry-index c.loop-entry.highs.items c.loop-entry-test.false (c.loop-entry.invariant history points j clock each)
+    entries-all history j c.args.entries.now c.loop-entry.entry-index c.loop-entry.highs.items c.loop-entry-test.false
+    (c.loop-entry.invariant history points j clock each)

@@ -12,7 +12,8 @@ pub retrace-requires-clause-count : goal.retrace-requires-clause-count
 retrace-requires-clause-count c =
     let book = c.args.book.now in
     let is : c.put.new.book ≡ with_put book c.args.j (record { lots = c.args.wanted.now; amount = c.args.amount }) = c.in_ok-put.ensures.put in
-    let same : length c.put.new.book.bidders ≡ length book.bidders = ap (λ (b : Book). length b.bidders) is ∙ bidders-same book c.args.j _ c.requires.bid.some in
+    let same : length c.put.new.book.bidders ≡ length book.bidders = ap (λ (b : Book). length b.bidders) is
+    ∙ bidders-same book c.args.j _ c.requires.bid.some in
     winning-count book c.args.choice.now c.requires.reviewed.winning ∙ sym same
 
 pub returns-else-not-stays-clause-reviewed : goal.returns-else-not-stays-clause-reviewed
@@ -24,5 +25,6 @@ returns-else-not-stays-clause-reviewed c =
     let is : c.put.new.book ≡ with_put book j (record { lots = lots; amount = amount }) = c.in_ok-put.ensures.put in
     record {
       winning = subst (λ (b : Book). IsWinning (market_of b) c.args.choice.now) (sym is) (c.stays_raised-stays.ensures.stays c.if-not-stays.false);
-      sides = subst (λ (b : Book). AreSideLines b c.mark.new.self) (sym is) (c.mark.ensures book (with_entry lots amount (bids_of book j)) c.stays_raised-stays.ensures.lines c.requires.bid.known);
+      sides = subst (λ (b : Book). AreSideLines b c.mark.new.self) (sym is) (c.mark.ensures book (with_entry lots amount (bids_of book j))
+          c.stays_raised-stays.ensures.lines c.requires.bid.known);
     }

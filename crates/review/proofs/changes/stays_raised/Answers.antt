@@ -31,9 +31,12 @@ returns-then-number-clause-stays c = λ yes.
     let order = book-order book j c.kept.ensures.rules some inside in
     let own = sym (lots_at book j number for.some) ∙ for.own in
     let was : (bid_of book j number).amount ≤ amount = subst (λ (o : Option ℕ). IsHigher o amount) c.in-Some.ensures.amount c.requires.higher in
-    let higher : (get_or (bids_of book j) (number - 1) no_bid).amount ≤ amount = subst (λ (b : BookBid). b.amount ≤ amount) (bid-there book j number for.some) was in
-    let stays = raised-winning book j number (record { lots = lots; amount = amount }) some inside for.some for.known own choice higher (sym c.number.ensures ∙ c.if-number.true) c.requires.reviewed.winning in
-    subst (λ (l : List BookBid). IsWinning (market_of (with_bids book j l)) choice) (sym (raised-bids book j choice number some inside c.requires.reviewed.winning lots order for amount)) stays
+    let higher : (get_or (bids_of book j) (number - 1) no_bid).amount ≤ amount = subst (λ (b : BookBid). b.amount ≤ amount)
+    (bid-there book j number for.some) was in
+    let stays = raised-winning book j number (record { lots = lots; amount = amount }) some inside for.some for.known own choice higher
+    (sym c.number.ensures ∙ c.if-number.true) c.requires.reviewed.winning in
+    subst (λ (l : List BookBid). IsWinning (market_of (with_bids book j l)) choice)
+    (sym (raised-bids book j choice number some inside c.requires.reviewed.winning lots order for amount)) stays
 
 pub returns-clause-stays : goal.returns-clause-stays
 returns-clause-stays c = λ yes.
@@ -41,5 +44,6 @@ returns-clause-stays c = λ yes.
     let j = c.args.j in
     let some = c.requires.bid.some in
     let inside = c.requires.bid.known in
-    raise-stays book j c.args.choice.now c.in-Some.number some inside c.requires.reviewed.winning c.args.wanted.now (book-order book j c.kept.ensures.rules some inside) c.in-Some.ensures.own c.args.amount
+    raise-stays book j c.args.choice.now c.in-Some.number some inside c.requires.reviewed.winning c.args.wanted.now
+    (book-order book j c.kept.ensures.rules some inside) c.in-Some.ensures.own c.args.amount
     (λ e. c.if-number.false (c.number.ensures ∙ e)) (c.is_beaten.ensures.beaten yes)

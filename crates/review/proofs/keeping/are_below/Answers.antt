@@ -8,7 +8,13 @@ use Rattle.review.proofs.keeping.are_below.Goals as goal
 
 pub loop-place-init : goal.loop-place-init
 loop-place-init c = λ s low fits.
-    absurd (omega (arith, low, c.place-first.ensures.place, place-less c.args.supply.now c.args.package.now s (omega (arith, low, c.place-first.ensures.below)) fits))
+    absurd (omega (
+      arith,
+      low,
+      c.place-first.ensures.place,
+      place-less c.args.supply.now c.args.package.now s
+          (omega (arith, low, c.place-first.ensures.below)) fits,
+    ))
 
 pub loop-place-preserved : goal.loop-place-preserved
 loop-place-preserved c =

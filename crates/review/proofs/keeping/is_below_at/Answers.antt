@@ -21,9 +21,16 @@ returns-then-before-last c = λ yes fits.
     let b_fits : SFits w128 b = fits_signed_from_abs w128 b (omega (arith, c.requires.after_sizes y)) in
     let sum_fits : SFits w128 (a +ℤ b) = fits_signed_from_abs w128 (a +ℤ b) (omega (arith, ints, c.requires.before_sizes x, c.requires.after_sizes y)) in
     let limit_fits : SFits w128 c.args.limit = search rules in
-    let t : lt_z (a +ℤ b) c.args.limit ≡ true = rw (to_z-of_z w128 a a_fits, to_z-of_z w128 b b_fits, to_z-of_z w128 (a +ℤ b) sum_fits, to_z-of_z w128 c.args.limit limit_fits) at c.if-before-last.true in
+    let t : lt_z (a +ℤ b) c.args.limit ≡ true = rw (
+      to_z-of_z w128 a a_fits,
+      to_z-of_z w128 b b_fits,
+      to_z-of_z w128 (a +ℤ b) sum_fits,
+      to_z-of_z w128 c.args.limit limit_fits,
+    ) at c.if-before-last.true in
     let low : (a +ℤ b) <ℤ c.args.limit = grind (arith, ints) in
     let place_is : x ≡ states_of supply - 1 - c.args.place = ap (λ (n : ℕ). n - 1 - c.args.place) c.states-last.ensures.states in
-    let rest_is : y ≡ place_of supply (less (left_at supply c.args.place) c.args.package.now) = omega (arith, c.requires.first.0, place-less supply c.args.package.now c.args.place c.requires.place fits) in
-    subst (λ (n : ℕ). (get_or before n (pos 0) +ℤ get_or after (place_of supply (less (left_at supply c.args.place) c.args.package.now)) (pos 0)) <ℤ c.args.limit) place_is
+    let rest_is : y ≡ place_of supply (less (left_at supply c.args.place) c.args.package.now) = omega
+    (arith, c.requires.first.0, place-less supply c.args.package.now c.args.place c.requires.place fits) in
+    subst (λ (n : ℕ). (get_or before n (pos 0) +ℤ get_or after (place_of supply (less (left_at supply c.args.place) c.args.package.now)) (pos 0)) <ℤ
+    c.args.limit) place_is
     (subst (λ (n : ℕ). (a +ℤ get_or after n (pos 0)) <ℤ c.args.limit) rest_is low)

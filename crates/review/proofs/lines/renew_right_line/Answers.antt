@@ -12,7 +12,8 @@ narrow_right_line-requires-clause-after c =
     let k = c.args.k in
     let apart : k + 1 ≢ k = λ e. absurd (omega (arith, e)) in
     let inside : k + 1 < length lines = omega (arith, c.requires.bidder, c.requires.lines.full.count, count-of lines k) in
-    let is : c.deref.result.now ≡ get_or (lines_of lines) (k + 1) [] = c.deref.ensures.value ∙ read-other lines k c.replace-line.new.dest c.index.result.now (k + 1) apart inside c.index.ensures in
+    let is : c.deref.result.now ≡ get_or (lines_of lines) (k + 1) [] = c.deref.ensures.value ∙ read-other lines k c.replace-line.new.dest c.index.result.now
+    (k + 1) apart inside c.index.ensures in
     subst (λ (l : List ℤ). IsRightLine c.args.book.now (k + 1) l) (sym is) (c.requires.lines.exact (k + 1) (omega arith) (omega (arith, c.requires.bidder)))
 
 pub narrow_right_line-requires-clause-places : goal.narrow_right_line-requires-clause-places
@@ -21,7 +22,8 @@ narrow_right_line-requires-clause-places c =
     let k = c.args.k in
     let inside : k < length lines = omega (arith, c.requires.bidder, c.requires.lines.full.count, count-of lines k) in
     let is : c.deref_mut.result.now ≡ get_or (lines_of lines) k [] =
-    c.deref_mut.ensures.value ∙ ap (λ (v : Vec ℤ Global). v.items) c.replace-line.ensures.value ∙ read-own lines k c.index_mut.result.now inside c.index_mut.ensures.value in
+    c.deref_mut.ensures.value ∙ ap (λ (v : Vec ℤ Global). v.items) c.replace-line.ensures.value ∙ read-own lines k c.index_mut.result.now inside
+    c.index_mut.ensures.value in
     ap (λ (l : List ℤ). length l) is ∙ c.requires.lines.full.places k (omega (arith, c.requires.bidder))
 
 pub returns-clause-lines : goal.returns-clause-lines

@@ -15,7 +15,8 @@ returns-then-eq-clause-amount c =
     let inside : i < length bids = omega (arith, c.bids-i-end.ensures.bids) in
     let decides = slice_eq-Decides Decides-eqb c.counts.result.now c.counts-in-loop-i.result.now c.eq.result c.eq.ensures in
     let lots : (get_or bids i no_bid).lots ≡ c.args.wanted.now =
-    ap (λ (b : BookBid). b.lots) (sym (bid-next book c.args.j i)) ∙ sym c.bid.ensures.lots ∙ sym c.counts.ensures ∙ decides.0 c.if-eq.true ∙ c.counts-in-loop-i.ensures in
+    ap (λ (b : BookBid). b.lots) (sym (bid-next book c.args.j i)) ∙ sym c.bid.ensures.lots ∙ sym c.counts.ensures ∙ decides.0 c.if-eq.true
+    ∙ c.counts-in-loop-i.ensures in
     sym c.loop-i.invariant ∙ amount-found c.args.wanted.now bids i inside lots ∙ ap (λ (b : BookBid). Some b.amount) (sym (bid-next book c.args.j i))
 
 pub loop-i-preserved : goal.loop-i-preserved
@@ -26,7 +27,8 @@ loop-i-preserved c =
     let inside : i < length bids = omega (arith, c.bids-i-end.ensures.bids) in
     let decides = slice_eq-Decides Decides-eqb c.counts.result.now c.counts-in-loop-i.result.now c.eq.result c.eq.ensures in
     let other : (get_or bids i no_bid).lots ≢ c.args.wanted.now =
-    λ own. absurd (false≢true (sym c.if-eq.false ∙ decides.1 (c.counts.ensures ∙ c.bid.ensures.lots ∙ ap (λ (b : BookBid). b.lots) (bid-next book c.args.j i) ∙ own ∙ sym c.counts-in-loop-i.ensures))) in
+    λ own. absurd (false≢true (sym c.if-eq.false ∙ decides.1 (c.counts.ensures ∙ c.bid.ensures.lots ∙ ap (λ (b : BookBid). b.lots) (bid-next book c.args.j i)
+    ∙ own ∙ sym c.counts-in-loop-i.ensures))) in
     let up : suc i ≡ i + 1 = omega arith in
     subst (λ (n : ℕ). amount_for c.args.wanted.now (drop n bids) ≡ amount_for c.args.wanted.now bids) up
     (sym (amount-passed c.args.wanted.now bids i inside other) ∙ c.loop-i.invariant)

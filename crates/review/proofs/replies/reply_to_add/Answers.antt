@@ -9,4 +9,5 @@ cost-reserve-requires-clause-categories c = ap (λ (l : List ℕ). length l) c.r
 
 pub cost-reserve-requires-clause-most : goal.cost-reserve-requires-clause-most
 cost-reserve-requires-clause-most c =
-    subst (All (λ (n : ℕ). n ≤ MOST_PRICE)) (sym c.reserves.ensures) (All-from_recursion (λ (n : ℕ). n ≤ MOST_PRICE) c.args.book.now.reserves c.kept.ensures.rules.form.reserves.each)
+    subst (All (λ (n : ℕ). n ≤ MOST_PRICE)) (sym c.reserves.ensures) (All-from_recursion (λ (n : ℕ). n ≤ MOST_PRICE) c.args.book.now.reserves
+    c.kept.ensures.rules.form.reserves.each)

@@ -1,4 +1,5 @@
-use Rattle.std.proofs.Common.{◌≡◌, ◌∙◌, ◌≤◌, ◌<◌, ◌+◌, ◌-◌, ◌++◌, ◌∷◌, [], ℕ, ℤ, List, length, get_or, set, take, sym, ap, subst, arith, rules, append_assoc, vec_len}
+use Rattle.std.proofs.Common.{◌≡◌, ◌∙◌, ◌≤◌, ◌<◌, ◌+◌, ◌-◌, ◌++◌, ◌∷◌, [], ℕ, ℤ, List, length, get_or, set, take, sym, ap, subst, arith, rules, append_assoc}
+use Rattle.std.proofs.Common.{vec_len}
 use Rattle.std.proofs.lemmas.Int.{to_z-of_z}
 use Rattle.std.proofs.lemmas.List.{append-nil, take_all, take_more_set}
 use Rattle.std.proofs.Math.ListN.{length-set}
@@ -35,7 +36,13 @@ index-requires c =
     let inside : k < length lines = omega (arith, c.bidders-k-end.ensures.bidders, c.requires.right.full.count, count-of lines k) in
     let own = read-own lines k c.index-right-k.result inside c.index-right-k.is in
     let long : vec_len c.index-right-k.result ≡ length c.index-right-k.result.items = search rules in
-    omega (arith, long, ap (λ (l : List ℤ). length l) own, c.requires.right.full.places k (omega (arith, c.bidders-k-end.ensures.bidders)), c.loop-k.invariant.place)
+    omega (
+      arith,
+      long,
+      ap (λ (l : List ℤ). length l) own,
+      c.requires.right.full.places k (omega (arith, c.bidders-k-end.ensures.bidders)),
+      c.loop-k.invariant.place,
+    )
 
 pub right_number-number-requires-clause-entry : goal.right_number-number-requires-clause-entry
 right_number-number-requires-clause-entry c =
@@ -45,13 +52,16 @@ right_number-number-requires-clause-entry c =
     let down : k + 1 - 1 ≡ k = omega arith in
     let read : here ≡ get_or (get_or c.args.right.now k c.index-right-k.result).items c.loop-k.place here = cc (c.index.ensures, c.index-right-k.is) in
     rw (down, to_z-of_z w128 here fits)
-    (entry-read c.args.book.now c.args.right.now k c.index-right-k.result c.loop-k.place here (omega (arith, c.bidders-k-end.ensures.bidders)) c.loop-k.invariant.place c.requires.right read)
+    (entry-read c.args.book.now c.args.right.now k c.index-right-k.result c.loop-k.place here (omega (arith, c.bidders-k-end.ensures.bidders))
+    c.loop-k.invariant.place c.requires.right read)
 
 pub right_number-number-requires-clause-after : goal.right_number-number-requires-clause-after
 right_number-number-requires-clause-after c =
     let k = c.loop-k.k in
-    let is : c.deref.result.now ≡ (get_or c.args.right.now (k + 1) c.index-right-k-in-loop-k.result).items = cc (c.deref.ensures.value, c.index-right-k-in-loop-k.is) in
-    line-read c.args.book.now c.args.right.now (k + 1) c.index-right-k-in-loop-k.result c.deref.result.now (omega (arith, c.bidders-k-end.ensures.bidders)) c.requires.right is
+    let is : c.deref.result.now ≡ (get_or c.args.right.now (k + 1) c.index-right-k-in-loop-k.result).items =
+    cc (c.deref.ensures.value, c.index-right-k-in-loop-k.is) in
+    line-read c.args.book.now c.args.right.now (k + 1) c.index-right-k-in-loop-k.result c.deref.result.now
+    (omega (arith, c.bidders-k-end.ensures.bidders)) c.requires.right is
 
 pub loop-k-preserved : goal.loop-k-preserved
 loop-k-preserved c =
@@ -68,20 +78,26 @@ loop-k-preserved c =
     let inside : k + 1 ≤ length book.bidders = omega (arith, c.bidders-k-end.ensures.bidders) in
     let low : k < length choice = omega (arith, inside, c.loop-k.invariant.count) in
     let read : here ≡ get_or (get_or c.args.right.now k c.index-right-k.result).items place here = cc (c.index.ensures, c.index-right-k.is) in
-    let e : IsEntry m (net_of book) k (left_at book.supply place) here = entry-read book c.args.right.now k c.index-right-k.result place here (omega (arith, inside)) c.loop-k.invariant.place c.requires.right read in
+    let e : IsEntry m (net_of book) k (left_at book.supply place) here = entry-read book c.args.right.now k c.index-right-k.result place here
+    (omega (arith, inside)) c.loop-k.invariant.place c.requires.right read in
     let e_down : IsEntry m (net_of book) (k + 1 - 1) (left_at book.supply place) here = rw down e in
-    let is : c.deref.result.now ≡ (get_or c.args.right.now (k + 1) c.index-right-k-in-loop-k.result).items = cc (c.deref.ensures.value, c.index-right-k-in-loop-k.is) in
-    let below : IsRightLine book (k + 1) c.deref.result.now = line-read book c.args.right.now (k + 1) c.index-right-k-in-loop-k.result c.deref.result.now inside c.requires.right is in
+    let is : c.deref.result.now ≡ (get_or c.args.right.now (k + 1) c.index-right-k-in-loop-k.result).items =
+    cc (c.deref.ensures.value, c.index-right-k-in-loop-k.is) in
+    let below : IsRightLine book (k + 1) c.deref.result.now = line-read book c.args.right.now (k + 1) c.index-right-k-in-loop-k.result c.deref.result.now
+    inside c.requires.right is in
     let first : IsFirstNumber m (net_of book) book.supply (k + 1) place here c.deref.result.now number = rw here_same at c.right_number-number.ensures.first in
     let placed : c.set.new.self ≡ set choice k number = c.set.ensures ∙ ap (λ (n : ℕ). set choice n number) down in
-    let walk : (r : List ℕ) → IsFirstGreatest (fits_after m (k + 1) (left_at book.supply c.place_left-place.result)) (sum_after (net_of book) (k + 1)) r → IsFirstGreatest (fits_after m k (left_at book.supply place)) (sum_after (net_of book) k) (number ∷ r) =
-    λ r g. rw down at (walk-by m (net_of book) book.supply (k + 1) place (omega arith) inside c.loop-k.invariant.place here c.deref.result.now e_down below number r c.right_number-number.ensures.known first (rw c.place_left-place.ensures.place at g)) in
+    let walk : (r : List ℕ) → IsFirstGreatest (fits_after m (k + 1) (left_at book.supply c.place_left-place.result)) (sum_after (net_of book) (k + 1)) r
+    → IsFirstGreatest (fits_after m k (left_at book.supply place)) (sum_after (net_of book) k) (number ∷ r) =
+    λ r g. rw down at (walk-by m (net_of book) book.supply (k + 1) place (omega arith) inside c.loop-k.invariant.place here c.deref.result.now e_down below
+    number r c.right_number-number.ensures.known first (rw c.place_left-place.ensures.place at g)) in
     record {
       place = c.place_left-place.ensures.below;
       count = ap (λ (l : List ℕ). length l) placed ∙ length-set choice k number ∙ c.loop-k.invariant.count;
       rest = λ r g.
           let front : take (k + 1) c.set.new.self ++ r ≡ take k choice ++ (number ∷ r) =
-          ap (λ (l : List ℕ). take (k + 1) l ++ r) placed ∙ ap (λ (l : List ℕ). l ++ r) (take_more_set choice k number low) ∙ append_assoc (take k choice) (number ∷ []) r in
+          ap (λ (l : List ℕ). take (k + 1) l ++ r) placed ∙ ap (λ (l : List ℕ). l ++ r) (take_more_set choice k number low)
+          ∙ append_assoc (take k choice) (number ∷ []) r in
           subst (IsWinning (market_of book)) (sym front) (c.loop-k.invariant.rest (number ∷ r) (walk r g));
     }
 
@@ -91,6 +107,8 @@ returns c =
     let m = menu_of book in
     let k = c.loop-k.k in
     let all : k ≡ m.bidders = omega (arith, c.bidders-k-end.ensures.bidders) in
-    let last : IsFirstGreatest (fits_after m k (left_at book.supply c.loop-k.place)) (sum_after (net_of book) k) [] = rw all (first-last m (net_of book) (left_at book.supply c.loop-k.place)) in
-    let whole : take k c.loop-k.choice ++ [] ≡ c.loop-k.choice = append-nil (take k c.loop-k.choice) ∙ take_all k c.loop-k.choice (omega (arith, all, c.loop-k.invariant.count)) in
+    let last : IsFirstGreatest (fits_after m k (left_at book.supply c.loop-k.place)) (sum_after (net_of book) k) [] =
+    rw all (first-last m (net_of book) (left_at book.supply c.loop-k.place)) in
+    let whole : take k c.loop-k.choice ++ [] ≡ c.loop-k.choice = append-nil (take k c.loop-k.choice)
+    ∙ take_all k c.loop-k.choice (omega (arith, all, c.loop-k.invariant.count)) in
     subst (IsWinning (market_of book)) whole (c.loop-k.invariant.rest [] last)

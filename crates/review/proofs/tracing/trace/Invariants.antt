@@ -11,5 +11,6 @@ abbrev pub invariant-loop-k : goal.invariant-loop-k
 invariant-loop-k l = record {
   place : l.place < states_of l.book.supply;
   count : length l.choice ≡ length l.book.bidders;
-  rest : (r : List ℕ) → IsFirstGreatest (fits_after (menu_of l.book) l.k (left_at l.book.supply l.place)) (sum_after (net_of l.book) l.k) r → IsWinning (market_of l.book) (take l.k l.choice ++ r);
+  rest : (r : List ℕ) → IsFirstGreatest (fits_after (menu_of l.book) l.k (left_at l.book.supply l.place)) (sum_after (net_of l.book) l.k) r
+      → IsWinning (market_of l.book) (take l.k l.choice ++ r);
 }

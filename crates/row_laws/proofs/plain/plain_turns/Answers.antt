@@ -15,5 +15,6 @@ returns-clause-weighed c = λ m w z v rows p ones meets least nearest. record {
   meets = meets;
   least = least;
   nearest = nearest-same m alike w (λ j some inside. sym (ones j some inside)) v _ p
-      (λ q among sum other. less-weighed _ _ _ _ _ _ (c.weighted_distance.ensures.plain m v p) (c.weighted_distance.ensures.plain m v q) (nearest q among sum other));
+      (λ q among sum other. less-weighed _ _ _ _ _ _ (c.weighted_distance.ensures.plain m v p) (c.weighted_distance.ensures.plain m v q)
+      (nearest q among sum other));
 }

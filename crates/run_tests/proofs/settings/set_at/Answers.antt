@@ -8,7 +8,8 @@ set-requires c =
     let words = c.args.words.now in
     let place = c.args.place in
     let name = c.as_str.result.now in
-    let at : get_or (map string_bytes words) place name ≡ name = get_or-map string_bytes words place c.index-words-place.result name c.requires.place ∙ (ap string_bytes (sym c.index-words-place.is) ∙ sym c.as_str.ensures.value) in
+    let at : get_or (map string_bytes words) place name ≡ name = get_or-map string_bytes words place c.index-words-place.result name c.requires.place
+    ∙ (ap string_bytes (sym c.index-words-place.is) ∙ sym c.as_str.ensures.value) in
     let within : place < length (map string_bytes words) = subst (λ (n : ℕ). place < n) (sym (length-map words string_bytes)) c.requires.place in
     ap (mem_folder c.args.files.now.files.items).knows (sym at) ∙ c.requires.known place name within
 

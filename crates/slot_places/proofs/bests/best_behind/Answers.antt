@@ -32,7 +32,8 @@ loop-k-preserved c =
             best = λ h low x t n known.
                 elim (cases_eq h (k + 1)) [
                   | inl same ↦ subst (λ j. IsBestNext l c.args.set j (λ i. i ≤ (searched l).bids j) new) (sym same) f.best x t n known
-                  | inr other ↦ fits-trans (searched l) (counted l) s new old x f.held.fits was.held.fits t f.kept (was.best h (omega (arith, low, other)) x t n known)
+                  | inr other ↦ fits-trans (searched l) (counted l) s new old x f.held.fits was.held.fits t f.kept
+                      (was.best h (omega (arith, low, other)) x t n known)
                 ];
           })
       | else-not-is_in w ↦
@@ -56,7 +57,9 @@ returns c =
     let was = c.loop-k.invariant in
     let all : c.loop-k.k ≡ length slots.bidders = omega arith in
     record {
-      first = best-by_next b idle (counted l) (holds c.args.set) c.loop-k.best.numbers.items (outside-positive (length slots.bidders) c.args.set c.requires.set) was.held.fits
-          (λ d j t n. was.best j (let low = n.low in omega (arith, low, all)) d t n (placed-number b idle d j (fits-says b (holds c.args.set) d t).known n.some n.low));
+      first = best-by_next b idle (counted l) (holds c.args.set) c.loop-k.best.numbers.items
+          (outside-positive (length slots.bidders) c.args.set c.requires.set) was.held.fits
+          (λ d j t n. was.best j (let low = n.low in omega (arith, low, all)) d t n
+          (placed-number b idle d j (fits-says b (holds c.args.set) d t).known n.some n.low));
       sum = was.held.sum;
     }

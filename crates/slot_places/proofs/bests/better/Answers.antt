@@ -11,11 +11,13 @@ returns-then-next-best-clause-best c = before-same (sum_outside (holds c.args.se
 
 pub returns-then-next-best-clause-next : goal.returns-then-next-best-clause-next
 returns-then-next-best-clause-next c =
-    before-by_sums (sum_outside (holds c.args.set) (counted c.args.search.now)) c.args.best.numbers.items c.args.next.numbers.items c.args.best.sum c.args.next.sum c.requires.best.sum c.requires.next.sum (search rules)
+    before-by_sums (sum_outside (holds c.args.set) (counted c.args.search.now)) c.args.best.numbers.items c.args.next.numbers.items c.args.best.sum
+    c.args.next.sum c.requires.best.sum c.requires.next.sum (search rules)
 
 pub returns-then-best-next-clause-best : goal.returns-then-best-next-clause-best
 returns-then-best-next-clause-best c =
-    before-by_sums (sum_outside (holds c.args.set) (counted c.args.search.now)) c.args.next.numbers.items c.args.best.numbers.items c.args.next.sum c.args.best.sum c.requires.next.sum c.requires.best.sum (search rules)
+    before-by_sums (sum_outside (holds c.args.set) (counted c.args.search.now)) c.args.next.numbers.items c.args.best.numbers.items c.args.next.sum
+    c.args.best.sum c.requires.next.sum c.requires.best.sum (search rules)
 
 pub returns-then-best-next-clause-next : goal.returns-then-best-next-clause-next
 returns-then-best-next-clause-next c = before-same (sum_outside (holds c.args.set) (counted c.args.search.now)) c.args.next.numbers.items
@@ -30,7 +32,8 @@ comes_first-requires c =
 pub returns-then-comes_first-clause-best : goal.returns-then-comes_first-clause-best
 returns-then-comes_first-clause-best c =
     let t : is_earlier c.deref.result.now c.deref-2.result.now ≡ true = sym c.comes_first.ensures ∙ c.if-comes_first.true in
-    before-by_order (sum_outside (holds c.args.set) (counted c.args.search.now)) c.args.next.numbers.items c.args.best.numbers.items c.args.next.sum c.args.best.sum c.requires.next.sum c.requires.best.sum (search rules) (rw (c.deref.ensures.value, c.deref-2.ensures.value) at t)
+    before-by_order (sum_outside (holds c.args.set) (counted c.args.search.now)) c.args.next.numbers.items c.args.best.numbers.items c.args.next.sum
+    c.args.best.sum c.requires.next.sum c.requires.best.sum (search rules) (rw (c.deref.ensures.value, c.deref-2.ensures.value) at t)
 
 pub returns-then-comes_first-clause-next : goal.returns-then-comes_first-clause-next
 returns-then-comes_first-clause-next c = before-same (sum_outside (holds c.args.set) (counted c.args.search.now)) c.args.next.numbers.items
@@ -41,4 +44,5 @@ returns-clause-best c = before-same (sum_outside (holds c.args.set) (counted c.a
 pub returns-clause-next : goal.returns-clause-next
 returns-clause-next c =
     let f : is_earlier c.deref.result.now c.deref-2.result.now ≡ false = sym c.comes_first.ensures ∙ c.if-comes_first.false in
-    before-by_rest (sum_outside (holds c.args.set) (counted c.args.search.now)) c.args.best.numbers.items c.args.next.numbers.items c.args.best.sum c.args.next.sum c.requires.best.sum c.requires.next.sum (search rules) (rw (c.deref.ensures.value, c.deref-2.ensures.value) at f)
+    before-by_rest (sum_outside (holds c.args.set) (counted c.args.search.now)) c.args.best.numbers.items c.args.next.numbers.items c.args.best.sum
+    c.args.next.sum c.requires.best.sum c.requires.next.sum (search rules) (rw (c.deref.ensures.value, c.deref-2.ensures.value) at f)

@@ -12,4 +12,5 @@ loop-k-preserved c = all-to c.args.set c.loop-k.k c.loop-k.invariant (search rul
 pub unreachable-requires : goal.unreachable-requires
 unreachable-requires c =
     let all : c.loop-k.k ≡ length c.args.search.now.slots.now.bidders = omega arith in
-    none-out (length c.args.search.now.slots.now.bidders) c.args.set c.requires (subst (λ n. (h : ℕ) → 0 < h → h ≤ n → holds c.args.set h ≡ true) all c.loop-k.invariant)
+    none-out (length c.args.search.now.slots.now.bidders) c.args.set c.requires (subst (λ n. (h : ℕ) → 0 < h → h ≤ n → holds c.args.set h ≡ true) all
+    c.loop-k.invariant)

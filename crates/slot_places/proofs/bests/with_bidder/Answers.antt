@@ -19,13 +19,15 @@ loop-i-init c =
       kept = c.better-best.ensures.best;
       best = λ x t n low.
           let none : number_of x c.args.j ≡ 0 = omega (arith, low) in
-          fits-trans (searched l) (counted l) s new next x c.better-best.ensures.held.fits c.in_ok-next.ensures.held.fits t c.better-best.ensures.next (c.in_ok-next.ensures.best x t n none);
+          fits-trans (searched l) (counted l) s new next x c.better-best.ensures.held.fits c.in_ok-next.ensures.held.fits t c.better-best.ensures.next
+          (c.in_ok-next.ensures.best x t n none);
     }
 
 pub with_number-requires-then-place-start-clause-may : goal.with_number-requires-then-place-start-clause-may
 with_number-requires-then-place-start-clause-may c =
     let slots = c.args.search.now.slots.now in
-    starts-from slots (start_behind slots (holds c.args.set)) c.args.j c.loop-i.i (sym c.place-place.ensures.start ∙ (c.if-place-start.true ∙ c.start-start.ensures))
+    starts-from slots (start_behind slots (holds c.args.set)) c.args.j c.loop-i.i
+    (sym c.place-place.ensures.start ∙ (c.if-place-start.true ∙ c.start-start.ensures))
 
 pub loop-i-preserved : goal.loop-i-preserved
 loop-i-preserved c =
@@ -59,8 +61,10 @@ loop-i-preserved c =
             best = λ x t n low.
                 elim (cases_eq (number_of x j) (i + 1)) [
                   | inl same ↦
-                      let may : IsTrue (starts_at slots (start_behind slots s) j (i + 1)) = subst (λ h. IsTrue (starts_at slots (start_behind slots s) j h)) same n.may in
-                      absurd (w.if-place-start.false (c.place-place.ensures.start ∙ (starts-says slots (start_behind slots s) j i may ∙ sym c.start-start.ensures)))
+                      let may : IsTrue (starts_at slots (start_behind slots s) j (i + 1)) = subst (λ h. IsTrue (starts_at slots (start_behind slots s) j h))
+                      same n.may in
+                      absurd (w.if-place-start.false (c.place-place.ensures.start
+                      ∙ (starts-says slots (start_behind slots s) j i may ∙ sym c.start-start.ensures)))
                   | inr other ↦ was.best x t n (omega (arith, low, other))
                 ];
           })

@@ -12,5 +12,6 @@ returns c =
     let all : length bests ≤ c.loop-best.best-index = omega arith in
     let items : c.loop-best.line.items ≡ map sum_of bests = c.loop-best.invariant ∙ ap (map sum_of) (take_all c.loop-best.best-index bests all) in
     let whole : c.push_line.new.self ≡ map sum_of bests ∷ [] =
-    c.in_ok-push_line.ensures.pushed ∙ (ap (λ (g : List (List ℤ)). g ++ c.from_vec.result ∷ []) c.new-grid.ensures ∙ ap (λ (x : List ℤ). x ∷ []) (c.from_vec.ensures ∙ items)) in
+    c.in_ok-push_line.ensures.pushed ∙ (ap (λ (g : List (List ℤ)). g ++ c.from_vec.result ∷ []) c.new-grid.ensures
+    ∙ ap (λ (x : List ℤ). x ∷ []) (c.from_vec.ensures ∙ items)) in
     subst (IsSetTable (searched l) (counted l)) (sym whole) (table-of l bests c.requires)

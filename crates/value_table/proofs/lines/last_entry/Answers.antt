@@ -29,7 +29,8 @@ returns-clause-most c =
     let z_fits : SFits w128 z = search rules in
     let states : c.states.result ≡ states_of supply = c.states.ensures.states ∙ ap states_of c.supply.ensures.supply in
     let line = c.requires.exact 0 (omega arith) in
-    let e : IsEntry (counted_bids l) (counted l) 0 (left_at supply last) z = rw c.line-line.ensures.line (line.exact last (omega (arith, states, states-positive supply))) in
+    let e : IsEntry (counted_bids l) (counted l) 0 (left_at supply last) z = rw c.line-line.ensures.line
+    (line.exact last (omega (arith, states, states-positive supply))) in
     let whole : left_at supply last ≡ supply = ap (λ n. left_at supply (n - 1)) states ∙ left_at-whole supply in
     rw (to_z-of_z w128 z z_fits) (subst (λ left. IsEntry (counted_bids l) (counted l) 0 left z) whole e)
 

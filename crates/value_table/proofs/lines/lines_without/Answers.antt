@@ -37,7 +37,8 @@ loop-k-preserved c =
     let up : k + 1 ≡ suc k = omega arith in
     let inside : k ≤ m.bidders = omega (arith, c.requires.whole.lines, c.lines-k-end.ensures) in
     let past : j ≤ k = omega (arith, c.requires.bidder.0) in
-    let own : IsLine m counts supply k line = line-past_skip (in_order l.turned (menu_of l.book.now)) counts supply j k line past (c.requires.whole.exact k inside) in
+    let own : IsLine m counts supply k line = line-past_skip (in_order l.turned (menu_of l.book.now)) counts supply j k line past
+    (c.requires.whole.exact k inside) in
     let made : c.push_shared-in-loop-k.new.self ≡ c.loop-k.grid ++ line ∷ [] = c.in_ok-push_shared-2.ensures.pushed in
     let all : AreLinesTo m counts supply (suc k) 0 c.push_shared-in-loop-k.new.self = subst (AreLinesTo m counts supply (suc k) 0) (sym made)
     (lines-more m counts supply k 0 c.loop-k.grid line c.loop-k.invariant own) in

@@ -5,7 +5,8 @@ use Rattle.std.proofs.lemmas.List.{take_rest, length-map}
 use Rattle.choices.specs.auction_model.specs.Place.{states_of, widths_of}
 use Rattle.choices.specs.auction_model.specs.Steps.{raised}
 use Rattle.choices.specs.auction_model.proofs.PlaceLaws.{place-below}
-use Rattle.choices.specs.auction_model.proofs.RunLaws.{width-first, widths-count, widths-rest, width-at_most, states-first, raised-before, block-done, block-rest}
+use Rattle.choices.specs.auction_model.proofs.RunLaws.{width-first, widths-count, widths-rest, width-at_most, states-first, raised-before, block-done}
+use Rattle.choices.specs.auction_model.proofs.RunLaws.{block-rest}
 use Rattle.value_table.proofs.CornerLaws.{corner-none, corners-part}
 use Rattle.value_table.proofs.NumberParts.{read-put, read-number, small-numbers}
 use Rattle.value_table.specs.Growing.{HasCorners}
@@ -23,15 +24,19 @@ is_reached-requires-clause-first g t c =
 pub returns-then-is_reached : goal.returns-then-is_reached
 returns-then-is_reached g t c =
     let number = g.A.Amount.number in
-    let test = subst (λ n. (number c.args.worth +ℤ get_or (map number c.args.below.now) (n - 1 - c.args.first) (pos 0)) ≤ℤ get_or (map number c.args.line.now) c.args.first (pos 0)) c.requires.line (c.is_reached.ensures.0 c.if-is_reached.true) in
-    λ s h. corner-none c.args.supply.now c.args.counts.now c.args.first (map number c.args.line.now) (map number c.args.below.now) (number c.args.worth) c.requires.corners test s (omega (arith, h, c.requires.line))
+    let test = subst (λ n. (number c.args.worth +ℤ get_or (map number c.args.below.now) (n - 1 - c.args.first) (pos 0)) ≤ℤ get_or
+    (map number c.args.line.now) c.args.first (pos 0)) c.requires.line (c.is_reached.ensures.0 c.if-is_reached.true) in
+    λ s h. corner-none c.args.supply.now c.args.counts.now c.args.first (map number c.args.line.now) (map number c.args.below.now)
+    (number c.args.worth) c.requires.corners test s (omega (arith, h, c.requires.line))
 
 pub loop-block-init : goal.loop-block-init
 loop-block-init g t c =
     let number = g.A.Amount.number in
-    let width : get_or c.args.widths.now 0 0 ≡ states_of (drop 1 c.args.supply.now) = ap (λ (l : List ℕ). get_or l 0 0) c.requires.widths ∙ width-first c.args.supply.now (omega arith) in
+    let width : get_or c.args.widths.now 0 0 ≡ states_of (drop 1 c.args.supply.now) = ap (λ (l : List ℕ). get_or l 0 0) c.requires.widths
+    ∙ width-first c.args.supply.now (omega arith) in
     record {
-      done = λ s h. sym (raised-before c.args.supply.now c.args.counts.now (map number c.args.below.now) (number c.args.worth) s (get_or (map number c.args.line.now) s (pos 0)) c.requires.some c.requires.categories (rw width at h));
+      done = λ s h. sym (raised-before c.args.supply.now c.args.counts.now (map number c.args.below.now) (number c.args.worth) s
+          (get_or (map number c.args.line.now) s (pos 0)) c.requires.some c.requires.categories (rw width at h));
       rest = λ s h. refl;
     }
 
@@ -57,7 +62,8 @@ overflow_mul-to g t c =
     omega (
       arith,
       row-small c.args.supply.now c.args.widths.now c.loop-block.block
-          c.requires.widths (omega (arith, c.requires.some, c.requires.categories)) c.requires.states (omega (arith, c.loop-block-test.true, c.type_inv.supply 0)),
+          c.requires.widths (omega (arith, c.requires.some, c.requires.categories)) c.requires.states
+          (omega (arith, c.loop-block-test.true, c.type_inv.supply 0)),
     )
 
 pub overflow_mul-from : goal.overflow_mul-from
@@ -65,7 +71,8 @@ overflow_mul-from g t c =
     omega (
       arith,
       row-small c.args.supply.now c.args.widths.now (c.loop-block.block - get_or c.args.counts.now 0 0)
-          c.requires.widths (omega (arith, c.requires.some, c.requires.categories)) c.requires.states (omega (arith, c.loop-block-test.true, c.type_inv.supply 0)),
+          c.requires.widths (omega (arith, c.requires.some, c.requires.categories)) c.requires.states
+          (omega (arith, c.loop-block-test.true, c.type_inv.supply 0)),
     )
 
 pub offset_bounds-line-to : goal.offset_bounds-line-to
@@ -98,21 +105,41 @@ raise_block-requires g t c =
     let room : (q + 1) * S ≤ states_of supply = omega (arith, whole, mul-le-mul_right S (c.loop-block-test.true)) in
     let lower : q - get_or c.args.counts.now 0 0 ≤ q = omega arith in
     let before : from ≤ q * S = mul-le-mul_right S lower in
-    let widths_left : take (length widths - 1) (drop 1 widths) ≡ widths_of left = take_rest widths 1 ∙ ap (drop 1) c.requires.widths ∙ widths-rest supply ∙ ap widths_of (sym left_is) in
+    let widths_left : take (length widths - 1) (drop 1 widths) ≡ widths_of left = take_rest widths 1 ∙ ap (drop 1) c.requires.widths ∙ widths-rest supply
+    ∙ ap widths_of (sym left_is) in
     let few : states_of left ≤ 16384 = omega (arith, states, width, width-at_most supply (omega arith), c.requires.states) in
     let wide : from + S - from ≡ S = omega arith in
     let wide_line : q * S + S - q * S ≡ S = omega arith in
-    let places : length (take (from + S - from) (drop from below)) ≡ states_of left = mid_len from (from + S) below (omega (arith, room, before, c.requires.places)) ∙ wide ∙ sym states in
-    let line_places : length (take (q * S + S - q * S) (drop (q * S) line)) ≡ states_of left = mid_len (q * S) (q * S + S) line (omega (arith, room, c.requires.line)) ∙ wide_line ∙ sym states in
+    let places : length (take (from + S - from) (drop from below)) ≡ states_of left = mid_len from (from + S) below
+    (omega (arith, room, before, c.requires.places)) ∙ wide ∙ sym states in
+    let line_places : length (take (q * S + S - q * S) (drop (q * S) line)) ≡ states_of left = mid_len (q * S) (q * S + S) line
+    (omega (arith, room, c.requires.line)) ∙ wide_line ∙ sym states in
     let counts = c.args.counts.now in
-    let corners : HasCorners left (take (length counts - 1) (drop 1 counts)) (c.args.first - get_or counts 0 0 * S) (map number (take (q * S + S - q * S) (drop (q * S) line))) (map number (take (from + S - from) (drop from below))) =
+    let corners : HasCorners left (take (length counts - 1) (drop 1 counts)) (c.args.first - get_or counts 0 0 * S)
+    (map number (take (q * S + S - q * S) (drop (q * S) line))) (map number (take (from + S - from) (drop from below))) =
     rw (left_is, take_rest counts 1)
-    (corners-part supply counts c.args.first q S (map number c.args.line.now) (map number below) _ _ c.requires.some c.requires.categories width c.loop-block.auto.block (omega (arith, c.loop-block-test.true))
+    (corners-part supply counts c.args.first q S (map number c.args.line.now) (map number below) _ _ c.requires.some c.requires.categories width
+    c.loop-block.auto.block (omega (arith, c.loop-block-test.true))
     (λ i h. read-number number line (q * S) (q * S + S - q * S) i (omega arith) ∙ c.loop-block.invariant.rest (q * S + i) (omega arith))
     (λ i h. read-number number below from (from + S - from) i (omega arith))
     c.requires.corners) in
     let small = small-numbers g.A.Amount.number below from (from + S - from) g.A.Amount.most c.requires.sizes in
-    λ lifetimes h. (search rules, (search rules, (widths_left, (search rules, (search rules, (corners, (few, (places, (line_places, (search rules, small))))))))))
+    λ lifetimes h. (
+      search rules,
+      (
+        search rules,
+        (
+          widths_left,
+          (
+            search rules,
+            (
+              search rules,
+              (corners, (few, (places, (line_places, (search rules, small))))),
+            ),
+          ),
+        ),
+      ),
+    )
 
 pub loop-block-preserved : goal.loop-block-preserved
 loop-block-preserved g t c =
@@ -136,19 +163,23 @@ loop-block-preserved g t c =
     let mid : length (take k (drop (q * S) line)) ≡ k = mid_len (q * S) (q * S + S) line inside in
     let count : length (map number made) ≡ k = length-map made number ∙ c.raise_block.auto.line ∙ mid in
     let start : q * S ≤ length (map number line) = omega (arith, inside, length-map line number) in
-    let call : (i : ℕ) → i < S → get_or (map number made) i (pos 0) ≡ raised (drop 1 supply) part (drop 1 counts) worth i (get_or (map number line) (q * S + i) (pos 0)) =
+    let call : (i : ℕ) → i < S → get_or (map number made) i (pos 0) ≡ raised (drop 1 supply) part (drop 1 counts) worth i
+    (get_or (map number line) (q * S + i) (pos 0)) =
     λ i h.
     let own : i < length (take k (drop (q * S) line)) = omega (arith, mid) in
     c.raise_block.ensures i own
-    ∙ ap (λ l. raised l part (take (length counts - 1) (drop 1 counts)) worth i (get_or (map number (take k (drop (q * S) line))) i (pos 0))) (take_rest supply 1)
+    ∙ ap (λ l. raised l part (take (length counts - 1) (drop 1 counts)) worth i (get_or (map number (take k (drop (q * S) line))) i (pos 0)))
+    (take_rest supply 1)
     ∙ ap (λ l. raised (drop 1 supply) part l worth i (get_or (map number (take k (drop (q * S) line))) i (pos 0))) (take_rest counts 1)
     ∙ ap (raised (drop 1 supply) part (drop 1 counts) worth i) (read-number number line (q * S) k i (omega arith)) in
     record {
       done = λ s h. read-put number (q * S) k line made s
-          ∙ block-done supply counts below (map number c.args.line.now) (map number line) (map number made) worth c.requires.some c.requires.categories q S width c.loop-block.invariant.rest k k_is start count part c.loop-block.auto.block
+          ∙ block-done supply counts below (map number c.args.line.now) (map number line) (map number made) worth c.requires.some c.requires.categories q S
+          width c.loop-block.invariant.rest k k_is start count part c.loop-block.auto.block
           (λ i h. read-number number c.args.below.now from (from + S - from) i (omega arith)) call c.loop-block.invariant.done s h;
       rest = λ s h. read-put number (q * S) k line made s
-          ∙ block-rest supply counts below (map number c.args.line.now) (map number line) (map number made) worth c.requires.some c.requires.categories q S width c.loop-block.invariant.rest k k_is start count s h;
+          ∙ block-rest supply counts below (map number c.args.line.now) (map number line) (map number made) worth c.requires.some c.requires.categories q S
+          width c.loop-block.invariant.rest k k_is start count s h;
     }
 
 pub returns : goal.returns

@@ -9,6 +9,7 @@ abbrev pub invariant-loop-block : goal.invariant-loop-block
 invariant-loop-block g l =
     let number = g.A.Amount.number in
     record {
-      done : (s : ℕ) → s < l.block * l.width → get_or (map number l.line) s (pos 0) ≡ raised l.supply (map number l.below) l.counts (number l.worth) s (get_or (map number l.initial.line) s (pos 0));
+      done : (s : ℕ) → s < l.block * l.width → get_or (map number l.line) s (pos 0) ≡ raised l.supply (map number l.below) l.counts (number l.worth) s
+          (get_or (map number l.initial.line) s (pos 0));
       rest : (s : ℕ) → l.block * l.width ≤ s → get_or (map number l.line) s (pos 0) ≡ get_or (map number l.initial.line) s (pos 0);
     }

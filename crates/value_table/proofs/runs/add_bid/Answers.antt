@@ -14,8 +14,10 @@ returns g c =
     let worth = number c.args.worth in
     λ s h.
     let old = get_or (map number c.args.line.now) s (pos 0) in
-    let made : get_or (map number c.raise_block.new.line) s (pos 0) ≡ raised c.counts-radices.result.now below (take used counts) worth s old = c.raise_block.ensures s h in
-    let supply : raised c.counts-radices.result.now below (take used counts) worth s old ≡ raised c.args.supply.now below (take used counts) worth s old = ap (λ l. raised l below (take used counts) worth s old) c.counts-radices.ensures.counts in
+    let made : get_or (map number c.raise_block.new.line) s (pos 0) ≡ raised c.counts-radices.result.now below (take used counts) worth s old =
+    c.raise_block.ensures s h in
+    let supply : raised c.counts-radices.result.now below (take used counts) worth s old ≡ raised c.args.supply.now below (take used counts) worth s old =
+    ap (λ l. raised l below (take used counts) worth s old) c.counts-radices.ensures.counts in
     let whole = raised-trim used c.args.supply.now counts below worth s old c.used_categories-used.ensures.rest in
     made ∙ supply ∙ whole ∙ ap (λ l. raised c.args.supply.now below l worth s old) c.counts-counts.ensures
 

@@ -16,9 +16,11 @@ bounds-widths-0 g c = rw c.requires.widths (omega (arith, widths-count c.args.su
 pub loop-row-init : goal.loop-row-init
 loop-row-init g c =
     let number = g.A.Amount.number in
-    let width : get_or c.args.widths.now 0 0 ≡ states_of (drop 1 c.args.supply.now) = ap (λ (l : List ℕ). get_or l 0 0) c.requires.widths ∙ width-first c.args.supply.now (omega arith) in
+    let width : get_or c.args.widths.now 0 0 ≡ states_of (drop 1 c.args.supply.now) = ap (λ (l : List ℕ). get_or l 0 0) c.requires.widths
+    ∙ width-first c.args.supply.now (omega arith) in
     record {
-      done = λ s h. sym (raised-before c.args.supply.now c.args.counts.now (map number c.args.below.now) (number c.args.worth) s (get_or (map number c.args.line.now) s (pos 0)) (omega (arith, c.requires.two)) c.requires.categories (rw width at h));
+      done = λ s h. sym (raised-before c.args.supply.now c.args.counts.now (map number c.args.below.now) (number c.args.worth) s
+          (get_or (map number c.args.line.now) s (pos 0)) (omega (arith, c.requires.two)) c.requires.categories (rw width at h));
       rest = λ s h. refl;
     }
 
@@ -105,19 +107,23 @@ loop-row-preserved g c =
     let mid : length (take k (drop (q * S) line)) ≡ k = mid_len (q * S) (q * S + S) line inside in
     let count : length (map number made) ≡ k = length-map made number ∙ c.raise_one.auto.line ∙ mid in
     let start : q * S ≤ length (map number line) = omega (arith, inside, length-map line number) in
-    let call : (i : ℕ) → i < S → get_or (map number made) i (pos 0) ≡ raised (drop 1 supply) part (drop 1 counts) worth i (get_or (map number line) (q * S + i) (pos 0)) =
+    let call : (i : ℕ) → i < S → get_or (map number made) i (pos 0) ≡ raised (drop 1 supply) part (drop 1 counts) worth i
+    (get_or (map number line) (q * S + i) (pos 0)) =
     λ i h.
     let own : i < length (take k (drop (q * S) line)) = omega (arith, mid) in
     c.raise_one.ensures i own
-    ∙ ap (λ l. raised l part (take (length counts - 1) (drop 1 counts)) worth i (get_or (map number (take k (drop (q * S) line))) i (pos 0))) (take_rest supply 1)
+    ∙ ap (λ l. raised l part (take (length counts - 1) (drop 1 counts)) worth i (get_or (map number (take k (drop (q * S) line))) i (pos 0)))
+    (take_rest supply 1)
     ∙ ap (λ l. raised (drop 1 supply) part l worth i (get_or (map number (take k (drop (q * S) line))) i (pos 0))) (take_rest counts 1)
     ∙ ap (raised (drop 1 supply) part (drop 1 counts) worth i) (read-number number line (q * S) k i (omega arith)) in
     record {
       done = λ s h. read-put number (q * S) k line made s
-          ∙ block-done supply counts below (map number c.args.line.now) (map number line) (map number made) worth (omega (arith, c.requires.two)) c.requires.categories q S width c.loop-row.invariant.rest k k_is start count part c.loop-row.auto.row
+          ∙ block-done supply counts below (map number c.args.line.now) (map number line) (map number made) worth
+          (omega (arith, c.requires.two)) c.requires.categories q S width c.loop-row.invariant.rest k k_is start count part c.loop-row.auto.row
           (λ i h. read-number number c.args.below.now from (from + S - from) i (omega arith)) call c.loop-row.invariant.done s h;
       rest = λ s h. read-put number (q * S) k line made s
-          ∙ block-rest supply counts below (map number c.args.line.now) (map number line) (map number made) worth (omega (arith, c.requires.two)) c.requires.categories q S width c.loop-row.invariant.rest k k_is start count s h;
+          ∙ block-rest supply counts below (map number c.args.line.now) (map number line) (map number made) worth
+          (omega (arith, c.requires.two)) c.requires.categories q S width c.loop-row.invariant.rest k k_is start count s h;
     }
 
 pub returns : goal.returns

@@ -6,6 +6,7 @@ abbrev pub invariant-loop-row : goal.invariant-loop-row
 invariant-loop-row g l =
     let number = g.A.Amount.number in
     record {
-      done : (s : ℕ) → s < l.row * l.width → get_or (map number l.line) s (pos 0) ≡ raised l.supply (map number l.below) l.counts (number l.worth) s (get_or (map number l.initial.line) s (pos 0));
+      done : (s : ℕ) → s < l.row * l.width → get_or (map number l.line) s (pos 0) ≡ raised l.supply (map number l.below) l.counts (number l.worth) s
+          (get_or (map number l.initial.line) s (pos 0));
       rest : (s : ℕ) → l.row * l.width ≤ s → get_or (map number l.line) s (pos 0) ≡ get_or (map number l.initial.line) s (pos 0);
     }

@@ -17,4 +17,5 @@ returns c =
     let book = c.args.book.now in
     let place : c.bidders-bidders.result - c.args.k + 1 - 1 ≡ length book.bidders - c.args.k = omega (arith, c.bidders-bidders.ensures.bidders) in
     line-left book c.args.k c.plain_line.new.line (omega arith)
-    (subst (λ (n : ℕ). IsLine (in_order true (menu_of book)) (worths_in_order true (length book.bidders) (net_of book)) book.supply n c.plain_line.new.line) place c.plain_line.ensures)
+    (subst (λ (n : ℕ). IsLine (in_order true (menu_of book)) (worths_in_order true (length book.bidders) (net_of book)) book.supply n c.plain_line.new.line)
+    place c.plain_line.ensures)

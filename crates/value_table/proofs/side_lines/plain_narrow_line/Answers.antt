@@ -15,10 +15,12 @@ pub put_narrow_line-requires-clause-below : goal.put_narrow_line-requires-clause
 put_narrow_line-requires-clause-below c =
     let book = c.args.book.now in
     let turned = c.args.turned in
-    line-lowered (in_order turned (menu_of book)) (worths_in_order turned (length book.bidders) (net_of book)) c.args.surplus.now (λ j. refl) c.requires.zeros book.supply c.args.j c.args.below.now c.requires.below
+    line-lowered (in_order turned (menu_of book)) (worths_in_order turned (length book.bidders) (net_of book)) c.args.surplus.now
+    (λ j. refl) c.requires.zeros book.supply c.args.j c.args.below.now c.requires.below
 
 pub returns : goal.returns
 returns c =
     let book = c.args.book.now in
     let turned = c.args.turned in
-    line-plain (in_order turned (menu_of book)) (worths_in_order turned (length book.bidders) (net_of book)) c.args.surplus.now book.supply (c.args.j - 1) c.put_narrow_line.new.line (λ j. refl) c.requires.zeros c.put_narrow_line.ensures
+    line-plain (in_order turned (menu_of book)) (worths_in_order turned (length book.bidders) (net_of book)) c.args.surplus.now book.supply
+    (c.args.j - 1) c.put_narrow_line.new.line (λ j. refl) c.requires.zeros c.put_narrow_line.ensures

@@ -22,7 +22,8 @@ pub first_number-requires-clause-here : goal.first_number-requires-clause-here
 first_number-requires-clause-here c =
     let book = c.args.book.now in
     let fits : SFits w128 c.args.entry = search rules in
-    rw (to_z-of_z w128 c.args.entry fits) (entry-lowered (menu_of book) (net_of book) c.args.surplus.now (λ j. refl) c.requires.zeros (c.args.k - 1) (left_at book.supply c.args.place) c.args.entry c.requires.entry)
+    rw (to_z-of_z w128 c.args.entry fits) (entry-lowered (menu_of book) (net_of book) c.args.surplus.now (λ j. refl) c.requires.zeros (c.args.k - 1)
+    (left_at book.supply c.args.place) c.args.entry c.requires.entry)
 
 pub first_number-requires-clause-below : goal.first_number-requires-clause-below
 first_number-requires-clause-below c =
@@ -34,7 +35,8 @@ pub returns-clause-first : goal.returns-clause-first
 returns-clause-first c =
     let book = c.args.book.now in
     let fits : SFits w128 c.args.entry = search rules in
-    number-plain (menu_of book) (net_of book) c.args.surplus.now (λ j. refl) c.requires.zeros book.supply c.args.k c.args.place c.args.entry c.args.after.now c.first_number.result c.requires.bidder.0
+    number-plain (menu_of book) (net_of book) c.args.surplus.now (λ j. refl) c.requires.zeros book.supply c.args.k c.args.place c.args.entry c.args.after.now
+    c.first_number.result c.requires.bidder.0
     (subst (λ (b : List ℤ). IsFirstNumber (without (menu_of book) 0) (lowered (pos 1) (net_of book) c.args.surplus.now) book.supply c.args.k
     c.args.place c.args.entry b
     c.first_number.result) (map-id c.args.after.now) (rw (to_z-of_z w128 c.args.entry fits) at c.first_number.ensures.first))

@@ -33,5 +33,6 @@ loop-s-preserved c =
     let b_fits : SFits w128 b = fits_signed_from_abs w128 b (omega (arith, b_size)) in
     let sum_fits : SFits w128 (a +ℤ b) = fits_signed_from_abs w128 (a +ℤ b) (omega (arith, sum-size a b a_size b_size)) in
     let most_fits : SFits w128 c.max-most.result = search rules in
-    let is : c.max-most.result ≡ int_max most (a +ℤ b) = rw (to_z-of_z w128 a a_fits, to_z-of_z w128 b b_fits, to_z-of_z w128 (a +ℤ b) sum_fits) at c.max-most.ensures.value in
+    let is : c.max-most.result ≡ int_max most (a +ℤ b) = rw (to_z-of_z w128 a a_fits, to_z-of_z w128 b b_fits, to_z-of_z w128 (a +ℤ b) sum_fits)
+    at c.max-most.ensures.value in
     rw (to_z-of_z w128 c.max-most.result most_fits, is) (pair-next (length before) before after s most c.loop-s-test.true c.loop-s.invariant)

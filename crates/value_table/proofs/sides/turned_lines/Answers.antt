@@ -14,7 +14,9 @@ invariant_of-lowering c =
 pub returns : goal.returns
 returns c =
     let book = c.args.book.now in
-    let zeros : (k : ℕ) → get_or c.deref.result.now k (pos 0) ≡ pos 0 = λ k. ap (λ (l : List ℤ). get_or l k (pos 0)) c.deref.ensures.value ∙ c.in_ok-surplus.ensures.zeros k in
+    let zeros : (k : ℕ) → get_or c.deref.result.now k (pos 0) ≡ pos 0 = λ k. ap (λ (l : List ℤ). get_or l k (pos 0)) c.deref.ensures.value
+    ∙ c.in_ok-surplus.ensures.zeros k in
     record {
-      exact = table-plain (in_order true (menu_of book)) (worths_in_order true (length book.bidders) (net_of book)) c.deref.result.now book.supply c.in_ok-lines.lines (λ j. refl) zeros c.in_ok-lines.ensures;
+      exact = table-plain (in_order true (menu_of book)) (worths_in_order true (length book.bidders) (net_of book)) c.deref.result.now book.supply
+          c.in_ok-lines.lines (λ j. refl) zeros c.in_ok-lines.ensures;
     }

@@ -38,7 +38,8 @@ loop-i-preserved g c =
     let here_same = to_z-of_z w128 c.args.here here_fits in
     let known : c.loop-i.i + 1 ≤ m.bids c.args.j = omega (arith, c.bids-i-end.ensures.bids) in
     let sum_of = sum_with m counts supply c.args.j c.args.place (map g.A.Amount.number c.args.below.now) in
-    let was : (h : ℕ) → h < c.loop-i.i → IsTrue (is_within (m.lots c.args.j (h + 1)) (left_at supply c.args.place)) → sum_of (h + 1) <ℤ c.args.here = rw here_same at c.loop-i.invariant in
+    let was : (h : ℕ) → h < c.loop-i.i → IsTrue (is_within (m.lots c.args.j (h + 1)) (left_at supply c.args.place)) → sum_of (h + 1) <ℤ c.args.here =
+    rw here_same at c.loop-i.invariant in
     rw here_same
     (below_more (λ h. IsTrue (is_within (m.lots c.args.j (h + 1)) (left_at supply c.args.place)) → sum_of (h + 1) <ℤ c.args.here) c.loop-i.i was
     (elim c.match-sum_at.branch [

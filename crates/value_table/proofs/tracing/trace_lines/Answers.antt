@@ -57,5 +57,6 @@ returns c =
     let l = c.args.lowering.now in
     let m = counted_bids l in
     let all : c.loop-k.k ≡ m.bidders = omega (arith, c.bidders-k-end.ensures.bidders) in
-    let last : IsFirstGreatest (fits_after m c.loop-k.k (left_at l.book.now.supply c.loop-k.place)) (sum_after (counted l) c.loop-k.k) [] = rw all (first-last m (counted l) (left_at l.book.now.supply c.loop-k.place)) in
+    let last : IsFirstGreatest (fits_after m c.loop-k.k (left_at l.book.now.supply c.loop-k.place)) (sum_after (counted l) c.loop-k.k) [] =
+    rw all (first-last m (counted l) (left_at l.book.now.supply c.loop-k.place)) in
     rw append-nil at (c.loop-k.invariant.rest [] last)

@@ -10,5 +10,7 @@ use Rattle.value_table.proofs.tracing.trace_lines.Given as goal
 abbrev pub invariant-loop-k : goal.invariant-loop-k
 invariant-loop-k l = record {
   place : l.place < states_of l.lowering.book.now.supply;
-  rest : (r : List ℕ) → IsFirstGreatest (fits_after (counted_bids l.lowering) l.k (left_at l.lowering.book.now.supply l.place)) (sum_after (counted l.lowering) l.k) r → IsFirstGreatest (fits_after (counted_bids l.lowering) 0 l.lowering.book.now.supply) (sum_after (counted l.lowering) 0) (l.numbers ++ r);
+  rest : (r : List ℕ) → IsFirstGreatest (fits_after (counted_bids l.lowering) l.k (left_at l.lowering.book.now.supply l.place))
+      (sum_after (counted l.lowering) l.k) r → IsFirstGreatest (fits_after (counted_bids l.lowering) 0 l.lowering.book.now.supply)
+      (sum_after (counted l.lowering) 0) (l.numbers ++ r);
 }

@@ -30,11 +30,14 @@ loop-k-preserved c =
           let some : get_or z k 0 ≢ 0 = λ e. w.if-number-ne0.true (number ∙ e) in
           let more : winners_after 0 (take (k + 1) z) ≡ winners_after 0 (take k z) ++ (k + 1) ∷ [] = winners-take z k inside some in
           let singles : c.if-number-ne0.singles.items ≡ c.loop-k.singles.items ++ one.single ∷ [] = rw w.singles-is w.in_ok-push.ensures.items in
-          let tables : map lines c.if-number-ne0.tables.items ≡ map lines c.loop-k.tables.items ++ one.table.lines ∷ [] = rw (w.tables-is, w.in_ok-push-2.ensures.items) (map-append lines c.loop-k.tables.items (one.table ∷ [])) in
+          let tables : map lines c.if-number-ne0.tables.items ≡ map lines c.loop-k.tables.items ++ one.table.lines ∷ [] =
+          rw (w.tables-is, w.in_ok-push-2.ensures.items) (map-append lines c.loop-k.tables.items (one.table ∷ [])) in
           record {
-            winners = ap (map winner) singles ∙ map-append winner c.loop-k.singles.items (one.single ∷ []) ∙ ap (λ l. l ++ one.single.winner ∷ []) was.winners ∙ ap (λ n. winners_after 0 (take k z) ++ n ∷ []) w.in_ok-one.ensures.winner ∙ sym more;
+            winners = ap (map winner) singles ∙ map-append winner c.loop-k.singles.items (one.single ∷ []) ∙ ap (λ l. l ++ one.single.winner ∷ []) was.winners
+                ∙ ap (λ n. winners_after 0 (take k z) ++ n ∷ []) w.in_ok-one.ensures.winner ∙ sym more;
             each = rw singles (each-push (IsSingle (market_of book) z) c.loop-k.singles.items one.single was.each w.in_ok-one.ensures.single);
-            tables = rw (more, tables) (tables-more book (winners_after 0 (take k z)) (map lines c.loop-k.tables.items) (k + 1) one.table.lines was.tables w.in_ok-one.ensures.table);
+            tables = rw (more, tables) (tables-more book (winners_after 0 (take k z)) (map lines c.loop-k.tables.items)
+                (k + 1) one.table.lines was.tables w.in_ok-one.ensures.table);
           }
       | else-number-ne0 w ↦
           let none : get_or z k 0 ≡ 0 = sym number ∙ w.if-number-ne0.false in

@@ -33,7 +33,8 @@ pub overflow_sub-single : goal.overflow_sub-single
 overflow_sub-single c =
     let all = c.most-all.result in
     let own = c.net-own.result in
-    let own_small = own-small c.args.book.now c.args.winners.now c.args.j own c.kept.ensures c.requires.winners c.requires.bidder.0 c.requires.bidder.1 (c.net-own.ensures ∙ ap (net_of c.args.book.now c.args.j) c.number.ensures) in
+    let own_small = own-small c.args.book.now c.args.winners.now c.args.j own c.kept.ensures c.requires.winners c.requires.bidder.0 c.requires.bidder.1
+    (c.net-own.ensures ∙ ap (net_of c.args.book.now c.args.j) c.number.ensures) in
     let all_fits : SFits w128 all = search rules in
     let own_fits : SFits w128 own = search rules in
     let left_fits : SFits w128 (all -ℤ own) = fits_signed_from_abs w128 (all -ℤ own) (left-size all own c.most-all.ensures.size own_small) in
@@ -44,12 +45,14 @@ overflow_sub-single-2 c =
     let others = c.most_without-others.result in
     let all = c.most-all.result in
     let own = c.net-own.result in
-    let own_small = own-small c.args.book.now c.args.winners.now c.args.j own c.kept.ensures c.requires.winners c.requires.bidder.0 c.requires.bidder.1 (c.net-own.ensures ∙ ap (net_of c.args.book.now c.args.j) c.number.ensures) in
+    let own_small = own-small c.args.book.now c.args.winners.now c.args.j own c.kept.ensures c.requires.winners c.requires.bidder.0 c.requires.bidder.1
+    (c.net-own.ensures ∙ ap (net_of c.args.book.now c.args.j) c.number.ensures) in
     let others_fits : SFits w128 others = search rules in
     let all_fits : SFits w128 all = search rules in
     let own_fits : SFits w128 own = search rules in
     let left_fits : SFits w128 (all -ℤ own) = fits_signed_from_abs w128 (all -ℤ own) (left-size all own c.most-all.ensures.size own_small) in
-    let price_fits : SFits w128 (others -ℤ (all -ℤ own)) = fits_signed_from_abs w128 (others -ℤ (all -ℤ own)) (price-size others all own c.most_without-others.ensures.size c.most-all.ensures.size own_small) in
+    let price_fits : SFits w128 (others -ℤ (all -ℤ own)) = fits_signed_from_abs w128 (others -ℤ (all -ℤ own))
+    (price-size others all own c.most_without-others.ensures.size c.most-all.ensures.size own_small) in
     simp to_z-of_z price_fits
 
 pub returns-clause-single : goal.returns-clause-single
@@ -70,9 +73,12 @@ returns-clause-single c =
     let all_fits : SFits w128 all = search rules in
     let own_fits : SFits w128 own = search rules in
     let left_fits : SFits w128 (all -ℤ own) = fits_signed_from_abs w128 (all -ℤ own) (left-size all own c.most-all.ensures.size own_small) in
-    let price_fits : SFits w128 (others -ℤ (all -ℤ own)) = fits_signed_from_abs w128 (others -ℤ (all -ℤ own)) (price-size others all own c.most_without-others.ensures.size c.most-all.ensures.size own_small) in
-    let w : IsEntry (menu_without book 0) (lowered (pos 1) (net_of book) whole.surplus) 0 book.supply all = rw (of_whole.1.skip, of_whole.1.den) at c.most-all.ensures.most in
-    let g : IsFirstGreatest (fits_after (menu_without book j) 0 book.supply) (sum_after (lowered (pos 1) (net_of book) table.surplus) 0) c.in_ok-choice.choice = rw (plain.skip, plain.den) at c.in_ok-choice.ensures in
+    let price_fits : SFits w128 (others -ℤ (all -ℤ own)) = fits_signed_from_abs w128 (others -ℤ (all -ℤ own))
+    (price-size others all own c.most_without-others.ensures.size c.most-all.ensures.size own_small) in
+    let w : IsEntry (menu_without book 0) (lowered (pos 1) (net_of book) whole.surplus) 0 book.supply all =
+    rw (of_whole.1.skip, of_whole.1.den) at c.most-all.ensures.most in
+    let g : IsFirstGreatest (fits_after (menu_without book j) 0 book.supply) (sum_after (lowered (pos 1) (net_of book) table.surplus) 0)
+    c.in_ok-choice.choice = rw (plain.skip, plain.den) at c.in_ok-choice.ensures in
     let price : IsVickreyPrice (market_of book) z j (others -ℤ (all -ℤ own)) =
     price-is book z j others all own c.requires.winners c.requires.used is
     (greatest-all book whole.surplus of_whole.1.zeros all w) c.most_without-others.ensures.most in

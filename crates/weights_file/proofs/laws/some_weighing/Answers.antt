@@ -9,4 +9,5 @@ use Rattle.weights_file.proofs.laws.some_weighing.Goals as goal
 
 pub returns : goal.returns
 returns c = λ book bytes rules.
-    some_answer (IsSound book rules) (Step book) excess begin finish (AreWeights (length book.bidders)) (lines book) (reads book rules) (leads book rules) ends bytes
+    some_answer (IsSound book rules) (Step book) excess begin finish (AreWeights (length book.bidders)) (lines book) (reads book rules)
+    (leads book rules) ends bytes

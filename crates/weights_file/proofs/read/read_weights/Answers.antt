@@ -20,4 +20,5 @@ returns-in-Err-Form-clause-form c = λ place err.
     let same : c.in-Err-Form.place ≡ place = cc (err) in
     let halts = c.in-Err-Form.ensures.form c.in-Err-Form.place (ap Err c.in-Err-Form.field-0-is) in
     subst (FaultAt (AreWeights (length book.bidders)) (lines book) c.args.bytes.now) same
-    (fault_read (reads book c.kept.ensures.rules.form) c.args.bytes.now c.in-Err-Form.place (halts_too (Step book) begin finish c.args.bytes.now c.in-Err-Form.place halts))
+    (fault_read (reads book c.kept.ensures.rules.form) c.args.bytes.now c.in-Err-Form.place
+    (halts_too (Step book) begin finish c.args.bytes.now c.in-Err-Form.place halts))

@@ -29,7 +29,8 @@ loop-byte-preserved c =
     record {
       some = omega arith;
       leading = c.loop-byte.invariant.leading;
-      value = ap (λ (k : ℕ). 10 * k + (get_or c.args.text.now c.loop-byte.byte-index 0 - 48)) c.loop-byte.invariant.value ∙ sym (read_on_more c.args.text.now c.loop-byte.byte-index lt);
+      value = ap (λ (k : ℕ). 10 * k + (get_or c.args.text.now c.loop-byte.byte-index 0 - 48)) c.loop-byte.invariant.value
+          ∙ sym (read_on_more c.args.text.now c.loop-byte.byte-index lt);
       small = omega arith;
       digits = digits_more c.args.text.now c.loop-byte.byte-index lt c.loop-byte.invariant.digits digit;
     }

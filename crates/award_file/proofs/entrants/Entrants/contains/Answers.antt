@@ -11,5 +11,6 @@ not-not false = refl
 
 pub returns : goal.returns
 returns c =
-    let seen = ap (λ (bidders : List Entrant). is_stranger c.args.name.now (names_of bidders)) (sym c.self.view_is) ∙ stranger-is c.self.inside.by_name c.args.name.now in
+    let seen = ap (λ (bidders : List Entrant). is_stranger c.args.name.now (names_of bidders)) (sym c.self.view_is)
+    ∙ stranger-is c.self.inside.by_name c.args.name.now in
     c.contains_key.ensures ∙ not-not _ ∙ sym (ap not seen)

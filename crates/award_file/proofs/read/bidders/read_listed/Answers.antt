@@ -14,7 +14,8 @@ pub returns-in_err-take_bidder-clause-err : goal.returns-in_err-take_bidder-clau
 returns-in_err-take_bidder-clause-err c =
     let p = err_from_is_err_and c.from_residual.result c.from_residual.ensures.1 in
     let here = table-here c.args.tables.now c.tables.element-index c.element-item.result c.in-Table.table c.tables-test.true c.element-item.is c.in-Table.is in
-    let stop : IsFault (bidder_fault c.args.categories (names_of c.tables.bidders) (table_view c.in-Table.table)) c.in_err-take_bidder.field-0.0 = c.in_err-take_bidder.ensures.err in
+    let stop : IsFault (bidder_fault c.args.categories (names_of c.tables.bidders) (table_view c.in-Table.table)) c.in_err-take_bidder.field-0.0 =
+    c.in_err-take_bidder.ensures.err in
     rw (p.1, p.2) (stops-here (bidder_fault c.args.categories) name_or_none _ _ _ _ _ _ here c.tables.invariant.0 stop)
 
 pub tables-preserved : goal.tables-preserved
@@ -26,7 +27,8 @@ tables-preserved c =
     let bidders : c.take_bidder.new.bidders ≡ c.tables.bidders ++ entrant_of n t ∷ [] = c.in_ok-take_bidder.ensures.ok.1 in
     let passes : bidder_fault n (names_of c.tables.bidders) t ≡ None = c.in_ok-take_bidder.ensures.ok.0 in
     let part = part-more (λ (e : Entrant). e.name) c.tables.bidders (entrant_of n t) (name_or_none t) refl in (
-      ap (λ (before : List (List ℕ)). tables_fault (bidder_fault n) name_or_none before later) (ap names_of bidders ∙ part) ∙ passes-here (bidder_fault n) name_or_none (names_of c.tables.bidders) t _ later _ here c.tables.invariant.0 passes,
+      ap (λ (before : List (List ℕ)). tables_fault (bidder_fault n) name_or_none before later) (ap names_of bidders ∙ part)
+          ∙ passes-here (bidder_fault n) name_or_none (names_of c.tables.bidders) t _ later _ here c.tables.invariant.0 passes,
       ap (λ (read : List Entrant). read ++ map (entrant_of n) later) bidders ∙ reads-here (entrant_of n) c.tables.bidders t _ later _ here c.tables.invariant.1,
     )
 

@@ -14,7 +14,8 @@ pub returns-in_err-category-clause-err : goal.returns-in_err-category-clause-err
 returns-in_err-category-clause-err c =
     let p = err_from_is_err_and c.from_residual.result c.from_residual.ensures.1 in
     let here = table-here c.args.tables.now c.tables.element-index c.element-item.result c.in-Table.table c.tables-test.true c.element-item.is c.in-Table.is in
-    let stop : IsFault (category_fault (category_names c.tables.categories.items) (table_view c.in-Table.table)) c.in_err-category.field-0.0 = rw c.deref.ensures.value at c.in_err-category.ensures.err in
+    let stop : IsFault (category_fault (category_names c.tables.categories.items) (table_view c.in-Table.table)) c.in_err-category.field-0.0 =
+    rw c.deref.ensures.value at c.in_err-category.ensures.err in
     rw (p.1, p.2) (stops-here category_fault name_or_none _ _ _ _ _ _ here c.tables.invariant.0 stop)
 
 pub tables-preserved : goal.tables-preserved
@@ -25,10 +26,13 @@ tables-preserved c =
     let items : c.push.new.self.items ≡ c.tables.categories.items ++ c.in_ok-category.category ∷ [] = c.in_ok-push.ensures.items in
     let is : category_value c.in_ok-category.category ≡ category_of t = c.in_ok-category.ensures.ok.1 in
     let passes : category_fault (category_names c.tables.categories.items) t ≡ None = rw c.deref.ensures.value at c.in_ok-category.ensures.ok.0 in
-    let names = part-more (λ (r : Read). string_bytes r.name) c.tables.categories.items c.in_ok-category.category (name_or_none t) (ap (λ (v : Category). v.name) is) in
+    let names = part-more (λ (r : Read). string_bytes r.name) c.tables.categories.items c.in_ok-category.category (name_or_none t)
+    (ap (λ (v : Category). v.name) is) in
     let values = part-more category_value c.tables.categories.items c.in_ok-category.category (category_of t) is in (
-      ap (λ (before : List (List ℕ)). tables_fault category_fault name_or_none before later) (ap category_names items ∙ names) ∙ passes-here category_fault name_or_none (category_names c.tables.categories.items) t _ later _ here c.tables.invariant.0 passes,
-      ap (λ (read : List Category). read ++ map category_of later) (ap category_values items ∙ values) ∙ reads-here category_of (category_values c.tables.categories.items) t _ later _ here c.tables.invariant.1,
+      ap (λ (before : List (List ℕ)). tables_fault category_fault name_or_none before later) (ap category_names items ∙ names)
+          ∙ passes-here category_fault name_or_none (category_names c.tables.categories.items) t _ later _ here c.tables.invariant.0 passes,
+      ap (λ (read : List Category). read ++ map category_of later) (ap category_values items ∙ values)
+          ∙ reads-here category_of (category_values c.tables.categories.items) t _ later _ here c.tables.invariant.1,
     )
 
 pub tables-preserved-in_default : goal.tables-preserved-in_default

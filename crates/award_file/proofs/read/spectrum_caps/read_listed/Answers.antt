@@ -16,7 +16,8 @@ pub returns-in_err-cap-clause-err : goal.returns-in_err-cap-clause-err
 returns-in_err-cap-clause-err c =
     let p = err_from_is_err_and c.from_residual.result c.from_residual.ensures.1 in
     let here = table-here c.args.tables.now c.tables.element-index c.element-item.result c.in-Table.table c.tables-test.true c.element-item.is c.in-Table.is in
-    let stop : IsFault (cap_fault c.args.categories (limits c.tables.caps.items) (table_view c.in-Table.table)) c.in_err-cap.field-0.0 = rw c.deref.ensures.value at c.in_err-cap.ensures.err in
+    let stop : IsFault (cap_fault c.args.categories (limits c.tables.caps.items) (table_view c.in-Table.table)) c.in_err-cap.field-0.0 =
+    rw c.deref.ensures.value at c.in_err-cap.ensures.err in
     rw (p.1, p.2) (stops-here (cap_fault c.args.categories) limit_or_none _ _ _ _ _ _ here c.tables.invariant.0 stop)
 
 pub tables-preserved : goal.tables-preserved
@@ -30,8 +31,10 @@ tables-preserved c =
     let passes : cap_fault n (limits c.tables.caps.items) t ≡ None = rw c.deref.ensures.value at c.in_ok-cap.ensures.ok.0 in
     let part = part-more (λ (r : Kept). r.limit) c.tables.caps.items c.in_ok-cap.cap (limit_or_none t) (ap (λ (v : SpectrumCap). v.limit) is) in
     let values = part-more cap_value c.tables.caps.items c.in_ok-cap.cap (cap_of n t) is in (
-      ap (λ (before : List ℕ). tables_fault (cap_fault n) limit_or_none before later) (ap limits items ∙ part) ∙ passes-here (cap_fault n) limit_or_none (limits c.tables.caps.items) t _ later _ here c.tables.invariant.0 passes,
-      ap (λ (read : List SpectrumCap). read ++ map (cap_of n) later) (ap cap_values items ∙ values) ∙ reads-here (cap_of n) (cap_values c.tables.caps.items) t _ later _ here c.tables.invariant.1,
+      ap (λ (before : List ℕ). tables_fault (cap_fault n) limit_or_none before later) (ap limits items ∙ part)
+          ∙ passes-here (cap_fault n) limit_or_none (limits c.tables.caps.items) t _ later _ here c.tables.invariant.0 passes,
+      ap (λ (read : List SpectrumCap). read ++ map (cap_of n) later) (ap cap_values items ∙ values) ∙ reads-here (cap_of n)
+          (cap_values c.tables.caps.items) t _ later _ here c.tables.invariant.1,
     )
 
 pub tables-preserved-in_default : goal.tables-preserved-in_default

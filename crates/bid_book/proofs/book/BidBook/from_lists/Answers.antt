@@ -17,11 +17,13 @@ book_bidders-requires-clause-sound c =
 pub returns : goal.returns
 returns c =
     let made : Inside = record { supply = c.args.supply; reserves = c.into_vec-reserves.result; bidders = c.in_ok-bidders.bidders } in
-    held_is made c.args.reserves c.args.bidders c.into_vec-reserves.ensures (subst (λ (r : List ℕ). AreBookBidders r c.args.bidders c.in_ok-bidders.bidders.items) c.deref.ensures.value c.in_ok-bidders.ensures)
+    held_is made c.args.reserves c.args.bidders c.into_vec-reserves.ensures (subst
+    (λ (r : List ℕ). AreBookBidders r c.args.bidders c.in_ok-bidders.bidders.items) c.deref.ensures.value c.in_ok-bidders.ensures)
 
 pub invariant_of-result : goal.invariant_of-result
 invariant_of-result c =
     let made : Inside = record { supply = c.args.supply; reserves = c.into_vec-reserves.result; bidders = c.in_ok-bidders.bidders } in
-    let own : AreBookBidders c.into_vec-reserves.result.items c.args.bidders c.in_ok-bidders.bidders.items = subst (λ (r : List ℕ). AreBookBidders r c.args.bidders c.in_ok-bidders.bidders.items) c.deref.ensures.value c.in_ok-bidders.ensures in
+    let own : AreBookBidders c.into_vec-reserves.result.items c.args.bidders c.in_ok-bidders.bidders.items =
+    subst (λ (r : List ℕ). AreBookBidders r c.args.bidders c.in_ok-bidders.bidders.items) c.deref.ensures.value c.in_ok-bidders.ensures in
     let is = held_is made c.args.reserves c.args.bidders c.into_vec-reserves.ensures own in
     (subst IsBidBook (sym is) (kept (book_of c.args.supply c.args.reserves c.args.bidders) c.requires), own.nets, own.betters)

@@ -17,7 +17,8 @@ use Rattle.bid_book.proofs.book.BidBook.put_bid.Goals as goal
 pub with_net-entry-requires-clause-count : goal.with_net-entry-requires-clause-count
 with_net-entry-requires-clause-count c =
     let own = put-sound c.args.self.now c.args.j (bid_of c.args.bid) c.requires.bidder.0 c.requires.bidder.1 c.requires.kept in
-    ap (λ (l : List ℕ). length l) c.deref.ensures.value ∙ ap (λ (b : Book). length b.reserves) c.self.view_is ∙ c.requires.kept.form.reserves.count ∙ sym own.categories
+    ap (λ (l : List ℕ). length l) c.deref.ensures.value ∙ ap (λ (b : Book). length b.reserves) c.self.view_is ∙ c.requires.kept.form.reserves.count
+    ∙ sym own.categories
 
 pub put_entry-requires-clause-categories : goal.put_entry-requires-clause-categories
 put_entry-requires-clause-categories c = λ k d inside.
@@ -38,9 +39,12 @@ pub invariant_of-self : goal.invariant_of-self
 invariant_of-self c =
     let known : c.args.j ≤ length c.self.inside.bidders.items = omega (arith, bidders-read c.self.inside c.args.self.now c.self.view_is) in
     let same = c.in_err-put_entry.ensures.unchanged in (
-      subst IsBidBook (sym (bids_same c.self.inside c.args.j c.requires.bidder.0 known c.index_mut-bidder.result.now c.index_mut-bidder.ensures.value c.put_entry.new.bids same)) c.self.invariant.0,
-      same_nets c.self.inside c.args.j c.requires.bidder.0 known c.index_mut-bidder.result.now c.index_mut-bidder.ensures.value c.put_entry.new.bids same c.self.invariant.1,
-      same_betters c.self.inside c.args.j c.requires.bidder.0 known c.index_mut-bidder.result.now c.index_mut-bidder.ensures.value c.put_entry.new.bids same c.self.invariant.2,
+      subst IsBidBook (sym (bids_same c.self.inside c.args.j c.requires.bidder.0 known c.index_mut-bidder.result.now c.index_mut-bidder.ensures.value
+          c.put_entry.new.bids same)) c.self.invariant.0,
+      same_nets c.self.inside c.args.j c.requires.bidder.0 known c.index_mut-bidder.result.now c.index_mut-bidder.ensures.value c.put_entry.new.bids same
+          c.self.invariant.1,
+      same_betters c.self.inside c.args.j c.requires.bidder.0 known c.index_mut-bidder.result.now c.index_mut-bidder.ensures.value c.put_entry.new.bids same
+          c.self.invariant.2,
     )
 
 pub invariant_of-self-2 : goal.invariant_of-self-2
@@ -52,10 +56,14 @@ invariant_of-self-2 c =
     let read = c.index_mut-bidder.ensures.value in
     let put = c.in_ok-put_entry.ensures.put in
     let own = own_bids b j c.requires.bidder.0 known old read c.args.self.now c.self.view_is in
-    let list = put-list (bids_of c.args.self.now j) old.bids.items c.put_entry.new.bids.items c.with_net-entry.result (bid_of c.args.bid) own c.with_net-entry.ensures.bid put in
-    let net : HasNet b.reserves.items c.with_net-entry.result = subst (λ (r : List ℕ). HasNet r c.with_net-entry.result) c.deref.ensures.value c.with_net-entry.ensures.net in (
-      subst IsBidBook (sym (bids_are b j c.requires.bidder.0 known old read c.put_entry.new.bids c.args.self.now _ c.self.view_is list)) (kept _ c.requires.kept),
-      changed_nets b j c.requires.bidder.0 known old read c.put_entry.new.bids c.self.invariant.1 (put.nets b.reserves.items (own_nets b j c.requires.bidder.0 known old read c.self.invariant.1) net),
+    let list = put-list (bids_of c.args.self.now j) old.bids.items c.put_entry.new.bids.items c.with_net-entry.result
+    (bid_of c.args.bid) own c.with_net-entry.ensures.bid put in
+    let net : HasNet b.reserves.items c.with_net-entry.result = subst (λ (r : List ℕ). HasNet r c.with_net-entry.result) c.deref.ensures.value
+    c.with_net-entry.ensures.net in (
+      subst IsBidBook (sym (bids_are b j c.requires.bidder.0 known old read c.put_entry.new.bids c.args.self.now _ c.self.view_is list))
+          (kept _ c.requires.kept),
+      changed_nets b j c.requires.bidder.0 known old read c.put_entry.new.bids c.self.invariant.1
+          (put.nets b.reserves.items (own_nets b j c.requires.bidder.0 known old read c.self.invariant.1) net),
       changed_betters b j c.requires.bidder.0 known old read c.put_entry.new.bids c.self.invariant.2 put.betters,
     )
 
@@ -63,7 +71,8 @@ pub returns-in_err-put_entry-clause-unchanged : goal.returns-in_err-put_entry-cl
 returns-in_err-put_entry-clause-unchanged c =
     let known : c.args.j ≤ length c.self.inside.bidders.items = omega (arith, bidders-read c.self.inside c.args.self.now c.self.view_is) in
     on-err c.from_residual.result _
-    (bids_same c.self.inside c.args.j c.requires.bidder.0 known c.index_mut-bidder.result.now c.index_mut-bidder.ensures.value c.put_entry.new.bids c.in_err-put_entry.ensures.unchanged ∙ c.self.view_is)
+    (bids_same c.self.inside c.args.j c.requires.bidder.0 known c.index_mut-bidder.result.now c.index_mut-bidder.ensures.value c.put_entry.new.bids
+    c.in_err-put_entry.ensures.unchanged ∙ c.self.view_is)
 
 pub returns-in_err-put_entry-clause-known : goal.returns-in_err-put_entry-clause-known
 returns-in_err-put_entry-clause-known c = λ i is.
@@ -73,7 +82,8 @@ returns-in_err-put_entry-clause-known c = λ i is.
     own_bids c.self.inside c.args.j c.requires.bidder.0 known c.index_mut-bidder.result.now c.index_mut-bidder.ensures.value c.args.self.now c.self.view_is in
     let count : length (bids_of c.args.self.now c.args.j) ≡ length old = ap (λ (l : List BookBid). length l) own ∙ length-map old bid_value in
     let lots : (get_or (map bid_value old) (i - 1) no_bid).lots ≡ c.with_net-entry.result.bid.package =
-    ap (λ (l : List BookBid). (get_or l (i - 1) no_bid).lots) (sym own) ∙ sym (lots_at c.args.self.now c.args.j i is.some) ∙ is.own ∙ ap (λ (b : BookBid). b.lots) (sym c.with_net-entry.ensures.bid) in
+    ap (λ (l : List BookBid). (get_or l (i - 1) no_bid).lots) (sym own) ∙ sym (lots_at c.args.self.now c.args.j i is.some) ∙ is.own
+    ∙ ap (λ (b : BookBid). b.lots) (sym c.with_net-entry.ensures.bid) in
     absurd (false≢true (c.in_err-put_entry.ensures.known (i - 1) (omega (arith, is.some, is.known, count)) lots))
 
 pub returns-clause-put : goal.returns-clause-put
@@ -84,5 +94,6 @@ returns-clause-put c =
     let old = c.index_mut-bidder.result.now in
     let read = c.index_mut-bidder.ensures.value in
     let own = own_bids b j c.requires.bidder.0 known old read c.args.self.now c.self.view_is in
-    let list = put-list (bids_of c.args.self.now j) old.bids.items c.put_entry.new.bids.items c.with_net-entry.result (bid_of c.args.bid) own c.with_net-entry.ensures.bid c.in_ok-put_entry.ensures.put in
+    let list = put-list (bids_of c.args.self.now j) old.bids.items c.put_entry.new.bids.items c.with_net-entry.result
+    (bid_of c.args.bid) own c.with_net-entry.ensures.bid c.in_ok-put_entry.ensures.put in
     bids_are b j c.requires.bidder.0 known old read c.put_entry.new.bids c.args.self.now _ c.self.view_is list

@@ -17,8 +17,10 @@ returns-then-not-comes_before c =
     let lots : (get_or (map bid_value bids) place no_bid).lots ≡ counts =
     ap (λ (b : BookBid). b.lots) (get_or-map bid_value bids place c.index-bids-place.result no_bid c.loop-place-test.true) ∙ sym c.counts.ensures in
     let count : length counts ≡ length wanted =
-    ap (λ (l : List ℕ). length l) c.counts.ensures ∙ c.requires place c.index-bids-place.result c.loop-place-test.true ∙ ap (λ (l : List ℕ). length l) (sym c.counts-in-loop-place.ensures) in
-    let late : is_before counts wanted ≡ false = not-comes counts wanted count (λ comes. absurd (false≢true (sym c.if-not-comes_before.true ∙ c.comes_before.ensures.1 comes))) in
+    ap (λ (l : List ℕ). length l) c.counts.ensures ∙ c.requires place c.index-bids-place.result c.loop-place-test.true
+    ∙ ap (λ (l : List ℕ). length l) (sym c.counts-in-loop-place.ensures) in
+    let late : is_before counts wanted ≡ false = not-comes counts wanted count (λ comes. absurd
+    (false≢true (sym c.if-not-comes_before.true ∙ c.comes_before.ensures.1 comes))) in
     record {
       last = omega (arith, c.loop-place-test.true, length-map bids bid_value);
       before = c.loop-place.invariant;
@@ -32,4 +34,5 @@ loop-place-preserved c =
     let lots : (get_or (map bid_value bids) place no_bid).lots ≡ c.counts.result.now =
     ap (λ (b : BookBid). b.lots) (get_or-map bid_value bids place c.index-bids-place.result no_bid c.loop-place-test.true) ∙ sym c.counts.ensures in
     below_more (λ (k : ℕ). is_before (get_or (map bid_value bids) k no_bid).lots c.args.wanted.now ≡ true) place c.loop-place.invariant
-    (rw (lots, ← c.counts-in-loop-place.ensures) (comes-is_before c.counts.result.now c.counts-in-loop-place.result.now (c.comes_before.ensures.0 c.if-not-comes_before.false)))
+    (rw (lots, ← c.counts-in-loop-place.ensures) (comes-is_before c.counts.result.now c.counts-in-loop-place.result.now
+    (c.comes_before.ensures.0 c.if-not-comes_before.false)))

@@ -16,7 +16,8 @@ pub returns-in_err-add_entry-clause-known : goal.returns-in_err-add_entry-clause
 returns-in_err-add_entry-clause-known c = λ i inside own.
     let old = c.args.bids.now.items in
     let at = rw c.deref.ensures.value at c.place_of-place.ensures in
-    let there = place-there (map bid_value old) c.args.entry.bid.package c.place_of-place.result i c.requires.order at (omega (arith, inside, length-map old bid_value)) own in
+    let there = place-there (map bid_value old) c.args.entry.bid.package c.place_of-place.result i c.requires.order
+    at (omega (arith, inside, length-map old bid_value)) own in
     let here : c.place_of-place.result < length old = omega (arith, there.0, length-map old bid_value) in
     let yes = c.is_there.ensures.1 (rw c.deref-2.ensures.value (here, there.1)) in
     absurd (false≢true (sym c.if-is_there.false ∙ yes))

@@ -7,10 +7,12 @@ use Rattle.bid_book.proofs.read.entries.comes_next.Goals as goal
 
 pub returns-then-last-eq0 : goal.returns-then-last-eq0
 returns-then-last-eq0 c =
-    let lots = lots_none c.args.book.now c.bidders-last_bidder.result c.bids-last.result c.bidders-last_bidder.ensures.bidders c.bids-last.ensures.bids c.if-last-eq0.true in
+    let lots = lots_none c.args.book.now c.bidders-last_bidder.result c.bids-last.result c.bidders-last_bidder.ensures.bidders c.bids-last.ensures.bids
+    c.if-last-eq0.true in
     let own : lots_before c.args.book.now ≡ replicate (length c.args.package.now) 0 = lots ∙ ap (λ (n : ℕ). replicate n 0) (sym c.requires.categories) in (
       λ yes. subst (λ (l : List ℕ). ComesBefore l c.args.package.now) (sym own) (empty_comes c.args.package.now (grind (arith, nat_tests))),
-      λ comes. let none = comes_some (length c.args.package.now) c.args.package.now (subst (λ (l : List ℕ). ComesBefore l c.args.package.now) own comes) in grind (arith, nat_tests, none),
+      λ comes. let none = comes_some (length c.args.package.now) c.args.package.now (subst (λ (l : List ℕ). ComesBefore l c.args.package.now) own comes) in
+          grind (arith, nat_tests, none),
     )
 
 pub returns : goal.returns

@@ -9,7 +9,8 @@ use Rattle.bid_book.proofs.read.entries.is_used.Goals as goal
 pub returns-then-eq : goal.returns-then-eq
 returns-then-eq c =
     let decides = slice_eq-Decides Decides-eqb c.as_bytes.result.now c.args.name.now c.eq.result c.eq.ensures in
-    let same : (get_or c.args.book.now.bidders c.loop-j.j no_bidder).name ≡ c.args.name.now = sym (name_at c.args.book.now c.loop-j.j) ∙ sym c.name.ensures ∙ sym c.as_bytes.ensures.value ∙ decides.0 c.if-eq.true in
+    let same : (get_or c.args.book.now.bidders c.loop-j.j no_bidder).name ≡ c.args.name.now = sym (name_at c.args.book.now c.loop-j.j) ∙ sym c.name.ensures
+    ∙ sym c.as_bytes.ensures.value ∙ decides.0 c.if-eq.true in
     let lt : c.loop-j.j < length c.args.book.now.bidders = omega arith in
     (λ no_use. absurd (cc no_use), λ all. absurd (each_at (λ (b : Bidder). b.name ≢ c.args.name.now) c.args.book.now.bidders c.loop-j.j no_bidder all lt same))
 

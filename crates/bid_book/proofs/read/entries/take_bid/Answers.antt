@@ -12,8 +12,10 @@ pub returns-then-bids-ge-MOST_BIDS-clause-limit : goal.returns-then-bids-ge-MOST
 returns-then-bids-ge-MOST_BIDS-clause-limit c = λ kind count err.
     let some : 0 < length c.args.book.now.bidders = omega arith in
     let entry = c.in_ok-entry.ensures.ok in
-    let had : c.bids.result ≡ length (last_bids c.args.book.now) = c.bids.ensures.bids ∙ ap (λ (n : ℕ). length (bids_of c.args.book.now n)) c.bidders-2.ensures.bidders in
-    let over : last_excess 0 (with_bid c.args.book.now (bid_value c.in_ok-entry.entry)).bidders ≡ Some (Bids, 601) = bid_marks c.args.book.now (bid_value c.in_ok-entry.entry) some ∙ many_bids (length (last_bids c.args.book.now)) (omega arith) in
+    let had : c.bids.result ≡ length (last_bids c.args.book.now) = c.bids.ensures.bids ∙ ap (λ (n : ℕ). length (bids_of c.args.book.now n))
+    c.bidders-2.ensures.bidders in
+    let over : last_excess 0 (with_bid c.args.book.now (bid_value c.in_ok-entry.entry)).bidders ≡ Some (Bids, 601) =
+    bid_marks c.args.book.now (bid_value c.in_ok-entry.entry) some ∙ many_bids (length (last_bids c.args.book.now)) (omega arith) in
     let told = one_limit (Bids, 601) (kind, count) err in (
       with_bid c.args.book.now (bid_value c.in_ok-entry.entry),
       adds_entry c.args.book.now c.args.line.now (bid_value c.in_ok-entry.entry) some entry.0 entry.1,
@@ -24,7 +26,8 @@ pub add_bid-requires-clause-kept : goal.add_bid-requires-clause-kept
 add_bid-requires-clause-kept c =
     let some : 0 < length c.args.book.now.bidders = omega arith in
     let entry = c.in_ok-entry.ensures.ok in
-    let had : c.bids.result ≡ length (last_bids c.args.book.now) = c.bids.ensures.bids ∙ ap (λ (n : ℕ). length (bids_of c.args.book.now n)) c.bidders-2.ensures.bidders in
+    let had : c.bids.result ≡ length (last_bids c.args.book.now) = c.bids.ensures.bids ∙ ap (λ (n : ℕ). length (bids_of c.args.book.now n))
+    c.bidders-2.ensures.bidders in
     let none = bid_marks c.args.book.now (bid_value c.in_ok-entry.entry) some ∙ few_bids (length (last_bids c.args.book.now)) (omega arith) in
     grown c.args.book.now (with_bid c.args.book.now (bid_value c.in_ok-entry.entry)) c.args.line.now c.bidders.ensures.kept.rules
     (inr (adds_entry c.args.book.now c.args.line.now (bid_value c.in_ok-entry.entry) some entry.0 entry.1)) none
@@ -33,7 +36,8 @@ pub returns-clause-ok : goal.returns-clause-ok
 returns-clause-ok c =
     let some : 0 < length c.args.book.now.bidders = omega arith in
     let entry = c.in_ok-entry.ensures.ok in
-    let had : c.bids.result ≡ length (last_bids c.args.book.now) = c.bids.ensures.bids ∙ ap (λ (n : ℕ). length (bids_of c.args.book.now n)) c.bidders-2.ensures.bidders in
+    let had : c.bids.result ≡ length (last_bids c.args.book.now) = c.bids.ensures.bids ∙ ap (λ (n : ℕ). length (bids_of c.args.book.now n))
+    c.bidders-2.ensures.bidders in
     let none = bid_marks c.args.book.now (bid_value c.in_ok-entry.entry) some ∙ few_bids (length (last_bids c.args.book.now)) (omega arith) in
     subst (λ (b : Book). AddsBid c.args.book.now b c.args.line.now × (last_excess 0 b.bidders ≡ None)) (sym c.in_ok-add_bid.ensures)
     (adds_entry c.args.book.now c.args.line.now (bid_value c.in_ok-entry.entry) some entry.0 entry.1, none)

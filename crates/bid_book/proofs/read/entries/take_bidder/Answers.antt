@@ -23,8 +23,10 @@ add_bidder-requires c =
     let own : c.in_ok-name.name ≡ c.args.name.now = c.in_ok-name.ensures ∙ c.in-Some.ensures.some.0 in
     let none = bidder_marks c.args.book.now c.args.name.now ∙ few_bidders (length c.args.book.now.bidders) (omega arith) in
     subst (λ (n : List ℕ). IsBookWithinLimits (with_bidders c.args.book.now (c.args.book.now.bidders ++ bidder_with n [] ∷ []))) (sym own)
-    (grown c.args.book.now (with_bidders c.args.book.now (c.args.book.now.bidders ++ bidder_with c.args.name.now [] ∷ [])) (codes "bidder " ++ c.args.name.now) c.bidders.ensures.kept.rules
-    (inl (adds_name c.args.book.now (codes "bidder " ++ c.args.name.now) c.args.name.now c.in-Some.ensures.some.1 (c.is_used.ensures.0 c.if-is_used.false) refl)) none)
+    (grown c.args.book.now (with_bidders c.args.book.now (c.args.book.now.bidders ++ bidder_with c.args.name.now [] ∷ []))
+    (codes "bidder " ++ c.args.name.now) c.bidders.ensures.kept.rules
+    (inl (adds_name c.args.book.now (codes "bidder " ++ c.args.name.now) c.args.name.now c.in-Some.ensures.some.1
+    (c.is_used.ensures.0 c.if-is_used.false) refl)) none)
 
 pub returns-clause-ok : goal.returns-clause-ok
 returns-clause-ok c =
@@ -32,5 +34,7 @@ returns-clause-ok c =
     let none = bidder_marks c.args.book.now c.args.name.now ∙ few_bidders (length c.args.book.now.bidders) (omega arith) in
     let new : c.add_bidder.new.self ≡ with_bidders c.args.book.now (c.args.book.now.bidders ++ bidder_with c.args.name.now [] ∷ []) =
     c.in_ok-add_bidder.ensures ∙ ap (λ (n : List ℕ). with_bidders c.args.book.now (c.args.book.now.bidders ++ bidder_with n [] ∷ [])) own in
-    subst (λ (b : Book). AddsBidder c.args.book.now b (codes "bidder " ++ c.args.name.now) × (last_excess 0 b.bidders ≡ None)) (sym new)
-    (adds_name c.args.book.now (codes "bidder " ++ c.args.name.now) c.args.name.now c.in-Some.ensures.some.1 (c.is_used.ensures.0 c.if-is_used.false) refl, none)
+    subst (λ (b : Book). AddsBidder c.args.book.now b (codes "bidder " ++ c.args.name.now) × (last_excess 0 b.bidders ≡ None)) (sym new) (
+      adds_name c.args.book.now (codes "bidder " ++ c.args.name.now) c.args.name.now c.in-Some.ensures.some.1 (c.is_used.ensures.0 c.if-is_used.false) refl,
+      none,
+    )

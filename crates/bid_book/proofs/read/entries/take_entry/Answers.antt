@@ -7,7 +7,8 @@ use Rattle.bid_book.proofs.read.entries.take_entry.Goals as goal
 
 pub returns-in-Some-clause-form : goal.returns-in-Some-clause-form
 returns-in-Some-clause-form c =
-    let is : c.args.line.now ≡ codes "bidder " ++ c.in-Some.name.now = strip_prefix_is Decides-eqb c.args.line.now (codes "bidder ") (Some c.in-Some.name) c.in-Some.ensures.cases in
+    let is : c.args.line.now ≡ codes "bidder " ++ c.in-Some.name.now = strip_prefix_is Decides-eqb c.args.line.now (codes "bidder ")
+    (Some c.in-Some.name) c.in-Some.ensures.cases in
     λ err new adds. c.take_bidder.ensures.form err new (adds_named c.args.book.now new c.args.line.now c.in-Some.name.now is adds)
 
 pub returns-in-None-clause-form : goal.returns-in-None-clause-form

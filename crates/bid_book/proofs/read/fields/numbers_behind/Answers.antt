@@ -8,13 +8,16 @@ use Rattle.bid_book.proofs.read.fields.numbers_behind.Goals as goal
 
 pub returns-in-Some-clause-ok : goal.returns-in-Some-clause-ok
 returns-in-Some-clause-ok c =
-    let is : c.args.line.now ≡ c.args.word.now ++ c.in-Some.fields.now = strip_prefix_is Decides-eqb c.args.line.now c.args.word.now (Some c.in-Some.fields) c.in-Some.ensures.cases in
+    let is : c.args.line.now ≡ c.args.word.now ++ c.in-Some.fields.now = strip_prefix_is Decides-eqb c.args.line.now c.args.word.now
+    (Some c.in-Some.fields) c.in-Some.ensures.cases in
     IfOk-weaker c.read_numbers.result _ _ (λ v ok. (ok.0, is ∙ ap (λ (l : List ℕ). c.args.word.now ++ l) ok.1)) c.read_numbers.ensures.ok
 
 pub returns-in-Some-clause-form : goal.returns-in-Some-clause-form
 returns-in-Some-clause-form c =
-    let is : c.args.line.now ≡ c.args.word.now ++ c.in-Some.fields.now = strip_prefix_is Decides-eqb c.args.line.now c.args.word.now (Some c.in-Some.fields) c.in-Some.ensures.cases in
-    λ err ns small spelled. c.read_numbers.ensures.form err ns small (append_cancel_left c.args.word.now c.in-Some.fields.now (decimals_text ns) (sym is ∙ spelled))
+    let is : c.args.line.now ≡ c.args.word.now ++ c.in-Some.fields.now = strip_prefix_is Decides-eqb c.args.line.now c.args.word.now
+    (Some c.in-Some.fields) c.in-Some.ensures.cases in
+    λ err ns small spelled. c.read_numbers.ensures.form err ns small (append_cancel_left c.args.word.now c.in-Some.fields.now (decimals_text ns)
+    (sym is ∙ spelled))
 
 pub returns-in-None-clause-form : goal.returns-in-None-clause-form
 returns-in-None-clause-form c =

@@ -19,14 +19,16 @@ returns-then-contains-clause-form c = λ err supply spelled offer.
     let numbers = c.in_ok-numbers.ensures.ok in
     let same = supply_read c.args.line.now c.in_ok-numbers.numbers.items supply numbers.0 numbers.1 spelled offer in
     let none = none_zero supply offer.each in
-    let value : c.contains.result ≡ list_any (λ n. nat_eq n 0) supply = c.contains.ensures.value ∙ ap (list_any (λ n. nat_eq n 0)) (c.deref.ensures.value ∙ same) in
+    let value : c.contains.result ≡ list_any (λ n. nat_eq n 0) supply = c.contains.ensures.value ∙ ap (list_any (λ n. nat_eq n 0))
+    (c.deref.ensures.value ∙ same) in
     cc
 
 pub returns-clause-ok : goal.returns-clause-ok
 returns-clause-ok c =
     let numbers = c.in_ok-numbers.ensures.ok in
     let same : c.deref-2.result.now ≡ c.in_ok-numbers.numbers.items = c.deref-2.ensures.value in
-    let none : list_any (λ n. nat_eq n 0) c.in_ok-numbers.numbers.items ≡ false = sym (c.contains.ensures.value ∙ ap (list_any (λ n. nat_eq n 0)) c.deref.ensures.value) ∙ c.if-contains.false in
+    let none : list_any (λ n. nat_eq n 0) c.in_ok-numbers.numbers.items ≡ false =
+    sym (c.contains.ensures.value ∙ ap (list_any (λ n. nat_eq n 0)) c.deref.ensures.value) ∙ c.if-contains.false in
     let some : 0 < length c.in_ok-numbers.numbers.items = let long = c.in_ok-numbers.numbers.ok.0 in grind (arith, nat_tests) in
     IfOk-weaker c.lot_counts.result _ _
     (λ v ok. let is : v.items ≡ c.in_ok-numbers.numbers.items = ok.0 ∙ same in

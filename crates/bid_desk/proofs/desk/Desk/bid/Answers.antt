@@ -17,6 +17,7 @@ invariant_of-self c =
       c.bid.ensures.award,
       reached-next (desk_value c.self.inside.award c.self.inside.clock c.self.inside.closed c.self.inside.bidders.items) _ line c.self.invariant.1
           (c.requires ∙ ap (λ (s : DeskState). length s.terms.supply) (sym c.self.view_is)) refl
-          (bid-state c.self.inside.award c.self.inside.clock c.bid.new.self c.self.inside.closed c.self.inside.bidders.items c.args.bidder c.args.«package».now clock.0 clock.1 c.bid.ensures.clock),
+          (bid-state c.self.inside.award c.self.inside.clock c.bid.new.self c.self.inside.closed c.self.inside.bidders.items c.args.bidder
+          c.args.«package».now clock.0 clock.1 c.bid.ensures.clock),
       testers-running c.self.inside.award c.self.inside.clock c.bid.new.self c.self.inside.testers.items clock.0 c.self.invariant.2,
     )

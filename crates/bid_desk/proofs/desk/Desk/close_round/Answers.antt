@@ -16,9 +16,12 @@ invariant_of-self c =
     = clock-stage _ _ (ap (λ (s : DeskState). s.stage) c.self.view_is ∙ c.requires) in (
       c.close-closed.ensures.award,
       elim c.close-closed.ensures.clock [
-        | inl same ↦ subst (λ (k : ClockState). IsReached (desk_value c.self.inside.award k c.self.inside.closed c.self.inside.bidders.items)) (sym same.1) c.self.invariant.1
-        | inr told ↦ reached-next (desk_value c.self.inside.award c.self.inside.clock c.self.inside.closed c.self.inside.bidders.items) _ Close c.self.invariant.1 tt refl
-            (close-state c.self.inside.award c.self.inside.clock c.close-closed.new.self c.self.inside.closed c.self.inside.bidders.items clock.0 clock.1 told.1)
+        | inl same ↦ subst (λ (k : ClockState). IsReached (desk_value c.self.inside.award k c.self.inside.closed c.self.inside.bidders.items))
+            (sym same.1) c.self.invariant.1
+        | inr told ↦ reached-next (desk_value c.self.inside.award c.self.inside.clock c.self.inside.closed c.self.inside.bidders.items) _ Close
+            c.self.invariant.1 tt refl
+            (close-state c.self.inside.award c.self.inside.clock c.close-closed.new.self c.self.inside.closed c.self.inside.bidders.items clock.0 clock.1
+            told.1)
       ],
       testers-running c.self.inside.award c.self.inside.clock c.close-closed.new.self c.self.inside.testers.items clock.0 c.self.invariant.2,
     )
@@ -34,8 +37,10 @@ returns c =
       })
       | inr told ↦ inr (record {
         reply = c.reply_of.ensures ∙ told-reply c.close-closed.result (reply_to_close c.self.inside.award c.self.inside.clock) c.close-closed.new.self told.0
-            ∙ close-reply c.self.inside.award c.self.inside.clock c.self.inside.closed c.self.inside.bidders.items clock.0 clock.1 ∙ ap (λ (s : DeskState). reply_in s Close) c.self.view_is;
-        state = close-state c.self.inside.award c.self.inside.clock c.close-closed.new.self c.self.inside.closed c.self.inside.bidders.items clock.0 clock.1 told.1
+            ∙ close-reply c.self.inside.award c.self.inside.clock c.self.inside.closed c.self.inside.bidders.items clock.0 clock.1
+            ∙ ap (λ (s : DeskState). reply_in s Close) c.self.view_is;
+        state = close-state c.self.inside.award c.self.inside.clock c.close-closed.new.self c.self.inside.closed c.self.inside.bidders.items clock.0 clock.1
+            told.1
             ∙ ap (λ (s : DeskState). state_with s Close) c.self.view_is;
       })
     ]

@@ -10,6 +10,7 @@ pub invariant_of-self : goal.invariant_of-self
 invariant_of-self c = (
   c.self.invariant.0,
   reached-next (desk_value c.self.inside.award c.self.inside.clock c.self.inside.closed c.self.inside.bidders.items) _ Close c.self.invariant.1 tt refl
-      (sealed-state c.self.inside.award c.self.inside.clock c.self.inside.closed c.self.inside.bidders.items (ap (λ (s : DeskState). s.stage) c.self.view_is ∙ c.requires)),
+      (sealed-state c.self.inside.award c.self.inside.clock c.self.inside.closed c.self.inside.bidders.items
+      (ap (λ (s : DeskState). s.stage) c.self.view_is ∙ c.requires)),
   c.self.invariant.2,
 )

@@ -15,11 +15,14 @@ invariant_of-self c =
     let line : Event = Drop c.args.bidder c.args.«package».now in
     let old : DeskState = desk_value c.self.inside.award c.self.inside.clock c.self.inside.closed c.self.inside.bidders.items in
     let inside : c.args.bidder - 1 < length c.self.inside.bidders.items
-    = known-place c.self.inside.award c.self.inside.clock c.self.inside.closed c.self.inside.bidders.items c.args.bidder _ c.self.view_is (c.reply_to_drop-reply.ensures.known is) in (
+    = known-place c.self.inside.award c.self.inside.clock c.self.inside.closed c.self.inside.bidders.items c.args.bidder _ c.self.view_is
+    (c.reply_to_drop-reply.ensures.known is) in (
       c.self.invariant.0,
       reached-next old _ line c.self.invariant.1 (c.requires ∙ ap (λ (s : DeskState). length s.terms.supply) (sym c.self.view_is)) refl
-          (drop-state c.self.inside.award c.self.inside.clock c.self.inside.closed c.self.inside.bidders.items c.args.bidder c.args.«package».now _ c.index_mut-lists.result.now c.remove.new.self
-          (ap (λ (s : DeskState). reply_in s line) c.self.view_is ∙ sym c.reply_to_drop-reply.ensures.reply ∙ is) inside c.index_mut-lists.ensures.value c.remove.ensures),
+          (drop-state c.self.inside.award c.self.inside.clock c.self.inside.closed c.self.inside.bidders.items c.args.bidder c.args.«package».now _
+          c.index_mut-lists.result.now c.remove.new.self
+          (ap (λ (s : DeskState). reply_in s line) c.self.view_is ∙ sym c.reply_to_drop-reply.ensures.reply ∙ is) inside c.index_mut-lists.ensures.value
+          c.remove.ensures),
       c.self.invariant.2,
     )
 
@@ -28,10 +31,13 @@ returns-then-matches c =
     let is : c.reply_to_drop-reply.result ≡ reply.Ok = search rules in
     let line : Event = Drop c.args.bidder c.args.«package».now in
     let inside : c.args.bidder - 1 < length c.self.inside.bidders.items
-    = known-place c.self.inside.award c.self.inside.clock c.self.inside.closed c.self.inside.bidders.items c.args.bidder _ c.self.view_is (c.reply_to_drop-reply.ensures.known is) in
+    = known-place c.self.inside.award c.self.inside.clock c.self.inside.closed c.self.inside.bidders.items c.args.bidder _ c.self.view_is
+    (c.reply_to_drop-reply.ensures.known is) in
     record {
       reply = c.reply_to_drop-reply.ensures.reply;
-      state = drop-state c.self.inside.award c.self.inside.clock c.self.inside.closed c.self.inside.bidders.items c.args.bidder c.args.«package».now _ c.index_mut-lists.result.now c.remove.new.self
-          (ap (λ (s : DeskState). reply_in s line) c.self.view_is ∙ sym c.reply_to_drop-reply.ensures.reply ∙ is) inside c.index_mut-lists.ensures.value c.remove.ensures
+      state = drop-state c.self.inside.award c.self.inside.clock c.self.inside.closed c.self.inside.bidders.items c.args.bidder c.args.«package».now _
+          c.index_mut-lists.result.now c.remove.new.self
+          (ap (λ (s : DeskState). reply_in s line) c.self.view_is ∙ sym c.reply_to_drop-reply.ensures.reply ∙ is) inside c.index_mut-lists.ensures.value
+          c.remove.ensures
           ∙ ap (λ (s : DeskState). state_with s line) c.self.view_is;
     }

@@ -14,10 +14,12 @@ test_list-requires-clause-list c =
     let inside : c.args.bidder - 1 < length c.self.inside.bidders.items
     = known-place c.self.inside.award c.self.inside.clock c.self.inside.closed c.self.inside.bidders.items c.args.bidder _ c.self.view_is c.requires.known in
     let drafts : map bid_value c.drafts.result.now ≡ drafts_of c.args.self.now c.args.bidder
-    = drafts_of-read c.self.inside.award c.self.inside.clock c.self.inside.closed c.self.inside.bidders.items c.args.bidder _ c.index.result.now c.args.self.now (map bid_value c.drafts.result.now)
+    = drafts_of-read c.self.inside.award c.self.inside.clock c.self.inside.closed c.self.inside.bidders.items c.args.bidder _ c.index.result.now
+    c.args.self.now (map bid_value c.drafts.result.now)
     inside c.index.ensures c.drafts.ensures c.self.view_is in
     entries-of c.drafts.result.now _ _ _ drafts c.requires.known.kept
-    (categories-known c.self.inside.award c.self.inside.clock c.self.inside.closed c.self.inside.bidders.items c.args.bidder c.args.self.now c.history.result.now
+    (categories-known c.self.inside.award c.self.inside.clock c.self.inside.closed c.self.inside.bidders.items c.args.bidder c.args.self.now
+    c.history.result.now
     c.self.view_is c.requires.sealed c.requires.known c.history.ensures.categories c.self.invariant.0)
 
 pub test_list-requires-clause-order : goal.test_list-requires-clause-order
@@ -25,7 +27,8 @@ test_list-requires-clause-order c =
     let inside : c.args.bidder - 1 < length c.self.inside.bidders.items
     = known-place c.self.inside.award c.self.inside.clock c.self.inside.closed c.self.inside.bidders.items c.args.bidder _ c.self.view_is c.requires.known in
     let drafts : map bid_value c.drafts.result.now ≡ drafts_of c.args.self.now c.args.bidder
-    = drafts_of-read c.self.inside.award c.self.inside.clock c.self.inside.closed c.self.inside.bidders.items c.args.bidder _ c.index.result.now c.args.self.now (map bid_value c.drafts.result.now)
+    = drafts_of-read c.self.inside.award c.self.inside.clock c.self.inside.closed c.self.inside.bidders.items c.args.bidder _ c.index.result.now
+    c.args.self.now (map bid_value c.drafts.result.now)
     inside c.index.ensures c.drafts.ensures c.self.view_is in
     order-of c.drafts.result.now _ _ drafts c.requires.known.kept
 
@@ -34,7 +37,8 @@ test_list-requires-clause-eligible c =
     let inside : c.args.bidder - 1 < length c.self.inside.bidders.items
     = known-place c.self.inside.award c.self.inside.clock c.self.inside.closed c.self.inside.bidders.items c.args.bidder _ c.self.view_is c.requires.known in
     let drafts : map bid_value c.drafts.result.now ≡ drafts_of c.args.self.now c.args.bidder
-    = drafts_of-read c.self.inside.award c.self.inside.clock c.self.inside.closed c.self.inside.bidders.items c.args.bidder _ c.index.result.now c.args.self.now (map bid_value c.drafts.result.now)
+    = drafts_of-read c.self.inside.award c.self.inside.clock c.self.inside.closed c.self.inside.bidders.items c.args.bidder _ c.index.result.now
+    c.args.self.now (map bid_value c.drafts.result.now)
     inside c.index.ensures c.drafts.ensures c.self.view_is in
     let over : is_clock c.args.self.now.stage ≡ false = sealed-clock c.args.self.now.stage c.requires.sealed in
     let rounds : c.history.result.now ≡ c.args.self.now.rounds = c.history.ensures.history ∙ ap (λ (s : DeskState). s.rounds) c.self.view_is in

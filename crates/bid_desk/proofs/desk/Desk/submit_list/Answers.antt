@@ -18,7 +18,8 @@ invariant_of-self-2 c =
     = known-place c.self.inside.award c.self.inside.clock c.self.inside.closed c.self.inside.bidders.items c.args.bidder _ c.self.view_is c.requires.known in (
       c.self.invariant.0,
       reached-next old _ line c.self.invariant.1 tt refl
-          (submit-state c.self.inside.award c.self.inside.clock c.self.inside.closed c.self.inside.bidders.items c.args.bidder _ c.index_mut-lists.result.now c.submit.new.self
+          (submit-state c.self.inside.award c.self.inside.clock c.self.inside.closed c.self.inside.bidders.items c.args.bidder _ c.index_mut-lists.result.now
+          c.submit.new.self
           (ap (λ (s : DeskState). reply_in s line) c.self.view_is ∙ c.requires.admitted) inside c.index_mut-lists.ensures.value submitted),
       c.self.invariant.2,
     )
@@ -31,7 +32,8 @@ returns c =
     = known-place c.self.inside.award c.self.inside.clock c.self.inside.closed c.self.inside.bidders.items c.args.bidder _ c.self.view_is c.requires.known in
     inr (record {
       reply = sym c.requires.admitted;
-      state = submit-state c.self.inside.award c.self.inside.clock c.self.inside.closed c.self.inside.bidders.items c.args.bidder _ c.index_mut-lists.result.now c.submit.new.self
+      state = submit-state c.self.inside.award c.self.inside.clock c.self.inside.closed c.self.inside.bidders.items c.args.bidder _
+          c.index_mut-lists.result.now c.submit.new.self
           (ap (λ (s : DeskState). reply_in s line) c.self.view_is ∙ c.requires.admitted) inside c.index_mut-lists.ensures.value submitted
           ∙ ap (λ (s : DeskState). state_with s line) c.self.view_is;
     })

@@ -5,5 +5,6 @@ use Rattle.bid_desk.proofs.lists.BidderLists.put.Goals as goal
 
 pub invariant_of-self-2 : goal.invariant_of-self-2
 invariant_of-self-2 c =
-    c.with_amount-self-inside.ensures (map bid_value c.self.inside.drafts.items) (map bid_value c.put_entry.new.list.items) (map bid_value c.self.inside.submitted.items) c.self.invariant
+    c.with_amount-self-inside.ensures (map bid_value c.self.inside.drafts.items) (map bid_value c.put_entry.new.list.items)
+    (map bid_value c.self.inside.submitted.items) c.self.invariant
     (λ at is. (c.args.amount, c.put_entry.ensures.set at (c.in_ok-place.was ∙ ap (λ (p : Option ℕ). Ok p) is)))

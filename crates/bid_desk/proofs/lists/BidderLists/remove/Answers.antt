@@ -10,5 +10,6 @@ use Rattle.bid_desk.proofs.lists.BidderLists.remove.Goals as goal
 pub returns-in-Taken : goal.returns-in-Taken
 returns-in-Taken c =
     ap (λ (drafts : List BookBid). lists_with drafts (map bid_value c.self.inside.submitted.items))
-    (removed-by c.self.inside.drafts.items c.deref.result.now c.remove.new.self.items c.args.«package».now c.in-Taken.place c.deref.ensures.value c.in-Taken.ensures c.remove.ensures.items)
+    (removed-by c.self.inside.drafts.items c.deref.result.now c.remove.new.self.items c.args.«package».now c.in-Taken.place c.deref.ensures.value
+    c.in-Taken.ensures c.remove.ensures.items)
     ∙ ap (λ (l : Lists). lists_with (without_entry c.args.«package».now l.drafts) l.submitted) c.self.view_is

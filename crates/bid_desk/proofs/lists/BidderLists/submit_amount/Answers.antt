@@ -26,11 +26,14 @@ pub invariant_of-self : goal.invariant_of-self
 invariant_of-self c =
     let but : IsSameButAt c.args.place (map bid_value c.self.inside.drafts.items) (map bid_value c.self.inside.submitted.items)
     = subst (λ (l : Lists). IsSameButAt c.args.place l.drafts l.submitted) (sym c.self.view_is) c.requires in
-    amount-submitted c.self.inside.drafts.items c.self.inside.submitted.items c.args.place c.index.result.now c.index_mut.result.now but c.index.ensures c.index_mut.ensures.value
+    amount-submitted c.self.inside.drafts.items c.self.inside.submitted.items c.args.place c.index.result.now c.index_mut.result.now but c.index.ensures
+    c.index_mut.ensures.value
 
 pub returns : goal.returns
 returns c =
     let but : IsSameButAt c.args.place (map bid_value c.self.inside.drafts.items) (map bid_value c.self.inside.submitted.items)
     = subst (λ (l : Lists). IsSameButAt c.args.place l.drafts l.submitted) (sym c.self.view_is) c.requires in
-    let same = amount-submitted c.self.inside.drafts.items c.self.inside.submitted.items c.args.place c.index.result.now c.index_mut.result.now but c.index.ensures c.index_mut.ensures.value in
-    ap (λ (bids : List BookBid). lists_with (map bid_value c.self.inside.drafts.items) bids) (sym same) ∙ ap (λ (l : Lists). lists_with l.drafts l.drafts) c.self.view_is
+    let same = amount-submitted c.self.inside.drafts.items c.self.inside.submitted.items c.args.place c.index.result.now c.index_mut.result.now but
+    c.index.ensures c.index_mut.ensures.value in
+    ap (λ (bids : List BookBid). lists_with (map bid_value c.self.inside.drafts.items) bids) (sym same)
+    ∙ ap (λ (l : Lists). lists_with l.drafts l.drafts) c.self.view_is

@@ -15,37 +15,47 @@ returns-clause-added c =
     let less : left c.add.new.self + length c.args.piece.now ≡ left old = search rules in
     let fits : length c.args.piece.now ≤ left old = omega (arith, less) in
     let room : left c.add.new.self ≡ left old - length c.args.piece.now = omega (arith, less) in
-    let change = set_changes (name_by clean_seen) c.args.files.now c.args.name.now c.place_of-place.result c.index-files-place.result _ c.requires c.place_of-place.ensures.first refl in
-    folder_becomes clean_seen true _ _ _ _ _ change _ (length c.args.piece.now) (ap Some added ∙ ap (λ (b : List ℕ). Some (b ++ c.args.piece.now)) (held_before clean_seen true _ _ _ _ _ change)) fits (ap Some room)
+    let change = set_changes (name_by clean_seen) c.args.files.now c.args.name.now c.place_of-place.result c.index-files-place.result _ c.requires
+    c.place_of-place.ensures.first refl in
+    folder_becomes clean_seen true _ _ _ _ _ change _ (length c.args.piece.now) (ap Some added ∙ ap (λ (b : List ℕ). Some (b ++ c.args.piece.now))
+    (held_before clean_seen true _ _ _ _ _ change)) fits (ap Some room)
 
 pub returns-in_err-add-clause-full : goal.returns-in_err-add-clause-full
 returns-in_err-add-clause-full c =
     let old = (get_or c.args.files.now c.place_of-place.result c.index-files-place.result).buffer in
     let full : left old < length c.args.piece.now = search rules in
-    let here = entry_here (name_by clean_seen) c.args.files.now c.args.name.now c.place_of-place.result c.index-files-place.result c.requires c.place_of-place.ensures.first in
-    on_err c.from_residual.result (subst (λ (o : Option CleanFile). IsSomeAnd (option_and_then (λ (f : CleanFile). Some (left f.buffer)) o) (λ r. r < length c.args.piece.now)) (sym here) full)
+    let here = entry_here (name_by clean_seen) c.args.files.now c.args.name.now c.place_of-place.result c.index-files-place.result c.requires
+    c.place_of-place.ensures.first in
+    on_err c.from_residual.result (subst (λ (o : Option CleanFile). IsSomeAnd (option_and_then (λ (f : CleanFile). Some (left f.buffer)) o)
+    (λ r. r < length c.args.piece.now)) (sym here) full)
 
 pub returns-clause-appends : goal.returns-clause-appends
 returns-clause-appends c =
     let count : Option CleanFile → ℕ = λ o. option_map_or (λ (f : CleanFile). f.append_faults) o 0 in
-    views_same count _ _ _ _ _ (set_changes (name_by clean_seen) c.args.files.now c.args.name.now c.place_of-place.result c.index-files-place.result _ c.requires c.place_of-place.ensures.first refl) refl
+    views_same count _ _ _ _ _ (set_changes (name_by clean_seen) c.args.files.now c.args.name.now c.place_of-place.result c.index-files-place.result _
+    c.requires c.place_of-place.ensures.first refl) refl
 
 pub returns-clause-loads : goal.returns-clause-loads
 returns-clause-loads c =
     let count : Option CleanFile → ℕ = λ o. option_map_or (λ (f : CleanFile). f.load_faults) o 0 in
-    views_same count _ _ _ _ _ (set_changes (name_by clean_seen) c.args.files.now c.args.name.now c.place_of-place.result c.index-files-place.result _ c.requires c.place_of-place.ensures.first refl) refl
+    views_same count _ _ _ _ _ (set_changes (name_by clean_seen) c.args.files.now c.args.name.now c.place_of-place.result c.index-files-place.result _
+    c.requires c.place_of-place.ensures.first refl) refl
 
 pub returns-in_err-add-clause-appends : goal.returns-in_err-add-clause-appends
 returns-in_err-add-clause-appends c =
     let count : Option CleanFile → ℕ = λ o. option_map_or (λ (f : CleanFile). f.append_faults) o 0 in
-    views_same count _ _ _ _ _ (set_changes (name_by clean_seen) c.args.files.now c.args.name.now c.place_of-place.result c.index-files-place.result _ c.requires c.place_of-place.ensures.first refl) refl
+    views_same count _ _ _ _ _ (set_changes (name_by clean_seen) c.args.files.now c.args.name.now c.place_of-place.result c.index-files-place.result _
+    c.requires c.place_of-place.ensures.first refl) refl
 
 pub returns-in_err-add-clause-loads : goal.returns-in_err-add-clause-loads
 returns-in_err-add-clause-loads c =
     let count : Option CleanFile → ℕ = λ o. option_map_or (λ (f : CleanFile). f.load_faults) o 0 in
-    views_same count _ _ _ _ _ (set_changes (name_by clean_seen) c.args.files.now c.args.name.now c.place_of-place.result c.index-files-place.result _ c.requires c.place_of-place.ensures.first refl) refl
+    views_same count _ _ _ _ _ (set_changes (name_by clean_seen) c.args.files.now c.args.name.now c.place_of-place.result c.index-files-place.result _
+    c.requires c.place_of-place.ensures.first refl) refl
 
 pub returns-in_err-add-clause-kept : goal.returns-in_err-add-clause-kept
 returns-in_err-add-clause-kept c =
     let same : c.add.new.self ≡ (get_or c.args.files.now c.place_of-place.result c.index-files-place.result).buffer = search rules in
-    on_err c.from_residual.result (folder_keeps clean_seen true _ _ _ _ _ (set_changes (name_by clean_seen) c.args.files.now c.args.name.now c.place_of-place.result c.index-files-place.result _ c.requires c.place_of-place.ensures.first refl) (ap (λ (b : Buffer). Some (held b)) same) (ap (λ (b : Buffer). Some (left b)) same))
+    on_err c.from_residual.result (folder_keeps clean_seen true _ _ _ _ _ (set_changes (name_by clean_seen) c.args.files.now c.args.name.now
+    c.place_of-place.result c.index-files-place.result _ c.requires c.place_of-place.ensures.first refl) (ap (λ (b : Buffer). Some (held b)) same)
+    (ap (λ (b : Buffer). Some (left b)) same))

@@ -17,14 +17,17 @@ returns-then-is_err-clause-kept c =
     keeps_more _ _ _ kept c.count_append_fault.ensures.kept
 
 pub returns-then-is_err-clause-count : goal.returns-then-is_err-clause-count
-returns-then-is_err-clause-count c = subst (λ (f : List ℕ → ℕ). CountsOnly c.args.name.now f (clean_folder c.count_append_fault.new.files).append_faults) c.add_bytes.ensures.appends c.count_append_fault.ensures.count
+returns-then-is_err-clause-count c = subst (λ (f : List ℕ → ℕ). CountsOnly c.args.name.now f (clean_folder c.count_append_fault.new.files).append_faults)
+    c.add_bytes.ensures.appends c.count_append_fault.ensures.count
 
 pub returns-then-is_err-clause-rose : goal.returns-then-is_err-clause-rose
-returns-then-is_err-clause-rose c = subst (λ (f : List ℕ → ℕ). Rose (f c.args.name.now) ((clean_folder c.count_append_fault.new.files).append_faults c.args.name.now)) c.add_bytes.ensures.appends c.count_append_fault.ensures.rose
+returns-then-is_err-clause-rose c = subst (λ (f : List ℕ → ℕ). Rose (f c.args.name.now)
+    ((clean_folder c.count_append_fault.new.files).append_faults c.args.name.now)) c.add_bytes.ensures.appends c.count_append_fault.ensures.rose
 
 pub returns-then-is_err-clause-counted : goal.returns-then-is_err-clause-counted
 returns-then-is_err-clause-counted c =
-    subst (λ (f : List ℕ → ℕ). (clean_folder c.count_append_fault.new.files).append_faults c.args.name.now ≡ one_more (f c.args.name.now)) c.add_bytes.ensures.appends c.count_append_fault.ensures.counted
+    subst (λ (f : List ℕ → ℕ). (clean_folder c.count_append_fault.new.files).append_faults c.args.name.now ≡ one_more (f c.args.name.now))
+    c.add_bytes.ensures.appends c.count_append_fault.ensures.counted
 
 pub returns-clause-count : goal.returns-clause-count
 returns-clause-count c = counts_still c.args.name.now _ _ c.add_bytes.ensures.appends

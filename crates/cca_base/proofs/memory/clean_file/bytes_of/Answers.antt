@@ -10,5 +10,6 @@ use Rattle.cca_base.proofs.memory.clean_file.bytes_of.Goals as goal
 pub returns : goal.returns
 returns c =
     let is : c.held.result.now ≡ held (get_or c.args.files.now c.place_of.result c.index-files-place_of.result).buffer = search rules in
-    let here = entry_here (name_by clean_seen) c.args.files.now c.args.name.now c.place_of.result c.index-files-place_of.result c.requires c.place_of.ensures.first in
+    let here = entry_here (name_by clean_seen) c.args.files.now c.args.name.now c.place_of.result c.index-files-place_of.result c.requires
+    c.place_of.ensures.first in
     ap (option_and_then (λ (f : CleanFile). Some (held f.buffer))) here ∙ ap Some (sym is)

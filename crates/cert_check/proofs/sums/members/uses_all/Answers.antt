@@ -12,7 +12,8 @@ pub returns-then-number-eq0 : goal.returns-then-number-eq0
 returns-then-number-eq0 c =
     let own = member-at c.args.members.now c.loop-member.member-index (omega arith) in (
       λ e. absurd (false≢true e),
-      λ all. absurd (loses-zero c.args.choice.now _ (sym c.number.ensures ∙ c.if-number-eq0.true) (all (get_or c.args.members.now c.loop-member.member-index 0) own)),
+      λ all. absurd (loses-zero c.args.choice.now _ (sym c.number.ensures ∙ c.if-number-eq0.true)
+          (all (get_or c.args.members.now c.loop-member.member-index 0) own)),
     )
 
 pub returns : goal.returns

@@ -19,7 +19,8 @@ pub returns-then-is_reached : goal.returns-then-is_reached
 returns-then-is_reached t c = λ _.
     let reached = c.is_reached.ensures c.if-is_reached.true in
     corner-keeps c.args.supply.now c.args.lots.now c.args.first
-    (length c.args.line.now) c.args.rule.now.grow c.args.line.now c.args.below.now c.args.rule.now.worth c.requires.corners reached.0 c.requires.places reached.1
+    (length c.args.line.now) c.args.rule.now.grow c.args.line.now c.args.below.now c.args.rule.now.worth c.requires.corners reached.0 c.requires.places
+    reached.1
 
 pub loop-block-init : goal.loop-block-init
 loop-block-init t c = record {
@@ -55,7 +56,8 @@ block_holds-requires t c =
     rw (tail-whole supply, tail-whole lots)
     (subst (λ (n : ℕ). HasCorners (drop 1 supply) (drop 1 lots) (c.args.first - get_or lots 0 0 * W) c.args.rule.now.grow (take k (drop here line))
     (take n (drop rest below))) (k_is ∙ sym m_is)
-    (corners-part supply lots c.args.first d W k c.args.rule.now.grow line below c.requires.some c.requires.categories width k_is c.loop-block.auto.block high c.requires.corners)) in
+    (corners-part supply lots c.args.first d W k c.args.rule.now.grow line below c.requires.some c.requires.categories width k_is c.loop-block.auto.block high
+    c.requires.corners)) in
     let few : states_of left ≤ 16384 = omega (arith, states, width, width-at_most supply some, c.requires.states) in
     let room : here + W ≤ length line = rw width (omega (arith, digit-room supply d some high, c.requires.places)) in
     let room_below : rest + W ≤ length below = rw width (omega (arith, digit-room supply (d - get_or lots 0 0) some lower, c.requires.below)) in

@@ -27,7 +27,8 @@ returns-then-from-all c = λ _.
     let supply = c.args.supply.now in
     let some : 0 < length supply = omega (arith, c.requires.one, c.requires.categories) in
     let width : get_or c.args.widths.now 0 0 ≡ states_of (drop 1 supply) = ap (λ (l : List ℕ). get_or l 0 0) c.requires.widths ∙ width-first supply some in
-    run-keeps supply c.args.lots.now (get_or c.args.lots.now 0 0 * get_or c.args.widths.now 0 0) c.args.line.now c.args.below.now c.args.rule.now.worth c.requires.one c.requires.categories
+    run-keeps supply c.args.lots.now (get_or c.args.lots.now 0 0 * get_or c.args.widths.now 0 0) c.args.line.now c.args.below.now c.args.rule.now.worth
+    c.requires.one c.requires.categories
     (ap (λ (n : ℕ). get_or c.args.lots.now 0 0 * n) width) (λ n up low. absurd (omega (arith, up, low, c.if-from-all.true, c.requires.places)))
 
 pub returns : goal.returns

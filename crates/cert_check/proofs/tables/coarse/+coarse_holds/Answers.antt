@@ -21,7 +21,8 @@ pub returns-then-is_reached : goal.returns-then-is_reached
 returns-then-is_reached t c = λ _.
     let reached = c.is_reached.ensures c.if-is_reached.true in
     corner-keeps c.args.supply.now c.args.lots.now c.args.first
-    (length c.args.line.now) c.args.rule.now.grow c.args.line.now c.args.below.now c.args.rule.now.worth c.requires.corners reached.0 c.requires.places reached.1
+    (length c.args.line.now) c.args.rule.now.grow c.args.line.now c.args.below.now c.args.rule.now.worth c.requires.corners reached.0 c.requires.places
+    reached.1
 
 pub mask_holds-requires-clause-first : goal.mask_holds-requires-clause-first
 mask_holds-requires-clause-first t c = omega
@@ -32,7 +33,8 @@ returns-then-mask_holds t c = λ _.
     let coarse = c.args.coarse.now in
     let supply = c.args.supply.now in
     let lots = c.args.lots.now in
-    coarse-keeps (2 ^ coarse.shift) supply lots c.args.first coarse.worth c.args.line.now c.args.below.now c.args.low.now c.args.high.now coarse.mask.now c.args.rule.now.worth
+    coarse-keeps (2 ^ coarse.shift) supply lots c.args.first coarse.worth c.args.line.now c.args.below.now c.args.low.now c.args.high.now coarse.mask.now
+    c.args.rule.now.worth
     c.requires.corners.place c.requires.places c.requires.below c.requires.coarse c.requires.worth
     (mask-here coarse.level supply lots coarse.mask.now c.requires.some c.if-lots-coarse.true c.requires.mask) (c.mask_holds.ensures c.if-mask_holds.true)
 
@@ -70,7 +72,8 @@ coarse_holds-requires t c =
     rw (tail-whole supply, tail-whole lots)
     (subst (λ (n : ℕ). HasCorners (drop 1 supply) (drop 1 lots) (c.args.first - get_or lots 0 0 * W) c.args.rule.now.grow (take k (drop here line))
     (take n (drop rest below))) (k_is ∙ sym m_is)
-    (corners-part supply lots c.args.first d W k c.args.rule.now.grow line below c.requires.some c.requires.categories width k_is c.loop-block.auto.block high c.requires.corners)) in
+    (corners-part supply lots c.args.first d W k c.args.rule.now.grow line below c.requires.some c.requires.categories width k_is c.loop-block.auto.block high
+    c.requires.corners)) in
     let few : states_of left ≤ 16384 = omega (arith, states, width, width-at_most supply some, c.requires.states) in
     let room : here + W ≤ length line = rw width (omega (arith, digit-room supply d some high, c.requires.places)) in
     let room_below : rest + W ≤ length below = rw width (omega (arith, digit-room supply (d - get_or lots 0 0) some lower, c.requires.below)) in
@@ -79,7 +82,8 @@ coarse_holds-requires t c =
     let places : length (take k (drop here line)) ≡ states_of left = length-take-le k (drop here line) (omega (arith, k_is, long, room)) ∙ k_is ∙ sym states in
     let places_below : length (take m (drop rest below)) ≡ states_of left = length-take-le m (drop rest below) (omega
     (arith, m_is, long_below, room_below)) ∙ m_is ∙ sym states in
-    let coarse : AreCoarse (2 ^ c.args.coarse.now.shift) (take k (drop here line)) (take m (drop rest below)) (take k (drop here c.args.low.now)) (take m (drop rest c.args.high.now)) =
+    let coarse : AreCoarse (2 ^ c.args.coarse.now.shift) (take k (drop here line)) (take m (drop rest below)) (take k (drop here c.args.low.now))
+    (take m (drop rest c.args.high.now)) =
     coarse-part (2 ^ c.args.coarse.now.shift) line below c.args.low.now c.args.high.now here rest k m (omega (arith, k_is, room)) (omega
     (arith, m_is, room_below)) c.requires.coarse in
     let mask : HasMask c.args.coarse.now.level left (take (length lots - 1) (drop 1 lots)) c.args.coarse.now.mask.now =
@@ -91,7 +95,22 @@ coarse_holds-requires t c =
           omega (arith, tail-length lots, c.requires.some, c.if-lots-eq1.false),
           (
             omega (arith, tail-length supply, tail-length lots, c.requires.categories),
-            (corners, (few, (places, (places_below, (part-small line here k c.requires.small, (part-small below rest m c.requires.small_below, (coarse, (c.requires.worth, mask)))))))),
+            (
+              corners,
+              (
+                few,
+                (
+                  places,
+                  (
+                    places_below,
+                    (
+                      part-small line here k c.requires.small,
+                      (part-small below rest m c.requires.small_below, (coarse, (c.requires.worth, mask))),
+                    ),
+                  ),
+                ),
+              ),
+            ),
           ),
         ),
       ),

@@ -11,7 +11,8 @@ loop-block-preserved c =
       places = c.put_part.ensures.places ∙ c.loop-block.invariant.places;
       width = refl;
       parts = λ q i from low inside. elim (cases_lt q d) [
-        | inl before ↦ c.put_part.ensures.before (q * W + i) (omega (arith, mul-add-lt q W i d before inside)) ∙ c.loop-block.invariant.parts q i from before inside
+        | inl before ↦ c.put_part.ensures.before (q * W + i) (omega (arith, mul-add-lt q W i d before inside))
+            ∙ c.loop-block.invariant.parts q i from before inside
         | inr here ↦ (
             let is : d ≡ q = omega (arith, low, here) in
             subst (λ (n : ℕ). get_or c.put_part.new.mask (n * W + i) 0 ≡ get_or c.args.part.now i 0) is (c.put_part.ensures.part i inside))

@@ -13,7 +13,8 @@ use Rattle.cert_check.proofs.tables.earlier.earlier_fault.Goals as goal
 pub loop-k-init : goal.loop-k-init
 loop-k-init c =
     let value_fits : SFits w128 c.args.value = search rules in
-    rw (to_z-of_z w128 c.args.value value_fits) (λ place low. none-outside c.args.book.now (cert_headed c.args.value c.args.choice.now c.args.table.now) place (λ some le. omega (arith, low, some)))
+    rw (to_z-of_z w128 c.args.value value_fits) (λ place low. none-outside c.args.book.now (cert_headed c.args.value c.args.choice.now c.args.table.now) place
+    (λ some le. omega (arith, low, some)))
 
 pub none_earlier-requires-clause-sizes : goal.none_earlier-requires-clause-sizes
 none_earlier-requires-clause-sizes c = λ s.
@@ -24,16 +25,23 @@ pub loop-k-preserved : goal.loop-k-preserved
 loop-k-preserved c =
     let value_fits : SFits w128 c.args.value = search rules in
     let passed : c.none_earlier.result ≡ true = search rules in
-    rw (to_z-of_z w128 c.args.value value_fits) (before-next (NoneEarlier c.args.book.now (cert_headed c.args.value c.args.choice.now c.args.table.now)) (c.loop-k.k + 1) c.none_earlier.result (rw (to_z-of_z w128 c.args.value value_fits) at c.loop-k.invariant) (c.none_earlier.ensures (cert_headed c.args.value c.args.choice.now c.args.table.now) refl (sym (to_z-of_z w128 c.args.value value_fits)) (sym c.line.ensures.line)) passed)
+    rw (to_z-of_z w128 c.args.value value_fits) (before-next (NoneEarlier c.args.book.now (cert_headed c.args.value c.args.choice.now c.args.table.now))
+    (c.loop-k.k + 1) c.none_earlier.result (rw (to_z-of_z w128 c.args.value value_fits) at c.loop-k.invariant)
+    (c.none_earlier.ensures (cert_headed c.args.value c.args.choice.now c.args.table.now) refl (sym (to_z-of_z w128 c.args.value value_fits))
+    (sym c.line.ensures.line)) passed)
 
 pub returns-then-not-none_earlier : goal.returns-then-not-none_earlier
 returns-then-not-none_earlier c =
     let value_fits : SFits w128 c.args.value = search rules in
     let failed : c.none_earlier.result ≡ false = search rules in
-    fails-here (NoneEarlier c.args.book.now (cert_headed c.args.value c.args.choice.now c.args.table.now)) (c.loop-k.k + 1) c.none_earlier.result (rw (to_z-of_z w128 c.args.value value_fits) at c.loop-k.invariant) (c.none_earlier.ensures (cert_headed c.args.value c.args.choice.now c.args.table.now) refl (sym (to_z-of_z w128 c.args.value value_fits)) (sym c.line.ensures.line)) failed
+    fails-here (NoneEarlier c.args.book.now (cert_headed c.args.value c.args.choice.now c.args.table.now)) (c.loop-k.k + 1) c.none_earlier.result
+    (rw (to_z-of_z w128 c.args.value value_fits) at c.loop-k.invariant) (c.none_earlier.ensures
+    (cert_headed c.args.value c.args.choice.now c.args.table.now) refl (sym (to_z-of_z w128 c.args.value value_fits)) (sym c.line.ensures.line)) failed
 
 pub returns : goal.returns
 returns c =
     let value_fits : SFits w128 c.args.value = search rules in
-    holds-everywhere (NoneEarlier c.args.book.now (cert_headed c.args.value c.args.choice.now c.args.table.now)) (c.loop-k.k + 1) (rw (to_z-of_z w128 c.args.value value_fits) at c.loop-k.invariant)
-    (λ place past. none-outside c.args.book.now (cert_headed c.args.value c.args.choice.now c.args.table.now) place (λ some le. omega (arith, past, le, c.loop-k-test.false, c.bidders-k-end.ensures.bidders)))
+    holds-everywhere (NoneEarlier c.args.book.now (cert_headed c.args.value c.args.choice.now c.args.table.now)) (c.loop-k.k + 1)
+    (rw (to_z-of_z w128 c.args.value value_fits) at c.loop-k.invariant)
+    (λ place past. none-outside c.args.book.now (cert_headed c.args.value c.args.choice.now c.args.table.now) place
+    (λ some le. omega (arith, past, le, c.loop-k-test.false, c.bidders-k-end.ensures.bidders)))

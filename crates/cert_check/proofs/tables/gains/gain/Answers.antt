@@ -16,4 +16,5 @@ returns c =
     let paid_fits : SFits w128 (get_or c.args.pay.now (c.args.j - 1) (pos 0)) = search rules in
     let result_fits : SFits w128 c.scaled_less.result = search rules in
     let is : c.scaled_less.result ≡ (c.args.den *ℤ c.net.result) -ℤ paid = simp to_z-of_z at c.scaled_less.ensures.value in
-    to_z-of_z w128 c.scaled_less.result result_fits ∙ is ∙ gain-won c.args.book.now c.args.den c.args.choice.now c.args.pay.now c.args.j c.net.result c.if-number-eq0.false c.net.ensures
+    to_z-of_z w128 c.scaled_less.result result_fits ∙ is ∙ gain-won c.args.book.now c.args.den c.args.choice.now c.args.pay.now c.args.j c.net.result
+    c.if-number-eq0.false c.net.ensures

@@ -22,7 +22,8 @@ returns-clause-gains c =
 pub returns-clause-small : goal.returns-clause-small
 returns-clause-small c =
     let den_fits : SFits w128 c.args.claim.now.den = search rules in
-    let gains : (j : ℕ) → 0 < j → j ≤ bidders_of c.args.claim.now.book.now → of_bidder c.put_each.new.gains j ≡ gain_of c.args.claim.now.book.now c.args.claim.now.den c.args.claim.now.choice.now c.args.pay.now j =
+    let gains : (j : ℕ) → 0 < j → j ≤ bidders_of c.args.claim.now.book.now → of_bidder c.put_each.new.gains j ≡ gain_of c.args.claim.now.book.now
+    c.args.claim.now.den c.args.claim.now.choice.now c.args.pay.now j =
     rw (to_z-of_z w128 c.args.claim.now.den den_fits) at c.put_each.ensures.gains in
     lowered-small c.args.claim.now.book.now c.args.claim.now.den c.args.claim.now.choice.now c.args.pay.now c.put_each.new.gains
     (can-lower c.args.claim.now c.args.pay.now c.kept.ensures c.requires.pay.0 c.requires.pay.1) (omega (arith, c.requires.room, c.put_each.ensures.room)) gains

@@ -21,4 +21,5 @@ returns-then-k-bidders c =
 pub returns : goal.returns
 returns c =
     let next : suc c.args.k ≡ c.args.k + 1 = omega arith in
-    c.two_lines_fault.ensures c.args.table.now c.requires.table (sym c.line-2.ensures.line) (ap (λ (n : ℕ). get_or c.args.table.now n []) next ∙ sym c.line-3.ensures.line)
+    c.two_lines_fault.ensures c.args.table.now c.requires.table (sym c.line-2.ensures.line)
+    (ap (λ (n : ℕ). get_or c.args.table.now n []) next ∙ sym c.line-3.ensures.line)

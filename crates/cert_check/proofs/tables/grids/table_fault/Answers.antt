@@ -27,5 +27,6 @@ loop-k-preserved c = λ k s few.
       | inl earlier ↦ c.loop-k.invariant k s earlier
       | inr here ↦
           let is : c.loop-k.k ≡ k = omega (arith, few, here) in
-          subst (λ (n : ℕ). ObeysIn o c.args.table.now n s) is (line-keeps o c.args.table.now c.requires.table c.loop-k.k c.rule_fault-found.result past c.rule_fault-found.ensures s)
+          subst (λ (n : ℕ). ObeysIn o c.args.table.now n s) is (line-keeps o c.args.table.now c.requires.table c.loop-k.k c.rule_fault-found.result past
+          c.rule_fault-found.ensures s)
     ]

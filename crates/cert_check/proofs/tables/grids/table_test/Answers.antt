@@ -31,9 +31,11 @@ returns-then-entry-most c =
     let most_fits : SFits w128 c.args.most = search rules in
     let entry_fits : SFits w128 c.entry.result = search rules in
     let same : c.states-states.result ≡ states o.book.now = c.states-states.ensures.states ∙ ap states_of c.supply.ensures.supply in
-    let entry_is : c.entry.result ≡ entry_at c.args.table.now 0 (states o.book.now - 1) = c.entry.ensures ∙ ap (λ (n : ℕ). entry_at c.args.table.now 0 (n - 1)) same in
+    let entry_is : c.entry.result ≡ entry_at c.args.table.now 0 (states o.book.now - 1) = c.entry.ensures
+    ∙ ap (λ (n : ℕ). entry_at c.args.table.now 0 (n - 1)) same in
     let test = simp to_z-of_z at c.if-entry-most.true in
     let above : c.args.most <ℤ c.entry.result = grind (arith, ints, test) in
-    let number : (c.bidders.result + 1) * c.states-states.result ≡ (bidders_of o.book.now + 1) * states o.book.now = rw (c.bidders.ensures.bidders, same) refl in
+    let number : (c.bidders.result + 1) * c.states-states.result ≡ (bidders_of o.book.now + 1) * states o.book.now =
+    rw (c.bidders.ensures.bidders, same) refl in
     subst (λ (n : ℕ). IsFirstFailing (TestsTable o c.args.table.now c.args.most) (Some n)) (sym number)
     (test-most o c.args.table.now c.args.most c.in_default.ensures (subst (λ (z : ℤ). c.args.most <ℤ z) entry_is above))

@@ -13,7 +13,8 @@ used_categories-used-requires c =
 pub rule_holds-requires-clause-corners : goal.rule_holds-requires-clause-corners
 rule_holds-requires-clause-corners c =
     let pair = c.args.lines.now in
-    lots-corners c.used_categories-used.result c.place.result c.args.supply.now c.counts-radices.result.now c.args.lots.now c.counts-counts.result.now c.args.grow pair.line.now pair.below.now pair.narrow_line.now pair.narrow_below.now
+    lots-corners c.used_categories-used.result c.place.result c.args.supply.now c.counts-radices.result.now c.args.lots.now c.counts-counts.result.now
+    c.args.grow pair.line.now pair.below.now pair.narrow_line.now pair.narrow_below.now
     c.counts-radices.ensures.counts c.counts-counts.ensures c.used_categories-used.ensures.rest c.place.ensures.place c.requires.fits
     (pair.narrow c.if-not-lines.false) c.requires.grow
 
@@ -25,6 +26,7 @@ returns c = λ h.
     let small : unsigned_abs z ≤ 2 ^ 60 = (rw (to_z-of_z w128 z given) at c.if-not-is_narrow.ensures).0 refl in
     let made : SFits w64 z = fits_signed_from_abs w64 z (omega (arith, small)) in
     let is : to_z w64 (of_z w64 (to_z w128 (of_z w128 z))) ≡ z = ap (λ (n : ℤ). to_z w64 (of_z w64 n)) (to_z-of_z w128 z given) ∙ to_z-of_z w64 z made in
-    lots-keep c.used_categories-used.result c.args.supply.now c.counts-radices.result.now c.args.lots.now c.counts-counts.result.now pair.line.now pair.below.now pair.narrow_line.now pair.narrow_below.now
+    lots-keep c.used_categories-used.result c.args.supply.now c.counts-radices.result.now c.args.lots.now c.counts-counts.result.now pair.line.now
+    pair.below.now pair.narrow_line.now pair.narrow_below.now
     (to_z w64 (of_z w64 (to_z w128 (of_z w128 z)))) z c.counts-radices.ensures.counts c.counts-counts.ensures c.used_categories-used.ensures.rest
     (pair.narrow c.if-not-lines.false) is (c.rule_holds.ensures h)

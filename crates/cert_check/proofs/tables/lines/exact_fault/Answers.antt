@@ -19,6 +19,10 @@ block_fault-requires-clause-shift c =
 pub returns : goal.returns
 returns c =
     let worth_fits : SFits w128 c.worth-worth.result = search rules in
-    let place : c.place.result ≡ place_of c.counts.result.now c.counts-counts.result.now = simp (c.counts.ensures.counts, c.counts-counts.ensures) c.place.ensures.place in
-    block-bid c.args.offers.now c.args.j c.args.i c.args.lines.now.line.now c.args.lines.now.below.now c.place.result (to_z w128 (of_z w128 c.worth-worth.result)) c.counts.result.now c.counts-counts.result.now c.used_categories-used.result c.args.until c.block_fault.result
-    (c.counts.ensures.counts ∙ c.supply-supply.ensures.supply) (c.counts-counts.ensures ∙ c.bid-bid.ensures.lots) c.used_categories-used.ensures.rest place (to_z-of_z w128 c.worth-worth.result worth_fits ∙ c.worth-worth.ensures.worth) c.block_fault.ensures
+    let place : c.place.result ≡ place_of c.counts.result.now c.counts-counts.result.now = simp (c.counts.ensures.counts, c.counts-counts.ensures)
+    c.place.ensures.place in
+    block-bid c.args.offers.now c.args.j c.args.i c.args.lines.now.line.now c.args.lines.now.below.now c.place.result
+    (to_z w128 (of_z w128 c.worth-worth.result)) c.counts.result.now c.counts-counts.result.now c.used_categories-used.result c.args.until
+    c.block_fault.result
+    (c.counts.ensures.counts ∙ c.supply-supply.ensures.supply) (c.counts-counts.ensures ∙ c.bid-bid.ensures.lots) c.used_categories-used.ensures.rest place
+    (to_z-of_z w128 c.worth-worth.result worth_fits ∙ c.worth-worth.ensures.worth) c.block_fault.ensures

@@ -4,4 +4,5 @@ use Rattle.cert_check.proofs.TableLaws.{last-obeys}
 use Rattle.cert_check.proofs.tables.lines.last_line_fault.Goals as goal
 
 pub returns : goal.returns
-returns c = λ table is line_is. last-obeys c.args.offers.now table is (bidders_of c.args.offers.now.book.now) c.last_fault.result c.args.line.now refl (sym line_is) c.last_fault.ensures
+returns c = λ table is line_is. last-obeys c.args.offers.now table is (bidders_of c.args.offers.now.book.now) c.last_fault.result c.args.line.now refl
+    (sym line_is) c.last_fault.ensures

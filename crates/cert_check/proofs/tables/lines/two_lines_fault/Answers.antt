@@ -12,4 +12,5 @@ returns c = λ table is line_is below_is.
     let o = c.args.offers.now in
     let next : c.args.k + 1 ≡ suc c.args.k = omega arith in
     line-obeys o table is c.args.k c.line_fault.result c.args.line.now c.args.below.now c.requires.number (sym line_is) (sym below_is)
-    (subst (λ (j : ℕ). FirstFault (KeepsSome o j c.args.line.now c.args.below.now ((offered o).bids j)) (length c.args.line.now) c.line_fault.result) next c.line_fault.ensures)
+    (subst (λ (j : ℕ). FirstFault (KeepsSome o j c.args.line.now c.args.below.now ((offered o).bids j)) (length c.args.line.now) c.line_fault.result) next
+    c.line_fault.ensures)

@@ -13,7 +13,8 @@ loop-digit-init t c =
     record {
       width = width;
       radix = refl;
-      fault = start-list c.args.rule.now c.args.base supply c.args.lots.now c.args.until c.min-digit.result lots c.requires.categories (omega (arith, c.min-digit.ensures));
+      fault = start-list c.args.rule.now c.args.base supply c.args.lots.now c.args.until c.min-digit.result lots c.requires.categories
+          (omega (arith, c.min-digit.ensures));
     }
 
 pub block_fault-found-requires : goal.block_fault-found-requires
@@ -31,8 +32,10 @@ block_fault-found-requires t c =
     let inside : c.args.base + d * get_or c.args.widths.now 0 0 + get_or c.args.widths.now 0 0 ≤ length c.args.rule.now.line.now =
     subst (λ (n : ℕ). c.args.base + d * n + n ≤ length c.args.rule.now.line.now) (sym width) (omega (arith, digit-room supply d some below, c.requires.room)) in
     let room = subst (λ (n : ℕ). c.args.base + d * get_or c.args.widths.now 0 0 + n ≤ length c.args.rule.now.line.now) states inside in
-    let shift : c.args.rule.now.shift ≤ c.args.base + d * get_or c.args.widths.now 0 0 + place_of (take (length supply - 1) (drop 1 supply)) (take (length c.args.lots.now - 1) (drop 1 c.args.lots.now)) =
-    rw (width, tail-whole supply, tail-whole c.args.lots.now) (digit-shift supply c.args.lots.now d c.args.base c.args.rule.now.shift lots c.requires.categories low c.requires.shift) in (
+    let shift : c.args.rule.now.shift ≤ c.args.base + d * get_or c.args.widths.now 0 0 + place_of (take (length supply - 1) (drop 1 supply))
+    (take (length c.args.lots.now - 1) (drop 1 c.args.lots.now)) =
+    rw (width, tail-whole supply, tail-whole c.args.lots.now) (digit-shift supply c.args.lots.now d c.args.base c.args.rule.now.shift lots
+    c.requires.categories low c.requires.shift) in (
       omega (arith, tail-length supply, c.decreases, some),
       (
         c.requires.most,
@@ -55,11 +58,13 @@ loop-digit-preserved t c =
     record {
       width = width;
       radix = refl;
-      fault = more-list c.args.rule.now c.args.base c.args.supply.now c.args.lots.now c.loop-digit.digit c.args.until c.loop-digit.found c.block_fault-found.result lots c.requires.categories low c.loop-digit.invariant.fault own;
+      fault = more-list c.args.rule.now c.args.base c.args.supply.now c.args.lots.now c.loop-digit.digit c.args.until c.loop-digit.found
+          c.block_fault-found.result lots c.requires.categories low c.loop-digit.invariant.fault own;
     }
 
 pub returns : goal.returns
 returns t c =
     let lots : 0 < length c.args.lots.now = c.requires.some in
     let some : 0 < length c.args.supply.now = omega (arith, lots, c.requires.categories) in
-    all-list c.args.rule.now c.args.base c.args.supply.now c.args.lots.now c.loop-digit.digit c.args.until c.loop-digit.found some (omega (arith, c.loop-digit.auto.digit-end, c.min-digit.ensures, c.loop-digit-test.false)) c.loop-digit.invariant.fault
+    all-list c.args.rule.now c.args.base c.args.supply.now c.args.lots.now c.loop-digit.digit c.args.until c.loop-digit.found some
+    (omega (arith, c.loop-digit.auto.digit-end, c.min-digit.ensures, c.loop-digit-test.false)) c.loop-digit.invariant.fault

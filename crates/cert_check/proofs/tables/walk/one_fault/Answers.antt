@@ -22,7 +22,8 @@ returns c =
     let width : get_or c.args.widths.now 0 0 ≡ states_of (drop 1 supply) = ap (λ (l : List ℕ). get_or l 0 0) c.requires.widths ∙ width-first supply some in
     let fault = rw width at c.run_fault.ensures in
     last-list c.args.rule.now c.args.base supply lots c.args.until c.run_fault.result c.requires.one c.requires.categories
-    (subst (λ (n : ℕ). FirstFault (CoversRun c.args.rule.now (c.args.base + get_or lots 0 0 * states_of (drop 1 supply)) (c.args.base + n)) c.args.until c.run_fault.result) (sym (states-first supply some)) fault)
+    (subst (λ (n : ℕ). FirstFault (CoversRun c.args.rule.now (c.args.base + get_or lots 0 0 * states_of (drop 1 supply)) (c.args.base + n)) c.args.until
+    c.run_fault.result) (sym (states-first supply some)) fault)
 
 pub bounds-widths-0 : goal.bounds-widths-0
 bounds-widths-0 c = rw c.requires.widths (omega (arith, widths-count c.args.supply.now, c.requires.one, c.requires.categories))
@@ -41,4 +42,10 @@ overflow_add-start c =
     let some : 0 < length supply = omega (arith, c.requires.one, c.requires.categories) in
     let width : get_or c.args.widths.now 0 0 ≡ states_of (drop 1 supply) = ap (λ (l : List ℕ). get_or l 0 0) c.requires.widths ∙ width-first supply some in
     let most : get_or c.args.widths.now 0 0 ≤ 2 ^ 40 = omega (arith, width, width-at_most supply some, c.requires.room, c.requires.most) in
-    omega (arith, c.requires.room, c.requires.most, mul-le (get_or c.args.lots.now 0 0) (get_or c.args.widths.now 0 0) 65536 (2 ^ 40) (omega (arith, c.type_inv.lots 0)) most)
+    omega (
+      arith,
+      c.requires.room,
+      c.requires.most,
+      mul-le (get_or c.args.lots.now 0 0) (get_or c.args.widths.now 0 0) 65536 (2 ^ 40)
+          (omega (arith, c.type_inv.lots 0)) most,
+    )

@@ -18,7 +18,8 @@ returns-then-not-may_follow-clause-accepts c = λ ns z keeps begins kept more fi
 pub store-self-requires : goal.store-self-requires
 store-self-requires c =
     let s = c.requires.some in
-    has_room c.args.form s.0 s.1 c.args.self.now.count (length c.args.out.now) s.3 ((c.may_follow.ensures s.0 s.1 c.args.self.now.beyond s.2 s.3 s.4).0 c.if-not-may_follow.false) s.2.many c.requires.room
+    has_room c.args.form s.0 s.1 c.args.self.now.count (length c.args.out.now) s.3
+    ((c.may_follow.ensures s.0 s.1 c.args.self.now.beyond s.2 s.3 s.4).0 c.if-not-may_follow.false) s.2.many c.requires.room
 
 pub returns-clause-accepts : goal.returns-clause-accepts
 returns-clause-accepts c = λ ns z keeps begins kept.
@@ -30,5 +31,10 @@ returns-clause-accepts c = λ ns z keeps begins kept.
       | then-self w ↦ w.self-is ∙ w.if-self.true ∙ sym (ap (λ (b : Bool). b || c.args.kept.beyond) w.if-self.true)
       | else-self w ↦ w.self-is ∙ sym (ap (λ (b : Bool). b || c.args.kept.beyond) w.if-self.false)
     ] in
-    let more = keeps_more ns c.args.out.now c.args.self.now.count c.args.self.now.beyond c.args.kept z keeps kept (has_room c.args.form ns z c.args.self.now.count (length c.args.out.now) begins next keeps.many c.requires.room) in
-    (kept_now (ns ++ z ∷ []) (set c.args.out.now c.args.self.now.count c.args.kept.number) c.store-self.new.out (c.args.self.now.count + 1) c.store-self.result (c.args.self.now.beyond || c.args.kept.beyond) c.if-self.self more (sym stored) (sym c.store-self.ensures.next) (sym flag), follows (numbers_of c.args.form) ns z begins next)
+    let more = keeps_more ns c.args.out.now c.args.self.now.count c.args.self.now.beyond c.args.kept z keeps kept
+    (has_room c.args.form ns z c.args.self.now.count (length c.args.out.now) begins next keeps.many c.requires.room) in (
+      kept_now (ns ++ z ∷ []) (set c.args.out.now c.args.self.now.count c.args.kept.number) c.store-self.new.out
+          (c.args.self.now.count + 1) c.store-self.result (c.args.self.now.beyond || c.args.kept.beyond) c.if-self.self more (sym stored)
+          (sym c.store-self.ensures.next) (sym flag),
+      follows (numbers_of c.args.form) ns z begins next,
+    )

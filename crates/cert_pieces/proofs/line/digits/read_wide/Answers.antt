@@ -8,10 +8,12 @@ use Rattle.cert_pieces.proofs.line.digits.read_wide.Goals as goal
 
 pub loop-i-preserved : goal.loop-i-preserved
 loop-i-preserved c =
-    let more : between c.args.at (c.loop-i.i + 1) c.args.piece.now ≡ between c.args.at c.loop-i.i c.args.piece.now ++ get_or c.args.piece.now c.loop-i.i 0 ∷ [] = between_more c.args.at c.loop-i.i c.args.piece.now (omega arith) (omega arith) in
+    let more : between c.args.at (c.loop-i.i + 1) c.args.piece.now ≡ between c.args.at c.loop-i.i c.args.piece.now
+    ++ get_or c.args.piece.now c.loop-i.i 0 ∷ [] = between_more c.args.at c.loop-i.i c.args.piece.now (omega arith) (omega arith) in
     let digit : IsDigit (get_or c.args.piece.now c.loop-i.i 0) = (grind (arith, nat_tests), grind (arith, nat_tests)) in
     record {
-      digits = subst AreDigits (sym more) (digits_push (between c.args.at c.loop-i.i c.args.piece.now) (get_or c.args.piece.now c.loop-i.i 0) c.loop-i.invariant.digits digit);
+      digits = subst AreDigits (sym more) (digits_push (between c.args.at c.loop-i.i c.args.piece.now)
+          (get_or c.args.piece.now c.loop-i.i 0) c.loop-i.invariant.digits digit);
       tally = λ value is. subst (IsTally c.more-tally.result)
           (sym (ap (read_on value) more ∙ read_on-append value (between c.args.at c.loop-i.i c.args.piece.now) (get_or c.args.piece.now c.loop-i.i 0 ∷ [])))
           (c.more-tally.ensures (read_on value (between c.args.at c.loop-i.i c.args.piece.now)) (c.loop-i.invariant.tally value is));

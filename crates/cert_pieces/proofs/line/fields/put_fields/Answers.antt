@@ -14,7 +14,8 @@ loop-count-preserved c =
     let from : c.args.at ≤ c.loop-count.end = c.loop-count.invariant.from in
     let room : c.args.most ≤ length c.loop-count.out = omega (arith, c.loop-count.invariant.room, c.requires.room) in
     record {
-      part = λ word beyond bytes part. field_join word c.args.most beyond c.loop-count.count c.loop-count.out _ bytes c.args.piece.now c.args.at c.loop-count.end f is small (omega arith) room (ap (λ (z : ℤ). set c.loop-count.out c.loop-count.count z) same) from
+      part = λ word beyond bytes part. field_join word c.args.most beyond c.loop-count.count c.loop-count.out _ bytes c.args.piece.now c.args.at
+          c.loop-count.end f is small (omega arith) room (ap (λ (z : ℤ). set c.loop-count.out c.loop-count.count z) same) from
           (c.loop-count.invariant.part word beyond bytes part);
       line = field_line c.args.piece.now c.args.at c.loop-count.end f is from c.loop-count.invariant.line;
       from = omega (arith, from, is.from);

@@ -11,7 +11,8 @@ decreases-loop-count l = l.most - l.count
 
 abbrev pub invariant-loop-count : goal.invariant-loop-count
 invariant-loop-count l = record {
-  part : (word : List ℕ) (beyond : Bool) (bytes : List ℕ) → IsPart word (Signed l.most) (behind_space l.fn.count beyond) l.fn.out bytes → IsPart word (Signed l.most) (behind_space l.count beyond) l.out (bytes ++ between l.fn.at l.end l.piece);
+  part : (word : List ℕ) (beyond : Bool) (bytes : List ℕ) → IsPart word (Signed l.most) (behind_space l.fn.count beyond) l.fn.out bytes
+      → IsPart word (Signed l.most) (behind_space l.count beyond) l.out (bytes ++ between l.fn.at l.end l.piece);
   line : IsLine (between l.fn.at l.end l.piece);
   from : l.fn.at ≤ l.end;
   within : l.end ≤ length l.piece;

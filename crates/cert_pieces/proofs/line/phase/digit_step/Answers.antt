@@ -4,7 +4,8 @@ use Rattle.std.proofs.lemmas.Bool.Decides.{nat_tests}
 use Rattle.cert_text.specs.cert_form.specs.wide_num.proofs.Decimal.{IsDigit}
 use Rattle.cert_pieces.proofs.Steps.{digit_refused, digit_more}
 use Rattle.cert_pieces.proofs.line.phase.digit_step.Goals as goal
-use Rattle.cert_pieces.proofs.line.phase.digit_step.Goals.{then-not-is_ascii_digit-via-then-not-is_ascii_digit, then-not-is_ascii_digit-via-else-not-is_ascii_digit+then-is_zero}
+use Rattle.cert_pieces.proofs.line.phase.digit_step.Goals.{then-not-is_ascii_digit-via-then-not-is_ascii_digit}
+use Rattle.cert_pieces.proofs.line.phase.digit_step.Goals.{then-not-is_ascii_digit-via-else-not-is_ascii_digit+then-is_zero}
 
 pub returns-then-not-is_ascii_digit : goal.returns-then-not-is_ascii_digit
 returns-then-not-is_ascii_digit c = λ word ns bytes (z, last, at).
@@ -20,5 +21,8 @@ returns-then-not-is_ascii_digit c = λ word ns bytes (z, last, at).
 pub returns : goal.returns
 returns c = λ word ns bytes (z, last, at).
     let digit : IsDigit c.args.byte = (grind (arith, nat_tests), grind (arith, nat_tests)) in
-    let some : unsigned_abs z ≡ 0 → ⊥ = λ none. let yes = (c.is_zero.ensures (unsigned_abs z) last.size).1 none in cc (yes, c.if-is_zero.false) in
-    (λ e. omega (arith, e, digit.0), digit_more word ns bytes c.args.byte c.args.negative c.args.tally c.more.result z last at digit some (c.more.ensures (unsigned_abs z) last.size))
+    let some : unsigned_abs z ≡ 0 → ⊥ = λ none. let yes = (c.is_zero.ensures (unsigned_abs z) last.size).1 none in cc (yes, c.if-is_zero.false) in (
+      λ e. omega (arith, e, digit.0),
+      digit_more word ns bytes c.args.byte c.args.negative c.args.tally c.more.result z last at digit some
+          (c.more.ensures (unsigned_abs z) last.size),
+    )

@@ -5,7 +5,8 @@ use Rattle.cert_pieces.proofs.line.phase.minus_step.Goals as goal
 
 pub returns-then-not-begins_below_zero : goal.returns-then-not-begins_below_zero
 returns-then-not-begins_below_zero c = λ word ns bytes at.
-    let digit : IsDigit c.args.byte → 48 < c.args.byte → ⊥ = λ d some. let yes = c.begins_below_zero.ensures.1 (some, d.1) in cc (yes, c.if-not-begins_below_zero.true) in
+    let digit : IsDigit c.args.byte → 48 < c.args.byte → ⊥ = λ d some. let yes = c.begins_below_zero.ensures.1 (some, d.1) in
+    cc (yes, c.if-not-begins_below_zero.true) in
     minus_refused word ns bytes c.args.byte at digit
 
 pub returns : goal.returns

@@ -18,12 +18,16 @@ returns-clause-stands c = λ text items is.
     let b = c.args.self.now.shape.bidders in
     let s = c.args.self.now.shape.states in
     let f : FitsSigned w128 (get_or c.args.room.now c.numbers_span-span.result.start (pos 0)) = search rules in
-    let at : get_or c.args.room.now (start_due b s c.args.self.now.due) (pos 0) ≡ get_or c.args.room.now c.numbers_span-span.result.start (pos 0) = ap (λ (n : ℕ). get_or c.args.room.now n (pos 0)) (sym c.numbers_span-span.ensures.start) in
-    let known = ends_known b s c.args.self.now.due c.args.self.now.part c.args.self.now.place c.args.self.now.read c.args.room.now text items is _ c.if-self.false at in
-    let next : IsKnown c.args.self.now.due is.whole.numbers (take b c.args.room.now) (get_or c.args.room.now c.numbers_span-span.result.start (pos 0)) → Follows b s (take b c.args.room.now) c.args.self.now.due is.whole.numbers c.next-self.result =
+    let at : get_or c.args.room.now (start_due b s c.args.self.now.due) (pos 0) ≡ get_or c.args.room.now c.numbers_span-span.result.start (pos 0) =
+    ap (λ (n : ℕ). get_or c.args.room.now n (pos 0)) (sym c.numbers_span-span.ensures.start) in
+    let known = ends_known b s c.args.self.now.due c.args.self.now.part c.args.self.now.place c.args.self.now.read c.args.room.now text items is _
+    c.if-self.false at in
+    let next : IsKnown c.args.self.now.due is.whole.numbers (take b c.args.room.now) (get_or c.args.room.now c.numbers_span-span.result.start (pos 0))
+    → Follows b s (take b c.args.room.now) c.args.self.now.due is.whole.numbers c.next-self.result =
     simp to_z-of_z at (c.next-self.ensures.next is.whole.numbers (to_due b s c.args.self.now.due is.whole.numbers is.whole.fit)) in
     reads_on b s c.next-self.result c.new-self.result c.args.self.now.read c.args.self.now.read c.args.room.now _ _ c.args.self.now.stop c.requires.reading (
-    ends_in b s c.args.self.now.due c.args.self.now.part c.args.self.now.place c.args.self.now.read c.args.room.now text items is c.next-self.result c.new-self.result c.if-self.false (next known) c.next-self.ensures.due
+    ends_in b s c.args.self.now.due c.args.self.now.part c.args.self.now.place c.args.self.now.read c.args.room.now text items is c.next-self.result
+    c.new-self.result c.if-self.false (next known) c.next-self.ensures.due
     (λ out. c.new-self.ensures (word_of c.next-self.result) (form_due b s c.next-self.result) out)
     )
 
@@ -35,8 +39,10 @@ next-self-requires-clause-numbers c =
     let items = c.requires.ends.1 in
     let is = c.requires.ends.2 in
     let f : FitsSigned w128 (get_or c.args.room.now c.numbers_span-span.result.start (pos 0)) = search rules in
-    let at : get_or c.args.room.now (start_due b s c.args.self.now.due) (pos 0) ≡ get_or c.args.room.now c.numbers_span-span.result.start (pos 0) = ap (λ (n : ℕ). get_or c.args.room.now n (pos 0)) (sym c.numbers_span-span.ensures.start) in
-    let known = ends_known b s c.args.self.now.due c.args.self.now.part c.args.self.now.place c.args.self.now.read c.args.room.now text items is _ c.if-self.false at in
+    let at : get_or c.args.room.now (start_due b s c.args.self.now.due) (pos 0) ≡ get_or c.args.room.now c.numbers_span-span.result.start (pos 0) =
+    ap (λ (n : ℕ). get_or c.args.room.now n (pos 0)) (sym c.numbers_span-span.ensures.start) in
+    let known = ends_known b s c.args.self.now.due c.args.self.now.part c.args.self.now.place c.args.self.now.read c.args.room.now text items is _
+    c.if-self.false at in
     simp to_z-of_z (is.whole.numbers, to_due b s c.args.self.now.due is.whole.numbers is.whole.fit, known)
 
 pub returns-clause-next : goal.returns-clause-next
@@ -47,8 +53,10 @@ returns-clause-next c = λ none cert kept tells has.
     let first = get_or c.args.room.now c.numbers_span-span.result.start (pos 0) in
     let f : FitsSigned w128 (get_or c.args.room.now c.numbers_span-span.result.start (pos 0)) = search rules in
     let told : Tells cert c.args.self.now.due (take b c.args.room.now) (get_or c.args.room.now c.numbers_span-span.result.start (pos 0)) =
-    subst (λ (n : ℕ). Tells cert c.args.self.now.due (take b c.args.room.now) (get_or c.args.room.now n (pos 0))) (sym c.numbers_span-span.ensures.start) tells in
-    let left : Tells cert c.args.self.now.due (take b c.args.room.now) (get_or c.args.room.now c.numbers_span-span.result.start (pos 0)) → HasDue b s cert c.args.self.now.due → ComesNext b s cert c.args.self.now.due c.next-self.result =
+    subst (λ (n : ℕ). Tells cert c.args.self.now.due (take b c.args.room.now) (get_or c.args.room.now n (pos 0)))
+    (sym c.numbers_span-span.ensures.start) tells in
+    let left : Tells cert c.args.self.now.due (take b c.args.room.now) (get_or c.args.room.now c.numbers_span-span.result.start (pos 0))
+    → HasDue b s cert c.args.self.now.due → ComesNext b s cert c.args.self.now.due c.next-self.result =
     simp to_z-of_z at (c.next-self.ensures.left is.some cert kept) in
     left told has
 
@@ -57,5 +65,7 @@ returns-clause-order c = λ none.
     let b = c.args.self.now.shape.bidders in
     let s = c.args.self.now.shape.states in
     let f : FitsSigned w128 (get_or c.args.room.now c.numbers_span-span.result.start (pos 0)) = search rules in
-    let own : ComesBehind b (take b c.args.room.now) (get_or c.args.room.now c.numbers_span-span.result.start (pos 0)) c.args.self.now.due c.next-self.result = simp to_z-of_z at c.next-self.ensures.order in
-    subst (λ (n : ℕ). ComesBehind b (take b c.args.room.now) (get_or c.args.room.now n (pos 0)) c.args.self.now.due c.next-self.result) c.numbers_span-span.ensures.start own
+    let own : ComesBehind b (take b c.args.room.now) (get_or c.args.room.now c.numbers_span-span.result.start (pos 0)) c.args.self.now.due
+    c.next-self.result = simp to_z-of_z at c.next-self.ensures.order in
+    subst (λ (n : ℕ). ComesBehind b (take b c.args.room.now) (get_or c.args.room.now n (pos 0)) c.args.self.now.due c.next-self.result)
+    c.numbers_span-span.ensures.start own

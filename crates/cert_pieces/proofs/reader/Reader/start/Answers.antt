@@ -6,7 +6,12 @@ use Rattle.cert_pieces.proofs.Standing.{at_first}
 use Rattle.cert_pieces.proofs.reader.Reader.start.Goals as goal
 
 pub returns-clause-stands : goal.returns-clause-stands
-returns-clause-stands c = λ room. ([], at_first c.args.shape.bidders c.args.shape.states c.new.result room (λ out. c.new.ensures (word_of Version) (form_due c.args.shape.bidders c.args.shape.states Version) out))
+returns-clause-stands c = λ room. (
+  [],
+  at_first c.args.shape.bidders c.args.shape.states c.new.result room
+      (λ out. c.new.ensures (word_of Version) (form_due c.args.shape.bidders c.args.shape.states Version) out),
+)
 
 pub returns-clause-fresh : goal.returns-clause-fresh
-returns-clause-fresh c = λ room. at_first c.args.shape.bidders c.args.shape.states c.new.result room (λ out. c.new.ensures (word_of Version) (form_due c.args.shape.bidders c.args.shape.states Version) out)
+returns-clause-fresh c = λ room. at_first c.args.shape.bidders c.args.shape.states c.new.result room
+    (λ out. c.new.ensures (word_of Version) (form_due c.args.shape.bidders c.args.shape.states Version) out)

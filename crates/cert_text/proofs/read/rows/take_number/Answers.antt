@@ -11,5 +11,7 @@ use Rattle.cert_text.proofs.read.rows.take_number.Goals as goal
 pub returns-clause-leads : goal.returns-clause-leads
 returns-clause-leads c =
     let f : FitsSigned w128 (get_or c.items-numbers.result.now 0 (pos 0)) = search rules in
-    let one : c.in_ok-read.read.numbers ≡ get_or c.items-numbers.result.now 0 (pos 0) ∷ [] = one_number c.in_ok-read.read.numbers c.in_ok-read.ensures.count ∙ ap (λ (l : List ℤ). get_or l 0 (pos 0) ∷ []) (sym c.items-numbers.ensures) in
-    simp to_z-of_z (subst (λ (ns : List ℤ). Leads c.args.bytes.now c.args.place (kind c.args.word.now (signed 1) ∷ []) c.in_ok-read.read.next [] (line c.args.word.now ns ∷ [])) one c.in_ok-read.ensures.leads)
+    let one : c.in_ok-read.read.numbers ≡ get_or c.items-numbers.result.now 0 (pos 0) ∷ [] = one_number c.in_ok-read.read.numbers c.in_ok-read.ensures.count
+    ∙ ap (λ (l : List ℤ). get_or l 0 (pos 0) ∷ []) (sym c.items-numbers.ensures) in
+    simp to_z-of_z (subst (λ (ns : List ℤ). Leads c.args.bytes.now c.args.place (kind c.args.word.now (signed 1) ∷ []) c.in_ok-read.read.next []
+    (line c.args.word.now ns ∷ [])) one c.in_ok-read.ensures.leads)

@@ -5,13 +5,16 @@ use Rattle.cert_text.proofs.read.rows.take_rows.Goals as goal
 
 pub returns-in_err-read-clause-halts : goal.returns-in_err-read-clause-halts
 returns-in_err-read-clause-halts c =
-    let halts = rows_halts c.args.bytes.now c.args.place c.args.bidders c.args.count c.loop-row._row c.loop-row.next c.loop-row.rows c.in_err-read.field-0.0 c.loop-row-test.true c.loop-row.invariant c.in_err-read.ensures.halts in
+    let halts = rows_halts c.args.bytes.now c.args.place c.args.bidders c.args.count c.loop-row._row c.loop-row.next c.loop-row.rows c.in_err-read.field-0.0
+    c.loop-row-test.true c.loop-row.invariant c.in_err-read.ensures.halts in
     search rules
 
 pub loop-row-preserved : goal.loop-row-preserved
 loop-row-preserved c =
-    subst (λ (rows : List CertRow). RowsSoFar c.args.bytes.now c.args.place c.args.bidders c.args.count (c.loop-row._row + 1) c.in_ok-read.read.next rows) (sym c.in_ok-push.ensures.pushed)
-    (rows_more c.args.bytes.now c.args.place c.args.bidders c.args.count c.loop-row._row c.loop-row.next c.loop-row.rows c.in_ok-read.read.row c.in_ok-read.read.next
+    subst (λ (rows : List CertRow). RowsSoFar c.args.bytes.now c.args.place c.args.bidders c.args.count (c.loop-row._row + 1) c.in_ok-read.read.next rows)
+    (sym c.in_ok-push.ensures.pushed)
+    (rows_more c.args.bytes.now c.args.place c.args.bidders c.args.count c.loop-row._row c.loop-row.next c.loop-row.rows c.in_ok-read.read.row
+    c.in_ok-read.read.next
     c.loop-row-test.true c.loop-row.invariant c.in_ok-read.ensures.leads c.in_ok-read.ensures.row c.in_ok-read.ensures.within)
 
 pub returns-clause-leads : goal.returns-clause-leads

@@ -9,9 +9,11 @@ returns-in_err-read-clause-halts c =
 
 pub returns-in_err-next-clause-halts : goal.returns-in_err-next-clause-halts
 returns-in_err-next-clause-halts c =
-    let halts = closing_second c.args.bytes.now c.args.place c.args.shape.bidders c.args.shape.states c.in_ok-read.read.table c.in_ok-read.read.next c.in_ok-read.ensures.leads c.in_err-next.field-0.0 c.in_err-next.ensures.halts in
+    let halts = closing_second c.args.bytes.now c.args.place c.args.shape.bidders c.args.shape.states c.in_ok-read.read.table c.in_ok-read.read.next
+    c.in_ok-read.ensures.leads c.in_err-next.field-0.0 c.in_err-next.ensures.halts in
     search rules
 
 pub returns-clause-leads : goal.returns-clause-leads
 returns-clause-leads c =
-    closing_done c.args.bytes.now c.args.place c.args.shape.bidders c.args.shape.states c.in_ok-read.read.table c.in_ok-read.read.next c.in_ok-read.ensures.leads c.in_ok-next.next c.in_ok-next.ensures.leads
+    closing_done c.args.bytes.now c.args.place c.args.shape.bidders c.args.shape.states c.in_ok-read.read.table c.in_ok-read.read.next
+    c.in_ok-read.ensures.leads c.in_ok-next.next c.in_ok-next.ensures.leads

@@ -11,7 +11,8 @@ returns-in_err-den-clause-halts c =
 
 pub returns-in_err-value-clause-halts : goal.returns-in_err-value-clause-halts
 returns-in_err-value-clause-halts c =
-    let halts = opening_second c.args.bytes.now c.args.place c.in_ok-den.den.number c.in_ok-den.den.next c.in_ok-den.ensures.leads c.in_err-value.field-0.0 c.in_err-value.ensures.halts in
+    let halts = opening_second c.args.bytes.now c.args.place c.in_ok-den.den.number c.in_ok-den.den.next c.in_ok-den.ensures.leads c.in_err-value.field-0.0
+    c.in_err-value.ensures.halts in
     search rules
 
 pub returns-clause-leads : goal.returns-clause-leads
@@ -19,4 +20,5 @@ returns-clause-leads c =
     let f : FitsSigned w128 c.in_ok-den.den.number = search rules in
     let g : FitsSigned w128 c.in_ok-value.value.number = search rules in
     simp to_z-of_z
-    (opening_done c.args.bytes.now c.args.place c.in_ok-den.den.number c.in_ok-den.den.next c.in_ok-den.ensures.leads c.in_ok-value.value.number c.in_ok-value.value.next c.in_ok-value.ensures.leads)
+    (opening_done c.args.bytes.now c.args.place c.in_ok-den.den.number c.in_ok-den.den.next c.in_ok-den.ensures.leads c.in_ok-value.value.number
+    c.in_ok-value.value.next c.in_ok-value.ensures.leads)

@@ -13,16 +13,19 @@ returns-in_err-pay-clause-halts c =
 
 pub returns-in_err-count-clause-halts : goal.returns-in_err-count-clause-halts
 returns-in_err-count-clause-halts c =
-    let halts = payment_second c.args.bytes.now c.args.place c.args.bidders 0 c.in_ok-pay.pay.numbers c.in_ok-pay.pay.next c.in_ok-pay.ensures.leads c.in_err-count.field-0.0 (c.in_err-count.ensures.halts (counted c.args.bidders) (same_kind (counted c.args.bidders))) in
+    let halts = payment_second c.args.bytes.now c.args.place c.args.bidders 0 c.in_ok-pay.pay.numbers c.in_ok-pay.pay.next c.in_ok-pay.ensures.leads
+    c.in_err-count.field-0.0 (c.in_err-count.ensures.halts (counted c.args.bidders) (same_kind (counted c.args.bidders))) in
     search rules
 
 pub returns-in_err-rows-clause-halts : goal.returns-in_err-rows-clause-halts
 returns-in_err-rows-clause-halts c =
-    let halts = payment_third c.args.bytes.now c.args.place c.args.bidders 0 c.in_ok-pay.pay.numbers c.in_ok-pay.pay.next c.in_ok-pay.ensures.leads c.in_ok-count.count.count c.in_ok-count.count.next (c.in_ok-count.ensures.leads (counted c.args.bidders) (same_kind (counted c.args.bidders)))
+    let halts = payment_third c.args.bytes.now c.args.place c.args.bidders 0 c.in_ok-pay.pay.numbers c.in_ok-pay.pay.next c.in_ok-pay.ensures.leads
+    c.in_ok-count.count.count c.in_ok-count.count.next (c.in_ok-count.ensures.leads (counted c.args.bidders) (same_kind (counted c.args.bidders)))
     c.in_err-rows.field-0.0 c.in_err-rows.ensures.halts in
     search rules
 
 pub returns-clause-leads : goal.returns-clause-leads
 returns-clause-leads c =
-    payment_done c.args.bytes.now c.args.place c.args.bidders 0 c.in_ok-pay.pay.numbers c.in_ok-pay.pay.next c.in_ok-pay.ensures.leads c.in_ok-count.count.count c.in_ok-count.count.next (c.in_ok-count.ensures.leads (counted c.args.bidders) (same_kind (counted c.args.bidders)))
+    payment_done c.args.bytes.now c.args.place c.args.bidders 0 c.in_ok-pay.pay.numbers c.in_ok-pay.pay.next c.in_ok-pay.ensures.leads
+    c.in_ok-count.count.count c.in_ok-count.count.next (c.in_ok-count.ensures.leads (counted c.args.bidders) (same_kind (counted c.args.bidders)))
     (map row_value c.in_ok-rows.rows.rows) c.in_ok-rows.rows.next c.in_ok-rows.ensures.count c.in_ok-rows.ensures.leads

@@ -14,7 +14,8 @@ invariant_of-self c =
     let inside : ClockState = clock_with c.self.inside.running c.self.inside.history (round_value c.self.inside.posted) in
     let ok : c.reply_to_bid-reply.result ≡ reply.Ok = grind (arith, common_steps) in
     let categories : length c.copy_from.new.self ≡ length inside.posted.prices =
-    ap length c.copy_from.ensures ∙ c.requires.categories ∙ sym c.requires.award.categories ∙ ap (λ (clock : ClockState). length clock.posted.prices) (sym c.self.view_is) in
+    ap length c.copy_from.ensures ∙ c.requires.categories ∙ sym c.requires.award.categories ∙ ap (λ (clock : ClockState). length clock.posted.prices)
+    (sym c.self.view_is) in
     let few : sum c.copy_from.new.self ≤ 40 = subst (λ (lots : List ℕ). sum lots ≤ 40) (sym c.copy_from.ensures) (c.reply_to_bid-reply.ensures.few ok) in
     bid-kept inside (c.args.bidder - 1) c.copy_from.new.self c.self.invariant categories few
 
@@ -32,8 +33,10 @@ returns-else-matches-clause-reply c = search rules
 
 pub returns-then-matches-clause-stands : goal.returns-then-matches-clause-stands
 returns-then-matches-clause-stands c = λ log is.
-    bid-stands c.args.award.now log c.args.self.now _ c.args.bidder c.args.package.now c.reply_to_bid-reply.result is c.requires.running (returns-then-matches-clause-reply c) (returns-then-matches-clause-clock c)
+    bid-stands c.args.award.now log c.args.self.now _ c.args.bidder c.args.package.now c.reply_to_bid-reply.result is c.requires.running
+    (returns-then-matches-clause-reply c) (returns-then-matches-clause-clock c)
 
 pub returns-else-matches-clause-stands : goal.returns-else-matches-clause-stands
 returns-else-matches-clause-stands c = λ log is.
-    bid-stands c.args.award.now log c.args.self.now c.args.self.now c.args.bidder c.args.package.now c.reply_to_bid-reply.result is c.requires.running (returns-else-matches-clause-reply c) (returns-else-matches-clause-clock c)
+    bid-stands c.args.award.now log c.args.self.now c.args.self.now c.args.bidder c.args.package.now c.reply_to_bid-reply.result is c.requires.running
+    (returns-else-matches-clause-reply c) (returns-else-matches-clause-clock c)

@@ -7,8 +7,10 @@ use Rattle.piece_check.proofs.check.StreamCheck.end_line.Goals as goal
 
 pub returns-then-is_some-clause-stands : goal.returns-then-is_some-clause-stands
 returns-then-is_some-clause-stands c = λ text items (set, ends, known).
-    stopped-for (with-reader c.args.self.now c.end_line.new.self) c.args.room.now (text ++ 10 ∷ []) (items ++ line_with c.args.self.now.reader.due ends.whole.numbers ∷ [])
-    (λ none. cc (c.is_some.ensures, c.if-is_some.true, ap is_some none)) (set-up c.args.self.now set c.end_line.new.self c.end_line.ensures.shape) (c.end_line.ensures.stands text items ends)
+    stopped-for (with-reader c.args.self.now c.end_line.new.self) c.args.room.now (text ++ 10 ∷ [])
+    (items ++ line_with c.args.self.now.reader.due ends.whole.numbers ∷ [])
+    (λ none. cc (c.is_some.ensures, c.if-is_some.true, ap is_some none)) (set-up c.args.self.now set c.end_line.new.self c.end_line.ensures.shape)
+    (c.end_line.ensures.stands text items ends)
 
 pub returns-then-is_some-2-clause-stands : goal.returns-then-is_some-2-clause-stands
 returns-then-is_some-2-clause-stands c = λ text items (set, ends, known).
@@ -22,7 +24,8 @@ judged-found-requires c =
     let (set, ends, known) = c.requires.ends.2 in
     let on : c.end_line.new.self.stop ≡ None = search rules in
     let none : c.args.self.now.failed ≡ None = search rules in
-    (the-step c.args.self.now set c.end_line.new.self c.args.room.now text items c.count-count.result (omega (arith, c.kept.ensures.bidders)) c.count-count.ensures none on c.end_line.ensures.shape ends known
+    (the-step c.args.self.now set c.end_line.new.self c.args.room.now text items c.count-count.result
+    (omega (arith, c.kept.ensures.bidders)) c.count-count.ensures none on c.end_line.ensures.shape ends known
     (c.end_line.ensures.beyond on) (c.end_line.ensures.next on) (c.end_line.ensures.order on) (c.end_line.ensures.stands text items ends)).possible
 
 pub totals_behind-totals-requires : goal.totals_behind-totals-requires
@@ -32,14 +35,20 @@ totals_behind-totals-requires c =
     let (set, ends, known) = c.requires.ends.2 in
     let on : c.end_line.new.self.stop ≡ None = search rules in
     let none : c.args.self.now.failed ≡ None = search rules in
-    (the-step c.args.self.now set c.end_line.new.self c.args.room.now text items c.count-count.result (omega (arith, c.kept.ensures.bidders)) c.count-count.ensures none on c.end_line.ensures.shape ends known
+    (the-step c.args.self.now set c.end_line.new.self c.args.room.now text items c.count-count.result
+    (omega (arith, c.kept.ensures.bidders)) c.count-count.ensures none on c.end_line.ensures.shape ends known
     (c.end_line.ensures.beyond on) (c.end_line.ensures.next on) (c.end_line.ensures.order on) (c.end_line.ensures.stands text items ends)).possible
 
 pub returns-clause-stands : goal.returns-clause-stands
 returns-clause-stands c = λ text items (set, ends, known).
     let on : c.end_line.new.self.stop ≡ None = search rules in
     let none : c.args.self.now.failed ≡ None = search rules in
-    stands-next c.args.self.now set c.end_line.new.self c.args.room.now text items c.count-count.result (omega (arith, c.kept.ensures.bidders)) c.count-count.ensures none on c.end_line.ensures.shape ends known
+    stands-next c.args.self.now set c.end_line.new.self c.args.room.now text items c.count-count.result
+    (omega (arith, c.kept.ensures.bidders)) c.count-count.ensures none on c.end_line.ensures.shape ends known
     (c.end_line.ensures.beyond on) (c.end_line.ensures.next on) (c.end_line.ensures.order on) (c.end_line.ensures.stands text items ends)
     c.judged-found.result.failed c.judged-found.result.late c.members_behind-members.result c.totals_behind-totals.result
-    (λ cert at next. (c.judged-found.ensures cert c.end_line.new.self.due at next, c.members_behind-members.ensures cert c.end_line.new.self.due at next, c.totals_behind-totals.ensures cert c.end_line.new.self.due at next))
+    (λ cert at next. (
+      c.judged-found.ensures cert c.end_line.new.self.due at next,
+      c.members_behind-members.ensures cert c.end_line.new.self.due at next,
+      c.totals_behind-totals.ensures cert c.end_line.new.self.due at next,
+    ))

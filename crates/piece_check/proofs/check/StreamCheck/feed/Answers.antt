@@ -14,11 +14,14 @@ joined text piece at end le =
 
 pub returns-then-is_some-clause-stands : goal.returns-then-is_some-clause-stands
 returns-then-is_some-clause-stands c = λ text is.
-    rest-for c.loop-at.self c.loop-at.room text c.args.piece.now c.loop-at.at (λ none. cc (c.is_some.ensures, c.if-is_some.true, ap is_some none)) (c.loop-at.invariant.stands text is)
+    rest-for c.loop-at.self c.loop-at.room text c.args.piece.now c.loop-at.at (λ none. cc (c.is_some.ensures, c.if-is_some.true, ap is_some none))
+    (c.loop-at.invariant.stands text is)
 
 pub loop-at-preserved : goal.loop-at-preserved
 loop-at-preserved c = record {
-  stands = λ text is. subst (StandsFor c.feed_line-at.new.self c.feed_line-at.new.room) (joined text c.args.piece.now c.loop-at.at c.feed_line-at.result (omega (arith, c.feed_line-at.ensures.from))) (c.feed_line-at.ensures.stands (text ++ take c.loop-at.at c.args.piece.now) (c.loop-at.invariant.stands text is));
+  stands = λ text is. subst (StandsFor c.feed_line-at.new.self c.feed_line-at.new.room)
+      (joined text c.args.piece.now c.loop-at.at c.feed_line-at.result (omega (arith, c.feed_line-at.ensures.from)))
+      (c.feed_line-at.ensures.stands (text ++ take c.loop-at.at c.args.piece.now) (c.loop-at.invariant.stands text is));
   book = c.feed_line-at.ensures.book ∙ c.loop-at.invariant.book;
   weights = c.feed_line-at.ensures.weights ∙ c.loop-at.invariant.weights;
   room = c.feed_line-at.ensures.room ∙ c.loop-at.invariant.room;
@@ -26,7 +29,8 @@ loop-at-preserved c = record {
 }
 
 pub returns-clause-stands : goal.returns-clause-stands
-returns-clause-stands c = λ text is. subst (λ (l : List ℕ). StandsFor c.loop-at.self c.loop-at.room (text ++ l)) (take_all c.loop-at.at c.args.piece.now (omega arith)) (c.loop-at.invariant.stands text is)
+returns-clause-stands c = λ text is. subst (λ (l : List ℕ). StandsFor c.loop-at.self c.loop-at.room (text ++ l))
+    (take_all c.loop-at.at c.args.piece.now (omega arith)) (c.loop-at.invariant.stands text is)
 
 pub feed_line-at-requires-clause-stands : goal.feed_line-at-requires-clause-stands
 feed_line-at-requires-clause-stands c = (

@@ -13,6 +13,7 @@ facts_in-requires-clause-some c =
 pub returns : goal.returns
 returns c = λ text stands.
     let (cert, states_it, holds) = c.requires.yes.2 in
-    let ended = has-ended c.args.self.now c.args.room.now c.requires.yes.0 c.one_cert.ensures c.one_verdict.ensures.not_both cert states_it holds c.requires.yes.1 in
+    let ended = has-ended c.args.self.now c.args.room.now c.requires.yes.0 c.one_cert.ensures c.one_verdict.ensures.not_both cert states_it holds
+    c.requires.yes.1 in
     let read = read-whole c.args.self.now c.args.room.now text ended stands in
     (read.cert, read.says_it, c.in_ok-facts_in.ensures read.cert read.all)

@@ -6,7 +6,11 @@ use Rattle.piece_check.proofs.ClaimCome.{den-there, value-there, choice-there, c
 use Rattle.piece_check.proofs.judging.claims.claim_line.Goals as goal
 
 pub put_choice-requires-clause-choice : goal.put_choice-requires-clause-choice
-put_choice-requires-clause-choice c = (c.requires.some.0.choice, choice-there c.args.at.now c.requires.some.0 c.requires.some.1 c.requires.due, c.requires.some.1.kept.choice)
+put_choice-requires-clause-choice c = (
+  c.requires.some.0.choice,
+  choice-there c.args.at.now c.requires.some.0 c.requires.some.1 c.requires.due,
+  c.requires.some.1.kept.choice,
+)
 
 pub number_in-requires-clause-one : goal.number_in-requires-clause-one
 number_in-requires-clause-one c = (c.requires.some.0.den, den-there c.args.at.now c.requires.some.0 c.requires.some.1 c.requires.due)
@@ -24,7 +28,8 @@ invariant_of-claim c =
       shown = claimed c.args.at.now cert is c.requires.due _ _ _ c.bidders-bidders.ensures.kept
           (sym (c.number_in.ensures cert.den (den-there c.args.at.now cert is c.requires.due)) ∙ sym (to_z-of_z w128 c.number_in.result den_fits))
           (sym (c.number_in-2.ensures cert.value (value-there c.args.at.now cert is c.requires.due)) ∙ sym (to_z-of_z w128 c.number_in-2.result value_fits))
-          (sym (ap (λ (n : ℕ). take n c.put_choice.new.to) c.bidders-bidders.ensures.bidders ∙ c.put_choice.ensures.choice cert.choice (choice-there c.args.at.now cert is c.requires.due)));
+          (sym (ap (λ (n : ℕ). take n c.put_choice.new.to) c.bidders-bidders.ensures.bidders ∙ c.put_choice.ensures.choice cert.choice
+          (choice-there c.args.at.now cert is c.requires.due)));
     }
 
 pub shown-requires-clause-claim : goal.shown-requires-clause-claim
@@ -35,7 +40,9 @@ shown-requires-clause-claim c =
       book = refl;
       each = λ cert is. record {
         den_is = sym (c.number_in.ensures cert.den (den-there c.args.at.now cert is c.requires.due)) ∙ sym (to_z-of_z w128 c.number_in.result den_fits);
-        value_is = sym (c.number_in-2.ensures cert.value (value-there c.args.at.now cert is c.requires.due)) ∙ sym (to_z-of_z w128 c.number_in-2.result value_fits);
-        choice_is = sym (ap (λ (n : ℕ). take n c.put_choice.new.to) c.bidders-bidders.ensures.bidders ∙ c.put_choice.ensures.choice cert.choice (choice-there c.args.at.now cert is c.requires.due));
+        value_is = sym (c.number_in-2.ensures cert.value (value-there c.args.at.now cert is c.requires.due))
+            ∙ sym (to_z-of_z w128 c.number_in-2.result value_fits);
+        choice_is = sym (ap (λ (n : ℕ). take n c.put_choice.new.to) c.bidders-bidders.ensures.bidders
+            ∙ c.put_choice.ensures.choice cert.choice (choice-there c.args.at.now cert is c.requires.due));
       };
     }

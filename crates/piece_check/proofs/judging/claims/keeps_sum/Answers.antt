@@ -21,5 +21,8 @@ returns c = λ cert is.
     let pay_is = c.numbers_in.ensures ∙ pay-there c.args.at.now cert is 0 c.requires.due in
     let entry : get_or c.numbers_in-line.result.now (c.states.result - 1) (pos 0) ≡ entry_at cert.lowered 0 (full at.book.now) =
     ap (λ (l : List ℤ). get_or l (c.states.result - 1) (pos 0)) line_is ∙ ap (λ (n : ℕ). get_or (slice_index_or cert.lowered 0 []) (n - 1) (pos 0)) same in
-    let paid = c.sum_paid-paid.ensures ∙ ap (λ (l : List ℤ). sum_over everyone (of_bidder l) (length l)) pay_is ∙ ap (λ (n : ℕ). sum_over everyone (of_bidder cert.pay) n) is.kept.pay.0 in
-    keeps-sum at.book.now (weight_of at.weights.now) cert _ _ c.is_at_most.result (to_z-of_z w128 (get_or c.numbers_in-line.result.now (c.states.result - 1) (pos 0)) entry_fits ∙ entry) (to_z-of_z w128 c.sum_paid-paid.result paid_fits ∙ paid) c.is_at_most.ensures
+    let paid = c.sum_paid-paid.ensures ∙ ap (λ (l : List ℤ). sum_over everyone (of_bidder l) (length l)) pay_is
+    ∙ ap (λ (n : ℕ). sum_over everyone (of_bidder cert.pay) n) is.kept.pay.0 in
+    keeps-sum at.book.now (weight_of at.weights.now) cert _ _ c.is_at_most.result
+    (to_z-of_z w128 (get_or c.numbers_in-line.result.now (c.states.result - 1) (pos 0)) entry_fits ∙ entry)
+    (to_z-of_z w128 c.sum_paid-paid.result paid_fits ∙ paid) c.is_at_most.ensures

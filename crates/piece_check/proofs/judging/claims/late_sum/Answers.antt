@@ -17,4 +17,5 @@ pub returns : goal.returns
 returns c = λ cert is.
     let at = c.args.at.now in
     let first = c.requires.due ∙ ap (λ (n : ℕ). Entries Lowered n) c.if-k-ne0.false in
-    c.with_late.ensures at.book.now (weight_of at.weights.now) cert 9 ((bidders_of at.book.now + 1) * states at.book.now) (lowered-late c.args.at.now cert is 0 first) (λ none. c.keeps_sum.ensures cert is)
+    c.with_late.ensures at.book.now (weight_of at.weights.now) cert 9 ((bidders_of at.book.now + 1) * states at.book.now)
+    (lowered-late c.args.at.now cert is 0 first) (λ none. c.keeps_sum.ensures cert is)

@@ -15,16 +15,27 @@ returns c = λ cert is.
     let at = c.args.at.now in
     let inside = line-inside c.args.at.now cert is Lowered c.args.k c.requires.due in
     let rise = lines-rise (bidders_of at.book.now) c.args.k (states at.book.now) inside in
-    let two = subst (λ (b : Book). HasTwoLines b Lowered c.args.k c.args.at.now.room.now cert.lowered) (sym c.requires.offers.book) (lowered-two c.args.at.now cert is c.args.k c.requires.due) in
-    let rules = lowered-rules c.args.at.now cert is c.args.k c.requires.due c.args.offers.now c.rules_fault.result c.requires.offers.book c.requires.offers.nobody (c.requires.offers.net cert is) (c.rules_fault.ensures cert.lowered two) in
-    subst (IsJudged at.book.now (weight_of at.weights.now) cert 9 (lines_tested (bidders_of at.book.now) c.args.k * states at.book.now)) (sym c.of_test.ensures.failure)
-    (between-judged at.book.now (weight_of at.weights.now) cert 9 ((c.args.k - 1) * states at.book.now) (lines_tested (bidders_of at.book.now) c.args.k * states at.book.now) c.rules_fault.result (omega (arith, rise.0, rise.1)) (lowered-holds c.args.at.now cert is c.args.k c.requires.due) rules)
+    let two = subst (λ (b : Book). HasTwoLines b Lowered c.args.k c.args.at.now.room.now cert.lowered) (sym c.requires.offers.book)
+    (lowered-two c.args.at.now cert is c.args.k c.requires.due) in
+    let rules = lowered-rules c.args.at.now cert is c.args.k c.requires.due c.args.offers.now c.rules_fault.result c.requires.offers.book
+    c.requires.offers.nobody (c.requires.offers.net cert is) (c.rules_fault.ensures cert.lowered two) in
+    subst (IsJudged at.book.now (weight_of at.weights.now) cert 9 (lines_tested (bidders_of at.book.now) c.args.k * states at.book.now))
+    (sym c.of_test.ensures.failure)
+    (between-judged at.book.now (weight_of at.weights.now) cert 9 ((c.args.k - 1) * states at.book.now)
+    (lines_tested (bidders_of at.book.now) c.args.k * states at.book.now) c.rules_fault.result (omega (arith, rise.0, rise.1))
+    (lowered-holds c.args.at.now cert is c.args.k c.requires.due) rules)
 
 pub rules_fault-requires-clause-line : goal.rules_fault-requires-clause-line
-rules_fault-requires-clause-line c = subst (λ (b : Book). c.args.k ≤ bidders_of b) (sym c.requires.offers.book) (line-inside c.args.at.now c.requires.some.0 c.requires.some.1 Lowered c.args.k c.requires.due)
+rules_fault-requires-clause-line c = subst (λ (b : Book). c.args.k ≤ bidders_of b) (sym c.requires.offers.book)
+    (line-inside c.args.at.now c.requires.some.0 c.requires.some.1 Lowered c.args.k c.requires.due)
 
 pub rules_fault-requires-clause-room : goal.rules_fault-requires-clause-room
-rules_fault-requires-clause-room c = subst (λ (b : Book). length c.args.at.now.room.now ≡ room_size (bidders_of b) (states b)) (sym c.requires.offers.book) c.args.at.now.sized
+rules_fault-requires-clause-room c = subst (λ (b : Book). length c.args.at.now.room.now ≡ room_size (bidders_of b) (states b))
+    (sym c.requires.offers.book) c.args.at.now.sized
 
 pub rules_fault-requires-clause-lines : goal.rules_fault-requires-clause-lines
-rules_fault-requires-clause-lines c = (c.requires.some.0.lowered, subst (λ (b : Book). HasTwoLines b Lowered c.args.k c.args.at.now.room.now (c.requires.some.0.lowered)) (sym c.requires.offers.book) (lowered-two c.args.at.now c.requires.some.0 c.requires.some.1 c.args.k c.requires.due))
+rules_fault-requires-clause-lines c = (
+  c.requires.some.0.lowered,
+  subst (λ (b : Book). HasTwoLines b Lowered c.args.k c.args.at.now.room.now
+      (c.requires.some.0.lowered)) (sym c.requires.offers.book) (lowered-two c.args.at.now c.requires.some.0 c.requires.some.1 c.args.k c.requires.due),
+)

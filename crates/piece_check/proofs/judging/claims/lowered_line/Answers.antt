@@ -28,7 +28,10 @@ put_gains-requires-clause-room c = subst (λ (b : Book). bidders_of b ≤ 16) (s
 pub invariant_of-offers : goal.invariant_of-offers
 invariant_of-offers c =
     let den_fits : SFits w128 c.args.claim.now.den = search rules in
-    record { sizes = rw (to_z-of_z w128 c.args.claim.now.den den_fits) (subst (λ (b : Book). HasSmallWorths b c.args.claim.now.den c.put_gains.new.gains) c.requires.claim.book c.put_gains.ensures.small) }
+    record {
+      sizes = rw (to_z-of_z w128 c.args.claim.now.den den_fits) (subst (λ (b : Book). HasSmallWorths b c.args.claim.now.den c.put_gains.new.gains)
+          c.requires.claim.book c.put_gains.ensures.small);
+    }
 
 pub lowered_failure-failed-requires-clause-offers : goal.lowered_failure-failed-requires-clause-offers
 lowered_failure-failed-requires-clause-offers c =
@@ -36,7 +39,8 @@ lowered_failure-failed-requires-clause-offers c =
     record {
       book = refl;
       nobody = refl;
-      net = λ cert is. worths-are c.args.at.now cert is c.args.k c.requires.due c.args.claim.now (to_z w128 (of_z w128 c.args.claim.now.den)) c.numbers_in.result.now c.put_gains.new.gains c.requires.claim (to_z-of_z w128 c.args.claim.now.den den_fits)
+      net = λ cert is. worths-are c.args.at.now cert is c.args.k c.requires.due c.args.claim.now (to_z w128 (of_z w128 c.args.claim.now.den))
+          c.numbers_in.result.now c.put_gains.new.gains c.requires.claim (to_z-of_z w128 c.args.claim.now.den den_fits)
           (c.numbers_in.ensures ∙ pay-there c.args.at.now cert is c.args.k c.requires.due) c.put_gains.ensures.gains;
     }
 
@@ -44,13 +48,16 @@ pub behind_entries-requires-clause-late : goal.behind_entries-requires-clause-la
 behind_entries-requires-clause-late c =
     let at = c.args.at.now in
     let cert = c.requires.some.0 in
-    late-small at.book.now (weight_of at.weights.now) cert 9 ((bidders_of at.book.now + 1) * states at.book.now) 1 c.late_sum.result (omega arith) (c.late_sum.ensures cert c.requires.some.1)
+    late-small at.book.now (weight_of at.weights.now) cert 9 ((bidders_of at.book.now + 1) * states at.book.now) 1 c.late_sum.result (omega arith)
+    (c.late_sum.ensures cert c.requires.some.1)
 
 pub returns : goal.returns
 returns c = λ cert next is follows.
     let at = c.args.at.now in
     let early = c.late_sum.ensures cert is in
-    lowered-shows c.args.at.now cert is c.args.k c.requires.due next c.lowered_failure-failed.result c.behind_entries.result.failed c.late_sum.result c.behind_entries.result.late follows (c.lowered_failure-failed.ensures cert is) early
+    lowered-shows c.args.at.now cert is c.args.k c.requires.due next c.lowered_failure-failed.result c.behind_entries.result.failed c.late_sum.result
+    c.behind_entries.result.late follows (c.lowered_failure-failed.ensures cert is) early
     c.behind_entries.ensures.inside
-    (λ last j. c.behind_entries.ensures.whole last (weight_of at.weights.now) cert 1 j early (λ q past. past-C9 at.book.now (weight_of at.weights.now) cert q past))
+    (λ last j. c.behind_entries.ensures.whole last (weight_of at.weights.now) cert 1 j early
+    (λ q past. past-C9 at.book.now (weight_of at.weights.now) cert q past))
     c.behind_entries.ensures.none

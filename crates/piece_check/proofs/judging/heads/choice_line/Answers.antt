@@ -14,10 +14,17 @@ pub returns : goal.returns
 returns c = λ cert next is follows.
     let at = c.args.at.now in
     let value_fits : SFits w128 c.number_in-value.result = search rules in
-    let value_is = sym (c.number_in-value.ensures cert.value (value-known c.args.at.now cert is c.requires.due)) ∙ sym (to_z-of_z w128 c.number_in-value.result value_fits) in
-    let choice_is = sym (ap (λ (n : ℕ). take n c.put_choice.new.to) c.bidders-bidders.ensures.bidders ∙ c.put_choice.ensures.choice cert.choice (choice-there c.args.at.now cert is c.requires.due)) in
+    let value_is = sym (c.number_in-value.ensures cert.value (value-known c.args.at.now cert is c.requires.due))
+    ∙ sym (to_z-of_z w128 c.number_in-value.result value_fits) in
+    let choice_is = sym (ap (λ (n : ℕ). take n c.put_choice.new.to) c.bidders-bidders.ensures.bidders
+    ∙ c.put_choice.ensures.choice cert.choice (choice-there c.args.at.now cert is c.requires.due)) in
     let first = asks-C2 at.book.now (weight_of at.weights.now) cert 2 c.choice_test.result refl (c.choice_test.ensures cert choice_is value_is) in
-    choice-shows c.args.at.now cert is c.requires.due next c.of_test.result follows (c.of_test.ensures.judged at.book.now (weight_of at.weights.now) cert (choice-holds c.args.at.now cert is c.requires.due) first)
+    choice-shows c.args.at.now cert is c.requires.due next c.of_test.result follows
+    (c.of_test.ensures.judged at.book.now (weight_of at.weights.now) cert (choice-holds c.args.at.now cert is c.requires.due) first)
 
 pub put_choice-requires-clause-choice : goal.put_choice-requires-clause-choice
-put_choice-requires-clause-choice c = (c.requires.some.0.choice, choice-there c.args.at.now c.requires.some.0 c.requires.some.1 c.requires.due, c.requires.some.1.kept.choice)
+put_choice-requires-clause-choice c = (
+  c.requires.some.0.choice,
+  choice-there c.args.at.now c.requires.some.0 c.requires.some.1 c.requires.due,
+  c.requires.some.1.kept.choice,
+)

@@ -18,7 +18,10 @@ returns c = λ cert next is follows.
     let at = c.args.at.now in
     let den_fits : SFits w128 c.number_in-den.result = search rules in
     let value_fits : SFits w128 c.number_in-value.result = search rules in
-    let den_is = sym (c.number_in-den.ensures cert.den (den-there c.args.at.now cert is c.requires.due)) ∙ sym (to_z-of_z w128 c.number_in-den.result den_fits) in
-    let value_is = sym (c.number_in-value.ensures cert.value (value-there c.args.at.now cert is c.requires.due)) ∙ sym (to_z-of_z w128 c.number_in-value.result value_fits) in
+    let den_is = sym (c.number_in-den.ensures cert.den (den-there c.args.at.now cert is c.requires.due))
+    ∙ sym (to_z-of_z w128 c.number_in-den.result den_fits) in
+    let value_is = sym (c.number_in-value.ensures cert.value (value-there c.args.at.now cert is c.requires.due))
+    ∙ sym (to_z-of_z w128 c.number_in-value.result value_fits) in
     let first = asks-C1 at.book.now (weight_of at.weights.now) cert 1 c.sizes_test.result refl (c.sizes_test.ensures cert den_is value_is) in
-    value-shows c.args.at.now cert is c.requires.due next c.of_test.result follows (c.of_test.ensures.judged at.book.now (weight_of at.weights.now) cert (value-holds c.args.at.now cert is c.requires.due) first)
+    value-shows c.args.at.now cert is c.requires.due next c.of_test.result follows
+    (c.of_test.ensures.judged at.book.now (weight_of at.weights.now) cert (value-holds c.args.at.now cert is c.requires.due) first)

@@ -18,7 +18,9 @@ put_choice-requires-clause-choice c =
 pub returns : goal.returns
 returns c = λ cert next is follows.
     let at = c.args.at.now in
-    let choice_is = ap (λ (n : ℕ). take n c.put_choice.new.to) c.bidders-bidders.ensures.bidders ∙ c.put_choice.ensures.choice (part_of cert.withouts c.args.j).choice (part-there c.args.at.now cert is c.args.j c.requires.due) in
+    let choice_is = ap (λ (n : ℕ). take n c.put_choice.new.to) c.bidders-bidders.ensures.bidders ∙ c.put_choice.ensures.choice
+    (part_of cert.withouts c.args.j).choice (part-there c.args.at.now cert is c.args.j c.requires.due) in
     choice-shows c.args.at.now cert is c.args.j c.requires.due next c.part_found.result.failed c.part_found.result.late c.is_allowed_without.result follows
-    (subst (λ (l : List ℕ). IsTrue c.is_allowed_without.result ↔ (IsTrue ((market_of at.book.now).allowed l) × (number_of l c.args.j ≡ 0))) choice_is c.is_allowed_without.ensures)
+    (subst (λ (l : List ℕ). IsTrue c.is_allowed_without.result ↔ (IsTrue ((market_of at.book.now).allowed l) × (number_of l c.args.j ≡ 0))) choice_is
+    c.is_allowed_without.ensures)
     c.part_found.ensures.holds c.part_found.ensures.fails

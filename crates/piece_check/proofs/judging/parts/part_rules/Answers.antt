@@ -14,27 +14,42 @@ pub returns-then-is_some : goal.returns-then-is_some
 returns-then-is_some c = λ cert next is follows.
     let at = c.args.at.now in
     let (p, p_is) = some-fault c.rules_fault.result (sym c.is_some.ensures ∙ c.if-is_some.true) in
-    let f = c.rules_fault.ensures (part_of cert.withouts c.args.j).table (subst (λ (b : Book). HasTwoLines b (Part c.args.j) c.args.k c.args.at.now.room.now (part_of cert.withouts c.args.j).table) (sym c.requires.offers.book) (lines-two c.args.at.now cert is c.args.j c.args.k c.requires.due)) in
+    let f = c.rules_fault.ensures (part_of cert.withouts c.args.j).table (subst (λ (b : Book). HasTwoLines b (Part c.args.j) c.args.k c.args.at.now.room.now
+    (part_of cert.withouts c.args.j).table) (sym c.requires.offers.book) (lines-two c.args.at.now cert is c.args.j c.args.k c.requires.due)) in
     let (g, some_is, test_is, place_is) = c.part_found.ensures.fails (λ t. absurd (false≢true t)) in
     line-fails c.args.at.now cert is c.args.j c.args.k c.requires.due next c.part_found.result.failed c.part_found.result.late g some_is test_is place_is
-    (rule-fails c.args.at.now cert is c.args.j c.args.k c.requires.due c.args.offers.now c.requires.offers.book c.requires.offers.skip_is c.requires.offers.net p (subst (IsFirstBetween (RulesAt c.args.offers.now (part_of cert.withouts c.args.j).table) ((c.args.k - 1) * states c.args.offers.now.book.now) (lines_tested (bidders_of c.args.offers.now.book.now) c.args.k * states c.args.offers.now.book.now)) p_is f))
+    (rule-fails c.args.at.now cert is c.args.j c.args.k c.requires.due c.args.offers.now c.requires.offers.book c.requires.offers.skip_is
+    c.requires.offers.net p (subst (IsFirstBetween (RulesAt c.args.offers.now (part_of cert.withouts c.args.j).table)
+    ((c.args.k - 1) * states c.args.offers.now.book.now) (lines_tested (bidders_of c.args.offers.now.book.now) c.args.k * states
+    c.args.offers.now.book.now)) p_is f))
 
 pub returns : goal.returns
 returns c = λ cert next is follows.
     let at = c.args.at.now in
     let none = none-fault c.rules_fault.result (sym c.is_some.ensures ∙ c.if-is_some.false) in
-    let f = c.rules_fault.ensures (part_of cert.withouts c.args.j).table (subst (λ (b : Book). HasTwoLines b (Part c.args.j) c.args.k c.args.at.now.room.now (part_of cert.withouts c.args.j).table) (sym c.requires.offers.book) (lines-two c.args.at.now cert is c.args.j c.args.k c.requires.due)) in
-    line-decides c.args.at.now cert is c.args.j c.args.k c.requires.due c.args.offers.now c.requires.offers.book c.requires.offers.skip_is c.requires.offers.net next c.part_found-2.result.failed c.part_found-2.result.late c.keeps_top.result follows
-    (c.keeps_top.ensures cert is) c.part_found-2.ensures.holds c.part_found-2.ensures.fails (subst (IsFirstBetween (RulesAt c.args.offers.now (part_of cert.withouts c.args.j).table) ((c.args.k - 1) * states c.args.offers.now.book.now) (lines_tested (bidders_of c.args.offers.now.book.now) c.args.k * states c.args.offers.now.book.now)) none f)
+    let f = c.rules_fault.ensures (part_of cert.withouts c.args.j).table (subst (λ (b : Book). HasTwoLines b (Part c.args.j) c.args.k c.args.at.now.room.now
+    (part_of cert.withouts c.args.j).table) (sym c.requires.offers.book) (lines-two c.args.at.now cert is c.args.j c.args.k c.requires.due)) in
+    line-decides c.args.at.now cert is c.args.j c.args.k c.requires.due c.args.offers.now c.requires.offers.book c.requires.offers.skip_is
+    c.requires.offers.net next c.part_found-2.result.failed c.part_found-2.result.late c.keeps_top.result follows
+    (c.keeps_top.ensures cert is) c.part_found-2.ensures.holds c.part_found-2.ensures.fails
+    (subst (IsFirstBetween (RulesAt c.args.offers.now (part_of cert.withouts c.args.j).table) ((c.args.k - 1) * states c.args.offers.now.book.now)
+    (lines_tested (bidders_of c.args.offers.now.book.now) c.args.k * states c.args.offers.now.book.now)) none f)
 
 pub rules_fault-requires-clause-table : goal.rules_fault-requires-clause-table
-rules_fault-requires-clause-table c = subst (λ (b : Book). (0 < c.args.j) × (c.args.j ≤ bidders_of b)) (sym c.requires.offers.book) (lines-named c.args.at.now c.requires.some.0 c.requires.some.1 c.args.j c.args.k c.requires.due)
+rules_fault-requires-clause-table c = subst (λ (b : Book). (0 < c.args.j) × (c.args.j ≤ bidders_of b)) (sym c.requires.offers.book)
+    (lines-named c.args.at.now c.requires.some.0 c.requires.some.1 c.args.j c.args.k c.requires.due)
 
 pub rules_fault-requires-clause-line : goal.rules_fault-requires-clause-line
-rules_fault-requires-clause-line c = subst (λ (b : Book). c.args.k ≤ bidders_of b) (sym c.requires.offers.book) (lines-inside c.args.at.now c.requires.some.0 c.requires.some.1 c.args.j c.args.k c.requires.due)
+rules_fault-requires-clause-line c = subst (λ (b : Book). c.args.k ≤ bidders_of b) (sym c.requires.offers.book)
+    (lines-inside c.args.at.now c.requires.some.0 c.requires.some.1 c.args.j c.args.k c.requires.due)
 
 pub rules_fault-requires-clause-room : goal.rules_fault-requires-clause-room
-rules_fault-requires-clause-room c = subst (λ (b : Book). length c.args.at.now.room.now ≡ room_size (bidders_of b) (states b)) (sym c.requires.offers.book) c.args.at.now.sized
+rules_fault-requires-clause-room c = subst (λ (b : Book). length c.args.at.now.room.now ≡ room_size (bidders_of b) (states b))
+    (sym c.requires.offers.book) c.args.at.now.sized
 
 pub rules_fault-requires-clause-lines : goal.rules_fault-requires-clause-lines
-rules_fault-requires-clause-lines c = ((part_of c.requires.some.0.withouts c.args.j).table, subst (λ (b : Book). HasTwoLines b (Part c.args.j) c.args.k c.args.at.now.room.now ((part_of c.requires.some.0.withouts c.args.j).table)) (sym c.requires.offers.book) (lines-two c.args.at.now c.requires.some.0 c.requires.some.1 c.args.j c.args.k c.requires.due))
+rules_fault-requires-clause-lines c = (
+  (part_of c.requires.some.0.withouts c.args.j).table,
+  subst (λ (b : Book). HasTwoLines b (Part c.args.j) c.args.k c.args.at.now.room.now ((part_of c.requires.some.0.withouts c.args.j).table))
+      (sym c.requires.offers.book) (lines-two c.args.at.now c.requires.some.0 c.requires.some.1 c.args.j c.args.k c.requires.due),
+)

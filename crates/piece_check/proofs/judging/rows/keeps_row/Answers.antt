@@ -14,7 +14,8 @@ put_choice-requires-clause-choice c =
     let is = c.requires.some.1 in (
       (row_at cert c.args.left).choice,
       row-choice c.args.at.now cert is c.args.left c.requires.due,
-      (row_at-kept (bidders_of c.args.at.now.book.now) cert c.args.left is.kept.rows (row-some c.args.at.now cert is c.args.left c.requires.due) (row-inside c.args.at.now cert is c.args.left c.requires.due)).choice,
+      (row_at-kept (bidders_of c.args.at.now.book.now) cert c.args.left is.kept.rows (row-some c.args.at.now cert is c.args.left c.requires.due)
+          (row-inside c.args.at.now cert is c.args.left c.requires.due)).choice,
     )
 
 pub put_members-count-requires-clause-due : goal.put_members-count-requires-clause-due
@@ -32,7 +33,8 @@ pub row_holds-requires-clause-members : goal.row_holds-requires-clause-members
 row_holds-requires-clause-members c =
     let cert = c.requires.some.0 in
     let is = c.requires.some.1 in
-    let kept = row_at-kept (bidders_of c.args.at.now.book.now) cert c.args.left is.kept.rows (row-some c.args.at.now cert is c.args.left c.requires.due) (row-inside c.args.at.now cert is c.args.left c.requires.due) in
+    let kept = row_at-kept (bidders_of c.args.at.now.book.now) cert c.args.left is.kept.rows (row-some c.args.at.now cert is c.args.left c.requires.due)
+    (row-inside c.args.at.now cert is c.args.left c.requires.due) in
     subst (λ (b : Book). AreMembers (bidders_of b) 0 (take c.put_members-count.result c.put_members-count.new.to)) (sym c.requires.claim.book)
     (subst (AreMembers (bidders_of c.args.at.now.book.now) 0) (sym (c.put_members-count.ensures.members cert is)) kept.members)
 
@@ -40,13 +42,17 @@ pub row_holds-requires-clause-choice : goal.row_holds-requires-clause-choice
 row_holds-requires-clause-choice c =
     let cert = c.requires.some.0 in
     let is = c.requires.some.1 in
-    let kept = row_at-kept (bidders_of c.args.at.now.book.now) cert c.args.left is.kept.rows (row-some c.args.at.now cert is c.args.left c.requires.due) (row-inside c.args.at.now cert is c.args.left c.requires.due) in
-    let choice_is = ap (λ (n : ℕ). take n c.put_choice.new.to) c.bidders-bidders.ensures.bidders ∙ c.put_choice.ensures.choice (row_at cert c.args.left).choice (row-choice c.args.at.now cert is c.args.left c.requires.due) in
+    let kept = row_at-kept (bidders_of c.args.at.now.book.now) cert c.args.left is.kept.rows (row-some c.args.at.now cert is c.args.left c.requires.due)
+    (row-inside c.args.at.now cert is c.args.left c.requires.due) in
+    let choice_is = ap (λ (n : ℕ). take n c.put_choice.new.to) c.bidders-bidders.ensures.bidders ∙ c.put_choice.ensures.choice
+    (row_at cert c.args.left).choice (row-choice c.args.at.now cert is c.args.left c.requires.due) in
     ap (λ (l : List ℕ). length l) choice_is ∙ kept.choice.0 ∙ ap bidders_of (sym c.requires.claim.book)
 
 pub returns : goal.returns
 returns c = λ cert is.
     let pay_is = c.numbers_in-pay.ensures ∙ row-pay c.args.at.now cert is c.args.left c.requires.due in
-    let choice_is = ap (λ (n : ℕ). take n c.put_choice.new.to) c.bidders-bidders.ensures.bidders ∙ c.put_choice.ensures.choice (row_at cert c.args.left).choice (row-choice c.args.at.now cert is c.args.left c.requires.due) in
+    let choice_is = ap (λ (n : ℕ). take n c.put_choice.new.to) c.bidders-bidders.ensures.bidders ∙ c.put_choice.ensures.choice
+    (row_at cert c.args.left).choice (row-choice c.args.at.now cert is c.args.left c.requires.due) in
     subst (λ (b : Book). IsTrue c.row_holds.result ↔ IsTightRow b cert (row_at cert c.args.left)) c.requires.claim.book
-    (c.row_holds.ensures cert (row_at cert c.args.left) (c.requires.claim.each cert is) (sym pay_is) (sym (c.put_members-count.ensures.members cert is)) (sym choice_is))
+    (c.row_holds.ensures cert (row_at cert c.args.left) (c.requires.claim.each cert is) (sym pay_is) (sym (c.put_members-count.ensures.members cert is))
+    (sym choice_is))

@@ -14,8 +14,11 @@ returns-in-Some c = λ cert is holds.
     let totals = c.requires.rows.totals cert is in
     let few = subst (λ (b : Book). bidders_of b ≤ 16) (sym c.requires.claim.book) c.kept.ensures.bidders in
     let first = subst (λ (b : Book). IsFirstFailing (C7 b cert) c.first_test.result) c.requires.claim.book
-    (c.first_test.ensures cert (c.requires.claim.each cert is) (firsts-are cert at.totals.now totals (omega (arith, totals.long.0, is.kept.few))) (first-sums cert at.totals.now totals (bidders_of c.args.claim.now.book.now) few)) in
-    subst (IsJudged at.book.now (weight_of at.weights.now) cert 8 0) c.in-Some.is (c.of_test.ensures.judged at.book.now (weight_of at.weights.now) cert holds (asks-C7 at.book.now (weight_of at.weights.now) cert 7 c.first_test.result refl first))
+    (c.first_test.ensures cert (c.requires.claim.each cert is) (firsts-are cert at.totals.now totals (omega (arith, totals.long.0, is.kept.few)))
+    (first-sums cert at.totals.now totals (bidders_of c.args.claim.now.book.now) few)) in
+    subst (IsJudged at.book.now (weight_of at.weights.now) cert 8 0) c.in-Some.is
+    (c.of_test.ensures.judged at.book.now (weight_of at.weights.now) cert holds
+    (asks-C7 at.book.now (weight_of at.weights.now) cert 7 c.first_test.result refl first))
 
 pub returns-in-None : goal.returns-in-None
 returns-in-None c = λ cert is holds.
@@ -23,6 +26,9 @@ returns-in-None c = λ cert is holds.
     let totals = c.requires.rows.totals cert is in
     let few = subst (λ (b : Book). bidders_of b ≤ 16) (sym c.requires.claim.book) c.kept.ensures.bidders in
     let first = subst (λ (b : Book). IsFirstFailing (C7 b cert) c.first_test.result) c.requires.claim.book
-    (c.first_test.ensures cert (c.requires.claim.each cert is) (firsts-are cert at.totals.now totals (omega (arith, totals.long.0, is.kept.few))) (first-sums cert at.totals.now totals (bidders_of c.args.claim.now.book.now) few)) in
-    let eight = subst (IsJudged at.book.now (weight_of at.weights.now) cert 8 0) c.in-None.is (c.of_test.ensures.judged at.book.now (weight_of at.weights.now) cert holds (asks-C7 at.book.now (weight_of at.weights.now) cert 7 c.first_test.result refl first)) in
+    (c.first_test.ensures cert (c.requires.claim.each cert is) (firsts-are cert at.totals.now totals (omega (arith, totals.long.0, is.kept.few)))
+    (first-sums cert at.totals.now totals (bidders_of c.args.claim.now.book.now) few)) in
+    let eight = subst (IsJudged at.book.now (weight_of at.weights.now) cert 8 0) c.in-None.is
+    (c.of_test.ensures.judged at.book.now (weight_of at.weights.now) cert holds
+    (asks-C7 at.book.now (weight_of at.weights.now) cert 7 c.first_test.result refl first)) in
     c.of_test-in-None.ensures.judged at.book.now (weight_of at.weights.now) cert eight (c.nearest.ensures cert is)

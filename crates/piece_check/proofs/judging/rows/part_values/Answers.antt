@@ -13,7 +13,8 @@ loop-k-preserved c =
     record {
       long = search rules;
       written = λ cert is.
-          written-more (worth_without c.args.at.now.book.now cert.choice cert.withouts) c.loop-k.values c.loop-k.k _ (omega arith) (c.loop-k.invariant.written cert is)
+          written-more (worth_without c.args.at.now.book.now cert.choice cert.withouts) c.loop-k.values c.loop-k.k _ (omega arith)
+          (c.loop-k.invariant.written cert is)
           (to_z-of_z w128 c.part_value.result value_fits ∙ c.part_value.ensures cert is);
     }
 

@@ -22,7 +22,8 @@ returns c = λ t has.
     let same : c.states.result ≡ states o.book.now = c.states.ensures.states ∙ ap states_of c.supply.ensures.supply in
     let line_is = sym (c.numbers_in-line.ensures ∙ has.line) in
     let before_is = sym (c.numbers_in-before.ensures ∙ has.before (omega (arith, c.if-k-eq0.false))) in
-    let f = fault-rules o t (c.args.k - 1) c.two_lines_fault-fault.result (omega (arith, c.requires.line)) (c.two_lines_fault-fault.ensures t has.whole before_is (ap (λ (n : ℕ). slice_index_or t n []) up ∙ line_is)) in
+    let f = fault-rules o t (c.args.k - 1) c.two_lines_fault-fault.result (omega (arith, c.requires.line))
+    (c.two_lines_fault-fault.ensures t has.whole before_is (ap (λ (n : ℕ). slice_index_or t n []) up ∙ line_is)) in
     subst (λ (n : ℕ). IsFirstBetween (RulesAt o t) ((c.args.k - 1) * states o.book.now) (n * states o.book.now) c.place_of.result) up
     (line-between (RulesAt o t) (c.args.k - 1) (states o.book.now) c.two_lines_fault-fault.result c.place_of.result f
     (λ low. c.place_of.ensures.fault (omega (arith, low, same)) ∙ ap (λ (n : ℕ). Some ((c.args.k - 1) * n + c.two_lines_fault-fault.result)) same)
@@ -32,16 +33,19 @@ pub two_lines_fault-fault-requires-clause-sizes : goal.two_lines_fault-fault-req
 two_lines_fault-fault-requires-clause-sizes c = λ n.
     let o = c.args.offers.now in
     let has = c.requires.lines.1 in
-    subst (λ (l : List ℤ). unsigned_abs (slice_index_or l n (pos 0)) < 2 ^ 120) (sym (c.numbers_in-line.ensures ∙ has.line)) (table-small (bidders_of o.book.now) (states o.book.now) c.requires.lines.0 has.whole c.args.k n)
+    subst (λ (l : List ℤ). unsigned_abs (slice_index_or l n (pos 0)) < 2 ^ 120) (sym (c.numbers_in-line.ensures ∙ has.line))
+    (table-small (bidders_of o.book.now) (states o.book.now) c.requires.lines.0 has.whole c.args.k n)
 
 pub two_lines_fault-fault-requires-clause-line : goal.two_lines_fault-fault-requires-clause-line
 two_lines_fault-fault-requires-clause-line c =
     let o = c.args.offers.now in
     let has = c.requires.lines.1 in
-    ap (λ (l : List ℤ). length l) (c.numbers_in-before.ensures ∙ has.before (omega (arith, c.if-k-eq0.false))) ∙ table-width (bidders_of o.book.now) (states o.book.now) c.requires.lines.0 has.whole (c.args.k - 1) (omega (arith, c.requires.line))
+    ap (λ (l : List ℤ). length l) (c.numbers_in-before.ensures ∙ has.before (omega (arith, c.if-k-eq0.false)))
+    ∙ table-width (bidders_of o.book.now) (states o.book.now) c.requires.lines.0 has.whole (c.args.k - 1) (omega (arith, c.requires.line))
 
 pub two_lines_fault-fault-requires-clause-below : goal.two_lines_fault-fault-requires-clause-below
 two_lines_fault-fault-requires-clause-below c =
     let o = c.args.offers.now in
     let has = c.requires.lines.1 in
-    ap (λ (l : List ℤ). length l) (c.numbers_in-line.ensures ∙ has.line) ∙ table-width (bidders_of o.book.now) (states o.book.now) c.requires.lines.0 has.whole c.args.k c.requires.line
+    ap (λ (l : List ℤ). length l) (c.numbers_in-line.ensures ∙ has.line) ∙ table-width (bidders_of o.book.now)
+    (states o.book.now) c.requires.lines.0 has.whole c.args.k c.requires.line

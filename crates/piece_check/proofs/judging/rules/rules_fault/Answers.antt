@@ -11,13 +11,15 @@ returns-in-Some c = λ t has.
     let b = bidders_of o.book.now in
     let s = states o.book.now in
     let up = lines-rise (bidders_of o.book.now) c.args.k (states o.book.now) c.requires.line in
-    between-first (RulesAt o t) ((c.args.k - 1) * states o.book.now) (c.args.k * states o.book.now) (lines_tested (bidders_of o.book.now) c.args.k * states o.book.now) c.in-Some.place up.1
+    between-first (RulesAt o t) ((c.args.k - 1) * states o.book.now) (c.args.k * states o.book.now)
+    (lines_tested (bidders_of o.book.now) c.args.k * states o.book.now) c.in-Some.place up.1
     (subst (IsFirstBetween (RulesAt o t) ((c.args.k - 1) * states o.book.now) (c.args.k * states o.book.now)) c.in-Some.is (c.before_fault.ensures t has))
 
 pub returns-in-None : goal.returns-in-None
 returns-in-None c = λ t has.
     let o = c.args.offers.now in
     let up = lines-rise (bidders_of o.book.now) c.args.k (states o.book.now) c.requires.line in
-    between-both (RulesAt o t) ((c.args.k - 1) * states o.book.now) (c.args.k * states o.book.now) (lines_tested (bidders_of o.book.now) c.args.k * states o.book.now) c.own_fault.result up.0 up.1
+    between-both (RulesAt o t) ((c.args.k - 1) * states o.book.now) (c.args.k * states o.book.now)
+    (lines_tested (bidders_of o.book.now) c.args.k * states o.book.now) c.own_fault.result up.0 up.1
     (subst (IsFirstBetween (RulesAt o t) ((c.args.k - 1) * states o.book.now) (c.args.k * states o.book.now)) c.in-None.is (c.before_fault.ensures t has))
     (c.own_fault.ensures t has)

@@ -8,24 +8,37 @@ use Rattle.piece_check.proofs.TableCome.{line-inside, late-small, head-late, hea
 use Rattle.piece_check.proofs.judging.tables.head_line.Goals as goal
 
 pub invariant_of-offers : goal.invariant_of-offers
-invariant_of-offers c = record { sizes = plain-small c.args.at.now.book.now (replicate 16 (pos 0)) 16 c.kept.ensures refl (omega (arith, c.kept.ensures.bidders)) }
+invariant_of-offers c = record {
+  sizes = plain-small c.args.at.now.book.now (replicate 16 (pos 0)) 16 c.kept.ensures refl
+      (omega (arith, c.kept.ensures.bidders));
+}
 
 pub returns : goal.returns
 returns c = λ cert next is follows.
     let at = c.args.at.now in
-    let early = c.with_late-late.ensures at.book.now (weight_of at.weights.now) cert 3 ((bidders_of at.book.now + 1) * states at.book.now) (head-late c.args.at.now cert is c.args.k c.requires.due) (λ none. c.keeps_value.ensures cert is) in
-    head-shows c.args.at.now cert is c.args.k c.requires.due next c.head_failure-failed.result c.behind_entries.result.failed c.with_late-late.result c.behind_entries.result.late follows (c.head_failure-failed.ensures cert is) early
+    let early = c.with_late-late.ensures at.book.now (weight_of at.weights.now) cert 3 ((bidders_of at.book.now + 1) * states at.book.now)
+    (head-late c.args.at.now cert is c.args.k c.requires.due) (λ none. c.keeps_value.ensures cert is) in
+    head-shows c.args.at.now cert is c.args.k c.requires.due next c.head_failure-failed.result c.behind_entries.result.failed c.with_late-late.result
+    c.behind_entries.result.late follows (c.head_failure-failed.ensures cert is) early
     c.behind_entries.ensures.inside
-    (λ last j. c.behind_entries.ensures.whole last (weight_of at.weights.now) cert (c.args.k + 1) j early (λ q past. past-C3 at.book.now (weight_of at.weights.now) cert q (omega (arith, past, last))))
+    (λ last j. c.behind_entries.ensures.whole last (weight_of at.weights.now) cert (c.args.k + 1) j early
+    (λ q past. past-C3 at.book.now (weight_of at.weights.now) cert q (omega (arith, past, last))))
     c.behind_entries.ensures.none
 
 pub head_failure-failed-requires-clause-offers : goal.head_failure-failed-requires-clause-offers
-head_failure-failed-requires-clause-offers c = record { book = refl; skip_is = refl; net = λ j i some le. plain-worth c.args.at.now.book.now (replicate 16 (pos 0)) 16 refl j i }
+head_failure-failed-requires-clause-offers c = record {
+  book = refl;
+  skip_is = refl;
+  net = λ j i some le. plain-worth c.args.at.now.book.now
+      (replicate 16 (pos 0)) 16 refl j i;
+}
 
 pub behind_entries-requires-clause-late : goal.behind_entries-requires-clause-late
 behind_entries-requires-clause-late c =
     let at = c.args.at.now in
     let cert = c.requires.some.0 in
     let is = c.requires.some.1 in
-    let early = c.with_late-late.ensures at.book.now (weight_of at.weights.now) cert 3 ((bidders_of at.book.now + 1) * states at.book.now) (head-late c.args.at.now cert is c.args.k c.requires.due) (λ none. c.keeps_value.ensures cert is) in
-    late-small at.book.now (weight_of at.weights.now) cert 3 ((bidders_of at.book.now + 1) * states at.book.now) (c.args.k + 1) c.with_late-late.result (omega (arith, line-inside c.args.at.now cert is Head c.args.k c.requires.due, c.kept.ensures.bidders)) early
+    let early = c.with_late-late.ensures at.book.now (weight_of at.weights.now) cert 3 ((bidders_of at.book.now + 1) * states at.book.now)
+    (head-late c.args.at.now cert is c.args.k c.requires.due) (λ none. c.keeps_value.ensures cert is) in
+    late-small at.book.now (weight_of at.weights.now) cert 3 ((bidders_of at.book.now + 1) * states at.book.now) (c.args.k + 1) c.with_late-late.result
+    (omega (arith, line-inside c.args.at.now cert is Head c.args.k c.requires.due, c.kept.ensures.bidders)) early

@@ -17,7 +17,8 @@ returns c =
     record {
       from = omega (arith, n);
       to = omega arith;
-      after = subst (λ (k : ℕ). AreRightLines book k (lines_of c.in_ok-right.right.items)) (sym n) (zero-right book (lines_of c.in_ok-right.right.items) states right all);
+      after = subst (λ (k : ℕ). AreRightLines book k (lines_of c.in_ok-right.right.items)) (sym n)
+          (zero-right book (lines_of c.in_ok-right.right.items) states right all);
       before = zero-left book (lines_of c.in_ok-left.left.items) states left all;
       rooms = record { below = c.in_ok-rooms.ensures.0 ∙ all; line = c.in_ok-rooms.ensures.1 ∙ all };
     }

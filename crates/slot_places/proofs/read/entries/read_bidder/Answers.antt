@@ -37,5 +37,6 @@ pub returns-clause-found : goal.returns-clause-found
 returns-clause-found c =
     let found = c.in_ok-first.ensures.found in
     let width = c.in_ok-width.ensures.found in
-    made_entrant c.args.slots.now c.args.fields.now c.in_ok-first.first.now c.in_ok-first.second.now c.in_ok-text.text.now c.in_ok-width.width c.room.result found.1 c.in_ok-text.ensures.some.0 c.in_ok-text.ensures.some.1
+    made_entrant c.args.slots.now c.args.fields.now c.in_ok-first.first.now c.in_ok-first.second.now c.in_ok-text.text.now c.in_ok-width.width c.room.result
+    found.1 c.in_ok-text.ensures.some.0 c.in_ok-text.ensures.some.1
     (c.has_bidder.ensures.0 c.if-has_bidder.false) width.0.0 width.0.1 width.1 c.room.ensures

@@ -8,18 +8,22 @@ use Rattle.slot_places.proofs.read.entries.read_place.Goals as goal
 
 pub returns-in_err-first-clause-none : goal.returns-in_err-first-clause-none
 returns-in_err-first-clause-none c =
-    let word : c.args.line.now ≡ codes "place " ++ c.in_ok-fields.fields.now = strip_prefix_is Decides-eqb c.args.line.now (codes "place ") (Some c.in_ok-fields.fields) c.in_ok-fields.ensures.cases in
+    let word : c.args.line.now ≡ codes "place " ++ c.in_ok-fields.fields.now = strip_prefix_is Decides-eqb c.args.line.now (codes "place ")
+    (Some c.in_ok-fields.fields) c.in_ok-fields.ensures.cases in
     let band = c.kept.ensures.band in
-    none-so c.from_residual-in_err-first.result _ (λ bid next. no_fields c.args.slots.now c.args.line.now c.in_ok-fields.fields.now bid band.1 word c.in_err-first.ensures.none next)
+    none-so c.from_residual-in_err-first.result _ (λ bid next. no_fields c.args.slots.now c.args.line.now c.in_ok-fields.fields.now bid band.1 word
+    c.in_err-first.ensures.none next)
 
 pub returns-in_err-start-clause-none : goal.returns-in_err-start-clause-none
 returns-in_err-start-clause-none c =
-    let word : c.args.line.now ≡ codes "place " ++ c.in_ok-fields.fields.now = strip_prefix_is Decides-eqb c.args.line.now (codes "place ") (Some c.in_ok-fields.fields) c.in_ok-fields.ensures.cases in
+    let word : c.args.line.now ≡ codes "place " ++ c.in_ok-fields.fields.now = strip_prefix_is Decides-eqb c.args.line.now (codes "place ")
+    (Some c.in_ok-fields.fields) c.in_ok-fields.ensures.cases in
     let band = c.kept.ensures.band in
     let found = c.in_ok-first.ensures.found in
     none-so c.from_residual-in_err-start.result _
     (λ bid next.
-    let parts = next_fields c.args.slots.now c.args.line.now c.in_ok-fields.fields.now c.in_ok-first.first.now c.in_ok-first.second.now bid band.1 word found.1 found.0 next in
+    let parts = next_fields c.args.slots.now c.args.line.now c.in_ok-fields.fields.now c.in_ok-first.first.now c.in_ok-first.second.now bid band.1 word
+    found.1 found.0 next in
     let after = next.valid.after in
     let within = next.valid.within in
     let least = c.next_start.ensures in
@@ -28,10 +32,12 @@ returns-in_err-start-clause-none c =
 
 pub returns-in_err-amount-clause-none : goal.returns-in_err-amount-clause-none
 returns-in_err-amount-clause-none c =
-    let word : c.args.line.now ≡ codes "place " ++ c.in_ok-fields.fields.now = strip_prefix_is Decides-eqb c.args.line.now (codes "place ") (Some c.in_ok-fields.fields) c.in_ok-fields.ensures.cases in
+    let word : c.args.line.now ≡ codes "place " ++ c.in_ok-fields.fields.now = strip_prefix_is Decides-eqb c.args.line.now (codes "place ")
+    (Some c.in_ok-fields.fields) c.in_ok-fields.ensures.cases in
     let band = c.kept.ensures.band in
     let found = c.in_ok-first.ensures.found in
     none-so c.from_residual-in_err-amount.result _
     (λ bid next.
-    let parts = next_fields c.args.slots.now c.args.line.now c.in_ok-fields.fields.now c.in_ok-first.first.now c.in_ok-first.second.now bid band.1 word found.1 found.0 next in
+    let parts = next_fields c.args.slots.now c.args.line.now c.in_ok-fields.fields.now c.in_ok-first.first.now c.in_ok-first.second.now bid band.1 word
+    found.1 found.0 next in
     c.in_err-amount.ensures.none bid.amount next.valid.top parts.1)

@@ -25,7 +25,8 @@ add_bidder-requires c =
     let slots = c.args.slots.now in
     let none = bidder_marks slots c.in-Some.text.now c.in-Some.width ∙ few_bidders (length slots.bidders) (omega arith) in
     subst (λ (n : List ℕ). AreSlotsWithinLimits (with_bidders slots (slots.bidders ++ bidder_with n c.in-Some.width [] ∷ []))) (sym c.in_ok-name.ensures)
-    (grown slots (with_bidders slots (slots.bidders ++ bidder_with c.in-Some.text.now c.in-Some.width [] ∷ [])) (codes "bidder " ++ c.args.fields.now) c.bidders.ensures.kept.rules
+    (grown slots (with_bidders slots (slots.bidders ++ bidder_with c.in-Some.text.now c.in-Some.width [] ∷ []))
+    (codes "bidder " ++ c.args.fields.now) c.bidders.ensures.kept.rules
     (inl (adds_entrant slots (codes "bidder " ++ c.args.fields.now) c.args.fields.now c.in-Some.text.now c.in-Some.width refl c.in-Some.ensures.found)) none)
 
 pub returns-clause-ok : goal.returns-clause-ok

@@ -12,11 +12,13 @@ add_place-requires-clause-kept c =
     let slots = c.args.slots.now in
     let some : 0 < length slots.bidders = omega arith in
     let bid = bid_value c.in-Some.place in
-    grown slots (with_bid slots bid) c.args.line.now c.bidders.ensures.kept.rules (inr (adds_next slots c.args.line.now bid some c.in-Some.ensures.found)) (place_marks slots bid some)
+    grown slots (with_bid slots bid) c.args.line.now c.bidders.ensures.kept.rules (inr (adds_next slots c.args.line.now bid some c.in-Some.ensures.found))
+    (place_marks slots bid some)
 
 pub returns-clause-ok : goal.returns-clause-ok
 returns-clause-ok c =
     let slots = c.args.slots.now in
     let some : 0 < length slots.bidders = omega arith in
     let bid = bid_value c.in-Some.place in
-    subst (λ (s : SlotList). AddsPlace slots s c.args.line.now × (excess_of s ≡ None)) (sym c.in_ok-add_place.ensures) (adds_next slots c.args.line.now bid some c.in-Some.ensures.found, place_marks slots bid some)
+    subst (λ (s : SlotList). AddsPlace slots s c.args.line.now × (excess_of s ≡ None)) (sym c.in_ok-add_place.ensures)
+    (adds_next slots c.args.line.now bid some c.in-Some.ensures.found, place_marks slots bid some)

@@ -11,6 +11,8 @@ returns-in_err-second-clause-none c =
     let text = c.args.text.now in
     let n = c.field_len.result in
     let none = strip_prefix_is Decides-eqb c.split_at.result.1.now (codes " ") None c.in_err-second.ensures.cases in
-    let other : (more : List ℕ) → drop n text ≢ codes " " ++ more = subst (λ (l : List ℕ). (more : List ℕ) → l ≢ codes " " ++ more) c.split_at.ensures.back none in
+    let other : (more : List ℕ) → drop n text ≢ codes " " ++ more = subst (λ (l : List ℕ). (more : List ℕ) → l ≢ codes " " ++ more) c.split_at.ensures.back
+    none in
     none-so c.from_residual.result _
-    (λ first second own is. one_only text (take n text) (drop n text) (sym (take-append-drop n text)) c.field_len.ensures.own c.field_len.ensures.stops other first second own is)
+    (λ first second own is. one_only text (take n text) (drop n text) (sym (take-append-drop n text)) c.field_len.ensures.own c.field_len.ensures.stops other
+    first second own is)

@@ -24,12 +24,14 @@ pub returns-clause-choice : goal.returns-clause-choice
 returns-clause-choice c =
     let slots = c.args.self.now.slots.now in
     let den_fits : SFits w128 c.args.den = search rules in
-    let found : IsFirstGreatest (is_placed (board_without slots 0)) (sum_after (lowered c.args.den (amount_of slots) c.args.surplus.now) 0) c.in_ok-found.found.choice = rw (to_z-of_z w128 c.args.den den_fits) at c.in_ok-found.ensures.choice in
+    let found : IsFirstGreatest (is_placed (board_without slots 0)) (sum_after (lowered c.args.den (amount_of slots) c.args.surplus.now) 0)
+    c.in_ok-found.found.choice = rw (to_z-of_z w128 c.args.den den_fits) at c.in_ok-found.ensures.choice in
     first-none slots (sum_after (lowered c.args.den (amount_of slots) c.args.surplus.now) 0) c.in_ok-found.found.choice found
 
 pub returns-clause-table : goal.returns-clause-table
 returns-clause-table c =
     let slots = c.args.self.now.slots.now in
     let den_fits : SFits w128 c.args.den = search rules in
-    let found : IsSetTable (board_without slots 0) (lowered c.args.den (amount_of slots) c.args.surplus.now) c.in_ok-found.found.table = rw (to_z-of_z w128 c.args.den den_fits) at c.in_ok-found.ensures.table in
+    let found : IsSetTable (board_without slots 0) (lowered c.args.den (amount_of slots) c.args.surplus.now) c.in_ok-found.found.table =
+    rw (to_z-of_z w128 c.args.den den_fits) at c.in_ok-found.ensures.table in
     table-none slots (lowered c.args.den (amount_of slots) c.args.surplus.now) c.in_ok-found.found.table found

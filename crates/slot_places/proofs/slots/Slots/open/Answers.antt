@@ -9,4 +9,5 @@ use Rattle.slot_places.proofs.slots.Slots.open.Goals as goal
 pub invariant_of-result : goal.invariant_of-result
 invariant_of-result c =
     let none : [] ≡ c.new.result.items = sym c.new.ensures.items in
-    subst (λ (bs : List BandBidder). AreSlots (record { band = c.args.band; bidders = map bidder_value bs })) none (kept _ (opened_within c.args.band c.requires.0 c.requires.1))
+    subst (λ (bs : List BandBidder). AreSlots (record { band = c.args.band; bidders = map bidder_value bs })) none
+    (kept _ (opened_within c.args.band c.requires.0 c.requires.1))

@@ -11,6 +11,7 @@ loop-k-preserved c =
     let n = length slots.bidders in
     let left = c.bidders-count.result - 1 - c.loop-k.k in
     let count : c.bidders-count.result ≡ n = c.bidders-count.ensures.bidders in
-    let next : IsFirstNext (board_of slots) c.args.choice.now left (holds c.loop-k.set) c.in-Some.j = subst (λ (l : List ℕ). IsFirstNext (board_of slots) l left (holds c.loop-k.set) c.in-Some.j) c.numbers-numbers.ensures c.in-Some.ensures.some in
+    let next : IsFirstNext (board_of slots) c.args.choice.now left (holds c.loop-k.set) c.in-Some.j =
+    subst (λ (l : List ℕ). IsFirstNext (board_of slots) l left (holds c.loop-k.set) c.in-Some.j) c.numbers-numbers.ensures c.in-Some.ensures.some in
     so-more slots c.args.choice.now c.loop-k.order c.push.new.self (n - c.loop-k.k) left (n - (c.loop-k.k + 1)) c.loop-k.set c.in-Some.j c.weight-set.result
     (omega (arith, count)) (omega (arith, count)) c.in_ok-push.ensures.pushed c.weight-set.ensures c.loop-k.invariant next

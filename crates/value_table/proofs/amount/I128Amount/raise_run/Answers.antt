@@ -1,4 +1,5 @@
-use Rattle.std.proofs.Common.{◌≡◌, ◌∙◌, ◌<◌, ◌≤◌, ◌^◌, ℕ, sym, ap, arith, rules, get_or, set, length, ℤ, pos, ◌+ℤ◌, ◌<ℤ◌, ◌≤ℤ◌, unsigned_abs, Bool, true, false, not}
+use Rattle.std.proofs.Common.{◌≡◌, ◌∙◌, ◌<◌, ◌≤◌, ◌^◌, ℕ, sym, ap, arith, rules, get_or, set, length, ℤ, pos, ◌+ℤ◌, ◌<ℤ◌, ◌≤ℤ◌, unsigned_abs, Bool, true}
+use Rattle.std.proofs.Common.{false, not}
 use Rattle.std.specs.Int.{int_max}
 use Rattle.std.proofs.lemmas.Int.{to_z-of_z, ints, fits_signed_from_abs, int_max_is}
 use Rattle.value_table.proofs.NumberParts.{read-plain, plain-run}
@@ -67,4 +68,5 @@ overflow_add-sum c =
 pub returns : goal.returns
 returns c =
     let worth_fits : SFits w128 c.args.worth = search rules in
-    λ s h. plain-run c.loop-i.line c.args.below.now c.args.line.now c.args.worth s (rw (to_z-of_z w128 c.args.worth worth_fits) at (c.loop-i.invariant.done s (omega arith)))
+    λ s h. plain-run c.loop-i.line c.args.below.now c.args.line.now c.args.worth s
+    (rw (to_z-of_z w128 c.args.worth worth_fits) at (c.loop-i.invariant.done s (omega arith)))

@@ -23,7 +23,8 @@ loop-i-preserved c =
     let result_fits : SFits w64 c.max.result = search rules in
     let f = λ (s : _) (old : ℤ). int_max old (worth +ℤ get_or c.args.below.now s (pos 0)) in
     let max_is : c.max.result ≡ int_max (get_or line at (pos 0)) (c.args.worth +ℤ b) = simp to_z-of_z at c.max.ensures.value in
-    let is : made ≡ f at (get_or line at (pos 0)) = to_z-of_z w64 c.max.result result_fits ∙ max_is ∙ ap (λ w. int_max (get_or line at (pos 0)) (w +ℤ b)) (sym (to_z-of_z w64 c.args.worth worth_fits)) in
+    let is : made ≡ f at (get_or line at (pos 0)) = to_z-of_z w64 c.max.result result_fits ∙ max_is ∙ ap (λ w. int_max (get_or line at (pos 0)) (w +ℤ b))
+    (sym (to_z-of_z w64 c.args.worth worth_fits)) in
     record {
       done = done-more f line c.args.line.now at made inside c.loop-i.invariant.rest c.loop-i.invariant.done is;
       rest = rest-more f line c.args.line.now at made inside c.loop-i.invariant.rest;
@@ -42,4 +43,5 @@ overflow_add-worth c =
 pub returns : goal.returns
 returns c =
     let worth_fits : SFits w64 c.args.worth = search rules in
-    λ s h. plain-run c.loop-i.line c.args.below.now c.args.line.now c.args.worth s (rw (to_z-of_z w64 c.args.worth worth_fits) at (c.loop-i.invariant.done s (omega arith)))
+    λ s h. plain-run c.loop-i.line c.args.below.now c.args.line.now c.args.worth s
+    (rw (to_z-of_z w64 c.args.worth worth_fits) at (c.loop-i.invariant.done s (omega arith)))

@@ -27,7 +27,8 @@ returns-clause-choice c =
     let counts = lowered c.args.den (net_of book) c.args.surplus.now in
     let found : IsFirstGreatest (fits_after (menu_without book 0) 0 book.supply) (sum_after counts 0) c.in_ok-choice.choice =
     rw (made.0, made.1, made.2, to_z-of_z w128 c.args.den den_fits) at c.in_ok-choice.ensures in
-    IsFirstGreatest-same (fits_after (menu_without book 0) 0 book.supply) (fits_after (menu_of book) 0 book.supply) (sum_after counts 0) (sum_after counts 0) c.in_ok-choice.choice (λ d. fits-without_none (menu_of book) 0 book.supply d) (λ d. refl) found
+    IsFirstGreatest-same (fits_after (menu_without book 0) 0 book.supply) (fits_after (menu_of book) 0 book.supply) (sum_after counts 0)
+    (sum_after counts 0) c.in_ok-choice.choice (λ d. fits-without_none (menu_of book) 0 book.supply d) (λ d. refl) found
 
 pub returns-clause-sum : goal.returns-clause-sum
 returns-clause-sum c =

@@ -23,7 +23,8 @@ returns-then-better-ne0 c = λ _.
     let den : pos 0 ≤ℤ l.den = grind (arith, ints, test) in
     let some : 0 < c.better.result = omega (arith, c.if-better-ne0.true) in
     let known : c.args.i ≤ length (bids_of l.book.now (seat l c.args.j)) = omega (arith, c.requires.bid.1, counted-fewer l c.args.j) in
-    needless-better l c.args.j c.args.i c.better.result c.kept.ensures known some den (subst (λ (j : ℕ). IsBetter l.book.now j c.args.i c.better.result) c.bidder.ensures.bidder (c.better.ensures some))
+    needless-better l c.args.j c.args.i c.better.result c.kept.ensures known some den
+    (subst (λ (j : ℕ). IsBetter l.book.now j c.args.i c.better.result) c.bidder.ensures.bidder (c.better.ensures some))
 
 pub returns : goal.returns
 returns c = λ test.

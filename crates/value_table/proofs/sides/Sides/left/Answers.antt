@@ -17,5 +17,7 @@ returns c = λ book own.
     let z_fits : SFits w128 z = search rules in
     let known : k ≤ v.bidders = subst (λ (s : SidesValue). k ≤ s.bidders) (sym c.self.view_is) c.requires.bidder in
     let below : place < v.states = subst (λ (s : SidesValue). place < s.states) (sym c.self.view_is) c.requires.place in
-    let e : IsLeftEntry book k (left_at book.supply place) (get_or (get_or v.left (v.bidders - k) []) place (pos 0)) = left-is book inside (subst (AreSidesOf book) (sym c.self.view_is) own) k place known below in
-    rw (to_z-of_z w128 z z_fits) (subst (λ (l : List ℤ). IsLeftEntry book k (left_at book.supply place) (get_or l place (pos 0))) (sym c.line-line.ensures.line) e)
+    let e : IsLeftEntry book k (left_at book.supply place) (get_or (get_or v.left (v.bidders - k) []) place (pos 0)) =
+    left-is book inside (subst (AreSidesOf book) (sym c.self.view_is) own) k place known below in
+    rw (to_z-of_z w128 z z_fits) (subst (λ (l : List ℤ). IsLeftEntry book k (left_at book.supply place) (get_or l place (pos 0)))
+    (sym c.line-line.ensures.line) e)

@@ -16,5 +16,6 @@ returns c = λ book own.
     let z_fits : SFits w128 c.entry.result = search rules in
     let known : k ≤ v.bidders = subst (λ (s : SidesValue). k ≤ s.bidders) (sym c.self.view_is) c.requires.bidder in
     let below : place < v.states = subst (λ (s : SidesValue). place < s.states) (sym c.self.view_is) c.requires.place in
-    let e : IsRightEntry book k (left_at book.supply place) (get_or (get_or v.right.lines k []) place (pos 0)) = right-is book inside (subst (AreSidesOf book) (sym c.self.view_is) own) k place known below in
+    let e : IsRightEntry book k (left_at book.supply place) (get_or (get_or v.right.lines k []) place (pos 0)) =
+    right-is book inside (subst (AreSidesOf book) (sym c.self.view_is) own) k place known below in
     rw (to_z-of_z w128 c.entry.result z_fits) (subst (IsRightEntry book k (left_at book.supply place)) (sym c.entry.ensures) e)

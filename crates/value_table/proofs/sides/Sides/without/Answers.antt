@@ -18,6 +18,8 @@ returns-clause-most c = λ book all.
     let z_fits : SFits w128 z = search rules in
     let before = c.line-before.ensures.line in
     let after : c.line-after.result.now ≡ get_or v.right.lines j [] = c.line-after.ensures.line ∙ ap (λ (l : List (List ℤ)). get_or l j []) c.grid.ensures in
-    let count : length c.line-before.result.now ≡ states_of book.supply = ap (λ (l : List ℤ). length l) before ∙ c.self.invariant.left.places (v.bidders - (j - 1)) (omega arith) ∙ own.states in
-    let pair : IsGreatestPair (states_of book.supply) (get_or v.left (v.bidders - (j - 1)) []) (get_or v.right.lines j []) z = rw (count, before, after) at c.greatest_pair.ensures.most in
+    let count : length c.line-before.result.now ≡ states_of book.supply = ap (λ (l : List ℤ). length l) before
+    ∙ c.self.invariant.left.places (v.bidders - (j - 1)) (omega arith) ∙ own.states in
+    let pair : IsGreatestPair (states_of book.supply) (get_or v.left (v.bidders - (j - 1)) []) (get_or v.right.lines j []) z =
+    rw (count, before, after) at c.greatest_pair.ensures.most in
     rw (to_z-of_z w128 z z_fits) (without-is book inside own j z c.requires.0 known pair)

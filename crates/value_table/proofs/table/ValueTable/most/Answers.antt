@@ -23,4 +23,5 @@ returns-clause-most c =
     let z_fits : SFits w128 z = search rules in
     let e : IsEntry (menu_without book c.self.inside.skip) (lowered c.self.inside.den (net_of book) c.self.inside.surplus.items) 0 book.supply z =
     rw (to_z-of_z w128 c.self.inside.den den_fits, c.deref.ensures.value) at c.last_entry.ensures.most in
-    rw (to_z-of_z w128 z z_fits) (subst (λ (t : TableValue). IsEntry (menu_without book t.skip) (lowered t.den (net_of book) t.surplus) 0 book.supply z) c.self.view_is e)
+    rw (to_z-of_z w128 z z_fits) (subst (λ (t : TableValue). IsEntry (menu_without book t.skip) (lowered t.den (net_of book) t.surplus) 0 book.supply z)
+    c.self.view_is e)

@@ -21,6 +21,8 @@ pub returns : goal.returns
 returns c =
     let book = c.args.book.now in
     let den_fits : SFits w128 c.self.inside.den = search rules in
-    let g : IsFirstGreatest (fits_after (menu_without book c.self.inside.skip) 0 book.supply) (sum_after (lowered c.self.inside.den (net_of book) c.self.inside.surplus.items) 0) c.in_ok-numbers.numbers =
+    let g : IsFirstGreatest (fits_after (menu_without book c.self.inside.skip) 0 book.supply)
+    (sum_after (lowered c.self.inside.den (net_of book) c.self.inside.surplus.items) 0) c.in_ok-numbers.numbers =
     rw (to_z-of_z w128 c.self.inside.den den_fits, c.deref.ensures.value) at c.in_ok-numbers.ensures in
-    rw c.new.ensures (subst (λ (t : TableValue). IsFirstGreatest (fits_after (menu_without book t.skip) 0 book.supply) (sum_after (lowered t.den (net_of book) t.surplus) 0) c.in_ok-numbers.numbers) c.self.view_is g)
+    rw c.new.ensures (subst (λ (t : TableValue). IsFirstGreatest (fits_after (menu_without book t.skip) 0 book.supply)
+    (sum_after (lowered t.den (net_of book) t.surplus) 0) c.in_ok-numbers.numbers) c.self.view_is g)

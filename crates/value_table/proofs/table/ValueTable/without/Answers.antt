@@ -8,7 +8,8 @@ pub invariant_of-lowering : goal.invariant_of-lowering
 invariant_of-lowering c =
     let book = c.args.book.now in
     let t = c.args.self.now in
-    let same : c.deref-2.result.now ≡ t.surplus = c.deref-2.ensures.value ∙ c.in_ok-surplus.ensures.items ∙ c.deref.ensures.value ∙ ap (λ (x : TableValue). x.surplus) c.self.view_is in
+    let same : c.deref-2.result.now ≡ t.surplus = c.deref-2.ensures.value ∙ c.in_ok-surplus.ensures.items ∙ c.deref.ensures.value
+    ∙ ap (λ (x : TableValue). x.surplus) c.self.view_is in
     rw same (record {
       bidders = c.requires.whole.bidders;
       range = plain-range book c.args.j t.surplus c.kept.ensures c.requires.plain.zeros;
@@ -26,8 +27,10 @@ pub returns-clause-exact : goal.returns-clause-exact
 returns-clause-exact c =
     let book = c.args.book.now in
     let t = c.args.self.now in
-    let same : c.in_ok-surplus.surplus.items ≡ t.surplus = c.in_ok-surplus.ensures.items ∙ c.deref.ensures.value ∙ ap (λ (x : TableValue). x.surplus) c.self.view_is in
-    let zeros : (k : ℕ) → get_or c.in_ok-surplus.surplus.items k (pos 0) ≡ pos 0 = λ k. ap (λ (l : List ℤ). get_or l k (pos 0)) same ∙ c.requires.plain.zeros k in
+    let same : c.in_ok-surplus.surplus.items ≡ t.surplus = c.in_ok-surplus.ensures.items ∙ c.deref.ensures.value
+    ∙ ap (λ (x : TableValue). x.surplus) c.self.view_is in
+    let zeros : (k : ℕ) → get_or c.in_ok-surplus.surplus.items k (pos 0) ≡ pos 0 = λ k. ap (λ (l : List ℤ). get_or l k (pos 0)) same
+    ∙ c.requires.plain.zeros k in
     record {
       bidders = ap (λ (l : List ℤ). length l) same ∙ c.requires.whole.bidders;
       range = plain-range book c.args.j c.in_ok-surplus.surplus.items c.kept.ensures zeros;

@@ -16,5 +16,6 @@ returns-in-WholeTable-clause-most c =
     let j = c.args.j in
     let z = c.most.result in
     let z_fits : SFits w128 z = search rules in
-    let e : IsEntry (menu_without book j) (lowered (pos 1) (net_of book) table.surplus) 0 book.supply z = rw (c.requires.plain.skip, c.requires.plain.den) at c.most.ensures.most in
+    let e : IsEntry (menu_without book j) (lowered (pos 1) (net_of book) table.surplus) 0 book.supply z =
+    rw (c.requires.plain.skip, c.requires.plain.den) at c.most.ensures.most in
     rw (to_z-of_z w128 z z_fits) (greatest-without book table.surplus c.requires.plain.zeros j z c.requires.bidder.0 e)

@@ -15,4 +15,5 @@ returns-in_err-add_to-clause-kept c =
     let kept : KeepsFiles (clean_folder old) (clean_folder new) = search rules in
     let long : length new ≡ length old = search rules in
     let same = whole_slice c.args.self.now.files.len new old long (search rules) in
-    on_err c.from_residual.result (subst (λ (files : List CleanFile). KeepsFiles (with_gave (clean_folder old) gave) (with_gave (clean_folder files) gave)) same (keeps_with (clean_folder old) (clean_folder new) gave kept))
+    on_err c.from_residual.result (subst (λ (files : List CleanFile). KeepsFiles (with_gave (clean_folder old) gave) (with_gave (clean_folder files) gave))
+    same (keeps_with (clean_folder old) (clean_folder new) gave kept))

@@ -14,7 +14,8 @@ returns-then-contains-clause-kept c =
     let gave = c.args.self.now.gave.calls in
     let long : length new ≡ length old = search rules in
     let same = whole_slice c.args.self.now.files.len new old long (search rules) in
-    subst (λ (files : List MemFile). KeepsFiles (with_gave (mem_folder old) gave) (with_gave (mem_folder files) gave)) same (keeps_with (mem_folder old) (mem_folder new) gave kept)
+    subst (λ (files : List MemFile). KeepsFiles (with_gave (mem_folder old) gave) (with_gave (mem_folder files) gave)) same
+    (keeps_with (mem_folder old) (mem_folder new) gave kept)
 
 pub returns-then-is_err-clause-kept : goal.returns-then-is_err-clause-kept
 returns-then-is_err-clause-kept c =
@@ -24,4 +25,5 @@ returns-then-is_err-clause-kept c =
     let kept : KeepsFiles (mem_folder old) (mem_folder new) = search rules in
     let long : length new ≡ length old = search rules in
     let same = whole_slice c.args.self.now.files.len new old long (search rules) in
-    subst (λ (files : List MemFile). KeepsFiles (with_gave (mem_folder old) gave) (with_gave (mem_folder files) gave)) same (keeps_with (mem_folder old) (mem_folder new) gave kept)
+    subst (λ (files : List MemFile). KeepsFiles (with_gave (mem_folder old) gave) (with_gave (mem_folder files) gave)) same
+    (keeps_with (mem_folder old) (mem_folder new) gave kept)

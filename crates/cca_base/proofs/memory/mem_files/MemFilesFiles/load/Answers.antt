@@ -24,7 +24,8 @@ returns-then-contains-clause-kept c =
     let gave = c.args.self.now.gave.calls in
     let long : length new ≡ length old = search rules in
     let same = whole_slice c.args.self.now.files.len new old long (search rules) in
-    subst (λ (files : List MemFile). KeepsFiles (with_gave (mem_folder old) gave) (with_gave (mem_folder files) gave)) same (keeps_with (mem_folder old) (mem_folder new) gave kept)
+    subst (λ (files : List MemFile). KeepsFiles (with_gave (mem_folder old) gave) (with_gave (mem_folder files) gave)) same
+    (keeps_with (mem_folder old) (mem_folder new) gave kept)
 
 pub returns-in-None-clause-kept : goal.returns-in-None-clause-kept
 returns-in-None-clause-kept c =
@@ -34,4 +35,5 @@ returns-in-None-clause-kept c =
     let gave = c.args.self.now.gave.calls in
     let long : length new ≡ length old = search rules in
     let same = whole_slice c.args.self.now.files.len new old long (search rules) in
-    subst (λ (files : List MemFile). KeepsFiles (with_gave (mem_folder old) gave) (with_gave (mem_folder files) gave)) same (keeps_with (mem_folder old) (mem_folder new) gave kept)
+    subst (λ (files : List MemFile). KeepsFiles (with_gave (mem_folder old) gave) (with_gave (mem_folder files) gave)) same
+    (keeps_with (mem_folder old) (mem_folder new) gave kept)

@@ -15,5 +15,9 @@ returns-clause-names g c = λ name. found_any (named (name_by real_seen) name) c
 
 pub returns-clause-faults : goal.returns-clause-faults
 returns-clause-faults g c = λ name.
-    let none = λ (count : Seen → ℕ) (zero_at : (f : KnownFile) → first f → count (real_seen f) ≡ 0). fresh_count first (named (name_by real_seen) name) (λ f. count (real_seen f)) zero_at c.in_ok-files.files.items c.in_ok-files.ensures.fresh in
-    (none (λ s. s.load_faults) (λ f fresh. ap (λ (s : Seen). s.load_faults) fresh), none (λ s. s.append_faults) (λ f fresh. ap (λ (s : Seen). s.append_faults) fresh))
+    let none = λ (count : Seen → ℕ) (zero_at : (f : KnownFile) → first f → count (real_seen f) ≡ 0). fresh_count first (named (name_by real_seen) name)
+    (λ f. count (real_seen f)) zero_at c.in_ok-files.files.items c.in_ok-files.ensures.fresh in (
+      none (λ s. s.load_faults) (λ f fresh. ap (λ (s : Seen). s.load_faults) fresh),
+      none (λ s. s.append_faults)
+          (λ f fresh. ap (λ (s : Seen). s.append_faults) fresh),
+    )

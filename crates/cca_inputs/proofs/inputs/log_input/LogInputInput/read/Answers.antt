@@ -11,4 +11,5 @@ pub returns-in-Err-clause-stop : goal.returns-in-Err-clause-stop
 returns-in-Err-clause-stop c =
     let terms = c.args.self.now.award.now in
     let bytes = c.args.bytes.now in
-    subst (λ (s : Status). (s ≡ Memory) ⊎ (IsStop s × LogAnswers terms bytes (stops s))) (sym c.from.ensures) (log-stop terms bytes c.in-Err.stop c.in-Err.ensures.err)
+    subst (λ (s : Status). (s ≡ Memory) ⊎ (IsStop s × LogAnswers terms bytes (stops s))) (sym c.from.ensures)
+    (log-stop terms bytes c.in-Err.stop c.in-Err.ensures.err)

@@ -10,10 +10,14 @@ use Rattle.cca_inputs.proofs.Stopped.{place-stop}
 use Rattle.cca_inputs.proofs.inputs.place_cert_input.PlaceCertInputInput.read.Goals as goal
 
 pub returns-in-Ok-clause-value : goal.returns-in-Ok-clause-value
-returns-in-Ok-clause-value c = ((stated (place_cert_value c.in-Ok.cert), rw c.bidders.ensures.count at c.in-Ok.ensures.says, refl), rw c.bidders.ensures.count at c.in-Ok.ensures.bidders)
+returns-in-Ok-clause-value c = (
+  (stated (place_cert_value c.in-Ok.cert), rw c.bidders.ensures.count at c.in-Ok.ensures.says, refl),
+  rw c.bidders.ensures.count at c.in-Ok.ensures.bidders,
+)
 
 pub returns-in-Err-clause-stop : goal.returns-in-Err-clause-stop
 returns-in-Err-clause-stop c =
     let bidders = length c.args.self.now.slots.now.bidders in
     let bytes = c.args.bytes.now in
-    subst (λ (s : Status). (s ≡ Memory) ⊎ (IsStop s × PlaceCertAnswers bidders bytes (stops s))) (sym c.from.ensures) (place-stop bidders bytes c.in-Err.stop (rw c.bidders.ensures.count at c.in-Err.ensures.stops))
+    subst (λ (s : Status). (s ≡ Memory) ⊎ (IsStop s × PlaceCertAnswers bidders bytes (stops s))) (sym c.from.ensures)
+    (place-stop bidders bytes c.in-Err.stop (rw c.bidders.ensures.count at c.in-Err.ensures.stops))
