@@ -10,7 +10,7 @@ use Rattle.review.specs.line_text.specs.Decimals.{decimals_text}
 use Rattle.review.specs.line_text.proofs.Decided.{Decided, decided_all, decided_as, decided_both, decided_le, decided_same, decided_three, some_named}
 use Rattle.edits_file.specs.EditsForm.{NamedEdit, add, raise, remove, IsNamedEdit, IsSpelledAmount, NamesPackage, edit_text}
 use Rattle.edits_file.proofs.LineLaws.{bid_small, low_small}
-use Rattle.edits_file.proofs.Reading.{AddsNamed, IsSound, NamedStage, NamedStep, beginning, ended, finish, listing}
+use Rattle.edits_file.proofs.Reading.{IsSound, NamedStage, NamedStep, beginning, ended, finish, listing}
 
 decided_package : (categories : ℕ) (name lots : List ℕ) → Decided (NamesPackage categories name lots)
 decided_package categories name lots =

@@ -1,13 +1,12 @@
 -- Whether a line of slots leads on is known at each stage.
-use Rattle.std.proofs.Common.{inl, inr, ◌⊎◌, ◌≡◌, ◌≢◌, ℕ, ◌+◌, ◌≤◌, ◌<◌, List, [], ◌∷◌, ◌++◌, length, take, refl, sym, ap, subst, ◌∙◌, arith, length-append}
+use Rattle.std.proofs.Common.{inl, inr, ◌≡◌, ◌≢◌, ℕ, ◌+◌, ◌≤◌, List, [], ◌∷◌, ◌++◌, length, take, refl, sym, ap, subst, ◌∙◌, arith, length-append}
 use Rattle.std.specs.Prelude.{codes}
 use Rattle.std.specs.Fmt.{decimal}
-use Rattle.std.specs.List.{AllByRecursion}
 use Rattle.std.proofs.lemmas.List.{append_cancel_left, take_at}
 use Rattle.choices.specs.bid_book.proofs.BookDecided.{decided_name}
 use Rattle.choices.specs.limits.specs.declared.TheConstants.{MOST_AMOUNT, MOST_COUNT}
 use Rattle.choices.specs.line_text.proofs.Decided.{Decided, after_word, decided_all, decided_as, decided_both, decided_le, decided_lt, decided_not, decided_same, decided_three, some_below}
-use Rattle.slot_places.specs.SlotForm.{IsSlotBid, band_line, place_line, width_together}
+use Rattle.slot_places.specs.SlotForm.{band_line, place_line, width_together}
 use Rattle.slot_places.specs.Slots.{SlotBid, SlotList}
 use Rattle.slot_places.specs.Stages.{AddsBidder, AddsPlace, IsEntrant, IsNextPlace, Step, bidder_with, last_width, opened, start_before, with_bid, with_bidders}
 use Rattle.slot_places.specs.declared.read.Stage.{Stage}

@@ -1,5 +1,5 @@
 -- Whether a line of weights leads on is known at each stage.
-use Rattle.std.proofs.Common.{inl, inr, ◌⊎◌, ◌≡◌, ℕ, ◌+◌, ◌≤◌, List, [], ◌∷◌, ◌++◌, length, refl}
+use Rattle.std.proofs.Common.{inl, inr, ◌≡◌, ℕ, ◌+◌, ◌≤◌, List, [], ◌∷◌, ◌++◌, length, refl}
 use Rattle.std.specs.Prelude.{codes}
 use Rattle.bid_book.specs.auction_model.specs.Book.{Book, bidder_of}
 use Rattle.bid_book.specs.book_form.specs.BookForm.{IsBook}
