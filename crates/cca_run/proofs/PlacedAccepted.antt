@@ -20,7 +20,6 @@ use Rattle.cca_work.specs.cca_inputs.specs.Answers.{PlaceCertAnswers, SlotsAnswe
 use Rattle.cca_work.specs.cca_inputs.specs.Command.{place, place_check}
 use Rattle.cca_work.specs.cca_inputs.specs.Outcome.{Answer, AnswerGives, FileAnswers, Outcome, value}
 use Rattle.cca_work.specs.cca_inputs.specs.declared.status.FileKind.TheVariants as kinds
-use Rattle.cca_work.specs.cca_inputs.specs.declared.status.Status.{Status}
 use Rattle.cca_work.specs.cca_inputs.specs.declared.status.Status.TheVariants.{Done}
 use Rattle.cca_work.specs.Gives.{AreRounds, FilesGive, IsPlacing, PlaceCertGives, PlaceGives, PlaceVerdictGives, SlotsGive, cert_file}
 use Rattle.cca_run.proofs.Accepted.{NoStop, first-text, just-added, nothing-appended, some-line, value-inputs, yes-printed}
