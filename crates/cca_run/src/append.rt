@@ -7,8 +7,8 @@ ghost use Rattle.cca_run.specs.Ends.{AppendEnds, OnlyAppends};
 ghost use Rattle.std.specs.Prelude.{[], ◌∷◌};
 
 use crate::FileKind;
-use cca_work::cca_inputs::cca_base::{Files, write_file};
-use cca_work::cca_inputs::{Command, FileText};
+use cca_work::cca_base::{Files, write_file};
+use cca_work::{Command, FileText};
 
 // Appends one text to the command's file of its kind, which the error names.
 fn append_text<F: Files>(

@@ -4,8 +4,7 @@ ghost use Rattle.cca_work.specs.cca_inputs.specs.Command.{auction};
 ghost use Rattle.cca_work.specs.cca_inputs.specs.Outcome.{Outcome};
 ghost use Rattle.cca_work.specs.Gives.{FilesGive};
 
-use cca_work::big_auction::log_file::one_reading;
-use cca_work::cca_inputs::bid_book::one_text;
+use cca_work::{one_reading, one_text};
 
 /// The bytes of an award and of its log give at most one outcome of an auction: with the status and what is printed, the text of its book
 /// too is one.

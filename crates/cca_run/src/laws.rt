@@ -15,23 +15,13 @@ ghost use Rattle.cca_work.specs.Gives.{FilesGive, Gives, cert_file, ones};
 ghost use Rattle.cca_run.specs.Headline.{CanBeAwarded, IsAuction, IsAudited, IsAwarded, IsDoneOrLimited};
 ghost use Rattle.cca_run.specs.Later.{HoldsCert};
 
-use cca_work::big_auction::auction_rules::{bidders_of_book, bids_of_book};
-use cca_work::big_auction::award_file::book_of_award;
-use cca_work::big_auction::log_file::{one_reading, packages_of_log};
-use cca_work::cca_inputs::bid_book::one_book;
-use cca_work::cca_inputs::cert_form::{one_cert, text_of_cert};
-use cca_work::cca_inputs::edits_file::one_edits;
-use cca_work::cca_inputs::place_cert::{one_place_cert, short_place_text, text_of_place_cert};
-use cca_work::cca_inputs::slot_places::{one_slots, slot_market};
-use cca_work::cca_inputs::weights_file::one_weighing;
-use cca_work::outcome::place_laws::{one_place_verdict, one_pricing, sound_places};
-use cca_work::outcome::print_form::{one_outcome_json, one_price_text, one_run_text};
-use cca_work::outcome::row_laws::auction_model::{
-    book_market, core_outcome, vickrey_prices, winning_choice,
+use cca_work::{
+    bidders_of_book, bids_of_book, book_market, book_of_award, core_outcome, one_book, one_cert,
+    one_edits, one_outcome_json, one_place_cert, one_place_text, one_place_verdict, one_price_text,
+    one_pricing, one_reading, one_review_text, one_run_text, one_slots, one_verdict, one_weighing,
+    packages_of_log, plain_outcome, short_place_text, short_text, slot_market, sound_places,
+    sound_yes, text_of_cert, text_of_place_cert, vickrey_prices, winning_choice,
 };
-use cca_work::outcome::row_laws::plain_outcome;
-use cca_work::outcome::{one_place_text, one_review_text};
-use cca_work::place_price::cert_laws::{one_verdict, short_text, sound_yes};
 
 /// The words and the bytes of the files give at most one status and one printed text. So each status that is decided comes exactly
 /// where they give it.

@@ -6,9 +6,8 @@ ghost use Rattle.cca_work.specs.Works.{text_before};
 ghost use Rattle.cca_run.specs.Ends.{Written};
 
 use crate::{FileKind, Status};
-use cca_work::Stop;
-use cca_work::cca_inputs::cca_base::{Sink, write_sink};
-use cca_work::cca_inputs::line_of;
+use cca_work::cca_base::{Sink, write_sink};
+use cca_work::{Stop, line_of};
 
 // Writes the text, and says whether all of it was written.
 fn put_all<O: Sink>(out: &mut O, text: &[u8]) -> bool

@@ -26,9 +26,8 @@ use crate::append::append_all;
 use crate::laws::{awarded_cert_passes, complete_log_ends, complete_log_is_awarded, headline};
 use crate::print::{print, print_stop};
 use crate::{FileKind, Status};
-use cca_work::cca_inputs::cca_base::{Files, Sink};
-use cca_work::cca_inputs::{Command, line_of, read_command};
-use cca_work::{Work, work_out};
+use cca_work::cca_base::{Files, Sink};
+use cca_work::{Command, Work, line_of, read_command, work_out};
 use std::alloc::Global;
 
 // Appends what is to be appended, and then prints.

@@ -1,5 +1,6 @@
-mod Feeding
+mod CertWork
 pub mod Counts
+mod Feeding
 pub mod Loads
 mod Priced
 mod Progress

@@ -3,12 +3,13 @@ use Rattle.std.proofs.Common.{inl, inr, ◌≡◌, ◌∙◌, ℕ, ◌≤◌, Bo
 use Rattle.std.specs.Prelude.{Contains, option_and_then, Result, Ok, Err, IsSome, reverse, if◌then◌else◌}
 use Rattle.std.specs.List.{AllByRecursion}
 use Rattle.std.proofs.lemmas.Bool.{cases_lt}
-use Rattle.cca_inputs.specs.cca_base.specs.Files.{Agrees, Folder, GaveAll}
+use Rattle.cca_inputs.specs.cca_base.specs.Faults.{Rose}
+use Rattle.cca_inputs.specs.cca_base.specs.Files.{Agrees, Folder, GaveAll, KeepsFiles}
 use Rattle.cca_inputs.specs.cca_base.proofs.Given.{agrees_first, agrees_next, keeps_more, keeps_still}
 use Rattle.cca_inputs.specs.Command.{CommandValue, contents_of, input_as, inputs_of, is_kind, missing, output_as}
 use Rattle.cca_inputs.specs.Outcome.{Answer, AnswerGives, FileAnswers, InputGives, Outcome, done, stopped, stopped_after, stops, value}
-use Rattle.cca_inputs.specs.Reading.{Halts, InputStops, IsRead, OnlyLoads}
-use Rattle.cca_inputs.specs.limits.specs.declared.TheConstants.{AWARD_BYTES, CERT_BYTES, LOG_BYTES}
+use Rattle.cca_inputs.specs.Reading.{Halts, InputStops, OnlyLoads}
+use Rattle.cca_inputs.specs.limits.specs.declared.TheConstants.{AWARD_BYTES, LOG_BYTES}
 use Rattle.cca_inputs.specs.declared.file_text.FileText.{FileText}
 use Rattle.cca_inputs.specs.declared.status.FileKind.{FileKind}
 use Rattle.cca_inputs.specs.declared.status.FileKind.TheVariants as part
@@ -20,12 +21,11 @@ use Rattle.big_auction.specs.auction_rules.specs.declared.Event.{Event}
 use Rattle.log_replay.specs.ReplyLines.{end_of}
 use Rattle.log_replay.specs.declared.results.ReplayStop.{ReplayStop}
 use Rattle.log_replay.specs.declared.results.ReplayStop.TheVariants.{Rounds, Price, Open}
-use Rattle.cca_inputs.specs.cert_form.specs.Certificate.{CertValue}
-use Rattle.cca_inputs.specs.Answers.{AwardAnswers, CertAnswers, LogAnswers}
-use Rattle.cca_work.specs.Checked.{StopsCheck}
-use Rattle.cca_work.specs.Gives.{AwardGives, BookOfLogGives, CertGives, CommandGives, EndGives, FilesGive, LogGives, VerdictGives, replay_status}
+use Rattle.cca_inputs.specs.Answers.{AwardAnswers, LogAnswers}
+use Rattle.cca_work.specs.Gives.{AwardGives, BookOfLogGives, CommandGives, EndGives, FilesGive, LogGives, replay_status}
 use Rattle.cca_inputs.specs.Statuses.{IsStop}
-use Rattle.cca_work.specs.Works.{Agree, AreOutputs, Contents, HasBook, HasLogged, IsAt, IsNext, IsWork, OnlyReads, StopsBy, Works, WorksOut, bare, text_before}
+use Rattle.cca_work.specs.Works.{AreOutputs, AwardIsRead, FailsToRead, GivesFrom, HasBook, HasLogged, IsWork, LogIsRead, OnlyReads, StopsAtAward, StopsAtLog}
+use Rattle.cca_work.specs.Works.{StopsBy, Works, WorksFrom, WorksOut, bare, text_before}
 use Rattle.cca_work.specs.declared.work.Stop.{Stop}
 use Rattle.cca_work.specs.declared.work.Work.{Work}
 use Rattle.cca_work.proofs.Counts.{among-none, among-one, among-then, rose-from}
@@ -34,6 +34,31 @@ use Rattle.cca_work.proofs.Loads.{count-more, loaded-more, loaded-none}
 -- what files hold, by their names
 abbrev pub Held : Type 0
 Held = List ℕ → Option (List ℕ)
+
+-- contents, by the kinds of the inputs
+abbrev pub Contents : Type 0
+Contents = FileKind → Option (List ℕ)
+
+-- these contents are those of the files, at the kinds that were read
+abbrev pub Agree : CommandValue → Held → Contents → List FileKind → Type 0
+Agree command files contents seen = AllByRecursion (λ kind. contents kind ≡ contents_of command files kind) seen
+
+-- The inputs of these kinds were read, and what is left of the command is this.
+pub record IsAt (command : CommandValue) (old mid : Folder) (seen : List FileKind) (rest : Contents → Outcome → Type 0) : Type 0 where
+  -- nothing was done but loads of inputs of the command
+  pub reads : OnlyReads command old mid
+  -- each of these kinds was loaded once
+  pub count : length reads.loaded.contents ≡ length seen
+  -- what is left of the command, by the contents that were read, is what the command gives
+  pub leads : (files : Held) → Agrees files old mid → (contents : Contents) → Agree command files contents seen
+      → (o : Outcome) → rest contents o → CommandGives command contents o
+
+-- The file of this kind and name is the input that the command reads behind those of these kinds.
+pub record IsNext (command : CommandValue) (seen : List FileKind) (kind : FileKind) (name : List ℕ) : Type 0 where
+  pub input : input_as command kind ≡ Some name
+  pub within : Contains (inputs_of command) name
+  pub place : within.0 ≡ length seen
+  pub unseen : AllByRecursion (λ k. is_kind kind k ≡ false) seen
 
 agree-own : (command : CommandValue) (files : Held) (seen : List FileKind) → Agree command files (contents_of command files) seen
 agree-own command files [] = tt
@@ -196,12 +221,6 @@ book-stops command old new seen terms events follows stop at (inr (why, is, told
           (subst (λ (end : Result Book ReplayStop). EndGives (length events) end (follows (contents_of command files)) (stopped (replay_status (length events) why))) (sym is) refl),
     )
 
--- a certificate that was checked from its file stopped it
-pub check-turn : (book : Book) (weights : List ℕ) (contents : Contents) (bytes : List ℕ) (s : Status) → StopsCheck book weights bytes s
-    → (answer : Answer CertValue) × CertAnswers book bytes answer × AnswerGives answer (VerdictGives book weights) (stopped s)
-check-turn book weights contents bytes s (inl says) = (stops s, says, refl)
-check-turn book weights contents bytes s (inr (c, says, (test, place, first, is))) = (value c, says, inr (test, place, first, ap stopped is))
-
 -- a missing input is missing
 missing-itself : (kind : FileKind) (contents : Contents) → missing kind contents kind ≡ None
 missing-itself part.Award contents = refl
@@ -222,75 +241,101 @@ agree-missing command files kind (k ∷ seen) unseen = (
   agree-missing command files kind seen unseen.1,
 )
 
--- a certificate is the next input, and the only one that is left
-module _ (command : CommandValue) (old mid new : Folder) (seen : List FileKind) (name : List ℕ) (book : Book) (weights : List ℕ)
-    (next : IsNext command seen part.Cert name)
-    (at : IsAt command old mid seen (λ contents. CertGives book (contents part.Cert) (VerdictGives book weights))) (loads : OnlyLoads name mid new) where
-  -- it stopped the command
-  pub cert-stops : (s : Status) → InputStops part.Cert CERT_BYTES (StopsCheck book weights) name mid new s → Works command old new (Err (bare s))
-  cert-stops s stop =
-      stops-with command old mid new seen part.Cert CERT_BYTES (CertAnswers book)
-      (λ contents. VerdictGives book weights) name next.input next.within next.place at loads
-      (StopsCheck book weights) (check-turn book weights) (λ files. missing-itself part.Cert (contents_of command files))
-      (λ files. agree-missing command files part.Cert seen next.unseen) s stop
+-- an input is the next one, and the only one that is left, and this is its work, or its stop
+module _ (command : CommandValue) (old mid new : Folder) (seen : List FileKind) (kind : FileKind) (name : List ℕ)
+    (gives : Option (List ℕ) → Outcome → Type 0) (next : IsNext command seen kind name)
+    (at : IsAt command old mid seen (λ contents. gives (contents kind))) (missed : gives None (stopped (ReadFault kind))) where
+  -- what the file gives, the command gives
+  turn-given : (loads : OnlyLoads name mid new) (o : Outcome) → ((files : Held) → Agrees files mid new → gives (files name) o)
+      → (files : Held) → Agrees files old new → FilesGive command files o
+  turn-given loads o given files agrees =
+      at.leads files (agrees_first files old mid new at.reads.kept loads.kept agrees) (contents_of command files) (agree-own command files seen) o
+      (subst (λ (content : Option (List ℕ)). gives content o) (sym (ap (option_and_then files) next.input))
+      (given files (agrees_next files old mid new at.reads.kept loads.kept agrees)))
 
-  -- all its tests hold, and this is the work
-  pub cert-works : (c : CertValue) (bytes : List ℕ) → length bytes ≤ CERT_BYTES → CertAnswers book bytes (value c) → GaveAll name mid new bytes
-      → (result : Result Work Stop) → IsWork (VerdictGives book weights c) [] result → Works command old new result
-  cert-works c bytes short says here result is =
-      works command old new (part.Cert ∷ seen) (λ contents. VerdictGives book weights c)
-      (reads-next command old mid new seen part.Cert CERT_BYTES (CertAnswers book)
-      (λ contents. VerdictGives book weights) name next.input next.within next.place at loads c bytes short says here)
-      [] tt result (λ files. is)
+  -- a load of it failed
+  turn-fault : (loads : OnlyLoads name mid new) → Rose (mid.load_faults name) (new.load_faults name) → (IsSome (mid.room name) → ⊥) → FailsToRead command old new kind
+  turn-fault loads rose no_room = record {
+    name = name;
+    input = next.input;
+    rose = rose-from (old.load_faults name) (mid.load_faults name) (new.load_faults name) (at.reads.loads.not_less name) rose;
+    no_room = λ some. no_room (subst (λ (r : List ℕ → Option ℕ). IsSome (r name)) (sym at.reads.kept.room) some);
+    reached = λ files agrees.
+        at.leads files (agrees_first files old mid new at.reads.kept loads.kept agrees) (missing kind (contents_of command files))
+        (agree-missing command files kind seen next.unseen) (stopped (ReadFault kind))
+        (subst (λ (content : Option (List ℕ)). gives content (stopped (ReadFault kind))) (sym (missing-itself kind (contents_of command files))) missed);
+  }
+
+  pub works-from : (result : Result Work Stop) → WorksFrom kind name gives mid new result → Works command old new result
+  works-from result works = record { out = by result works.out; reads = reads-on command old mid new name next.within at.reads (at.count ∙ sym next.place) works.loads }
+    where
+      by : (result : Result Work Stop) → GivesFrom kind name gives mid new result → WorksOut command old new result
+      by (Ok work) (none, given) = (
+        outputs_of-kinds command work.appended.items [] none tt,
+        turn-given works.loads (done work.printed work.appended.items) given,
+      )
+      by (Err stop) (inl memory) = inl memory
+      by (Err stop) (inr (inl (fault, rose, no_room))) = inr (inl (kind, fault, turn-fault works.loads rose no_room))
+      by (Err stop) (inr (inr (is_stop, given))) = inr (inr (is_stop, turn-given works.loads (stopped_after (text_before stop) stop.status) given))
 
 -- an award is the first input, a log the second, and what is left follows for the book of the log
-module _ (command : CommandValue) (follows : Contents → Book → Outcome → Type 0) (terms_name log_name : List ℕ) (old mid : Folder)
-    (first : IsNext command [] part.Award terms_name) (second : IsNext command (part.Award ∷ []) part.Log log_name)
+module _ (command : CommandValue) (follows : Contents → Book → Outcome → Type 0) (award log : List ℕ) (old : Folder)
+    (first : IsNext command [] part.Award award) (second : IsNext command (part.Award ∷ []) part.Log log)
     (gives : IsAt command old old [] (λ contents. AwardGives (contents part.Award) (λ t. LogGives t (contents part.Log) (λ events. BookOfLogGives t events
-    (follows contents)))))
-    (loads : OnlyLoads terms_name old mid) where
+    (follows contents))))) where
   -- what is left behind the award
   abbrev Behind : Terms → Contents → Outcome → Type 0
   Behind t contents = LogGives t (contents part.Log) (λ events. BookOfLogGives t events (follows contents))
 
-  -- the award stopped it
-  pub award-stops : (s : Status) → InputStops part.Award AWARD_BYTES (λ bytes status. AwardAnswers bytes (stops status)) terms_name old mid s
-      → Works command old mid (Err (bare s))
-  award-stops s stop =
-      stops-next command old old mid [] part.Award AWARD_BYTES AwardAnswers
-      (λ contents t. Behind t contents) terms_name first.input first.within first.place gives loads
+  -- what is left behind the log
+  abbrev Ends : Terms → List Event → Contents → Outcome → Type 0
+  Ends t events contents = BookOfLogGives t events (follows contents)
+
+  -- the award was read
+  at-award : (mid : Folder) (t : Terms) → AwardIsRead award old mid t → IsAt command old mid (part.Award ∷ []) (Behind t)
+  at-award mid t a =
+      reads-next command old old mid [] part.Award AWARD_BYTES AwardAnswers (λ contents t. Behind t contents) award first.input first.within first.place gives a.loads
+      t a.value.bytes a.value.short a.value.says a.value.here
+
+  -- the log was read
+  at-log : (new : Folder) (t : Terms) (events : List Event) → LogIsRead award log old new t events → IsAt command old new (part.Log ∷ part.Award ∷ []) (Ends t events)
+  at-log new t events l =
+      reads-next command old l.mid new (part.Award ∷ []) part.Log LOG_BYTES (LogAnswers t) (λ contents events. Ends t events contents) log
+      second.input second.within second.place (at-award l.mid t l.first) l.loads events l.value.bytes l.value.short l.value.says l.value.here
+
+  -- they led to a book
+  pub logged-at : (new : Folder) (book : Book) → HasLogged award log old new (Ok book) → IsAt command old new (part.Log ∷ part.Award ∷ []) (λ contents. follows contents book)
+  logged-at new book (t, events, read, leads) = book-next command old new (part.Log ∷ part.Award ∷ []) t events follows book (at-log new t events read) leads
+
+  -- the award stopped the run
+  award-stops : (new : Folder) (stop : Stop) → StopsAtAward award old new stop → Works command old new (Err stop)
+  award-stops new stop s =
+      subst (λ (x : Stop). Works command old new (Err x)) (sym s.is)
+      (stops-next command old old new [] part.Award AWARD_BYTES AwardAnswers (λ contents t. Behind t contents) award first.input first.within first.place gives s.loads
       (λ bytes status. AwardAnswers bytes (stops status)) (λ bytes status x. x) (λ files. missing-itself part.Award (contents_of command files))
-      (λ files. tt) s stop
+      (λ files. tt) s.status s.why)
 
-  module _ (t : Terms) (read : IsRead AWARD_BYTES (λ bytes v. AwardAnswers bytes (value v)) terms_name old mid t) (new : Folder)
-      (more : OnlyLoads log_name mid new) where
-    -- the award was read
-    abbrev at : IsAt command old mid (part.Award ∷ []) (Behind t)
-    at = reads-next command old old mid [] part.Award AWARD_BYTES AwardAnswers
-        (λ contents t. Behind t contents) terms_name first.input first.within first.place gives loads
-        t read.bytes read.short read.says read.here
+  -- the log stopped the run
+  log-stops : (new : Folder) (stop : Stop) → StopsAtLog award log old new stop → Works command old new (Err stop)
+  log-stops new stop s =
+      subst (λ (x : Stop). Works command old new (Err x)) (sym s.is)
+      (stops-next command old s.mid new (part.Award ∷ []) part.Log LOG_BYTES (LogAnswers s.terms) (λ contents events. Ends s.terms events contents) log
+      second.input second.within second.place (at-award s.mid s.terms s.first) s.loads
+      (λ bytes status. LogAnswers s.terms bytes (stops status)) (λ bytes status x. x) (λ files. missing-itself part.Log (contents_of command files))
+      (λ files. agree-missing command files part.Log (part.Award ∷ []) second.unseen) s.status s.why)
 
-    -- the log stopped it
-    pub log-stops : (s : Status) → InputStops part.Log LOG_BYTES (λ bytes status. LogAnswers t bytes (stops status)) log_name mid new s
-        → Works command old new (Err (bare s))
-    log-stops s stop =
-        stops-next command old mid new (part.Award ∷ []) part.Log LOG_BYTES (LogAnswers t) (λ contents events. BookOfLogGives t events
-        (follows contents)) log_name
-        second.input second.within second.place at more
-        (λ bytes status. LogAnswers t bytes (stops status)) (λ bytes status x. x) (λ files. missing-itself part.Log (contents_of command files))
-        (λ files. agree-missing command files part.Log (part.Award ∷ []) second.unseen) s stop
+  -- they led to no book
+  pub logged-stops : (new : Folder) (stop : Stop) → HasLogged award log old new (Err stop) → Works command old new (Err stop)
+  logged-stops new stop (inl s) = award-stops new stop s
+  logged-stops new stop (inr (inl s)) = log-stops new stop s
+  logged-stops new stop (inr (inr (t, events, read, has))) = book-stops command old new (part.Log ∷ part.Award ∷ []) t events follows stop (at-log new t events read) has
 
-    -- the log was read, and led to a book or to none
-    pub logs-end : (events : List Event) → IsRead LOG_BYTES (λ bytes v. LogAnswers t bytes (value v)) log_name mid new events
-        → (result : Result Book Stop) → HasBook t events result
-        → HasLogged command follows old new result
-    logs-end events read_log result has = by result has
-      where
-        behind : IsAt command old new (part.Log ∷ part.Award ∷ []) (λ contents. BookOfLogGives t events (follows contents))
-        behind = reads-next command old mid new (part.Award ∷ []) part.Log LOG_BYTES (LogAnswers t) (λ contents events. BookOfLogGives t events
-            (follows contents)) log_name
-            second.input second.within second.place at more events read_log.bytes read_log.short read_log.says read_log.here
+-- an award and its log were read, and this is what they lead to
+pub has-logged : (award log : List ℕ) (old new : Folder) (t : Terms) (events : List Event) → LogIsRead award log old new t events
+    → (result : Result Book Stop) → HasBook t events result → HasLogged award log old new result
+has-logged award log old new t events read (Ok book) has = (t, events, read, has)
+has-logged award log old new t events read (Err stop) has = inr (inr (t, events, read, has))
 
-        by : (result : Result Book Stop) → HasBook t events result → HasLogged command follows old new result
-        by (Ok book) has = book-next command old new (part.Log ∷ part.Award ∷ []) t events follows book behind has
-        by (Err stop) has = book-stops command old new (part.Log ∷ part.Award ∷ []) t events follows stop behind has
+-- no file changed as they were read
+pub logged-kept : (award log : List ℕ) (old new : Folder) (book : Book) → HasLogged award log old new (Ok book) → KeepsFiles old new
+logged-kept award log old new book (t, events, read, leads) = keeps_more old read.mid new read.first.loads.kept read.loads.kept

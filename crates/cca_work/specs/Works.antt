@@ -1,5 +1,5 @@
 -- From a command to what it prints and appends.
-use Rattle.std.specs.Prelude.{◌≡◌, ◌⊎◌, ◌≤◌, ℕ, false, IsSome, Option, Some, None, Result, Ok, Err, List, [], ◌∷◌}
+use Rattle.std.specs.Prelude.{◌≡◌, ◌⊎◌, ◌≤◌, ℕ, IsSome, Option, Some, None, Result, Ok, Err, List, []}
 use Rattle.std.specs.Prelude.{Contains, length, map, reverse, take, unwrap_or}
 use Rattle.std.specs.List.{AllByRecursion}
 use Rattle.outcome.specs.auction_model.specs.Book.{Book}
@@ -12,15 +12,18 @@ use Rattle.cca_inputs.specs.cca_base.specs.Files.{Agrees, Content, Folder, GaveO
 use Rattle.outcome.specs.core_price.specs.declared.priced.PriceStop.{PriceStop}
 use Rattle.outcome.specs.core_price.specs.declared.priced.PriceStop.TheVariants as price
 use Rattle.cca_inputs.specs.limits.specs.declared.LimitKind.TheVariants.{Winners}
-use Rattle.cca_inputs.specs.Command.{CommandValue, contents_of, input_as, inputs_of, is_kind, missing, output_as}
-use Rattle.cca_inputs.specs.Outcome.{Outcome, done, stopped, stopped_after}
+use Rattle.cca_inputs.specs.limits.specs.declared.TheConstants.{AWARD_BYTES, LOG_BYTES}
+use Rattle.cca_inputs.specs.Answers.{AwardAnswers, LogAnswers}
+use Rattle.cca_inputs.specs.Command.{CommandValue, contents_of, input_as, inputs_of, missing, output_as}
+use Rattle.cca_inputs.specs.Outcome.{Outcome, done, stopped, stopped_after, stops, value}
+use Rattle.cca_inputs.specs.Reading.{InputStops, IsRead, OnlyLoads}
 use Rattle.cca_inputs.specs.Statuses.{IsStop}
 use Rattle.cca_inputs.specs.declared.file_text.FileText.{FileText}
 use Rattle.cca_inputs.specs.declared.status.FileKind.{FileKind}
-use Rattle.cca_inputs.specs.declared.status.FileKind.TheVariants.{Award, Log}
+use Rattle.cca_inputs.specs.declared.status.FileKind.TheVariants.{Award, Log, Cert}
 use Rattle.cca_inputs.specs.declared.status.Status.{Status}
 use Rattle.cca_inputs.specs.declared.status.Status.TheVariants.{ReadFault, Memory, Limit}
-use Rattle.cca_work.specs.Gives.{CommandGives, FilesGive, replay_status}
+use Rattle.cca_work.specs.Gives.{CertGives, CommandGives, FilesGive, VerdictGives, replay_status}
 use Rattle.cca_work.specs.declared.work.Stop.{Stop}
 use Rattle.cca_work.specs.declared.work.Work.{Work}
 
@@ -103,32 +106,66 @@ pub record Works (command : CommandValue) (old new : Folder) (result : Result Wo
   pub out : WorksOut command old new result
   pub reads : OnlyReads command old new
 
--- contents, by the kinds of the inputs
-abbrev pub Contents : Type 0
-Contents = FileKind → Option (List ℕ)
+-- How the way from one input of this kind and name to the work stops, where its bytes give this: for want of memory, by a fault of reading
+-- that was counted, where no room is told, or by what the bytes give.
+abbrev pub StopsFrom : FileKind → List ℕ → (Option (List ℕ) → Outcome → Type 0) → Folder → Folder → Stop → Type 0
+StopsFrom kind name gives old new stop =
+    (stop ≡ bare Memory)
+    ⊎ (((stop ≡ bare (ReadFault kind)) × Rose (old.load_faults name) (new.load_faults name) × (IsSome (old.room name) → ⊥))
+    ⊎ (IsStop stop.status
+    × ((files : List ℕ → Option (List ℕ)) → Agrees files old new
+    → gives (files name) (stopped_after (text_before stop) stop.status))))
 
--- these contents are those of the files, at the kinds that were read
-abbrev pub Agree : CommandValue → (List ℕ → Option (List ℕ)) → Contents → List FileKind → Type 0
-Agree command files contents seen = AllByRecursion (λ kind. contents kind ≡ contents_of command files kind) seen
+-- what is worked out of one input is what its bytes give, and nothing is appended
+abbrev pub GivesFrom : FileKind → List ℕ → (Option (List ℕ) → Outcome → Type 0) → Folder → Folder → Result Work Stop → Type 0
+GivesFrom kind name gives old new (Ok work) = (map (λ t. t.kind) work.appended.items ≡ [])
+    × ((files : List ℕ → Option (List ℕ)) → Agrees files old new → gives (files name) (done work.printed work.appended.items))
+GivesFrom kind name gives old new (Err stop) = StopsFrom kind name gives old new stop
 
--- The inputs of these kinds were read, and what is left of the command is this.
-pub record IsAt (command : CommandValue) (old mid : Folder) (seen : List FileKind) (rest : Contents → Outcome → Type 0) : Type 0 where
-  -- nothing was done but loads of inputs of the command
-  pub reads : OnlyReads command old mid
-  -- each of these kinds was loaded once
-  pub count : length reads.loaded.contents ≡ length seen
-  -- what is left of the command, by the contents that were read, is what the command gives
-  pub leads : (files : List ℕ → Option (List ℕ)) → Agrees files old mid → (contents : Contents) → Agree command files contents seen
-      → (o : Outcome) → rest contents o → CommandGives command contents o
+-- The work that one input of this kind and name gives was worked out, or the way to it stopped, and only this input was loaded.
+pub record WorksFrom (kind : FileKind) (name : List ℕ) (gives : Option (List ℕ) → Outcome → Type 0) (old new : Folder) (result : Result Work Stop) : Type 0 where
+  pub out : GivesFrom kind name gives old new result
+  pub loads : OnlyLoads name old new
 
--- The file of this kind and name is the input that the command reads behind those of these kinds.
-pub record IsNext (command : CommandValue) (seen : List FileKind) (kind : FileKind) (name : List ℕ) : Type 0 where
-  pub input : input_as command kind ≡ Some name
-  pub within : Contains (inputs_of command) name
-  pub place : within.0 ≡ length seen
-  pub unseen : AllByRecursion (λ k. is_kind kind k ≡ false) seen
+-- the same of a certificate of this book, by these weights
+abbrev pub CertWorks : Book → List ℕ → List ℕ → Folder → Folder → Result Work Stop → Type 0
+CertWorks book weights name old new result =
+    WorksFrom Cert name (λ content. CertGives book content (VerdictGives book weights)) old new result
 
--- an award and its log were read and led to a book, for which this follows; or the way to it stopped
-abbrev pub HasLogged : CommandValue → (Contents → Book → Outcome → Type 0) → Folder → Folder → Result Book Stop → Type 0
-HasLogged command follows old new (Ok book) = IsAt command old new (Log ∷ Award ∷ []) (λ contents. follows contents book)
-HasLogged command follows old new (Err stop) = Works command old new (Err stop)
+-- an award was read, and only its file was loaded
+pub record AwardIsRead (name : List ℕ) (old new : Folder) (terms : Terms) : Type 0 where
+  pub value : IsRead AWARD_BYTES (λ bytes v. AwardAnswers bytes (value v)) name old new terms
+  pub loads : OnlyLoads name old new
+
+-- an award was read, and behind it a log of it
+pub record LogIsRead (award log : List ℕ) (old new : Folder) (terms : Terms) (events : List Event) : Type 0 where
+  pub mid : Folder
+  pub first : AwardIsRead award old mid terms
+  pub value : IsRead LOG_BYTES (λ bytes v. LogAnswers terms bytes (value v)) log mid new events
+  pub loads : OnlyLoads log mid new
+
+-- the award stopped the run
+pub record StopsAtAward (name : List ℕ) (old new : Folder) (stop : Stop) : Type 0 where
+  pub status : Status
+  pub is : stop ≡ bare status
+  pub why : InputStops Award AWARD_BYTES (λ bytes s. AwardAnswers bytes (stops s)) name old new status
+  pub loads : OnlyLoads name old new
+
+-- an award was read, and the log behind it stopped the run
+pub record StopsAtLog (award log : List ℕ) (old new : Folder) (stop : Stop) : Type 0 where
+  pub mid : Folder
+  pub terms : Terms
+  pub first : AwardIsRead award old mid terms
+  pub status : Status
+  pub is : stop ≡ bare status
+  pub why : InputStops Log LOG_BYTES (λ bytes s. LogAnswers terms bytes (stops s)) log mid new status
+  pub loads : OnlyLoads log mid new
+
+-- An award and its log were read and led to a book, or stopped the run.
+abbrev pub HasLogged : List ℕ → List ℕ → Folder → Folder → Result Book Stop → Type 0
+HasLogged award log old new (Ok book) =
+    (terms : Terms) × (events : List Event) × LogIsRead award log old new terms events × HasBook terms events (Ok book)
+HasLogged award log old new (Err stop) =
+    StopsAtAward award old new stop
+    ⊎ (StopsAtLog award log old new stop
+    ⊎ ((terms : Terms) × (events : List Event) × LogIsRead award log old new terms events × HasBook terms events (Err stop)))

@@ -1,16 +1,12 @@
 // The work of each command.
-ghost use Rattle.std.specs.Prelude.{◌≡◌, ℕ, List, [], IsTrue};
+ghost use Rattle.std.specs.Prelude.{ℕ, List, [], IsTrue};
 ghost use Rattle.outcome.specs.auction_model.specs.Prices.{AreWeights};
 ghost use Rattle.place_price.specs.cert_laws.specs.Tests.{bidders_of};
-ghost use Rattle.cca_inputs.specs.cca_base.specs.Files.{Folder};
-ghost use Rattle.cca_inputs.specs.Command.{CommandValue, win, weigh, weigh_check, auction, award, audit, check, place_check, price, review, one_priced, three_files, two_files, two_priced};
+ghost use Rattle.cca_inputs.specs.Command.{win, weigh, weigh_check, auction, award, audit, check, place_check, price, review, one_priced, three_files, two_files, two_priced};
 ghost use Rattle.cca_inputs.specs.Words.{KnowsFiles, command_value};
-ghost use Rattle.cca_inputs.specs.declared.price_form.PriceForm.{PriceForm};
 ghost use Rattle.cca_inputs.specs.declared.shape.OnePriced.TheVariants.{Place};
-ghost use Rattle.cca_inputs.specs.declared.status.FileKind.{FileKind};
-ghost use Rattle.cca_inputs.specs.declared.status.FileKind.TheVariants.{Cert};
-ghost use Rattle.cca_work.specs.Gives.{CertGives, PriceGives, VerdictGives, WinGives, ones};
-ghost use Rattle.cca_work.specs.Works.{HasLogged, IsAt, IsNext, IsWork, Works};
+ghost use Rattle.cca_work.specs.Gives.{WinGives};
+ghost use Rattle.cca_work.specs.Works.{CertWorks, HasLogged, IsWork, Works};
 
 use crate::auction::{logged_book, replayed};
 use crate::checked::check_input;
@@ -30,7 +26,7 @@ use cca_inputs::{
 };
 use std::alloc::Global;
 
-// What the certificate that is the next input of a command gives, whose book and weights are at hand.
+// What the file of a certificate gives whose book and weights are at hand.
 fn checked<F: Files>(
     alloc: Global,
     files: &mut F,
@@ -40,10 +36,7 @@ fn checked<F: Files>(
 ) -> Result<Work, Stop>
     requires known { IsTrue ((F.folder files.old).knows cert.now) }
     requires weights { AreWeights (bidders_of book.now) weights.now }
-    ensures { (command : CommandValue) (before : Folder) (seen : List FileKind) → IsNext command seen Cert cert.now
-        → IsAt command before (F.folder files.old) seen
-        (λ contents. CertGives book.now (contents Cert) (VerdictGives book.now weights.now))
-        → Works command before (F.folder files.new) result }
+    ensures { CertWorks book.now weights.now cert.now (F.folder files.old) (F.folder files.new) result }
 {
     let facts = check_input(alloc, files, cert, book, weights)?;
     accepted(alloc, book, &facts)
@@ -53,12 +46,7 @@ fn checked<F: Files>(
 fn logged<F: Files>(alloc: Global, files: &mut F, terms: &str, log: &str) -> Result<BidBook, Stop>
     requires terms { IsTrue ((F.folder files.old).knows terms.now) }
     requires log { IsTrue ((F.folder files.old).knows log.now) }
-    ensures award { (cert : List ℕ) (form : PriceForm)
-        → HasLogged (award terms.now log.now cert form) (λ contents b. PriceGives b (ones b) form)
-        (F.folder files.old) (F.folder files.new) result }
-    ensures audit { (cert : List ℕ)
-        → HasLogged (audit terms.now log.now cert) (λ contents b. CertGives b (contents Cert) (VerdictGives b (ones b)))
-        (F.folder files.old) (F.folder files.new) result }
+    ensures { HasLogged terms.now log.now (F.folder files.old) (F.folder files.new) result }
 {
     let award = read_input(alloc, files, terms, &AwardInput)?;
     let events = read_input(alloc, files, log, &LogInput { award: &award })?;

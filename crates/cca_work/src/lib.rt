@@ -13,9 +13,26 @@ mod verdict;
 mod win;
 mod work;
 
-pub use big_auction;
-pub use cca_inputs;
+pub use big_auction::auction_rules::{bidders_of_book, bids_of_book};
+pub use big_auction::award_file::book_of_award;
+pub use big_auction::log_file::{one_reading, packages_of_log};
+pub use cca_inputs::bid_book::{one_book, one_text};
+pub use cca_inputs::cert_form::{one_cert, text_of_cert};
+pub use cca_inputs::edits_file::one_edits;
+pub use cca_inputs::place_cert::{one_place_cert, short_place_text, text_of_place_cert};
+pub use cca_inputs::slot_places::{one_slots, slot_market};
+pub use cca_inputs::weights_file::one_weighing;
+pub use cca_inputs::{
+    CertKind, Command, FileKind, FileText, Status, bid_book, cca_base, choices, line_of,
+    read_command,
+};
 pub use commands::work_out;
-pub use outcome;
-pub use place_price;
+pub use outcome::place_laws::{one_place_verdict, one_pricing, sound_places};
+pub use outcome::print_form::{one_outcome_json, one_price_text, one_run_text};
+pub use outcome::row_laws::auction_model::{
+    book_market, core_outcome, vickrey_prices, winning_choice,
+};
+pub use outcome::row_laws::plain_outcome;
+pub use outcome::{one_place_text, one_review_text, value_table};
+pub use place_price::cert_laws::{one_verdict, short_text, sound_yes};
 pub use work::{Stop, Work};

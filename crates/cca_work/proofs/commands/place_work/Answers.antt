@@ -1,10 +1,13 @@
-use Rattle.std.proofs.Common.{refl, arith, [], ◌∷◌, rules}
+use Rattle.std.proofs.Common.{refl, arith, [], ◌∷◌, sym, ap, subst, ◌∙◌, Err}
+use Rattle.std.proofs.lemmas.Result.{err_from_is_err_and}
 use Rattle.cca_inputs.specs.limits.specs.declared.TheConstants.{SLOTS_BYTES}
 use Rattle.cca_inputs.specs.Answers.{SlotsAnswers}
 use Rattle.cca_inputs.specs.Command.{one_priced}
 use Rattle.cca_inputs.specs.declared.shape.OnePriced.TheVariants.{Place}
 use Rattle.cca_inputs.specs.declared.status.FileKind.TheVariants.{Cert, Slots}
 use Rattle.cca_work.specs.Gives.{PlaceGives}
+use Rattle.cca_work.specs.Works.{Works}
+use Rattle.cca_work.specs.declared.work.Stop.{Stop}
 use Rattle.cca_work.proofs.Progress.{begins, reads-next, stops-next, works}
 use Rattle.cca_work.proofs.commands.place_work.Goals as goal
 
@@ -17,7 +20,8 @@ returns-in_err-slots g c = λ cert.
     (λ contents s. PlaceGives s c.args.form.rounds) name refl (0, omega arith, refl) refl (begins
     (one_priced Place name cert c.args.form) old) c.in_err-slots.ensures.loads
     _ (λ bytes s x. x) (λ files. refl) (λ files. tt) c.in_err-slots.field-0.0 c.in_err-slots.ensures.stop in
-    search rules
+    let is = err_from_is_err_and c.from_residual.result c.from_residual.ensures.1 in
+    subst (Works (one_priced Place name cert c.args.form) old new) (sym (is.1 ∙ ap (λ (s : Stop). Err s) is.2)) stopped
 
 pub returns : goal.returns
 returns g c = λ cert.

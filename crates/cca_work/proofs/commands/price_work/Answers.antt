@@ -1,9 +1,12 @@
-use Rattle.std.proofs.Common.{refl, arith, [], ◌∷◌, rules}
+use Rattle.std.proofs.Common.{refl, arith, [], ◌∷◌, sym, ap, subst, ◌∙◌, Err}
+use Rattle.std.proofs.lemmas.Result.{err_from_is_err_and}
 use Rattle.cca_inputs.specs.limits.specs.declared.TheConstants.{BOOK_BYTES}
 use Rattle.cca_inputs.specs.Answers.{BookAnswers}
 use Rattle.cca_inputs.specs.Command.{price}
 use Rattle.cca_inputs.specs.declared.status.FileKind.TheVariants.{Book, Cert}
 use Rattle.cca_work.specs.Gives.{PriceGives, ones}
+use Rattle.cca_work.specs.Works.{Works}
+use Rattle.cca_work.specs.declared.work.Stop.{Stop}
 use Rattle.cca_work.proofs.Progress.{begins, reads-next, stops-next, works}
 use Rattle.cca_work.proofs.commands.price_work.Goals as goal
 
@@ -14,7 +17,8 @@ returns-in_err-book g c = λ cert.
     let new = g.F.Files.folder c.read_input.new.files in
     let stopped = stops-next (price name cert c.args.form) old old new [] Book BOOK_BYTES BookAnswers (λ contents b. PriceGives b (ones b) c.args.form) name refl (0, omega arith, refl) refl (begins (price name cert c.args.form) old) c.in_err-book.ensures.loads
     _ (λ bytes s x. x) (λ files. refl) (λ files. tt) c.in_err-book.field-0.0 c.in_err-book.ensures.stop in
-    search rules
+    let is = err_from_is_err_and c.from_residual.result c.from_residual.ensures.1 in
+    subst (Works (price name cert c.args.form) old new) (sym (is.1 ∙ ap (λ (s : Stop). Err s) is.2)) stopped
 
 pub returns : goal.returns
 returns g c = λ cert.

@@ -1,9 +1,12 @@
-use Rattle.std.proofs.Common.{refl, arith, [], rules}
+use Rattle.std.proofs.Common.{refl, arith, [], sym, ap, subst, ◌∙◌, Err}
+use Rattle.std.proofs.lemmas.Result.{err_from_is_err_and}
 use Rattle.cca_inputs.specs.limits.specs.declared.TheConstants.{BOOK_BYTES, EDITS_BYTES}
 use Rattle.cca_inputs.specs.Answers.{BookAnswers, EditsAnswers}
 use Rattle.cca_inputs.specs.Command.{review}
 use Rattle.cca_inputs.specs.declared.status.FileKind.TheVariants.{Book, Edits}
 use Rattle.cca_work.specs.Gives.{EditsGive, ReviewGives}
+use Rattle.cca_work.specs.Works.{Works}
+use Rattle.cca_work.specs.declared.work.Stop.{Stop}
 use Rattle.cca_work.proofs.Progress.{begins, reads-next, stops-next, works}
 use Rattle.cca_work.proofs.commands.review_work.Goals as goal
 
@@ -14,7 +17,8 @@ returns-in_err-book g c =
     let new = g.F.Files.folder c.read_input.new.files in
     let stopped = stops-next command old old new [] Book BOOK_BYTES BookAnswers (λ contents b. EditsGive b (contents Edits) (ReviewGives b)) c.args.book.now refl (0, omega arith, refl) refl (begins command old)
     c.in_err-book.ensures.loads _ (λ bytes s x. x) (λ files. refl) (λ files. tt) c.in_err-book.field-0.0 c.in_err-book.ensures.stop in
-    search rules
+    let is = err_from_is_err_and c.from_residual.result c.from_residual.ensures.1 in
+    subst (Works command old new) (sym (is.1 ∙ ap (λ (s : Stop). Err s) is.2)) stopped
 
 pub returns-in_err-edits : goal.returns-in_err-edits
 returns-in_err-edits g c =
@@ -28,7 +32,8 @@ returns-in_err-edits g c =
     c.in_ok-book.ensures.loads book read.bytes read.short read.says read.here in
     let stopped = stops-next command old mid new _ Edits EDITS_BYTES (EditsAnswers book) (λ contents. ReviewGives book) c.args.edits.now refl (1, omega arith, refl) refl at
     c.in_err-edits.ensures.loads _ (λ bytes s x. x) (λ files. refl) (λ files. (refl, tt)) c.in_err-edits.field-0.0 c.in_err-edits.ensures.stop in
-    search rules
+    let is = err_from_is_err_and c.from_residual-in_err-edits.result c.from_residual-in_err-edits.ensures.1 in
+    subst (Works command old new) (sym (is.1 ∙ ap (λ (s : Stop). Err s) is.2)) stopped
 
 pub returns : goal.returns
 returns g c =

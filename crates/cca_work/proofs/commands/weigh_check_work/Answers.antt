@@ -1,4 +1,4 @@
-use Rattle.std.proofs.Common.{refl, arith, [], ◌∷◌, rules, sym, ap, subst, ◌∙◌, Err}
+use Rattle.std.proofs.Common.{refl, arith, [], ◌∷◌, sym, ap, subst, ◌∙◌, Err}
 use Rattle.std.proofs.lemmas.Result.{err_from_is_err_and}
 use Rattle.cca_inputs.specs.limits.specs.declared.TheConstants.{BOOK_BYTES, WEIGHTS_BYTES}
 use Rattle.cca_inputs.specs.Answers.{BookAnswers, WeightsAnswers}
@@ -7,7 +7,8 @@ use Rattle.cca_inputs.specs.declared.status.FileKind.TheVariants.{Book, Cert, We
 use Rattle.cca_work.specs.Gives.{CertGives, VerdictGives, WeightsGive}
 use Rattle.cca_work.specs.Works.{Works}
 use Rattle.cca_work.specs.declared.work.Stop.{Stop}
-use Rattle.cca_work.proofs.Progress.{begins, reads-next, stops-next}
+use Rattle.cca_work.proofs.CertWork.{same-weights}
+use Rattle.cca_work.proofs.Progress.{begins, reads-next, stops-next, works-from}
 use Rattle.cca_work.proofs.commands.weigh_check_work.Goals as goal
 
 pub returns-in_err-book : goal.returns-in_err-book
@@ -35,23 +36,27 @@ returns-in_err-weights g c =
     let stopped = stops-next command old mid new _ Weights WEIGHTS_BYTES (WeightsAnswers book) (λ contents w. CertGives book (contents Cert)
     (VerdictGives book w)) c.args.weights.now refl (1, omega arith, refl) refl at
     c.in_err-weights.ensures.loads _ (λ bytes s x. x) (λ files. refl) (λ files. (refl, tt)) c.in_err-weights.field-0.0 c.in_err-weights.ensures.stop in
-    search rules
+    let is = err_from_is_err_and c.from_residual-in_err-weights.result c.from_residual-in_err-weights.ensures.1 in
+    subst (Works command old new) (sym (is.1 ∙ ap (λ (s : Stop). Err s) is.2)) stopped
 
 pub returns : goal.returns
 returns g c =
-    let command = weigh_check c.args.book.now c.args.weights.now c.args.cert.now in
+    let cert = c.args.cert.now in
+    let command = weigh_check c.args.book.now c.args.weights.now cert in
     let old = g.F.Files.folder c.args.files.now in
-    let mid = g.F.Files.folder c.read_input.new.files in
-    let new = g.F.Files.folder c.read_input-2.new.files in
+    let first = g.F.Files.folder c.read_input.new.files in
+    let mid = g.F.Files.folder c.read_input-2.new.files in
+    let new = g.F.Files.folder c.checked.new.files in
     let read = c.in_ok-book.ensures.value in
     let book = c.in_ok-book.book in
-    let at = reads-next command old old mid [] Book BOOK_BYTES BookAnswers
+    let at = reads-next command old old first [] Book BOOK_BYTES BookAnswers
     (λ contents b. WeightsGive b (contents Weights) (λ w. CertGives b (contents Cert) (VerdictGives b w))) c.args.book.now refl (0, omega arith, refl) refl
     (begins command old) c.in_ok-book.ensures.loads book read.bytes read.short read.says read.here in
     let weighed = c.in_ok-weights.ensures.value in
     let weights = c.in_ok-weights.weights in
-    let behind = reads-next command old mid new _ Weights WEIGHTS_BYTES (WeightsAnswers book) (λ contents w. CertGives book (contents Cert)
+    let behind = reads-next command old first mid _ Weights WEIGHTS_BYTES (WeightsAnswers book) (λ contents w. CertGives book (contents Cert)
     (VerdictGives book w))
     c.args.weights.now refl (1, omega arith, refl) refl at c.in_ok-weights.ensures.loads weights weighed.bytes weighed.short weighed.says.0 weighed.here in
-    let works = rw c.items.ensures at c.checked.ensures in
-    works command old (Weights ∷ Book ∷ []) (record { input = refl; within = (2, omega arith, refl); place = refl; unseen = (refl, (refl, tt)) }) behind
+    let work = same-weights book _ weights cert mid new c.checked.result c.items.ensures c.checked.ensures in
+    works-from command old mid new (Weights ∷ Book ∷ []) Cert cert (λ content. CertGives book content (VerdictGives book weights))
+    (record { input = refl; within = (2, omega arith, refl); place = refl; unseen = (refl, (refl, tt)) }) behind refl c.checked.result work

@@ -1,9 +1,12 @@
-use Rattle.std.proofs.Common.{refl, arith, [], rules}
+use Rattle.std.proofs.Common.{refl, arith, [], sym, ap, subst, ◌∙◌, Err}
+use Rattle.std.proofs.lemmas.Result.{err_from_is_err_and}
 use Rattle.cca_inputs.specs.limits.specs.declared.TheConstants.{BOOK_BYTES}
 use Rattle.cca_inputs.specs.Answers.{BookAnswers}
 use Rattle.cca_inputs.specs.Command.{win}
 use Rattle.cca_inputs.specs.declared.status.FileKind.TheVariants.{Book}
 use Rattle.cca_work.specs.Gives.{WinGives}
+use Rattle.cca_work.specs.Works.{Works}
+use Rattle.cca_work.specs.declared.work.Stop.{Stop}
 use Rattle.cca_work.proofs.Progress.{begins, reads-next, stops-next, works}
 use Rattle.cca_work.proofs.commands.win_work.Goals as goal
 
@@ -14,7 +17,8 @@ returns-in_err-book g c =
     let new = g.F.Files.folder c.read_input.new.files in
     let stopped = stops-next (win name) old old new [] Book BOOK_BYTES BookAnswers (λ contents. WinGives) name refl (0, omega arith, refl) refl (begins (win name) old) c.in_err-book.ensures.loads
     _ (λ bytes s x. x) (λ files. refl) (λ files. tt) c.in_err-book.field-0.0 c.in_err-book.ensures.stop in
-    search rules
+    let is = err_from_is_err_and c.from_residual.result c.from_residual.ensures.1 in
+    subst (Works (win name) old new) (sym (is.1 ∙ ap (λ (s : Stop). Err s) is.2)) stopped
 
 pub returns : goal.returns
 returns g c =
