@@ -42,7 +42,7 @@ fn take(rt: &impl Abort, alloc: Global, desk: &mut Desk, event: &Event) -> Reply
 }
 
 /// The replies to the lines of a log, and after each close the stage, the round and the prices; then the book, where there is one.
-pub fn replay(rt: &impl Abort, alloc: Global, award: &str, log: &str) -> Result<String, Fail> {
+fn replay(rt: &impl Abort, alloc: Global, award: &str, log: &str) -> Result<String, Fail> {
     let Ok(award) = read_award(alloc, award.as_bytes()) else {
         panic!(rt; "this is an award");
     };

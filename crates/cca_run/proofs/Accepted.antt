@@ -52,12 +52,12 @@ abbrev pub Accepts : PriceForm → Outcome → Outcome → Type 0
 Accepts form o p = (p.status ≡ Done) × (form ≡ form_with false false → p.printed ≡ codes "yes\n" ++ o.printed)
 
 -- the text of the first file
-abbrev first-text : List FileText → List ℕ
+abbrev pub first-text : List FileText → List ℕ
 first-text [] = []
 first-text (f ∷ fs) = f.text
 
 -- a stop appends nothing
-nothing-appended : (status : Status) (o : Outcome) (text : List ℕ) → o ≡ stopped status → o.appended ≡ cert_file text ∷ [] → ⊥
+pub nothing-appended : (status : Status) (o : Outcome) (text : List ℕ) → o ≡ stopped status → o.appended ≡ cert_file text ∷ [] → ⊥
 nothing-appended status o text is some = let e : [] ≡ cert_file text ∷ [] = sym (ap (λ (x : Outcome). x.appended) is) ∙ some in absurd cc
 
 -- a book that is stated keeps the rules of a book
@@ -73,7 +73,7 @@ sizes-of book rules = record {
 }
 
 -- the two prints, where the prices are one text
-yes-printed : (lines prices others printed : List ℕ) → lines ≡ [] → others ≡ prices → printed ≡ lines ++ prices
+pub yes-printed : (lines prices others printed : List ℕ) → lines ≡ [] → others ≡ prices → printed ≡ lines ++ prices
     → codes "yes\n" ++ others ≡ codes "yes\n" ++ printed
 yes-printed lines prices others printed none same whole = ap (λ (t : List ℕ). codes "yes\n" ++ t)
     (same ∙ ap (λ (l : List ℕ). l ++ prices) (sym none) ∙ sym whole)
@@ -83,7 +83,8 @@ some-byte : (first rest : List ℕ) → 0 < length (first ++ 10 ∷ rest)
 some-byte [] rest = omega arith
 some-byte (b ∷ first) rest = omega arith
 
-some-line : (before behind : List Line) → 0 < length behind → 0 < length (text_of (spelled (before ++ behind)))
+-- where some of the lines stand behind others, their text has a byte
+pub some-line : (before behind : List Line) → 0 < length behind → 0 < length (text_of (spelled (before ++ behind)))
 some-line [] [] some = absurd (omega (arith, some))
 some-line [] (l ∷ behind) some = some-byte (spell l) _
 some-line (b ∷ before) behind some = some-byte (spell b) _
@@ -93,17 +94,17 @@ some-text : (c : CertValue) → 0 < length (cert_text c)
 some-text c = some-line (version_lines (length c.choice) (length (slice_index_or c.table 0 []))) (body_lines c) (omega arith)
 
 -- a file that held nothing holds just what was added
-just-added : (content : Option (List ℕ)) (text : List ℕ) → 0 < length text → HoldsNothing content → added content text ≡ Some text
+pub just-added : (content : Option (List ℕ)) (text : List ℕ) → 0 < length text → HoldsNothing content → added content text ≡ Some text
 just-added None [] some nothing = absurd (omega (arith, some))
 just-added None (b ∷ bytes) some nothing = refl
 just-added (Some file) text some nothing = ap (λ (x : List ℕ). Some (x ++ text)) nothing
 
 -- an outcome that isn't a stop
-abbrev NoStop : Outcome → Type 0
+abbrev pub NoStop : Outcome → Type 0
 NoStop o = (status : Status) → o ≡ stopped status → ⊥
 
 -- Two outcomes of one input, of which the first isn't a stop, go on from one value.
-value-inputs : {V : Type 0} (kind : FileKind) (most : ℕ) (says : List ℕ → Answer V → Type 0) (follows others : V → Outcome → Type 0) (content : Option (List ℕ))
+pub value-inputs : {V : Type 0} (kind : FileKind) (most : ℕ) (says : List ℕ → Answer V → Type 0) (follows others : V → Outcome → Type 0) (content : Option (List ℕ))
     (o p : Outcome) (R : Type 0) → ((bytes : List ℕ) (a b : Answer V) → says bytes a → says bytes b → a ≡ b) → NoStop o
     → ((v : V) (bytes : List ℕ) → says bytes (value v) → follows v o → others v p → R)
     → InputGives kind most says content follows o → InputGives kind most says content others p → R

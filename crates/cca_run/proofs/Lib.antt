@@ -14,6 +14,7 @@ mod OneLog
 mod OneOutcome
 mod OnePlacing
 mod Ones
+mod PlacedAccepted
 mod Put
 mod Rooms
 mod RunLaws

@@ -10,7 +10,7 @@ use Rattle.cca_work.specs.outcome.specs.auction_model.specs.PricingRun.{Turn, Is
 use Rattle.cca_work.specs.cca_inputs.specs.book_form.specs.BookLines.{Excess}
 use Rattle.cca_work.specs.cca_inputs.specs.cert_form.specs.PlaceCert.{PlaceCertValue}
 use Rattle.cca_work.specs.place_price.specs.cert_laws.specs.Sound.{cert_point}
-use Rattle.cca_work.specs.cca_inputs.specs.limits.specs.declared.TheConstants.{CERT_BYTES, SLOTS_BYTES}
+use Rattle.cca_work.specs.cca_inputs.specs.limits.specs.declared.TheConstants.{CERT_BYTES, MOST_PLACED, SLOTS_BYTES}
 use Rattle.cca_work.specs.cca_inputs.specs.place_cert.specs.PlaceSays.{PlaceCertSays, place_text}
 use Rattle.cca_work.specs.outcome.specs.place_laws.specs.PlacePriced.{IsPricedPlaceCert, IsSamePricing}
 use Rattle.cca_work.specs.outcome.specs.place_laws.specs.PlaceSound.{IsPlaceSound, prices_in}
@@ -34,16 +34,19 @@ use Rattle.cca_work.specs.Gives.{AreRounds, CommandGives, IsPlaceYes, IsPlacing,
 use Rattle.cca_run.proofs.Same.{Same, both, equal, one-input, printed-same}
 
 -- slots that bytes state are few bidders
-few-placed : (bytes : List ℕ) (slots : SlotList) → SlotsAnswers bytes (value slots) → length slots.bidders < 2 ^ 16
-few-placed bytes slots (said, says, is) = by said says is
+pub most-placed : (bytes : List ℕ) (slots : SlotList) → SlotsAnswers bytes (value slots) → length slots.bidders ≤ MOST_PLACED
+most-placed bytes slots (said, says, is) = by said says is
   where
-    of : (s : SlotList) → Says IsSlotText slot_lines bytes (stated s) → length s.bidders < 2 ^ 16
-    of s text = let rules = kept s (record { form = text.valid; limits = text.within }) in omega (arith, rules.few)
+    of : (s : SlotList) → Says IsSlotText slot_lines bytes (stated s) → length s.bidders ≤ MOST_PLACED
+    of s text = (kept s (record { form = text.valid; limits = text.within })).few
 
-    by : (said : Said SlotList Excess) → Says IsSlotText slot_lines bytes said → value slots ≡ slots_answer said → length slots.bidders < 2 ^ 16
-    by (stated s) says is = let same : s ≡ slots = cc in subst (λ (x : SlotList). length x.bidders < 2 ^ 16) same (of s says)
+    by : (said : Said SlotList Excess) → Says IsSlotText slot_lines bytes said → value slots ≡ slots_answer said → length slots.bidders ≤ MOST_PLACED
+    by (stated s) says is = let same : s ≡ slots = cc in subst (λ (x : SlotList). length x.bidders ≤ MOST_PLACED) same (of s says)
     by (faulty at) says is = absurd cc
     by (beyond e) says is = absurd cc
+
+few-placed : (bytes : List ℕ) (slots : SlotList) → SlotsAnswers bytes (value slots) → length slots.bidders < 2 ^ 16
+few-placed bytes slots says = let few = most-placed bytes slots says in omega (arith, few)
 
 -- what the laws of the crates below say
 module _ (one_slots : (bytes : List ℕ) (x y : Said SlotList Excess) → Says IsSlotText slot_lines bytes x → Says IsSlotText slot_lines bytes y → x ≡ y)

@@ -1,5 +1,5 @@
 // What holds of the definitions of a run, whoever runs it.
-ghost use Rattle.std.specs.Prelude.{◌≡◌, ◌<◌, ◌≤◌, ◌++◌, ◌∷◌, ℕ, false, List, [], Option, codes, length};
+ghost use Rattle.std.specs.Prelude.{◌≡◌, ◌<◌, ◌≤◌, ◌++◌, ◌∷◌, ℕ, Bool, false, List, [], Option, codes, length};
 ghost use Rattle.cca_work.specs.outcome.specs.auction_model.specs.Book.{Book};
 ghost use Rattle.cca_work.specs.place_price.specs.cert_laws.specs.Tests.{bidders_of};
 ghost use Rattle.cca_work.specs.big_auction.specs.row_laws.specs.Weights.{FewWin, ManyWin};
@@ -7,7 +7,7 @@ ghost use Rattle.cca_work.specs.cca_inputs.specs.limits.specs.declared.TheConsta
 ghost use Rattle.cca_work.specs.big_auction.specs.clock_stage.specs.auction_rules.specs.Terms.{Terms};
 ghost use Rattle.cca_work.specs.big_auction.specs.clock_stage.specs.auction_rules.specs.declared.Event.{Event};
 ghost use Rattle.cca_work.specs.big_auction.specs.row_laws.specs.Winners.{winners_in};
-ghost use Rattle.cca_work.specs.cca_inputs.specs.Command.{form_with, price, check, weigh, weigh_check, award, audit};
+ghost use Rattle.cca_work.specs.cca_inputs.specs.Command.{form_with, price, check, weigh, weigh_check, award, audit, place, place_check};
 ghost use Rattle.cca_work.specs.cca_inputs.specs.Outcome.{Outcome};
 ghost use Rattle.cca_work.specs.cca_inputs.specs.declared.price_form.PriceForm.{PriceForm};
 ghost use Rattle.cca_work.specs.cca_inputs.specs.declared.status.Status.TheVariants.{Done};
@@ -19,8 +19,8 @@ use cca_work::{
     bidders_of_book, bids_of_book, book_market, book_of_award, core_outcome, one_book, one_cert,
     one_edits, one_outcome_json, one_place_cert, one_place_text, one_place_verdict, one_price_text,
     one_pricing, one_reading, one_review_text, one_run_text, one_slots, one_verdict, one_weighing,
-    packages_of_log, plain_outcome, short_text, slot_market, sound_places, sound_yes, text_of_cert,
-    vickrey_prices, winning_choice,
+    packages_of_log, plain_outcome, short_place_text, short_text, slot_market, sound_places,
+    sound_yes, text_of_cert, text_of_place_cert, vickrey_prices, winning_choice,
 };
 
 /// The words and the bytes of the files give at most one status and one printed text. So each status that is decided comes exactly
@@ -101,6 +101,24 @@ pub fn weighed_cert_passes()
     short_text();
     one_verdict();
     one_price_text();
+}
+
+/// The same of `place` and `place-check`. With `--rounds` what `place` printed has the lines of the turns before the placement.
+pub fn placed_cert_passes()
+    ensures passes { (slots cert : List ℕ) (rounds : Bool) (file later : List ℕ → Option (List ℕ)) (o p : Outcome)
+        → FilesGive (place slots cert rounds) file o → HoldsCert (slots ∷ []) cert file later o
+        → FilesGive (place_check slots cert) later p → p.status ≡ Done }
+    ensures prints { (slots cert : List ℕ) (file later : List ℕ → Option (List ℕ)) (o p : Outcome)
+        → FilesGive (place slots cert false) file o → HoldsCert (slots ∷ []) cert file later o
+        → FilesGive (place_check slots cert) later p
+        → p.printed ≡ codes "yes\n" ++ o.printed }
+{
+    one_slots();
+    one_place_cert();
+    text_of_place_cert();
+    short_place_text();
+    one_place_verdict();
+    one_place_text();
 }
 
 /// What a run that is done shows of its files, by definitions alone: `audit`, that they state an auction, and that the certificate has its

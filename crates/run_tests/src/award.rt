@@ -6,7 +6,8 @@ use std::alloc::Global;
 use std::process::Abort;
 use std::test::Fail;
 
-const AWARD: &[&str] = &["award", "AWARD", "LOG", "CERT"];
+/// The words of a run that prices the book of a log.
+pub(crate) const AWARD: &[&str] = &["award", "AWARD", "LOG", "CERT"];
 
 const AWARD_ROUNDS: &[&str] = &["award", "AWARD", "LOG", "CERT", "--rounds"];
 
@@ -14,7 +15,8 @@ const AWARD_JSON: &[&str] = &["award", "AWARD", "LOG", "CERT", "--json"];
 
 const AUDIT: &[&str] = &["audit", "AWARD", "LOG", "CERT"];
 
-const LOWERED_OUTCOME: &str =
+/// What pricing the log of the lowered draft prints.
+pub(crate) const LOWERED_OUTCOME: &str =
     "winner east 1 bid 20 vickrey 10 pays 10\nwinner west 2 bid 24 vickrey 24 pays 24\nnet 14\nrevenue 34\n";
 
 const LOWERED_JSON: &[&str] = &[

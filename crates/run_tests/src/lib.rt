@@ -10,6 +10,8 @@ mod cert;
 #[cfg(test)]
 mod cert_edits;
 #[cfg(test)]
+mod clean;
+#[cfg(test)]
 mod every_call;
 #[cfg(test)]
 mod fault;
