@@ -104,7 +104,8 @@ abbrev pub NoStop : Outcome → Type 0
 NoStop o = (status : Status) → o ≡ stopped status → ⊥
 
 -- Two outcomes of one input, of which the first isn't a stop, go on from one value.
-pub value-inputs : {V : Type 0} (kind : FileKind) (most : ℕ) (says : List ℕ → Answer V → Type 0) (follows others : V → Outcome → Type 0) (content : Option (List ℕ))
+pub value-inputs : {V : Type 0} (kind : FileKind) (most : ℕ) (says : List ℕ → Answer V → Type 0) (follows others : V → Outcome → Type 0)
+    (content : Option (List ℕ))
     (o p : Outcome) (R : Type 0) → ((bytes : List ℕ) (a b : Answer V) → says bytes a → says bytes b → a ≡ b) → NoStop o
     → ((v : V) (bytes : List ℕ) → says bytes (value v) → follows v o → others v p → R)
     → InputGives kind most says content follows o → InputGives kind most says content others p → R

@@ -36,8 +36,10 @@ module _ (one_slots : (bytes : List ℕ) (x y : Said SlotList Excess) → Says I
     (text_of_cert : (bidders : ℕ) (c : PlaceCertValue) → bidders < 2 ^ 100 → IsPlaceCertificate bidders c → PlaceCertSays bidders (place_text c) (stated c))
     (short_text : (bidders : ℕ) (c : PlaceCertValue) → bidders ≤ MOST_PLACED → IsPlaceCertificate bidders c → length (place_text c) ≤ CERT_BYTES)
     (not_both : (slots : SlotList) (p : PlaceCertValue) (t place : ℕ) → places.Holds slots p → places.FailsFirst slots p t place → ⊥)
-    (one_text : (slots : SlotList) (order z : List ℕ) (v w : ℕ → ℤ) (p q : Point) (t u : List ℕ) → length z ≡ length slots.bidders → pos 1 ≤ℤ p.den → pos 1 ≤ℤ q.den
-    → SamePoint (market_of slots) p q → ((j : ℕ) → 0 < j → j ≤ length slots.bidders → v j ≡ w j) → IsPlaceText slots order z v p t → IsPlaceText slots order z w q u → t ≡ u) where
+    (one_text : (slots : SlotList) (order z : List ℕ) (v w : ℕ → ℤ) (p q : Point) (t u : List ℕ) → length z ≡ length slots.bidders → pos 1 ≤ℤ p.den
+    → pos 1 ≤ℤ q.den
+    → SamePoint (market_of slots) p q → ((j : ℕ) → 0 < j → j ≤ length slots.bidders → v j ≡ w j) → IsPlaceText slots order z v p t
+    → IsPlaceText slots order z w q u → t ≡ u) where
   -- the verdict on a certificate for which all tests hold
   judged : (slots : SlotList) (rounds : Bool) (c : PlaceCertValue) (t : List ℕ) (p : Outcome) → IsPlacing slots rounds c t → PlaceVerdictGives slots c p
       → (p.status ≡ Done) × (rounds ≡ false → p.printed ≡ codes "yes\n" ++ t)
@@ -48,7 +50,8 @@ module _ (one_slots : (bytes : List ℕ) (x y : Said SlotList Excess) → Says I
         let den = is.priced.outcome.core.den_positive in
         let told = is.printed in
         let none : told.lines ≡ [] = subst (λ (r : Bool). AreRounds r c.cert.choice is.turns told.lines) plain told.are_rounds in
-        let same : prices ≡ told.prices = one_text slots c.order c.cert.choice (prices_in (market_of slots) c.cert) (prices_in (market_of slots) c.cert) (cert_point c.cert) (cert_point c.cert) prices told.prices
+        let same : prices ≡ told.prices = one_text slots c.order c.cert.choice (prices_in (market_of slots) c.cert) (prices_in (market_of slots) c.cert)
+        (cert_point c.cert) (cert_point c.cert) prices told.prices
         is.certificate.choice.0 den den (λ j some le. refl) (λ j some le. refl) are told.are_prices in
         ap (λ (x : Outcome). x.printed) ends ∙ whole ∙ yes-printed told.lines told.prices prices t none same told.whole
         ),
@@ -87,7 +90,8 @@ module _ (one_slots : (bytes : List ℕ) (x y : Said SlotList Excess) → Says I
           (both.0, λ plain. both.1 plain ∙ ap (λ (x : List ℕ). codes "yes\n" ++ x) (sym (ap (λ (x : Outcome). x.printed) ends)))
 
   -- what `place-check` gives over the files that `place` left accepts what `place` gave
-  pub accepted-placing : (slots cert : List ℕ) (rounds : Bool) (file later : List ℕ → Option (List ℕ)) (o p : Outcome) → FilesGive (place slots cert rounds) file o
+  pub accepted-placing : (slots cert : List ℕ) (rounds : Bool) (file later : List ℕ → Option (List ℕ)) (o p : Outcome)
+      → FilesGive (place slots cert rounds) file o
       → HoldsCert (slots ∷ []) cert file later o → FilesGive (place_check slots cert) later p → AcceptsPlacing rounds o p
   accepted-placing slots cert rounds file later o p places holds checks =
       value-inputs kinds.Slots SLOTS_BYTES SlotsAnswers (λ s. PlaceGives s rounds) (λ s. PlaceCertGives s (later cert) (PlaceVerdictGives s))
@@ -99,7 +103,8 @@ module _ (one_slots : (bytes : List ℕ) (x y : Said SlotList Excess) → Says I
       same-slots : (bytes : List ℕ) (x y : Answer SlotList) → SlotsAnswers bytes x → SlotsAnswers bytes y → x ≡ y
       same-slots bytes x y a b = a.2 ∙ ap slots_answer (one_slots bytes a.0 b.0 a.1 b.1) ∙ sym b.2
 
-      on : (s : SlotList) (bytes : List ℕ) → SlotsAnswers bytes (value s) → PlaceGives s rounds o → PlaceCertGives s (later cert) (PlaceVerdictGives s) p → AcceptsPlacing rounds o p
+      on : (s : SlotList) (bytes : List ℕ) → SlotsAnswers bytes (value s) → PlaceGives s rounds o → PlaceCertGives s (later cert) (PlaceVerdictGives s) p
+          → AcceptsPlacing rounds o p
       on s bytes says x y =
           of-cert s rounds o p holds.text (file cert) (most-placed bytes s says) x holds.appended holds.held_nothing
           (subst (λ (c : Option (List ℕ)). PlaceCertGives s c (PlaceVerdictGives s) p) holds.cert_holds y)
