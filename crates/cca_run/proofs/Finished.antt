@@ -14,7 +14,7 @@ use Rattle.cca_work.specs.cca_inputs.specs.declared.status.FileKind.TheVariants.
 use Rattle.cca_work.specs.cca_inputs.specs.declared.status.Status.{Status}
 use Rattle.cca_work.specs.cca_inputs.specs.declared.status.Status.TheVariants.{Done, Words, ReadFault, WriteFault}
 use Rattle.cca_work.specs.Gives.{FilesGive}
-use Rattle.cca_work.specs.Works.{CountsAmong}
+use Rattle.cca_work.specs.ReadFaults.{CountsAmong}
 use Rattle.cca_run.specs.Run.{AppendsAll, FailsToWrite, IsWriteFault, Prints}
 use Rattle.cca_work.specs.Works.{OnlyReads}
 use Rattle.cca_run.specs.Ends.{FailsAt, FinishEnds, OnlyAppends, RunEnds}

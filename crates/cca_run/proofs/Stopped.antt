@@ -13,7 +13,7 @@ use Rattle.cca_work.specs.cca_inputs.specs.declared.status.FileKind.TheVariants.
 use Rattle.cca_work.specs.cca_inputs.specs.declared.status.Status.{Status}
 use Rattle.cca_work.specs.cca_inputs.specs.declared.status.Status.TheVariants.{Words, ReadFault, WriteFault, Memory}
 use Rattle.cca_work.specs.Gives.{FilesGive, WordsGive}
-use Rattle.cca_work.specs.Works.{CountsAmong, FailsToRead}
+use Rattle.cca_work.specs.ReadFaults.{CountsAmong, FailsToRead}
 use Rattle.cca_run.specs.Run.{Appended, IsHindrance, IsReadFault, IsWriteFault, Prints}
 use Rattle.cca_work.specs.Works.{OnlyReads, StopsBy, bare, text_before}
 use Rattle.cca_run.specs.Ends.{RunEnds}

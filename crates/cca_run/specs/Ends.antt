@@ -13,7 +13,8 @@ use Rattle.cca_work.specs.cca_inputs.specs.declared.status.FileKind.TheVariants.
 use Rattle.cca_work.specs.cca_inputs.specs.declared.status.Status.{Status}
 use Rattle.cca_work.specs.cca_inputs.specs.declared.status.Status.TheVariants.{Done, Words, ReadFault, WriteFault}
 use Rattle.cca_work.specs.Gives.{WordsGive}
-use Rattle.cca_work.specs.Works.{CountsAmong, Loaded}
+use Rattle.cca_work.specs.ReadFaults.{CountsAmong}
+use Rattle.cca_work.specs.Works.{Loaded}
 use Rattle.cca_run.specs.Run.{Appended, AppendsAll, AppendsUpTo, Changes, IsHindrance, IsReadFault, IsWriteFault, inputs, outputs}
 
 -- an append to the command's file of this kind failed, and the texts were appended up to it

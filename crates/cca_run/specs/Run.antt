@@ -12,7 +12,7 @@ use Rattle.cca_work.specs.cca_inputs.specs.declared.status.FileKind.TheVariants.
 use Rattle.cca_work.specs.cca_inputs.specs.declared.status.Status.{Status}
 use Rattle.cca_work.specs.cca_inputs.specs.declared.status.Status.TheVariants.{Done, No, Words, Refused, ReadFault, WriteFault, Memory, Limit}
 use Rattle.cca_work.specs.Gives.{FilesGive, Gives}
-use Rattle.cca_work.specs.Works.{FailsToRead}
+use Rattle.cca_work.specs.ReadFaults.{FailsToRead}
 
 abbrev pub IsReadFault : Option CommandValue → Folder → Folder → FileKind → Type 0
 IsReadFault None old new kind = ⊥

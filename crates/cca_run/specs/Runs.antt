@@ -15,7 +15,7 @@ use Rattle.cca_work.specs.cca_inputs.specs.declared.status.FileKind.TheVariants.
 use Rattle.cca_work.specs.cca_inputs.specs.declared.status.Status.{Status}
 use Rattle.cca_work.specs.cca_inputs.specs.declared.status.Status.TheVariants.{Done, Words, ReadFault, WriteFault, Memory}
 use Rattle.cca_work.specs.Gives.{FilesGive, Gives, cert_file}
-use Rattle.cca_work.specs.Works.{CountsAmong}
+use Rattle.cca_work.specs.ReadFaults.{CountsAmong}
 use Rattle.cca_run.specs.Headline.{CanBeAwarded, IsAuction, IsAudited, IsAwarded, IsDoneOrLimited}
 use Rattle.cca_run.specs.Later.{HoldsCert, HoldsNothing, after}
 use Rattle.cca_run.specs.Rooms.{HasRooms}

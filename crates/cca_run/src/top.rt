@@ -17,7 +17,7 @@ ghost use Rattle.cca_run.specs.Headline.{CanBeAwarded, IsAuction, IsAudited, IsA
 ghost use Rattle.cca_run.specs.Later.{HoldsCert, HoldsNothing, after};
 ghost use Rattle.cca_run.specs.Rooms.{HasRooms};
 ghost use Rattle.cca_run.specs.Runs.{Runs};
-ghost use Rattle.cca_work.specs.Works.{CountsAmong};
+ghost use Rattle.cca_work.specs.ReadFaults.{CountsAmong};
 ghost use Rattle.cca_run.specs.Run.{Appended, AppendsAll, Changes, HasNoFault, IsDue, IsReadFault, IsWriteFault, inputs, outputs};
 ghost use Rattle.cca_work.specs.Works.{AreOutputs};
 ghost use Rattle.cca_run.specs.Ends.{FinishEnds, RunEnds};

@@ -6,7 +6,7 @@ use Rattle.std.proofs.lemmas.Bool.{true≢false, cases_Bool}
 use Rattle.std.proofs.lemmas.Slice.Eq.{bytes_eq-Decides}
 use Rattle.cca_inputs.specs.cca_base.specs.Faults.{Rose}
 use Rattle.cca_inputs.specs.cca_base.specs.Files.{CountsOnly}
-use Rattle.cca_work.specs.Works.{CountsAmong}
+use Rattle.cca_work.specs.ReadFaults.{CountsAmong}
 
 -- counts that stay rise for these names at most
 pub among-none : (names : List (List ℕ)) (f : List ℕ → ℕ) → CountsAmong names f f

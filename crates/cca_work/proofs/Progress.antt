@@ -24,7 +24,8 @@ use Rattle.log_replay.specs.declared.results.ReplayStop.TheVariants.{Rounds, Pri
 use Rattle.cca_inputs.specs.Answers.{AwardAnswers, LogAnswers}
 use Rattle.cca_work.specs.Gives.{AwardGives, BookOfLogGives, CommandGives, EndGives, FilesGive, LogGives, replay_status}
 use Rattle.cca_inputs.specs.Statuses.{IsStop}
-use Rattle.cca_work.specs.Works.{AreOutputs, AwardIsRead, FailsToRead, GivesFrom, HasBook, HasLogged, IsWork, LogIsRead, OnlyReads, StopsAtAward, StopsAtLog}
+use Rattle.cca_work.specs.ReadFaults.{FailsToRead}
+use Rattle.cca_work.specs.Works.{AreOutputs, AwardIsRead, GivesFrom, HasBook, HasLogged, IsWork, LogIsRead, OnlyReads, StopsAtAward, StopsAtLog}
 use Rattle.cca_work.specs.Works.{StopsBy, Works, WorksFrom, WorksOut, bare, text_before}
 use Rattle.cca_work.specs.declared.work.Stop.{Stop}
 use Rattle.cca_work.specs.declared.work.Work.{Work}

@@ -1,5 +1,6 @@
 pub mod Checked
 pub mod Gives
+pub mod ReadFaults
 pub mod Works
 pub use Rattle.big_auction
 pub use Rattle.cca_inputs

@@ -1,6 +1,6 @@
 -- From a command to what it prints and appends.
-use Rattle.std.specs.Prelude.{◌≡◌, ◌⊎◌, ◌≤◌, ℕ, IsSome, Option, Some, None, Result, Ok, Err, List, []}
-use Rattle.std.specs.Prelude.{Contains, length, map, reverse, take, unwrap_or}
+use Rattle.std.specs.Prelude.{◌≡◌, ◌⊎◌, ℕ, IsSome, Option, None, Result, Ok, Err, List, []}
+use Rattle.std.specs.Prelude.{length, map, reverse, take, unwrap_or}
 use Rattle.std.specs.List.{AllByRecursion}
 use Rattle.outcome.specs.auction_model.specs.Book.{Book}
 use Rattle.big_auction.specs.clock_stage.specs.auction_rules.specs.Terms.{Terms}
@@ -14,7 +14,7 @@ use Rattle.outcome.specs.core_price.specs.declared.priced.PriceStop.TheVariants 
 use Rattle.cca_inputs.specs.limits.specs.declared.LimitKind.TheVariants.{Winners}
 use Rattle.cca_inputs.specs.limits.specs.declared.TheConstants.{AWARD_BYTES, LOG_BYTES}
 use Rattle.cca_inputs.specs.Answers.{AwardAnswers, LogAnswers}
-use Rattle.cca_inputs.specs.Command.{CommandValue, contents_of, input_as, inputs_of, missing, output_as}
+use Rattle.cca_inputs.specs.Command.{CommandValue, inputs_of, output_as}
 use Rattle.cca_inputs.specs.Outcome.{Outcome, done, stopped, stopped_after, stops, value}
 use Rattle.cca_inputs.specs.Reading.{InputStops, IsRead, OnlyLoads}
 use Rattle.cca_inputs.specs.Statuses.{IsStop}
@@ -23,7 +23,8 @@ use Rattle.cca_inputs.specs.declared.status.FileKind.{FileKind}
 use Rattle.cca_inputs.specs.declared.status.FileKind.TheVariants.{Award, Log, Cert}
 use Rattle.cca_inputs.specs.declared.status.Status.{Status}
 use Rattle.cca_inputs.specs.declared.status.Status.TheVariants.{ReadFault, Memory, Limit}
-use Rattle.cca_work.specs.Gives.{CertGives, CommandGives, FilesGive, VerdictGives, replay_status}
+use Rattle.cca_work.specs.Gives.{CertGives, FilesGive, VerdictGives, replay_status}
+use Rattle.cca_work.specs.ReadFaults.{CountsAmong, FailsToRead}
 use Rattle.cca_work.specs.declared.work.Stop.{Stop}
 use Rattle.cca_work.specs.declared.work.Work.{Work}
 
@@ -53,23 +54,6 @@ HasBook terms events (Err stop) =
     (stop ≡ bare Memory)
     ⊎ ((why : ReplayStop) × (end_of terms (reverse events) ≡ Err why)
     × (stop ≡ bare (replay_status (length events) why)))
-
--- All steps before the input of this kind is read pass: with that input missing, the command would stop at it.
-abbrev pub IsReached : CommandValue → (FileKind → Option (List ℕ)) → FileKind → Type 0
-IsReached command contents kind = CommandGives command (missing kind contents) (stopped (ReadFault kind))
-
--- the command reads a file of this kind, a load of which failed, where no room is told, and all that comes before it passed
-pub record FailsToRead (command : CommandValue) (old new : Folder) (kind : FileKind) : Type 0 where
-  pub name : List ℕ
-  pub input : input_as command kind ≡ Some name
-  pub rose : Rose (old.load_faults name) (new.load_faults name)
-  pub no_room : IsSome (old.room name) → ⊥
-  pub reached : (files : List ℕ → Option (List ℕ)) → Agrees files old new → IsReached command (contents_of command files) kind
-
--- no count falls, and only those of these names may rise
-pub record CountsAmong (names : List (List ℕ)) (old new : List ℕ → ℕ) : Type 0 where
-  pub not_less : (name : List ℕ) → old name ≤ new name
-  pub elsewhere : (name : List ℕ) → (Contains names name → ⊥) → new name ≡ old name
 
 -- how the way from the files to the work stops: for want of memory, by a fault of reading that was counted, or by what the files give
 abbrev pub StopsBy : CommandValue → Folder → Folder → Stop → Type 0

@@ -38,7 +38,7 @@ fn placed_lines(
         (λ text. ArePlacedLines slots.now rounds (place_cert_value cert.now)
         (turns_of cert.now.choice turns.now) text) }
 {
-    let _bidders = slots.bidders();
+    slots.kept();
     let mut text = rounds_part(alloc, &cert.choice, turns, rounds)?;
     let prices = place_text(alloc, slots, cert)?;
     text.add(prices.items())?;

@@ -105,7 +105,7 @@ fn least_failing(claim: &Claim, cert: &Certificate) -> Option<u64>
     requires claim { IsOf claim.now (cert_value cert.now) }
     ensures { IsFirstFailing (C7 claim.now.book.now (cert_value cert.now)) result }
 {
-    let _bidders = claim.book.bidders();
+    claim.book.kept();
     let rows = cert.rows.items();
     let mut numbers = [0i128; MOST_ROWS];
     let mut sums = [0i128; BIDDER_ROOM];
@@ -127,7 +127,7 @@ fn nearest_failing(claim: &Claim, cert: &Certificate, weights: &[u32]) -> Option
     requires weights { AreWeights (bidders_of claim.now.book.now) weights.now }
     ensures { IsFirstFailing (C8 claim.now.book.now (weight_of weights.now) (cert_value cert.now)) result }
 {
-    let _bidders = claim.book.bidders();
+    claim.book.kept();
     let pay = cert.pay.items();
     let parts = cert.withouts.items();
     let rows = cert.rows.items();

@@ -35,7 +35,7 @@ impl Input for AwardInput {
     fn read(&self, alloc: Global, bytes: &[u8]) -> Result<Award, Status> {
         match read_award(alloc, bytes) {
             Ok(award) => {
-                let _rules = award.supply();
+                award.kept();
                 Ok(award)
             }
             Err(stop) => Err(Status::from(stop)),

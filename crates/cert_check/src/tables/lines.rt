@@ -80,7 +80,7 @@ fn bid_kept(supply: &Supply, lots: &Package, lines: &LinePair, grow: bool, worth
     ensures { IsTrue result → KeepsBlock supply.now lots.now lines.now.line.now lines.now.below.now worth }
 {
     let radices = supply.counts();
-    let _states = supply.states();
+    supply.kept();
     if !lines.is_narrow {
         return false;
     }
@@ -112,7 +112,7 @@ fn exact_fault(offers: &Offers, j: u16, i: u16, lines: &LinePair, until: usize) 
     ensures { FirstFault (KeepsBid offers.now j lines.now.line.now lines.now.below.now i) until result }
 {
     let supply = offers.book.supply();
-    let _states = supply.states();
+    supply.kept();
     let bid = offers.book.bid(j, i);
     let worth = offers.worth(j, i);
     let rule = LineRule {
@@ -156,7 +156,7 @@ fn below_grows(supply: &Supply, lines: &LinePair) -> bool
     requires line { length lines.now.line.now ≡ states_of supply.now }
     ensures { IsTrue result → Grows supply.now lines.now.below.now }
 {
-    let _states = supply.states();
+    supply.kept();
     if lines.is_narrow {
         is_growing_narrow(supply.counts(), supply.widths(), lines.narrow_below)
     } else {
@@ -170,7 +170,7 @@ fn both_grow(supply: &Supply, lines: &LinePair, grows: bool) -> bool
     requires grows { IsTrue grows → Grows supply.now lines.now.below.now }
     ensures { BothGrow supply.now result lines.now.line.now lines.now.below.now }
 {
-    let _states = supply.states();
+    supply.kept();
     if !grows {
         return false;
     }
@@ -260,7 +260,7 @@ fn line_fault(offers: &Offers, j: u16, line: &[i128], below: &[i128]) -> usize
     ensures { FirstFault (KeepsSome offers.now j line.now below.now ((offered offers.now).bids j))
         (length line.now) result }
 {
-    let _states = offers.book.supply().states();
+    offers.book.kept();
     if line.len() <= 256 {
         roomy_fault::<256>(offers, j, line, below)
     } else if line.len() <= 1024 {

@@ -1,7 +1,8 @@
-use Rattle.std.proofs.Common.{ℕ, List, map, sym, subst, arith}
+use Rattle.std.proofs.Common.{ℕ, List, length, map, sym, subst, arith}
 use Rattle.std.specs.Prelude.{IsTrue}
 use Rattle.cert_laws.specs.auction_model.specs.Market.{uses}
 use Rattle.cert_laws.specs.cert_form.specs.Certificate.{part_of}
+use Rattle.cert_laws.specs.cert_form.specs.CertText.{AreRows}
 use Rattle.cert_laws.specs.Tests.{IsPart, bidders_of}
 use Rattle.cert_text.specs.Parts.{row_value, without_value}
 use Rattle.cert_text.specs.CertValues.{cert_value}
@@ -22,12 +23,18 @@ put_values-requires-clause-parts c = λ j some inside wins.
 pub second_test-requires-clause-values : goal.second_test-requires-clause-values
 second_test-requires-clause-values c =
     let a = c.args.claim.now in
-    values-range a c.bidders-bidders.ensures.kept (map without_value c.items-parts.result.now) c.put_values.new.values
+    values-range a c.kept.ensures (map without_value c.items-parts.result.now) c.put_values.new.values
     (λ j some inside wins.
     let used = subst (λ (l : List ℕ). IsTrue (uses l j)) (sym c.requires.claim.choice_is) wins in
     subst (λ (l : List WithoutPart). IsPart a.book.now j (part_of (map without_value l) j)) (sym c.items-parts.ensures)
     ((c.requires.parts j).part some inside used))
     c.put_values.ensures.values
+
+pub put_sums-requires-clause-rows : goal.put_sums-requires-clause-rows
+put_sums-requires-clause-rows c =
+    let cert = c.args.cert.now in
+    let bidders = length cert.choice in
+    (bidders, subst (λ (l : List CertRow). AreRows bidders (map row_value l)) (sym c.items-rows.ensures) cert.rules.rows)
 
 pub returns : goal.returns
 returns c =
@@ -40,4 +47,4 @@ returns c =
     (subst (λ (l : List CertRow). AreFirsts (map row_value l) c.put_multipliers.new.numbers) c.items-rows.ensures c.put_multipliers.ensures)
     (subst (λ (l : List CertRow). AreSeconds (map row_value l) c.put_multipliers-2.new.numbers) c.items-rows.ensures c.put_multipliers-2.ensures)
     (subst (λ (l : List CertRow). AreSecondSums (bidders_of a.book.now) (map row_value l) c.put_sums.new.sums) c.items-rows.ensures
-    (λ j some inside. c.put_sums.ensures.sums j some (omega (arith, inside, c.bidders-bidders.ensures.bidders, c.bidders-bidders.ensures.most))))
+    (λ j some inside. c.put_sums.ensures.sums j some (omega (arith, inside, c.kept.ensures.bidders))))

@@ -8,7 +8,7 @@ use Rattle.cca_inputs.proofs.Stopped.{award-stop}
 use Rattle.cca_inputs.proofs.inputs.award_input.AwardInputInput.read.Goals as goal
 
 pub returns-in-Ok-clause-value : goal.returns-in-Ok-clause-value
-returns-in-Ok-clause-value c = (sym (ap award_answer c.in-Ok.ensures.ok), c.supply-rules.ensures.kept)
+returns-in-Ok-clause-value c = (sym (ap award_answer c.in-Ok.ensures.ok), c.kept.ensures)
 
 pub returns-in-Err-clause-stop : goal.returns-in-Err-clause-stop
 returns-in-Err-clause-stop c =
