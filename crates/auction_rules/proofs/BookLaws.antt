@@ -36,13 +36,15 @@ unfolding book_of_log
 bidders-book_of_log terms log = length-listing (book_bidder terms (bids_in_book terms log)) (length terms.bidders)
 
 -- bidder j of the award stands in the book of a log at its place, with its name and its bids
-pub bidder-book_of_log : (terms : Terms) (log : List Event) (j : ℕ) → 1 ≤ j → j ≤ length terms.bidders
+pub bidder-book_of_log :
+    (terms : Terms) (log : List Event) (j : ℕ) → 1 ≤ j → j ≤ length terms.bidders
     → bidder_of (book_of_log terms log) j ≡ book_bidder terms (bids_in_book terms log) j
 unfolding book_of_log
 bidder-book_of_log terms log zero low high = absurd (omega arith)
 bidder-book_of_log terms log (suc k) low high = at-bidder (book_bidder terms (bids_in_book terms log)) (length terms.bidders) k no_bidder (omega arith)
 
-standing_in-bidder : (terms : Terms) (lines : List Event) (j : ℕ) → 1 ≤ j → j ≤ length terms.bidders
+standing_in-bidder :
+    (terms : Terms) (lines : List Event) (j : ℕ) → 1 ≤ j → j ≤ length terms.bidders
     → standing_in (state_after terms lines) j ≡ standing terms lines j
 standing_in-bidder terms lines zero low high = absurd (omega arith)
 standing_in-bidder terms lines (suc k) low high = standing_in-state_after terms lines k (omega arith)

@@ -157,7 +157,8 @@ excess-room true full room more = room
 excess-room false full room more = cc
 
 -- a close that posts a next round comes before the last round that there may be
-posts-room : (terms : Terms) (lines : List Event) (p : List ℕ) → is_ok_reply (reply_after terms lines Close) ≡ true → posted terms lines ≡ Some p
+posts-room :
+    (terms : Terms) (lines : List Event) (p : List ℕ) → is_ok_reply (reply_after terms lines Close) ≡ true → posted terms lines ≡ Some p
     → suc (closes lines) < 300
 posts-room terms lines p ok h =
     let held : ℕ → ℕ → List ℕ = held_in terms lines in
@@ -309,7 +310,8 @@ rounds-first terms log j some =
 -- ---- the lists after a log, and the number of bids in its book
 
 -- after a log in the award's categories a draft list isn't too long, is in order, and has only what may be drafted
-pub AreDrafts-drafts : (terms : Terms) (log : List Event) (j : ℕ) → AllByRecursion (HasCategories terms) log
+pub AreDrafts-drafts :
+    (terms : Terms) (log : List Event) (j : ℕ) → AllByRecursion (HasCategories terms) log
     → AreDrafts terms j (standing terms (admitted terms log) j).drafts
 AreDrafts-drafts terms log j same = record {
   few = (IsKept-standing terms j log).drafts;
@@ -318,7 +320,8 @@ AreDrafts-drafts terms log j same = record {
 }
 
 -- after a log in the award's categories a submitted list is short enough, in order, and of entries that may be drafted
-pub AreDrafts-submitted : (terms : Terms) (log : List Event) (j : ℕ) → AllByRecursion (HasCategories terms) log
+pub AreDrafts-submitted :
+    (terms : Terms) (log : List Event) (j : ℕ) → AllByRecursion (HasCategories terms) log
     → AreDrafts terms j (standing terms (admitted terms log) j).submitted
 AreDrafts-submitted terms log j same = record {
   few = (IsKept-standing terms j log).submitted;

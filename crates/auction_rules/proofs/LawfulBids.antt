@@ -212,7 +212,8 @@ drafts_after-lawful terms j (Submit k) list mine new old = old
 drafts_after-lawful terms j Close list mine new old = old
 
 -- after lawful lines each entry of a bidder's draft list is one that it may draft
-pub drafts-lawful : (terms : Terms) (j : ℕ) (lines : List Event) → AllByRecursion (IsLawfulLine terms) lines
+pub drafts-lawful :
+    (terms : Terms) (j : ℕ) (lines : List Event) → AllByRecursion (IsLawfulLine terms) lines
     → AllByRecursion (IsDraft terms j) (draft_list j lines)
 drafts-lawful terms j [] lawful = tt
 drafts-lawful terms j (e ∷ lines) lawful =
@@ -224,7 +225,8 @@ drafts-lawful terms j (e ∷ lines) lawful =
     ]
 
 -- after lawful lines each entry of a bidder's submitted list is one that it may draft
-pub submitted-lawful : (terms : Terms) (j : ℕ) (lines : List Event) → AllByRecursion (IsLawfulLine terms) lines
+pub submitted-lawful :
+    (terms : Terms) (j : ℕ) (lines : List Event) → AllByRecursion (IsLawfulLine terms) lines
     → AllByRecursion (IsDraft terms j) (submitted_list j lines)
 submitted-lawful terms j [] lawful = tt
 submitted-lawful terms j (e ∷ lines) lawful =
@@ -271,7 +273,8 @@ posts-excess n (Some final) within p prices h =
       | inr other ↦ let no : None ≡ Some p = rw other at h in cc
     ]
 
-posted-below_top : (terms : Terms) (lines : List Event) (p : List ℕ) → is_ok_reply (reply_after terms lines Close) ≡ true → posted terms lines ≡ Some p
+posted-below_top :
+    (terms : Terms) (lines : List Event) (p : List ℕ) → is_ok_reply (reply_after terms lines Close) ≡ true → posted terms lines ≡ Some p
     → AreBelowTop p
 posted-below_top terms lines p ok h =
     let held : ℕ → ℕ → List ℕ = held_in terms lines in

@@ -98,7 +98,8 @@ standing-line terms j e lines c =
     (final_round-same terms (closes lines) (held_in terms (e ∷ lines)) (held_in terms lines) (Agree-line terms e lines))
 
 -- the lines of others change nothing
-pub standing-other : (terms : Terms) (j : ℕ) (e : Event) (lines : List Event) → is_close e ≡ false → is_of j e ≡ false
+pub standing-other :
+    (terms : Terms) (j : ℕ) (e : Event) (lines : List Event) → is_close e ≡ false → is_of j e ≡ false
     → standing terms (e ∷ lines) j ≡ standing terms lines j
 standing-other terms j e lines c h =
     let final : Option ℕ = final_round terms (held_in terms lines) (closes lines) in

@@ -90,7 +90,8 @@ step-own terms j e lines h =
           ∙ sym (seen_so ∙ cond-false (is_ok_reply r) (after_own j (standing terms lines j) e) (standing terms lines j) refused)
     ]
 
-step-other : (terms : Terms) (j : ℕ) (e : Event) (lines : List Event) → is_close e ≡ false → is_of j e ≡ false
+step-other :
+    (terms : Terms) (j : ℕ) (e : Event) (lines : List Event) → is_close e ≡ false → is_of j e ≡ false
     → standing terms (with_line terms lines e) j ≡ standing terms lines j
 step-other terms j e lines c h =
     elim (cases_Bool (is_ok_reply (reply_after terms lines e))) [
@@ -174,11 +175,13 @@ reply_to-same_view terms j e log other mine same =
     ∙ sym (reply_after-own terms (admitted terms other) j e mine)
 
 -- where bidder j has the same view of two logs, its lines got the same replies in both
-pub own_replies-same_view : (terms : Terms) (j : ℕ) (log other : List Event) → view terms j log ≡ view terms j other
+pub own_replies-same_view :
+    (terms : Terms) (j : ℕ) (log other : List Event) → view terms j log ≡ view terms j other
     → own_replies terms j log ≡ own_replies terms j other
 own_replies-same_view terms j log other same = own_replies-view terms j log ∙ ap (replies_seen terms j) same ∙ sym (own_replies-view terms j other)
 
 -- where bidder j has the same view of two logs, it has the same bids in their books
-pub bids_in_book-same_view : (terms : Terms) (j : ℕ) (log other : List Event) → view terms j log ≡ view terms j other
+pub bids_in_book-same_view :
+    (terms : Terms) (j : ℕ) (log other : List Event) → view terms j log ≡ view terms j other
     → bids_in_book terms log j ≡ bids_in_book terms other j
 bids_in_book-same_view terms j log other same = ap book_bids (standing-view terms j log ∙ ap (standing_seen terms j) same ∙ sym (standing-view terms j other))

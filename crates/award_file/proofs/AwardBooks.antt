@@ -113,7 +113,8 @@ unused terms bids (suc m) n award few inside =
     each-push (λ (b : Bidder). b.name ≢ (entrant terms (suc n)).name) (listing (book_bidder terms bids) m) (book_bidder terms bids (suc m))
     (unused terms bids m n award (omega arith) inside) (apart terms m n award (omega arith) inside)
 
-bidders-push : (supply reserves : List ℕ) (earlier xs : List Bidder) (x : Bidder) → AreBidders supply reserves earlier xs
+bidders-push :
+    (supply reserves : List ℕ) (earlier xs : List Bidder) (x : Bidder) → AreBidders supply reserves earlier xs
     → IsBidder supply reserves (earlier ++ xs) x
     → AreBidders supply reserves earlier (xs ++ x ∷ [])
 bidders-push supply reserves earlier [] x are last = (subst (λ (before : List Bidder). IsBidder supply reserves before x) (append-nil earlier) last, tt)

@@ -56,7 +56,8 @@ bids_push supply reserves before [] b all is = (is, tt)
 bids_push supply reserves before (c ∷ bs) b all is = (all.0, bids_push supply reserves c.lots bs b all.1 is)
 
 -- valid bidders and one more that is valid behind them are valid bidders
-pub bidders_push : (supply reserves : List ℕ) (earlier bs : List Bidder) (b : Bidder) → AreBidders supply reserves earlier bs
+pub bidders_push :
+    (supply reserves : List ℕ) (earlier bs : List Bidder) (b : Bidder) → AreBidders supply reserves earlier bs
     → IsBidder supply reserves (earlier ++ bs) b → AreBidders supply reserves earlier (bs ++ b ∷ [])
 bidders_push supply reserves earlier [] b all is = (subst (λ (e : List Bidder). IsBidder supply reserves e b) (append-nil earlier) is, tt)
 bidders_push supply reserves earlier (c ∷ bs) b all is = (

@@ -87,7 +87,8 @@ All-remove P xs i all = All-append P (take i xs) (drop (suc i) xs) (All-take P i
 -- ---- what a bidder has then
 
 -- an entry in the place of the one for its package
-pub put-set : (old new : List Entry) (entry : Entry) (place : ℕ) → IsPlaceIn (map bid_value old) entry.bid.package place
+pub put-set :
+    (old new : List Entry) (entry : Entry) (place : ℕ) → IsPlaceIn (map bid_value old) entry.bid.package place
     → (place < length old) × ((get_or (map bid_value old) place no_bid).lots ≡ entry.bid.package)
     → AreSettled (set old place entry) new → IsPutIn old entry new
 put-set old new entry place at there settled =
@@ -100,7 +101,8 @@ put-set old new entry place at there settled =
     }
 
 -- one entry more
-pub put-insert : (old new : List Entry) (entry : Entry) (place : ℕ) → IsPlaceIn (map bid_value old) entry.bid.package place
+pub put-insert :
+    (old new : List Entry) (entry : Entry) (place : ℕ) → IsPlaceIn (map bid_value old) entry.bid.package place
     → ((place < length old) × ((get_or (map bid_value old) place no_bid).lots ≡ entry.bid.package) → ⊥)
     → AreSettled (insert old place entry) new → IsPutIn old entry new
 put-insert old new entry place at other settled =

@@ -102,7 +102,8 @@ none_held supply reserves bidders rest sound is =
     }
 
 -- the next bidder keeps the rules
-pub next_sound : (supply reserves : List ℕ) (bidders : List Bidder) (held : List BookBidder) (rest more : List BidderBids) (bidder : BidderBids)
+pub next_sound :
+    (supply reserves : List ℕ) (bidders : List Bidder) (held : List BookBidder) (rest more : List BidderBids) (bidder : BidderBids)
     → AreHeld supply reserves bidders held rest → rest ≡ bidder ∷ more → AllByRecursion (IsSoundBid supply reserves) bidder.bids
 next_sound supply reserves bidders held rest more bidder so next =
     let sound : AllByRecursion (IsSoundBidder supply reserves) (map bidder_of (bidder ∷ more)) = subst
@@ -110,7 +111,8 @@ next_sound supply reserves bidders held rest more bidder so next =
     sound.0.each
 
 -- one bidder more
-pub one_held : (supply reserves : List ℕ) (bidders : List Bidder) (held : List BookBidder) (rest more : List BidderBids) (bidder : BidderBids)
+pub one_held :
+    (supply reserves : List ℕ) (bidders : List Bidder) (held : List BookBidder) (rest more : List BidderBids) (bidder : BidderBids)
     (made : BookBidder) → AreHeld supply reserves bidders held rest → rest ≡ bidder ∷ more → made.name ≡ bidder.name
     → AreEntries reserves bidder.bids made.bids.items
     → AreHeld supply reserves bidders (held ++ made ∷ []) more

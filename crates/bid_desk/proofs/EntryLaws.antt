@@ -145,7 +145,8 @@ gap-from (b ∷ list) lots (suc place) before last own =
     (before 0 (omega arith), gap-from list lots place (λ k low. before (suc k) (omega arith)) (omega arith) (λ inside. own (omega arith)))
 
 -- the package stands at its place
-pub slot-taken : (categories : ℕ) (list : List Bid) (lots : List ℕ) (place : ℕ) → IsKept categories (map bid_value list) → IsPlace list lots place
+pub slot-taken :
+    (categories : ℕ) (list : List Bid) (lots : List ℕ) (place : ℕ) → IsKept categories (map bid_value list) → IsPlace list lots place
     → place < length list
     → is_same (lots_at list place) lots ≡ true → IsTakenAt (map bid_value list) lots place
 slot-taken categories list lots place kept is inside same =
@@ -168,7 +169,8 @@ free-by categories list lots place kept gap = record {
 }
 
 -- another package stands at its place, or its place is the end of the list
-pub slot-free : (categories : ℕ) (list : List Bid) (lots : List ℕ) (place : ℕ) → IsKept categories (map bid_value list) → IsPlace list lots place
+pub slot-free :
+    (categories : ℕ) (list : List Bid) (lots : List ℕ) (place : ℕ) → IsKept categories (map bid_value list) → IsPlace list lots place
     → (place < length list → is_same (lots_at list place) lots ≡ false) → IsFreeAt (map bid_value list) lots place
 slot-free categories list lots place kept is apart =
     free-by categories list lots place kept

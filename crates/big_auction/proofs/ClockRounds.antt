@@ -47,7 +47,8 @@ bid-ok : (eligibility k : ℕ) (lots : List ℕ) → (nat_lt 0 k && nat_le k 12)
 bid-ok eligibility k lots known may = rw (known, may.within, le-ltb eligibility (cost_of made_terms.points lots) may.points) refl
 
 -- all bidders bid
-pub twelve-bids : (rounds : List Round) (prices : List ℕ) (eligibility : ℕ → ℕ) (p : ℕ → List ℕ) → ((k : ℕ) → 1 ≤ k → k ≤ 12 → MayBid (eligibility k) (p k))
+pub twelve-bids :
+    (rounds : List Round) (prices : List ℕ) (eligibility : ℕ → ℕ) (p : ℕ → List ℕ) → ((k : ℕ) → 1 ≤ k → k ≤ 12 → MayBid (eligibility k) (p k))
     → Goes (clock_state rounds prices (listing eligibility 12) none_held) (listing (λ k. Bid k (p k)) 12)
     (λ s. s ≡ clock_state rounds prices (listing eligibility 12) (listing p 12))
 twelve-bids rounds prices eligibility p may = record {
@@ -89,7 +90,8 @@ twelve-bids rounds prices eligibility p may = record {
 }
 
 -- four bidders bid
-pub four-bids : (rounds : List Round) (prices : List ℕ) (eligibility : ℕ → ℕ) (p : ℕ → List ℕ) → ((k : ℕ) → 1 ≤ k → k ≤ 12 → MayBid (eligibility k) (p k))
+pub four-bids :
+    (rounds : List Round) (prices : List ℕ) (eligibility : ℕ → ℕ) (p : ℕ → List ℕ) → ((k : ℕ) → 1 ≤ k → k ≤ 12 → MayBid (eligibility k) (p k))
     → ((k : ℕ) → 4 < k → p k ≡ no_lots made_terms)
     → Goes (clock_state rounds prices (listing eligibility 12) none_held) (listing (λ k. Bid k (p k)) 4)
     (λ s. s ≡ clock_state rounds prices (listing eligibility 12) (listing p 12))

@@ -56,7 +56,8 @@ part-one command text name old new n output rose less adds full = record {
 }
 
 -- the files that one text leaves are those that the next begins with
-joined : (command : CommandValue) (text : FileText) (rest : List FileText) (old mid new : Folder) → AppendsAll command (text ∷ []) old mid
+joined :
+    (command : CommandValue) (text : FileText) (rest : List FileText) (old mid new : Folder) → AppendsAll command (text ∷ []) old mid
     → AppendsAll command rest mid new → AppendsAll command (text ∷ rest) old new
 joined command text rest old mid new one others = (one.0, one.1, all-on command one.0 mid new one.2 rest others)
 
@@ -116,7 +117,8 @@ pub rest-is : (t : FileText) (texts : List FileText) → take (length (t ∷ tex
 rest-is t texts = take_all (length (t ∷ texts) - 1) texts (omega arith)
 
 -- the first text was appended, and the others ended so
-pub ends-later : (command : CommandValue) (text : FileText) (rest : List FileText) (old mid new : Folder) → AppendsAll command (text ∷ []) old mid
+pub ends-later :
+    (command : CommandValue) (text : FileText) (rest : List FileText) (old mid new : Folder) → AppendsAll command (text ∷ []) old mid
     → OnlyAppends command old mid
     → (result : Result Unit FileKind) → AppendEnds command rest mid new result → AppendEnds command (text ∷ rest) old new result
 ends-later command text rest old mid new one counts (Ok u) all = joined command text rest old mid new one all

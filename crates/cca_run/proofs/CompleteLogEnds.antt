@@ -78,7 +78,8 @@ module _ (prices : Book → Outcome → Type 0) (priced : (book : Book) (o : Out
       by (Some stop) some given = stopped-at stop (λ same. never-open terms log (some ∙ ap Some same)) given
 
 -- an input whose bytes answer with one value is too long, or goes on from it
-reads-on : {V : Type 0} (kind : FileKind) (most : ℕ) (says : List ℕ → Answer V → Type 0) (content : Option (List ℕ)) (bytes : List ℕ) (v : V)
+reads-on :
+    {V : Type 0} (kind : FileKind) (most : ℕ) (says : List ℕ → Answer V → Type 0) (content : Option (List ℕ)) (bytes : List ℕ) (v : V)
     (follows : V → Outcome → Type 0) (o : Outcome) → content ≡ Some bytes
     → ((a : Answer V) → says bytes a → a ≡ value v) → (follows v o → IsDoneOrLimited o.status) → InputGives kind most says content follows o
     → IsDoneOrLimited o.status

@@ -42,7 +42,8 @@ never-refused terms log book is = by (first_refusal terms log) is
     by (Some stop) same = absurd cc
 
 -- an input whose bytes answer with a value goes on from it
-goes-on : {V : Type 0} (kind : FileKind) (most : ℕ) (says : List ℕ → Answer V → Type 0) (content : Option (List ℕ)) (bytes : List ℕ) (v : V)
+goes-on :
+    {V : Type 0} (kind : FileKind) (most : ℕ) (says : List ℕ → Answer V → Type 0) (content : Option (List ℕ)) (bytes : List ℕ) (v : V)
     (follows : V → Outcome → Type 0) (o : Outcome) → content ≡ Some bytes → length bytes ≤ most
     → ((a : Answer V) → says bytes a → a ≡ value v) → InputGives kind most says content follows o → (says bytes (value v)) × follows v o
 goes-on {V} kind most says content bytes v follows o here short one gives = by (subst (λ (c : Option (List ℕ)). InputGives kind most says c follows o) here

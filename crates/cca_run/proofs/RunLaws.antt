@@ -35,7 +35,8 @@ record IsDone (command : Option CommandValue) (files : List ℕ → Option (List
   puts : Puts before now outcome.printed (length outcome.printed)
   appends : Appended command outcome.appended old new
 
-is-done : (command : Option CommandValue) (old new : Folder) (before now : Output) (result : Status) → RunEnds command old new before now result
+is-done :
+    (command : Option CommandValue) (old new : Folder) (before now : Output) (result : Status) → RunEnds command old new before now result
     → (files : List ℕ → Option (List ℕ)) → Agrees files old new → result ≡ Done → IsDone command files old new before now
 is-done command old new before now result ends files agrees done =
     let a = ends.answer files agrees (subst IsDecided (sym done) tt) in
@@ -89,13 +90,15 @@ award-done law command old new before now result ends terms log cert form is fil
     }
 
 -- a fault of reading was counted
-no-read : (command : Option CommandValue) (old new : Folder) (before now : Output) (kind : FileKind) → HasNoFault command old new before now
+no-read :
+    (command : Option CommandValue) (old new : Folder) (before now : Output) (kind : FileKind) → HasNoFault command old new before now
     → IsReadFault command old new kind → ⊥
 no-read None old new before now kind none fault = fault
 no-read (Some command) old new before now kind none fault = none.loads fault.name (input-among command kind fault.name fault.input) fault.rose
 
 -- a fault of writing was counted
-no-write : (command : Option CommandValue) (old new : Folder) (before now : Output) (kind : FileKind) → HasNoFault command old new before now
+no-write :
+    (command : Option CommandValue) (old new : Folder) (before now : Output) (kind : FileKind) → HasNoFault command old new before now
     → IsWriteFault command old new before now kind → ⊥
 no-write None old new before now kinds.Award none fault = fault
 no-write None old new before now kinds.Log none fault = fault
@@ -119,7 +122,8 @@ no-write (Some command) old new before now kinds.Edits none fault = none.appends
 no-write (Some command) old new before now kinds.Out none fault = none.puts fault
 
 -- without a fault a status is decided, or there was no memory
-pub run-complete : (command : Option CommandValue) (old new : Folder) (before now : Output) (result : Status) → RunEnds command old new before now result
+pub run-complete :
+    (command : Option CommandValue) (old new : Folder) (before now : Output) (result : Status) → RunEnds command old new before now result
     → HasNoFault command old new before now
     → (result ≡ Memory) ⊎ IsDecided result
 run-complete command old new before now Done ends none = inr tt

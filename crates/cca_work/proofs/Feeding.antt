@@ -143,7 +143,8 @@ pub judged-no : (b : BookValue) (weights bytes : List ℕ) (v : Verdict) (test p
 judged-no b weights bytes v test place is said = fails b weights bytes said.0 test place said.1 (subst (IsVerdict b (weight_of weights) said.0) is said.2)
 
 -- what the checker answers to which the file was fed is said of the file
-judged-of : (b : BookValue) (weights name : List ℕ) (old new : Folder) (room room2 : List ℤ) (k : StreamCheck) (r : Result CertFacts Status)
+judged-of :
+    (b : BookValue) (weights name : List ℕ) (old new : Folder) (room room2 : List ℤ) (k : StreamCheck) (r : Result CertFacts Status)
     (f : IsFed b weights name old new room k) → room2 ≡ room
     → ((text : List ℕ) → StandsFor k room2 text → IsJudged k.book.now k.weights.now text r) → IsJudged b weights f.text r
 judged-of b weights name old new room room2 k r f same judges =
@@ -151,7 +152,8 @@ judged-of b weights name old new room room2 k r f same judges =
     (subst (λ (w : List ℕ). IsJudged k.book.now w f.text r) f.weights_are (judges f.text (subst (λ (x : List ℤ). StandsFor k x f.text) (sym same) f.stands)))
 
 -- its facts are those that the file shows
-pub judged-value : (b : BookValue) (weights name : List ℕ) (old new : Folder) (room room2 : List ℤ) (k : StreamCheck) (r : Result CertFacts Status)
+pub judged-value :
+    (b : BookValue) (weights name : List ℕ) (old new : Folder) (room room2 : List ℤ) (k : StreamCheck) (r : Result CertFacts Status)
     → IsFed b weights name old new room k → room2 ≡ room
     → ((text : List ℕ) → StandsFor k room2 text → IsJudged k.book.now k.weights.now text r) → IfOk r (IsRead CERT_BYTES (ShowsFacts b weights) name old new)
 judged-value b weights name old new room room2 k (Ok facts) f same judges = record {
@@ -163,7 +165,8 @@ judged-value b weights name old new room room2 k (Ok facts) f same judges = reco
 judged-value b weights name old new room room2 k (Err status) f same judges = tt
 
 -- its status is one by which the file stops the run
-pub judged-stop : (b : BookValue) (weights name : List ℕ) (old new : Folder) (room room2 : List ℤ) (k : StreamCheck) (r : Result CertFacts Status)
+pub judged-stop :
+    (b : BookValue) (weights name : List ℕ) (old new : Folder) (room room2 : List ℤ) (k : StreamCheck) (r : Result CertFacts Status)
     → IsFed b weights name old new room k → room2 ≡ room → ((text : List ℕ) → StandsFor k room2 text → IsJudged k.book.now k.weights.now text r)
     → IfErr r (InputStops Cert CERT_BYTES (StopsCheck b weights) name old new)
 judged-stop b weights name old new room room2 k (Ok facts) f same judges = tt

@@ -182,7 +182,8 @@ outputs_of-kinds command texts kinds is all = by texts (subst (λ (ks : List Fil
     by (t ∷ texts) all = (all.0, by texts all.1)
 
 -- all inputs were read, and the work was worked out
-pub works : (command : CommandValue) (old new : Folder) (seen : List FileKind) (rest : Contents → Outcome → Type 0) → IsAt command old new seen rest
+pub works :
+    (command : CommandValue) (old new : Folder) (seen : List FileKind) (rest : Contents → Outcome → Type 0) → IsAt command old new seen rest
     → (kinds : List FileKind) → AllByRecursion (λ kind. IsSome (output_as command kind)) kinds
     → (result : Result Work Stop) → ((files : Held) → IsWork (rest (contents_of command files)) kinds result) → Works command old new result
 works command old new seen rest at kinds outputs result is = record { out = by result is; reads = at.reads }
@@ -209,12 +210,14 @@ works command old new seen rest at kinds outputs result is = record { out = by r
         stopped-by stop files (inr x) is_stop agrees = at.leads files agrees (contents_of command files) (agree-own command files seen) _ x.1
 
 -- behind some inputs there was no memory
-pub no-memory : (command : CommandValue) (old new : Folder) (seen : List FileKind) (rest : Contents → Outcome → Type 0) → IsAt command old new seen rest
+pub no-memory :
+    (command : CommandValue) (old new : Folder) (seen : List FileKind) (rest : Contents → Outcome → Type 0) → IsAt command old new seen rest
     → Works command old new (Err (bare Memory))
 no-memory command old new seen rest at = record { out = inl refl; reads = at.reads }
 
 -- the log that was read leads to a book
-pub book-next : (command : CommandValue) (old new : Folder) (seen : List FileKind) (terms : Terms) (events : List Event)
+pub book-next :
+    (command : CommandValue) (old new : Folder) (seen : List FileKind) (terms : Terms) (events : List Event)
     (follows : Contents → Book → Outcome → Type 0) (book : Book)
     → IsAt command old new seen (λ contents. BookOfLogGives terms events (follows contents)) → end_of terms (reverse events) ≡ Ok book
     → IsAt command old new seen (λ contents. follows contents book)
@@ -232,7 +235,8 @@ stop-given records (Price price) = tt
 stop-given records Open = tt
 
 -- the log that was read leads to no book, or there was no memory
-pub book-stops : (command : CommandValue) (old new : Folder) (seen : List FileKind) (terms : Terms) (events : List Event)
+pub book-stops :
+    (command : CommandValue) (old new : Folder) (seen : List FileKind) (terms : Terms) (events : List Event)
     (follows : Contents → Book → Outcome → Type 0) (stop : Stop)
     → IsAt command old new seen (λ contents. BookOfLogGives terms events (follows contents)) → HasBook terms events (Err stop)
     → Works command old new (Err stop)

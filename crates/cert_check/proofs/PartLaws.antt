@@ -47,14 +47,16 @@ split-at : (parts : List WithoutPart) (i : ℕ) (part : WithoutPart) → i < len
 split-at parts i part lt is = drop-cons parts i part lt ∙ ap (λ (p : WithoutPart). p ∷ drop (suc i) parts) (sym is)
 
 -- where the part at i is of bidder j, it is the part of j
-pub from-found : (parts : List WithoutPart) (i j : ℕ) (part : WithoutPart) → i < length parts → part ≡ get_or parts i part → IsFrom parts i j
+pub from-found :
+    (parts : List WithoutPart) (i j : ℕ) (part : WithoutPart) → i < length parts → part ≡ get_or parts i part → IsFrom parts i j
     → part.winner ≡ j → part_of (map without_value parts) j ≡ without_value part
 from-found parts i j part lt is from own =
     from ∙ ap (λ (ps : List WithoutPart). part_of (map without_value ps) j) (split-at parts i part lt is)
     ∙ cond-true (part.winner == j) (without_value part) (part_of (map without_value (drop (suc i) parts)) j) (eq-eqb part.winner j own)
 
 -- where the part at i is of another bidder, the part of j is among those from i + 1 on
-pub from-next : (parts : List WithoutPart) (i j : ℕ) (part : WithoutPart) → i < length parts → part ≡ get_or parts i part → IsFrom parts i j
+pub from-next :
+    (parts : List WithoutPart) (i j : ℕ) (part : WithoutPart) → i < length parts → part ≡ get_or parts i part → IsFrom parts i j
     → (part.winner ≡ j → ⊥) → IsFrom parts (i + 1) j
 from-next parts i j part lt is from other =
     let up : suc i ≡ i + 1 = omega arith in

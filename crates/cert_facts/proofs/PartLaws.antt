@@ -36,13 +36,15 @@ pub parts-win : (b s : ℕ) (z : List ℕ) (ws : List WithoutValue) → AreWitho
 parts-win b s z ws are = each-part (Wins z) b s 0 z ws are (all-win z)
 
 -- no part is of an earlier bidder
-no_earlier : (b s k : ℕ) (z : List ℕ) (ws : List WithoutValue) (i : ℕ) (d : WithoutValue) → AreWithouts b s (suc k) z ws → i < length ws
+no_earlier :
+    (b s k : ℕ) (z : List ℕ) (ws : List WithoutValue) (i : ℕ) (d : WithoutValue) → AreWithouts b s (suc k) z ws → i < length ws
     → suc k ≤ (get_or ws i d).winner
 no_earlier b s k z ws i d are lt = each_at (λ w. suc k ≤ w.winner) ws i d (each-part (λ j. suc k ≤ j) b s k z ws are
     (each-after (λ j. suc k ≤ j) k z (λ n inside some. omega arith))) lt
 
 -- so each is found
-found : (b s k : ℕ) (z : List ℕ) (ws : List WithoutValue) (i : ℕ) (d : WithoutValue) → AreWithouts b s (suc k) z ws → i < length ws
+found :
+    (b s k : ℕ) (z : List ℕ) (ws : List WithoutValue) (i : ℕ) (d : WithoutValue) → AreWithouts b s (suc k) z ws → i < length ws
     → part_of ws (get_or ws i d).winner ≡ get_or ws i d
 found b s k [] [] i d are lt = absurd (omega arith)
 found b s k [] (w ∷ ws) i d are lt = absurd are

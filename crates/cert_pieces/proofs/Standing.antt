@@ -262,12 +262,14 @@ module _ (b s : ℕ) (due : Due) (part : LinePart) (place read : ℕ) (room : Li
       known Nothing ns fit keeps at = tt
 
 -- a reader that has not stopped reads on
-pub still_reading : (b s : ℕ) (due : Due) (part : LinePart) (place read : ℕ) (room : List ℤ) (text : List ℕ) (items : List Line) (stop : Option TextStop)
+pub still_reading :
+    (b s : ℕ) (due : Due) (part : LinePart) (place read : ℕ) (room : List ℤ) (text : List ℕ) (items : List Line) (stop : Option TextStop)
     → stop ≡ None → ReadsBehind b s due part place read room text items stop → IsReading b s due part place read room text items
 still_reading b s due part place read room text items stop none is = subst (ReadsBehind b s due part place read room text items) none is
 
 -- and the other way
-pub reads_on : (b s : ℕ) (due : Due) (part : LinePart) (place read : ℕ) (room : List ℤ) (text : List ℕ) (items : List Line) (stop : Option TextStop)
+pub reads_on :
+    (b s : ℕ) (due : Due) (part : LinePart) (place read : ℕ) (room : List ℤ) (text : List ℕ) (items : List Line) (stop : Option TextStop)
     → stop ≡ None → IsReading b s due part place read room text items → ReadsBehind b s due part place read room text items stop
 reads_on b s due part place read room text items stop none is = subst (ReadsBehind b s due part place read room text items) (sym none) is
 
@@ -303,19 +305,22 @@ pub says : (b s : ℕ) (text : List ℕ) (stop : TextStop) → StopsFor b s text
 says b s text stop is = subst (λ (l : List ℕ). SaysStop b s l stop) (append-nil text) (is [])
 
 -- what a reader that has stopped says
-pub stopped : (b s : ℕ) (due : Due) (part : LinePart) (place read : ℕ) (room : List ℤ) (text : List ℕ) (items : List Line) (o : Option TextStop)
+pub stopped :
+    (b s : ℕ) (due : Due) (part : LinePart) (place read : ℕ) (room : List ℤ) (text : List ℕ) (items : List Line) (o : Option TextStop)
     (stop : TextStop) → o ≡ Some stop → ReadsBehind b s due part place read room text items o → SaysStop b s text stop
 stopped b s due part place read room text items o stop some is = says b s text stop (subst (ReadsBehind b s due part place read room text items) some is)
 
 -- a line is due still
-pub not_yet : (b s : ℕ) (due : Due) (part : LinePart) (place read : ℕ) (room : List ℤ) (text : List ℕ) (items : List Line)
+pub not_yet :
+    (b s : ℕ) (due : Due) (part : LinePart) (place read : ℕ) (room : List ℤ) (text : List ℕ) (items : List Line)
     → IsReading b s due part place read room text items → (due ≡ Nothing → ⊥) → SaysStop b s text (Form place)
 not_yet b s due part place read room text items is some =
     line_unfinished b s text place (word_of due) (numbers_due b s due) (behind b s (take b room) due) items
     (subst (λ (p : List Kind). Reached b s text place p items) (plan_is b s (take b room) due some) is.reached) is.line
 
 -- no line is due: the text is whole
-pub whole_text : (b s : ℕ) (due : Due) (part : LinePart) (place read : ℕ) (room : List ℤ) (text : List ℕ) (items : List Line)
+pub whole_text :
+    (b s : ℕ) (due : Due) (part : LinePart) (place read : ℕ) (room : List ℤ) (text : List ℕ) (items : List Line)
     → IsReading b s due part place read room text items → due ≡ Nothing → IsTextOf (IsCertText b s) lines text items
 whole_text b s due part place read room text items is none = all_there b s text place items
     (subst (λ (d : Due). Reached b s text place (plan_due b s (take b room) d) items) none is.reached) (is.done none)

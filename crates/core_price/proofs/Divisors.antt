@@ -109,7 +109,8 @@ pub record IsGreatest (start : ℤ) (numbers : List ℤ) (divisor : ℤ) : Type 
   pub greatest : (g : ℕ) → Divides (pos g) start → DividesAll (pos g) numbers → Divides (pos g) divisor
 
 -- the greatest common divisor of a point, list by list
-pub point-divided : (den : ℤ) (at first second : List ℤ) (one two all : ℤ) → IsGreatest den at one → IsGreatest one first two → IsGreatest two second all
+pub point-divided :
+    (den : ℤ) (at first second : List ℤ) (one two all : ℤ) → IsGreatest den at one → IsGreatest one first two → IsGreatest two second all
     → DividesPoint all den at first second
 point-divided den at first second one two all a b c =
     let d = divides-through all two one c.start_is b.start_is in
@@ -121,6 +122,7 @@ point-divided den at first second one two all a b c =
     }
 
 -- what divides a point and its multipliers divides the greatest common divisor taken list by list
-pub point-greatest : (den : ℤ) (at first second : List ℤ) (one two all : ℤ) → IsGreatest den at one → IsGreatest one first two → IsGreatest two second all
+pub point-greatest :
+    (den : ℤ) (at first second : List ℤ) (one two all : ℤ) → IsGreatest den at one → IsGreatest one first two → IsGreatest two second all
     → (g : ℕ) → DividesPoint (pos g) den at first second → Divides (pos g) all
 point-greatest den at first second one two all a b c g q = c.greatest g (b.greatest g (a.greatest g q.den_is q.at_is) q.first_is) q.second_is

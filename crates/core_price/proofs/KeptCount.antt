@@ -38,7 +38,8 @@ count-one x xs =
     ]
 
 -- as many rows are kept as have a pair other than 0, 0
-pub kept-count : (rows : List Row) (choices : List (List ℕ)) (first second : List ℤ) → AreLong rows choices first second
+pub kept-count :
+    (rows : List Row) (choices : List (List ℕ)) (first second : List ℤ) → AreLong rows choices first second
     → length (kept_of rows choices first second) ≡ pairs_used (length rows) (nth first) (nth second)
 kept-count [] choices first second long = refl
 kept-count (r ∷ rows) [] first second long = absurd (omega (arith, long.choices_long))

@@ -69,7 +69,8 @@ among-take : (row : Row) (c : List ℕ) (f s : ℤ) (rows : List Row) (choices :
 among-take row c f s rows choices kept h = inl (refl, refl, h)
 
 -- the kept rows stand in order among all
-pub kept-among : (rows : List Row) (choices : List (List ℕ)) (first second : List ℤ) → AreLong rows choices first second
+pub kept-among :
+    (rows : List Row) (choices : List (List ℕ)) (first second : List ℤ) → AreLong rows choices first second
     → AreAmong rows choices (kept_of rows choices first second)
 kept-among [] choices first second h = tt
 kept-among (row ∷ rows) [] first second h = absurd (let e = h.choices_long in omega arith)
@@ -88,7 +89,8 @@ kept-among (row ∷ rows) (c ∷ choices) (f ∷ first) (s ∷ second) h =
     ]
 
 -- what holds of each used row holds of the kept ones
-pub kept-each : (Q : PricedRow → Type 0) (rows : List Row) (choices : List (List ℕ)) (first second : List ℤ) → AreLong rows choices first second
+pub kept-each :
+    (Q : PricedRow → Type 0) (rows : List Row) (choices : List (List ℕ)) (first second : List ℤ) → AreLong rows choices first second
     → ((i : ℕ) → i < length rows → is_used (entry rows choices first second i) ≡ true → Q (entry rows choices first second i))
     → AllByRecursion Q (kept_of rows choices first second)
 kept-each Q [] choices first second h q = tt
@@ -108,7 +110,8 @@ kept-each Q (row ∷ rows) (c ∷ choices) (f ∷ first) (s ∷ second) h q =
     ]
 
 -- what holds of the kept rows and of the rows left out holds of each
-all-each : (Q : PricedRow → Type 0) (rows : List Row) (choices : List (List ℕ)) (first second : List ℤ) → AreLong rows choices first second
+all-each :
+    (Q : PricedRow → Type 0) (rows : List Row) (choices : List (List ℕ)) (first second : List ℤ) → AreLong rows choices first second
     → AllByRecursion Q (kept_of rows choices first second)
     → ((i : ℕ) → i < length rows → is_used (entry rows choices first second i) ≡ false → Q (entry rows choices first second i)) → (i : ℕ) → i < length rows
     → Q (entry rows choices first second i)

@@ -19,7 +19,8 @@ use Rattle.blocking.specs.row_laws.specs.Weights.{CanWeigh, weights_in}
 use Rattle.core_price.proofs.Points.{MeetsBits, asks-winners, back-of, least-of, meets, nearest-of}
 
 -- what each row of bits asks, as a list of rows of bidders
-each-from : (m : Market) (z : List ℕ) → length z ≡ m.bidders → (den : ℤ) (at : List ℤ) (rows : List Row)
+each-from :
+    (m : Market) (z : List ℕ) → length z ≡ m.bidders → (den : ℤ) (at : List ℤ) (rows : List Row)
     → ((i : ℕ) → i < length rows → Meets z (row_at rows i) den at) → AllByRecursion (MeetsRow m (point_of z den at)) (map (row_in z) rows)
 each-from m z len den at [] h = tt
 each-from m z len den at (row ∷ rows) h = (
@@ -28,7 +29,8 @@ each-from m z len den at (row ∷ rows) h = (
       (λ i lt. h (suc i) (omega arith)),
 )
 
-each-to : (m : Market) (z : List ℕ) → length z ≡ m.bidders → (den : ℤ) (at : List ℤ) (rows : List Row)
+each-to :
+    (m : Market) (z : List ℕ) → length z ≡ m.bidders → (den : ℤ) (at : List ℤ) (rows : List Row)
     → AllByRecursion (MeetsRow m (point_of z den at)) (map (row_in z) rows) → (i : ℕ) → i < length rows → Meets z (row_at rows i) den at
 each-to m z len den at [] h i lt = absurd (omega arith)
 each-to m z len den at (row ∷ rows) h zero lt = meets-winners m z len den at row h.0

@@ -152,7 +152,8 @@ opening n lines free vs all long one none = record {
 }
 
 -- after the first k lines the rows of the free coordinates are ready for line k
-pub ready_of : (n k : ℕ) (lines : List (List ℤ)) (free : List Bool) (vs : List (List ℤ)) → AreLines n lines → State n k lines free vs → k < length lines
+pub ready_of :
+    (n k : ℕ) (lines : List (List ℤ)) (free : List Bool) (vs : List (List ℤ)) → AreLines n lines → State n k lines free vs → k < length lines
     → length free ≡ n → length vs ≡ n → Ready (get_or lines k []) vs free
 ready_of n k lines free vs a st lk ef ev =
     let el : length (get_or lines k []) ≡ n = a.long k lk in
@@ -191,7 +192,8 @@ advanced n k p lines free vs ws a st lk ef pv next =
     (next j (subst (λ (m : ℕ). j < m) (sym ef) l) f ne)))
 
 -- no free row answers the line
-pub skipped : (n k : ℕ) (lines : List (List ℤ)) (free : List Bool) (vs : List (List ℤ)) → AreLines n lines → State n k lines free vs → k < length lines
+pub skipped :
+    (n k : ℕ) (lines : List (List ℤ)) (free : List Bool) (vs : List (List ℤ)) → AreLines n lines → State n k lines free vs → k < length lines
     → length free ≡ n →
     ((j : ℕ) → j < length free → flag free j ≡ true → product (get_or lines k []) (get_or vs j []) ≡ pos 0) → State n (suc k) lines free vs
 skipped n k lines free vs a st lk ef none =

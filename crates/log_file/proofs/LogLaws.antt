@@ -50,13 +50,15 @@ pub begin_at : (terms : Terms) (rows : Rows) (events : List Event) (left other :
 begin_at terms rows events left other had is = subst (BeginWith terms rows events) is had
 
 -- a record that states nothing is the first fault
-pub first_fault : (terms : Terms) (rows : Rows) (events : List Event) (left : Rows) (r : List (List ℕ)) (later : Rows) → BeginWith terms rows events left
+pub first_fault :
+    (terms : Terms) (rows : Rows) (events : List Event) (left : Rows) (r : List (List ℕ)) (later : Rows) → BeginWith terms rows events left
     → left ≡ r ∷ later → length events < MOST_RECORDS
     → StatesNone terms r → IsFirstFault terms rows (suc (length events))
 first_fault terms rows events left r later had is few none = (events, r, later, begin_at terms rows events left (r ∷ later) had is, none, few, refl)
 
 -- a record behind the greatest number of them
-pub too_many : (terms : Terms) (rows : Rows) (events : List Event) (left : Rows) (r : List (List ℕ)) (later : Rows) → BeginWith terms rows events left
+pub too_many :
+    (terms : Terms) (rows : Rows) (events : List Event) (left : Rows) (r : List (List ℕ)) (later : Rows) → BeginWith terms rows events left
     → left ≡ r ∷ later → length events ≡ MOST_RECORDS
     → AreTooMany terms rows
 too_many terms rows events left r later had is many = (events, r, later, begin_at terms rows events left (r ∷ later) had is, many)

@@ -122,14 +122,16 @@ takes rem a b false f rows left r first same =
     sym left.rows_are ∙ records-end left.fuel a.state left.bytes left.room (rows-end rem a b f default_config left.bytes left.config left.source r)
 
 -- a read that found a record has the fields of the first one left, and the others are left
-pub found_one : {R : Type 0} (known : R → Option (List ℕ)) (reader : Reader R) (rows : List (List (List ℕ))) (found : Bool) (fields : List (List ℕ))
+pub found_one :
+    {R : Type 0} (known : R → Option (List ℕ)) (reader : Reader R) (rows : List (List (List ℕ))) (found : Bool) (fields : List (List ℕ))
     → found ≡ true → Takes known reader rows found fields
     → (rest : List (List (List ℕ))) × (rows ≡ fields ∷ rest) × HasLeft known reader rest
 found_one known reader rows true fields is taken = taken
 found_one known reader rows false fields is taken = absurd (false≢true is)
 
 -- where a read found no record none was left
-pub found_none : {R : Type 0} (known : R → Option (List ℕ)) (reader : Reader R) (rows : List (List (List ℕ))) (found : Bool) (fields : List (List ℕ))
+pub found_none :
+    {R : Type 0} (known : R → Option (List ℕ)) (reader : Reader R) (rows : List (List (List ℕ))) (found : Bool) (fields : List (List ℕ))
     → found ≡ false → Takes known reader rows found fields → rows ≡ []
 found_none known reader rows true fields is taken = absurd (false≢true (sym is))
 found_none known reader rows false fields is taken = taken

@@ -21,7 +21,8 @@ rows-at bidders (r ∷ rows) zero d h lt = h.0
 rows-at bidders (r ∷ rows) (suc k) d h lt = rows-at bidders rows k d h.2 (omega arith)
 
 -- each row of a certificate has the form of a row for so many bidders
-pub each-row : (bidders : ℕ) (rows : List PlaceRow) (k : ℕ) (row : PlaceRow) → AreRows bidders rows → k < length rows → row ≡ get_or rows k row
+pub each-row :
+    (bidders : ℕ) (rows : List PlaceRow) (k : ℕ) (row : PlaceRow) → AreRows bidders rows → k < length rows → row ≡ get_or rows k row
     → IsRow bidders (row_value row)
 each-row bidders rows k row are lt is = subst (λ (r : PlaceRow). IsRow bidders (row_value r)) (sym is) (rows-at bidders rows k row are lt)
 
@@ -39,7 +40,8 @@ row-at rows k row lt is =
     row-place rows (k + 1) row (omega arith) (omega (arith, lt)) (is ∙ ap (λ (n : ℕ). get_or rows n row) back)
 
 -- no multiplier of a row is above 2^120 in size
-pub multipliers-size : (bidders : ℕ) (rows : List PlaceRow) (k : ℕ) (row : PlaceRow) → AreRows bidders rows → k < length rows → row ≡ get_or rows k row
+pub multipliers-size :
+    (bidders : ℕ) (rows : List PlaceRow) (k : ℕ) (row : PlaceRow) → AreRows bidders rows → k < length rows → row ≡ get_or rows k row
     → (unsigned_abs row.first ≤ 2 ^ 120) × (unsigned_abs row.second ≤ 2 ^ 120)
 multipliers-size bidders rows k row are lt is =
     let range = (each-row bidders rows k row are lt is).range in

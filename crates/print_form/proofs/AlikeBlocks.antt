@@ -116,13 +116,15 @@ reaches m z p q dp dq same b c of-p of-q =
     (of-p.taken.greatest c.row.members c.choice of-q.taken.allowed of-q.taken.idle)
 
 -- so it isn't earlier
-not_earlier : (m : Market) (z : List ℕ) (p q : Point) → pos 1 ≤ℤ p.den → pos 1 ≤ℤ q.den → SamePoint m p q → (b c : Block) → IsBlockOf m z p b
+not_earlier :
+    (m : Market) (z : List ℕ) (p q : Point) → pos 1 ≤ℤ p.den → pos 1 ≤ℤ q.den → SamePoint m p q → (b c : Block) → IsBlockOf m z p b
     → IsBlockOf m z q c → IsTrue (is_earlier b.choice c.choice) → ⊥
 not_earlier m z p q dp dq same b c of-p of-q before =
     not_below _ _ (reaches m z p q dp dq same b c of-p of-q) (of-q.taken.first b.choice b.row.members of-p.taken.allowed of-p.taken.idle before)
 
 -- and with the same choice its members are among the other's
-members-within : (m : Market) (z : List ℕ) (p q : Point) → pos 1 ≤ℤ p.den → pos 1 ≤ℤ q.den → SamePoint m p q → (b c : Block) → IsBlockOf m z p b
+members-within :
+    (m : Market) (z : List ℕ) (p q : Point) → pos 1 ≤ℤ p.den → pos 1 ≤ℤ q.den → SamePoint m p q → (b c : Block) → IsBlockOf m z p b
     → IsBlockOf m z q c → b.choice ≡ c.choice
     → (j : ℕ) → 0 < j → j ≤ m.bidders → IsTrue (b.row.members j) → IsTrue (c.row.members j)
 members-within m z p q dp dq same b c of-p of-q e =

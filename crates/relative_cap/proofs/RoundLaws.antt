@@ -42,7 +42,8 @@ own-before j history k inside =
     sym (ap (λ m. get_or (rounds_of j history) m no_round) e) ∙ own-at j history (suc k) (omega arith) (omega arith)
 
 -- the number of the constraining round
-pub constraining_number-is : (needed : ℕ) (history : List Round) (j r : ℕ) → IsConstraining needed history j r
+pub constraining_number-is :
+    (needed : ℕ) (history : List Round) (j r : ℕ) → IsConstraining needed history j r
     → constraining_number needed (rounds_of j history) ≡ r
 constraining_number-is needed history j r is =
     let count : length (rounds_of j history) ≡ length history = length-map history (own_of j) in
@@ -56,7 +57,8 @@ round_at-place rounds zero low = absurd (omega arith)
 round_at-place rounds (suc k) low = let e : k ≡ suc k - 1 = omega arith in ap (λ m. get_or rounds m no_round) e
 
 -- and that round
-pub constraining-is : (needed : ℕ) (history : List Round) (j r : ℕ) → IsConstraining needed history j r
+pub constraining-is :
+    (needed : ℕ) (history : List Round) (j r : ℕ) → IsConstraining needed history j r
     → constraining needed (rounds_of j history) ≡ own_in history j r
 constraining-is needed history j r is =
     round_at-constraining_number needed (rounds_of j history)

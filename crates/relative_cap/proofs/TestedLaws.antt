@@ -200,7 +200,8 @@ terms-fit history points j bids highs lots t are some is = record {
   last = round-fits history j bids highs lots (length history) t.last are some (omega arith) is.by_last;
 }
 
-among-is : (final : Bool) (history : List Round) (points : List ℕ) (j : ℕ) (bids : List BookBid) (highs lots : List ℕ) (t : PackageTerms)
+among-is :
+    (final : Bool) (history : List Round) (points : List ℕ) (j : ℕ) (bids : List BookBid) (highs lots : List ℕ) (t : PackageTerms)
     → AreHighs history j bids highs → 1 ≤ length history
     → IsTerms history points j lots t
     → (if final then min (round_cap highs t.constraining) (round_cap highs t.last) else round_cap highs t.constraining) ≡ cap_among final points
@@ -215,7 +216,8 @@ among-is false history points j bids highs lots t are some is =
     (round-cap history j bids highs lots is.round t.constraining are is.constraining.first is.constraining.last is.by_round)
 
 -- the cap that the rounds say over the highest amounts
-pub terms-cap : (final : Bool) (history : List Round) (points : List ℕ) (j : ℕ) (bids : List BookBid) (highs lots : List ℕ) (t : PackageTerms)
+pub terms-cap :
+    (final : Bool) (history : List Round) (points : List ℕ) (j : ℕ) (bids : List BookBid) (highs lots : List ℕ) (t : PackageTerms)
     → AreHighs history j bids highs
     → 1 ≤ length history → IsTerms history points j lots t → terms_cap final highs t ≡ cap_of final points (rounds_of j history) bids lots
 terms-cap final history points j bids highs lots t are some is =
@@ -257,7 +259,8 @@ front-removed history points j place before entries new inside front is =
     }
 
 -- an entry is put in at the place
-pub front-inserted : (history : List Round) (points : List ℕ) (j place : ℕ) (before : List BookBid) (entries new : List TestedEntry) (e : TestedEntry)
+pub front-inserted :
+    (history : List Round) (points : List ℕ) (j place : ℕ) (before : List BookBid) (entries new : List TestedEntry) (e : TestedEntry)
     (b : BookBid)
     → IsFront history points j place before entries → new ≡ insert entries place e → tested_bid e ≡ b → take (place + 1) (map tested_bid new) ≡ before ++ b ∷ []
 front-inserted history points j place before entries new e b front is own =
@@ -276,7 +279,8 @@ front-inserted history points j place before entries new e b front is own =
     ∙ ap (λ (x : BookBid). before ++ x ∷ []) own
 
 -- where a tested entry is put in, all entries are tested ones
-pub inserted-each : (history : List Round) (points : List ℕ) (j place : ℕ) (before : List BookBid) (entries new : List TestedEntry) (e : TestedEntry)
+pub inserted-each :
+    (history : List Round) (points : List ℕ) (j place : ℕ) (before : List BookBid) (entries new : List TestedEntry) (e : TestedEntry)
     → IsFront history points j place before entries → new ≡ insert entries place e → IsTested history points j e → All (IsTested history points j) new
 inserted-each history points j place before entries new e front is own =
     subst (All (IsTested history points j)) (sym is)

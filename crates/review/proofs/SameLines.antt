@@ -33,7 +33,8 @@ same-next m o counts others k same = record {
 }
 
 -- a choice of these bidders is known to both, takes the same and is worth the same
-known-on : (m o : Menu) (counts others : ℕ → ℕ → ℤ) (k : ℕ) (c : List ℕ) → AreSameAfter m o counts others k → IsTrue (is_known_after m k c)
+known-on :
+    (m o : Menu) (counts others : ℕ → ℕ → ℤ) (k : ℕ) (c : List ℕ) → AreSameAfter m o counts others k → IsTrue (is_known_after m k c)
     → IsTrue (is_known_after o k c)
 known-on m o counts others k [] same t = subst (λ (n : ℕ). IsTrue (k == n)) same.bidders t
 known-on m o counts others k (i ∷ c) same t =
@@ -42,7 +43,8 @@ known-on m o counts others k (i ∷ c) same t =
     and_from (nat_le i (o.bids (suc k))) (is_known_after o (suc k) c) (subst (λ (n : ℕ). IsTrue (nat_le i n)) (same.bids k (omega arith) inside) p.0)
     (known-on m o counts others (suc k) c (same-next m o counts others k same) p.1)
 
-taken-on : (m o : Menu) (counts others : ℕ → ℕ → ℤ) (k : ℕ) (c : List ℕ) → AreSameAfter m o counts others k → IsTrue (is_known_after m k c)
+taken-on :
+    (m o : Menu) (counts others : ℕ → ℕ → ℤ) (k : ℕ) (c : List ℕ) → AreSameAfter m o counts others k → IsTrue (is_known_after m k c)
     → packages_after m k c ≡ packages_after o k c
 taken-on m o counts others k [] same t = refl
 taken-on m o counts others k (i ∷ c) same t =
@@ -51,7 +53,8 @@ taken-on m o counts others k (i ∷ c) same t =
     ap (λ (l : List ℕ). together l (packages_after m (suc k) c)) (same.lots k i (omega arith) inside)
     ∙ ap (together (o.lots (suc k) i)) (taken-on m o counts others (suc k) c (same-next m o counts others k same) p.1)
 
-sum-on : (m o : Menu) (counts others : ℕ → ℕ → ℤ) (k : ℕ) (c : List ℕ) → AreSameAfter m o counts others k → IsTrue (is_known_after m k c)
+sum-on :
+    (m o : Menu) (counts others : ℕ → ℕ → ℤ) (k : ℕ) (c : List ℕ) → AreSameAfter m o counts others k → IsTrue (is_known_after m k c)
     → sum_after counts k c ≡ sum_after others k c
 sum-on m o counts others k [] same t = refl
 sum-on m o counts others k (i ∷ c) same t =

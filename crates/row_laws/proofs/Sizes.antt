@@ -37,7 +37,8 @@ product (suc n) (pos d) (pos w) (pos v) r some a b c h =
     (omega (arith, ints), omega (arith, ints))
 
 -- den times what any one bidder wins with is at least 0 and in the range
-pub won-range : (m : Market) → IsMarket m → (z : List ℕ) → IsTrue (m.allowed z) → (den : ℤ) (r : ℕ) → pos 1 ≤ℤ den
+pub won-range :
+    (m : Market) → IsMarket m → (z : List ℕ) → IsTrue (m.allowed z) → (den : ℤ) (r : ℕ) → pos 1 ≤ℤ den
     → m.bidders * unsigned_abs den * unsigned_abs (value_of m z) + r < 2 ^ 120 → (j : ℕ) → 0 < j → j ≤ m.bidders
     → (pos 0 ≤ℤ (den *ℤ worth_in m z j)) × ((den *ℤ worth_in m z j) <ℤ pos (2 ^ 120))
 won-range m lawful z t den r dp range j some inside =
@@ -53,7 +54,8 @@ paid-most m p h k lt =
     omega (arith, ints)
 
 -- den times the worth of the winners is in the range
-pub worth-range : (m : Market) → IsMarket m → (z : List ℕ) → IsTrue (m.allowed z) → (den : ℤ) (r : ℕ) → pos 1 ≤ℤ den
+pub worth-range :
+    (m : Market) → IsMarket m → (z : List ℕ) → IsTrue (m.allowed z) → (den : ℤ) (r : ℕ) → pos 1 ≤ℤ den
     → m.bidders * unsigned_abs den * unsigned_abs (value_of m z) + r < 2 ^ 120 → (pos 0 ≤ℤ value_of m z) × (pos 0 ≤ℤ (den *ℤ value_of m z))
     × ((den *ℤ value_of m z) <ℤ pos (2 ^ 120))
 worth-range m lawful z t den r dp range =
