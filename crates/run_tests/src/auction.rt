@@ -1,4 +1,7 @@
 // The logs of auctions, replayed by the top call: the lines of the replies, and the books.
+use crate::samples::{
+    AWARD_BEHIND_RESERVE, AWARD_UP_TO_RESERVE, DROPPED, LOWERED, ROUND_1, ROUND_2, SAMPLE,
+};
 use crate::settings::{fill, joined, left_at, no_files, words_of};
 use cca_run::bid_book::LimitKind;
 use cca_run::cca_base::MemSink;
@@ -9,16 +12,6 @@ use std::test::Fail;
 
 const AUCTION: &[&str] = &["auction", "AWARD", "LOG", "BOOK"];
 
-pub(crate) const AWARD_UP_TO_RESERVE: &str =
-    "version = 1\ntick = 1\n\n[[category]]\nname = \"lot\"\nsupply = 3\npoints = 1\n";
-
-const AWARD_BEHIND_RESERVE: &str =
-    "\n[[bidder]]\nname = \"east\"\neligibility = 3\n\n[[bidder]]\nname = \"west\"\neligibility = 2\n\n[[step]]\n\
-    excess = 1\npermille = 200\n";
-
-/// An award of one category, for which two bidders are eligible together for more than there is.
-pub(crate) const SAMPLE: &[&str] = &[AWARD_UP_TO_RESERVE, "reserve = 10\n", AWARD_BEHIND_RESERVE];
-
 // The same award at the greatest reserve.
 const GREATEST_RESERVE: &[&str] = &[
     AWARD_UP_TO_RESERVE,
@@ -28,18 +21,7 @@ const GREATEST_RESERVE: &[&str] = &[
 
 const NO_AWARD: &[&str] = &["version =\n"];
 
-pub(crate) const ROUND_1: &str = "bid,east,3,\nbid,west,2,\nclose,,,\n";
-
-const ROUND_2: &str = "bid,east,1,\nbid,west,2,\nclose,,,\n";
-
 const CLOCK_REPLIES: &str = "1 ok\n2 ok\n3 round 2 12\n4 ok\n5 ok\n6 sealed\n";
-
-/// East's first list is above a cap, and it lowers an entry.
-pub(crate) const LOWERED: &[&str] = &[
-    ROUND_1,
-    ROUND_2,
-    "draft,east,1,20\ndraft,east,3,45\nsubmit,east,,\ndraft,east,3,44\nsubmit,east,,\nclose,,,\n",
-];
 
 const LOWERED_REPLIES: &[&str] = &[
     CLOCK_REPLIES,
@@ -48,13 +30,6 @@ const LOWERED_REPLIES: &[&str] = &[
 
 const LOWERED_BOOK: &[&str] = &[
     "book 1\nsupply 3\nreserve 10\nbidder east\nbid 1 20\nbid 3 44\nbidder west\nbid 2 24\nend\n",
-];
-
-/// The same, where it drops the entry.
-pub(crate) const DROPPED: &[&str] = &[
-    ROUND_1,
-    ROUND_2,
-    "draft,east,1,20\ndraft,east,3,45\nsubmit,east,,\ndrop,east,3,\nsubmit,east,,\nclose,,,\n",
 ];
 
 const DROPPED_BOOK: &[&str] = &[

@@ -1,23 +1,17 @@
 // Auctions that are priced and audited by the top call.
-use crate::auction::{DROPPED, LOWERED, ROUND_1, SAMPLE, run_three};
+use crate::auction::run_three;
+use crate::samples::{AWARD, DROPPED, LOWERED, LOWERED_OUTCOME, ROUND_1, SAMPLE};
 use crate::settings::joined;
 use cca_run::{FileKind, Status};
 use std::alloc::Global;
 use std::process::Abort;
 use std::test::Fail;
 
-/// The words of a run that prices the book of a log.
-pub(crate) const AWARD: &[&str] = &["award", "AWARD", "LOG", "CERT"];
-
 const AWARD_ROUNDS: &[&str] = &["award", "AWARD", "LOG", "CERT", "--rounds"];
 
 const AWARD_JSON: &[&str] = &["award", "AWARD", "LOG", "CERT", "--json"];
 
 const AUDIT: &[&str] = &["audit", "AWARD", "LOG", "CERT"];
-
-/// What pricing the log of the lowered draft prints.
-pub(crate) const LOWERED_OUTCOME: &str =
-    "winner east 1 bid 20 vickrey 10 pays 10\nwinner west 2 bid 24 vickrey 24 pays 24\nnet 14\nrevenue 34\n";
 
 const LOWERED_JSON: &[&str] = &[
     "{\"net\":14,\"revenue\":\"34\",\"winners\":[",

@@ -1,41 +1,11 @@
 // Certificates of books, and what `check` answers to them.
-use crate::price::{CHECK, TWO_GLOBALS};
-use crate::settings::{DAY_CRAMTON, LOCALS, NOBODY, TIE, joined, run_plain};
+use crate::samples::{
+    CHECK, DAY_CRAMTON, DAY_CRAMTON_CERT, DAY_CRAMTON_FRONT, DAY_CRAMTON_PARTS, DAY_CRAMTON_PAY,
+    DAY_CRAMTON_ROWS, LOCALS, NOBODY, NOBODY_CERT, TIE, TWO_GLOBALS,
+};
+use crate::settings::{joined, run_plain};
 use cca_run::{CertKind, FileKind, Status};
 use std::test::Fail;
-
-// The first 200 bytes of the certificate of two winners.
-pub(crate) const DAY_CRAMTON_FRONT: &str =
-    "cert 1\nden 1\nvalue 48\nchoice 1 1 0 0 0\ntable\nt 0 20 28 48\nt 0 20 14 34\n\
-    t 0 12 14 32\nt 0 12 14 26\nt 0 12 0 12\nt 0 0 0 0\nwithout 1\nchoice 0 1 0 1 0\ntable\n\
-    t 0 20 14 34\nt 0 20 14 34\nt 0 12 14 32\nt 0 12 14";
-
-// Then up to the payments.
-const DAY_CRAMTON_PARTS: &str =
-    " 26\nt 0 12 0 12\nt 0 0 0 0\nwithout 2\nchoice 1 0 0 0 1\ntable\nt 0 12 28 40\n\
-    t 0 12 14 32\nt 0 12 14 32\nt 0 12 14 26\nt 0 12 0 12\nt 0 0 0 0\n";
-
-// The payments.
-const DAY_CRAMTON_PAY: &str = "pay 17 15 0 0 0\n";
-
-// From the rows up to the last line.
-const DAY_CRAMTON_ROWS: &str =
-    "rows 1\nrow 1 2\nmult 1 3\nchoice 0 0 1 0 0\nlowered\nt 0 15 17 32\nt 0 15 14 32\n\
-    t 0 12 14 32\nt 0 12 14 26\nt 0 12 0 12\nt 0 0 0 0\n";
-
-/// The certificate of two winners, of 476 bytes. Its last line begins at byte 472.
-pub(crate) const DAY_CRAMTON_CERT: &[&str] = &[
-    DAY_CRAMTON_FRONT,
-    DAY_CRAMTON_PARTS,
-    DAY_CRAMTON_PAY,
-    DAY_CRAMTON_ROWS,
-    "end\n",
-];
-
-/// The certificate of a book without bidders, of 69 bytes.
-pub(crate) const NOBODY_CERT: &[&str] = &[
-    "cert 1\nden 1\nvalue 0\nchoice\ntable\nt 0 0\npay\nrows 0\nlowered\nt 0 0\nend\n",
-];
 
 // Three winners that share their payment alike, over 3.
 const LOCALS_CERT: &str =

@@ -1,7 +1,6 @@
 // A right certificate with a few lines changed, and all its fronts.
-use crate::cert::DAY_CRAMTON_CERT;
-use crate::price::CHECK;
-use crate::settings::{DAY_CRAMTON, joined, run_plain};
+use crate::samples::{CHECK, DAY_CRAMTON, DAY_CRAMTON_CERT};
+use crate::settings::{joined, run_plain};
 use cca_run::{FileKind, Status};
 use std::alloc::{AllocError, Global};
 use std::process::Abort;

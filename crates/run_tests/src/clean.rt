@@ -2,11 +2,11 @@
 // and a put take a few bytes at a time; here they take the whole piece, or fail and take nothing.
 ghost use Rattle.std.specs.Prelude.{◌<◌, length, IfOk, OnOk, All, IsTrue, map, string_bytes};
 
-use crate::auction::{LOWERED, SAMPLE, run_three};
-use crate::award::{AWARD, LOWERED_OUTCOME};
-use crate::cert::DAY_CRAMTON_CERT;
-use crate::price::{CHECK, PRICE};
-use crate::settings::{DAY_CRAMTON, joined, words_of};
+use crate::auction::run_three;
+use crate::samples::{
+    AWARD, CHECK, DAY_CRAMTON, DAY_CRAMTON_CERT, LOWERED, LOWERED_OUTCOME, PRICE, SAMPLE,
+};
+use crate::settings::{joined, words_of};
 use cca_run::cca_base::{CleanFiles, CleanSink, Files, WriteStop, write_file};
 use cca_run::{FileKind, Status, run};
 use std::alloc::{AllocError, Global};

@@ -1,13 +1,11 @@
 // Each load, append and put of a clean run fails in turn.
 ghost use Rattle.std.specs.Prelude.{◌<◌};
 
-use crate::auction::{LOWERED, SAMPLE};
-use crate::cert::DAY_CRAMTON_CERT;
-use crate::places::{BACK, FRONT, MIDDLE, ORDER, PAY, PLACE, PLACE_CHECK, SLOTS};
-use crate::price::{CHECK, PRICE};
-use crate::reviews::{EDITS, REVIEW};
-use crate::settings::{DAY_CRAMTON, fill, joined, left_at, no_files_in, words_of};
-use crate::weigh::{ALL_ALIKE, WEIGH, WEIGH_CHECK};
+use crate::samples::{
+    ALL_ALIKE, AWARD, BACK, CHECK, DAY_CRAMTON, DAY_CRAMTON_CERT, EDITS, FRONT, LOWERED, MIDDLE,
+    ORDER, PAY, PLACE, PLACE_CHECK, PRICE, REVIEW, SAMPLE, SLOTS, WEIGH, WEIGH_CHECK,
+};
+use crate::settings::{fill, joined, left_at, no_files_in, words_of};
 use cca_run::cca_base::MemSink;
 use cca_run::{FileKind, Status, run};
 use std::alloc::{AllocError, Global};

@@ -1,7 +1,6 @@
 // Runs with faults of files and of the output.
-use crate::cert::{DAY_CRAMTON_CERT, DAY_CRAMTON_FRONT};
-use crate::price::{CHECK, PRICE};
-use crate::settings::{DAY_CRAMTON, Setting, TIE, joined, run_on};
+use crate::samples::{CHECK, DAY_CRAMTON, DAY_CRAMTON_CERT, DAY_CRAMTON_FRONT, FRONT, PRICE, TIE};
+use crate::settings::{Setting, joined, run_on};
 use cca_run::bid_book::LimitKind;
 use cca_run::{FileKind, Status};
 use std::test::Fail;

@@ -26,6 +26,8 @@ mod price;
 #[cfg(test)]
 mod reviews;
 #[cfg(test)]
+mod samples;
+#[cfg(test)]
 mod settings;
 #[cfg(test)]
 mod weigh;

@@ -1,6 +1,5 @@
 // The winning choice beside a listing of all choices, and a table without a bidder.
-use crate::price::TWO_GLOBALS;
-use crate::settings::{AT_RESERVE, DAY_CRAMTON, EQUALS, NOBODY, TIE};
+use crate::samples::{AT_RESERVE, DAY_CRAMTON, EQUALS, NOBODY, TIE, TWO_GLOBALS};
 use cca_run::bid_book::read_book;
 use cca_run::choices::first_by_listing;
 use cca_run::value_table::{ValueTable, win};

@@ -1,4 +1,5 @@
 // Placements in a band, priced by the top call and then tested.
+use crate::samples::{BACK, FRONT, MIDDLE, ORDER, PAY, PLACE, PLACE_CHECK, SLOTS};
 use crate::settings::{joined, run_plain};
 use cca_run::bid_book::LimitKind;
 use cca_run::{CertKind, FileKind, Status};
@@ -6,35 +7,13 @@ use std::alloc::Global;
 use std::process::Abort;
 use std::test::Fail;
 
-pub const PLACE: &[&str] = &["place", "SLOTS", "CERT"];
-
 const PLACE_ROUNDS: &[&str] = &["place", "SLOTS", "CERT", "--rounds"];
-
-pub const PLACE_CHECK: &[&str] = &["place-check", "SLOTS", "CERT"];
-
-/// Three bidders fill a band of four slots; two of them win.
-pub const SLOTS: &str =
-    "slots 1\nband 4\nbidder x 2\nplace 1 10\nbidder y 1\nplace 4 8\nbidder z 1\nplace 2 12\nend\n";
 
 const ROUNDS: &str = "round 1 point 4 2 row 1 2 choice 0 0 1 excess 6\nround 2 point 7 5 end\n";
 
 const PLACEMENT: &str =
     "placed x 1 2\nplaced z 3 1\nplaced y 4 1\nwinner x 1 bid 10 vickrey 4 pays 7\nwinner y 4 bid 8 vickrey 2 pays 5\n\
     value 18\nrevenue 12\n";
-
-// The certificate of these prices, in pieces: the head's order and the payments stand apart.
-pub const FRONT: &str = "pcert 1\nden 1\nvalue 18\n";
-
-pub const ORDER: &str = "order 1 3 2\n";
-
-pub const MIDDLE: &str =
-    "choice 1 1 0\ntable\nt 18 8 12 0 8 8 0 0\nwithout 1\norder 2 3 1\nchoice 0 0 1\ntable\nt 12 8 12 0 8 8 0 0\n\
-    without 2\norder 2 3 1\nchoice 0 0 1\ntable\nt 12 0 12 0 0 0 0 0\n";
-
-pub const PAY: &str = "pay 7 5 0\n";
-
-pub const BACK: &str =
-    "rows 1\nrow 1 2\nmult 1 3\norder 2 3 1\nchoice 0 0 1\nlowered\nt 12 5 12 0 5 5 0 0\nend\n";
 
 fn ends(
     rt: &impl Abort,

@@ -1,17 +1,14 @@
 // The prices of books with known prices, and their certificates, printed and appended by the top call and then checked.
-use crate::cert::{DAY_CRAMTON_CERT, NOBODY_CERT};
-use crate::settings::{
-    AT_RESERVE, DAY_CRAMTON, ELEVEN, EQUALS, LOCALS, NOBODY, SPECTRUM, TIE, joined, run_plain,
+use crate::samples::{
+    AT_RESERVE, CHECK, DAY_CRAMTON, DAY_CRAMTON_CERT, ELEVEN, EQUALS, LOCALS, NOBODY, NOBODY_CERT,
+    PRICE, SPECTRUM, TIE, TWO_GLOBALS,
 };
+use crate::settings::{joined, run_plain};
 use cca_run::Status;
 use cca_run::bid_book::LimitKind;
 use std::alloc::Global;
 use std::process::Abort;
 use std::test::Fail;
-
-pub(crate) const TWO_GLOBALS: &str =
-    "book 1\nsupply 1 1 1\nreserve 0 0 0\nbidder l1\nbid 1 0 0 10\nbidder l2\nbid 0 1 0 10\nbidder l3\nbid 0 0 1 10\n\
-    bidder g1\nbid 1 1 0 8\nbidder g2\nbid 0 1 1 8\nend\n";
 
 // On the way the price of the first winner is above its bid.
 const ABOVE_ITS_BID: &str =
@@ -113,9 +110,6 @@ const PRICED: [(&str, &str, &str); 12] = [
     ),
 ];
 
-/// The words of a run that prices a book.
-pub(crate) const PRICE: &[&str] = &["price", "BOOK", "CERT"];
-
 const PRICE_WITH_ROUNDS: &[&str] = &["price", "BOOK", "CERT", "--rounds"];
 
 const PRICE_AS_JSON: &[&str] = &["price", "BOOK", "CERT", "--json"];
@@ -134,9 +128,6 @@ const DAY_CRAMTON_JSON_WITH_ROUNDS: &[&str] = &[
     "\"rounds\":[\"round 1 point 14 12 row 1 2 choice 0 0 1 0 0 excess 6\",\"round 2 point 17 15 end\"],",
     "\"winners\":[{\"bid\":28,\"name\":\"b1\",\"package\":[1,0],\"pays\":\"17\",\"vickrey\":14},{\"bid\":20,\"name\":\"b2\",\"package\":[0,1],\"pays\":\"15\",\"vickrey\":12}]}\n",
 ];
-
-/// The words of a run that tests a certificate.
-pub(crate) const CHECK: &[&str] = &["check", "BOOK", "CERT"];
 
 // What stands in the certificate's file after a run that ends with Done and prints these pieces.
 fn left_by(

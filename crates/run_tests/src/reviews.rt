@@ -1,16 +1,11 @@
 // Edits of books, whose values the top call prints.
 use crate::auction::run_three;
-use crate::settings::{DAY_CRAMTON, NOBODY};
+use crate::samples::{DAY_CRAMTON, EDITS, NOBODY, REVIEW};
 use cca_run::bid_book::LimitKind;
 use cca_run::{FileKind, Status};
 use std::alloc::Global;
 use std::process::Abort;
 use std::test::Fail;
-
-pub const REVIEW: &[&str] = &["review", "BOOK", "EDITS"];
-
-pub const EDITS: &str =
-    "edits 1\nraise b3 1 1 50\nadd b4 0 1 23\ndrop b1 1 0\nraise b3 1 1 50\nadd north 1 0 5\nend\n";
 
 const REVIEWED: &str =
     "0 net 48 choice 1 1 0 0 0\n1 net 50 choice 0 0 1 0 0\n2 net 51 choice 1 0 0 1 0\n3 net 50 choice 0 0 1 0 0\n\

@@ -2,40 +2,12 @@
 ghost use Rattle.std.specs.Prelude.{◌<◌, length, IfOk, OnOk, All, IsTrue, map, string_bytes};
 ghost use Rattle.cca_run.specs.cca_base.specs.MemFiles.{mem_folder};
 
+use crate::samples::{AT_RESERVE, DAY_CRAMTON, ELEVEN, EQUALS, LOCALS, NOBODY, SPECTRUM, TIE};
 use cca_run::bid_book::LimitKind;
 use cca_run::cca_base::{MemFiles, MemSink};
 use cca_run::{CertKind, FileKind, Status, run};
 use std::alloc::{AllocError, Global};
 use std::test::Fail;
-
-pub(crate) const DAY_CRAMTON: &str =
-    "book 1\nsupply 1 1\nreserve 0 0\nbidder b1\nbid 1 0 28\nbidder b2\nbid 0 1 20\nbidder b3\nbid 1 1 32\nbidder b4\n\
-    bid 1 0 14\nbidder b5\nbid 0 1 12\nend\n";
-
-pub(crate) const NOBODY: &str = "book 1\nsupply 1\nreserve 0\nend\n";
-
-pub(crate) const AT_RESERVE: &str = "book 1\nsupply 1\nreserve 50\nbidder solo\nbid 1 50\nend\n";
-
-pub(crate) const LOCALS: &str =
-    "book 1\nsupply 1 1 1\nreserve 0 0 0\nbidder l1\nbid 1 0 0 10\nbidder l2\nbid 0 1 0 10\nbidder l3\nbid 0 0 1 10\n\
-    bidder g\nbid 1 1 1 11\nend\n";
-
-pub(crate) const SPECTRUM: &str =
-    "book 1\nsupply 4 1 14 9\nreserve 200000 250000 15000 100\nbidder p1\nbid 2 0 0 0 550000\nbidder p2\n\
-    bid 0 1 0 0 350000\nbidder p3\nbid 2 0 4 5 710500\nbidder p4\nbid 0 0 7 0 225000\nbidder p5\nbid 0 0 3 4 105400\n\
-    bidder p6\nbid 4 0 7 0 1285000\nend\n";
-
-pub(crate) const TIE: &str =
-    "book 1\nsupply 2\nreserve 0\nbidder east\nbid 1 5\nbid 2 9\nbidder west\nbid 1 4\nend\n";
-
-pub(crate) const ELEVEN: &str =
-    "book 1\nsupply 11\nreserve 0\nbidder c1\nbid 1 5\nbidder c2\nbid 1 5\nbidder c3\nbid 1 5\nbidder c4\nbid 1 5\n\
-    bidder c5\nbid 1 5\nbidder c6\nbid 1 5\nbidder c7\nbid 1 5\nbidder c8\nbid 1 5\nbidder c9\nbid 1 5\nbidder c10\n\
-    bid 1 5\nbidder c11\nbid 1 5\nend\n";
-
-pub(crate) const EQUALS: &str =
-    "book 1\nsupply 1\nreserve 0\nbidder n1\nbid 1 9\nbidder n2\nbid 1 9\nbidder n3\nbid 1 9\nbidder n4\nbid 1 9\nend\n\
-    ";
 
 const GREATEST: &str = "book 1\nsupply 3 3 3 3 7 7\nreserve 0 0 0 0 0 0\nend\n";
 

@@ -1,27 +1,20 @@
 // Books that are priced, and certificates that are tested, by weights.
 use crate::auction::run_three;
-use crate::cert::DAY_CRAMTON_CERT;
-use crate::settings::{DAY_CRAMTON, joined};
+use crate::samples::{ALL_ALIKE, DAY_CRAMTON, DAY_CRAMTON_CERT, WEIGH, WEIGH_CHECK};
+use crate::settings::joined;
 use cca_run::bid_book::LimitKind;
 use cca_run::{CertKind, FileKind, Status};
 use std::alloc::Global;
 use std::process::Abort;
 use std::test::Fail;
 
-pub const WEIGH: &[&str] = &["weigh", "BOOK", "WEIGHTS", "CERT"];
-
 const WEIGH_ROUNDS: &[&str] = &["weigh", "BOOK", "WEIGHTS", "CERT", "--rounds"];
 
 const WEIGH_JSON: &[&str] = &["weigh", "BOOK", "WEIGHTS", "CERT", "--json"];
 
-pub const WEIGH_CHECK: &[&str] = &["weigh-check", "BOOK", "WEIGHTS", "CERT"];
-
 /// The second of five bidders weighs 3.
 const ONE_HEAVY: &str =
     "weights 1\nweight b1 1\nweight b2 3\nweight b3 1\nweight b4 1\nweight b5 1\nend\n";
-
-pub const ALL_ALIKE: &str =
-    "weights 1\nweight b1 1\nweight b2 1\nweight b3 1\nweight b4 1\nweight b5 1\nend\n";
 
 const HEAVY_ROUNDS: &str =
     "round 1 point 14 12 row 1 2 choice 0 0 1 0 0 excess 6\nround 2 point 15+1/2 16+1/2 end\n";
