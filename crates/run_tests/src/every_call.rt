@@ -2,8 +2,8 @@
 ghost use Rattle.std.specs.Prelude.{◌<◌};
 
 use crate::samples::{
-    ALL_ALIKE, AWARD, BACK, CHECK, DAY_CRAMTON, DAY_CRAMTON_CERT, EDITS, FRONT, LOWERED, MIDDLE,
-    ORDER, PAY, PLACE, PLACE_CHECK, PRICE, REVIEW, SAMPLE, SLOTS, WEIGH, WEIGH_CHECK,
+    ALL_ALIKE, BACK, CHECK, DAY_CRAMTON, DAY_CRAMTON_CERT, EDITS, FRONT, LOWERED, MIDDLE, ORDER,
+    PAY, PLACE, PLACE_CHECK, PRICE, REVIEW, SAMPLE, SLOTS, WEIGH, WEIGH_CHECK,
 };
 use crate::settings::{fill, joined, left_at, no_files_in, words_of};
 use cca_run::cca_base::MemSink;

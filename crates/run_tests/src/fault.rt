@@ -1,5 +1,5 @@
 // Runs with faults of files and of the output.
-use crate::samples::{CHECK, DAY_CRAMTON, DAY_CRAMTON_CERT, DAY_CRAMTON_FRONT, FRONT, PRICE, TIE};
+use crate::samples::{CHECK, DAY_CRAMTON, DAY_CRAMTON_CERT, DAY_CRAMTON_FRONT, PRICE, TIE};
 use crate::settings::{Setting, joined, run_on};
 use cca_run::bid_book::LimitKind;
 use cca_run::{FileKind, Status};

@@ -140,7 +140,7 @@ pub(crate) const PLACE_CHECK: &[&str] = &["place-check", "SLOTS", "CERT"];
 pub(crate) const SLOTS: &str =
     "slots 1\nband 4\nbidder x 2\nplace 1 10\nbidder y 1\nplace 4 8\nbidder z 1\nplace 2 12\nend\n";
 
-/// The certificate of these slots in pieces, of which the order of its head and the payments stand apart: its first lines.
+/// The certificate of these slots in pieces: its first lines. The order of its head and the payments stand apart.
 pub(crate) const FRONT: &str = "pcert 1\nden 1\nvalue 18\n";
 
 /// The order of its choice.
