@@ -17,6 +17,9 @@ const WIN: &[&str] = &["win", "BOOK"];
 
 const WINNERS: &str = "winner b1 1 0 28\nwinner b2 0 1 20\nnet 48\n";
 
+/// How many bytes the certificate has.
+const CERT_LENGTH: u64 = 476;
+
 const PRICES: &str =
     "winner b1 1 0 bid 28 vickrey 14 pays 17\nwinner b2 0 1 bid 20 vickrey 12 pays 15\nnet 48\nrevenue 32\n";
 
@@ -151,9 +154,8 @@ fn priced_within(alloc: Global, room: u64, width: u64) -> Result<Answer, Fail> {
 #[test]
 fn a_certificate_fits_to_its_last_byte(rt: HostRuntime) -> Result<(), Fail> {
     let alloc = rt.alloc();
-    let room = joined(alloc, DAY_CRAMTON_CERT)?.len() as u64;
-    let fits = priced_within(alloc, room, 200)?;
-    let short = priced_within(alloc, room - 1, 200)?;
+    let fits = priced_within(alloc, CERT_LENGTH, 200)?;
+    let short = priced_within(alloc, CERT_LENGTH - 1, 200)?;
     let fault = Status::WriteFault {
         file: FileKind::Cert,
     };
