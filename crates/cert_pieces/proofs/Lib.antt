@@ -2,6 +2,7 @@ pub mod Fronts
 pub mod Steps
 pub mod Following
 pub mod Runs
+pub mod DigitMasks
 pub mod WholeFields
 pub mod Unfit
 pub mod Places

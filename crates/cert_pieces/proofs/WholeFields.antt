@@ -13,7 +13,7 @@ use Rattle.cert_text.specs.cert_form.specs.wide_num.proofs.Decimal.{IsDigit}
 use Rattle.cert_text.specs.cert_form.specs.Lines.{signed}
 use Rattle.cert_pieces.specs.declared.line.fields.Field.{Field}
 use Rattle.cert_pieces.specs.declared.line.form.Form.TheVariants.{Signed}
-use Rattle.cert_pieces.specs.Fields.{AreFour, IsField, behind_space}
+use Rattle.cert_pieces.specs.Fields.{AreDigitsFrom, AreFour, IsField, behind_space}
 use Rattle.cert_pieces.specs.LineParts.{IsPart}
 use Rattle.cert_pieces.specs.Pieces.{between}
 use Rattle.cert_pieces.proofs.Following.{follows, keeps_more, kept_now}
@@ -67,6 +67,20 @@ field_fours piece at i size four le room fours some is =
     let d_is : d ≡ byte (i + 3) - 48 = ap (λ (n : ℕ). byte n - 48) three in
     let sum : 10 * (10 * (10 * (10 * size + a) + b) + c) + d ≡ 10000 * size + four = omega (arith, fours.value, c_is, d_is) in
     subst (λ (n : ℕ). between at n piece ≡ numeral (10000 * size + four)) end (all ∙ ap numeral sum)
+
+-- the last four of eight digits
+pub fourth : (piece : List ℕ) (i : ℕ) → AreDigitsFrom piece i 8 → AreDigitsFrom piece (i + 4) 4
+fourth piece i digits k lt = subst (λ (n : ℕ). IsDigit (get_or piece n 0)) {x = i + (4 + k)} (omega arith) (digits (4 + k) (omega (arith, lt)))
+
+-- eight digits more
+pub field_eight : (piece : List ℕ) (at i size front back : ℕ) → at ≤ i → i + 8 ≤ length piece → AreFour piece i front → AreFour piece (i + 4) back → 0 < size
+    → between at i piece ≡ numeral size → between at (i + 8) piece ≡ numeral (100000000 * size + (10000 * front + back))
+field_eight piece at i size front back le room first last some is =
+    let half = field_fours piece at i size front le (omega (arith, room)) first some is in
+    let whole = field_fours piece at (i + 4) (10000 * size + front) back (omega (arith, le)) (omega (arith, room)) last (omega (arith, some)) half in
+    let end : i + 4 + 4 ≡ i + 8 = omega arith in
+    let sum : 10000 * (10000 * size + front) + back ≡ 100000000 * size + (10000 * front + back) = omega arith in
+    subst (λ (n : ℕ). between at n piece ≡ numeral (100000000 * size + (10000 * front + back))) end (whole ∙ ap numeral sum)
 
 pub fours-small : (piece : List ℕ) (i four : ℕ) → AreFour piece i four → four < 10 ^ 4
 fours-small piece i four fours =

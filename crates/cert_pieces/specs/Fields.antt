@@ -13,9 +13,13 @@ pub record IsField (piece : List ℕ) (at : ℕ) (f : Field) : Type 0 where
   pub within : f.end < length piece
   pub space : get_or piece f.end 0 ≡ 32
 
+-- so many digits stand in the piece from this place on
+abbrev pub AreDigitsFrom : List ℕ → ℕ → ℕ → Type 0
+AreDigitsFrom piece at n = (i : ℕ) → i < n → (48 ≤ get_or piece (at + i) 0) × (get_or piece (at + i) 0 ≤ 57)
+
 -- four digits stand in the piece from this place on, and spell a number
 pub record AreFour (piece : List ℕ) (at four : ℕ) : Type 0 where
-  pub digits : (i : ℕ) → i < 4 → (48 ≤ get_or piece (at + i) 0) × (get_or piece (at + i) 0 ≤ 57)
+  pub digits : AreDigitsFrom piece at 4
   pub value : four ≡ 1000 * (get_or piece at 0 - 48) + (100 * (get_or piece (at + 1) 0 - 48) + (10 * (get_or piece (at + 2) 0 - 48)
       + (get_or piece (at + 3) 0 - 48)))
 

@@ -1,13 +1,14 @@
 // Whole numbers of a piece, one behind the other.
-ghost use Rattle.std.specs.Prelude.{◌≡◌, ◌+◌, ◌≤◌, ◌<◌, ◌^◌, ℕ, List, ◌++◌, length, get_or, ℤ, Bool, IfSome, IsTrue};
+ghost use Rattle.std.specs.Prelude.{◌≡◌, ◌+◌, ◌*◌, ◌≤◌, ◌<◌, ◌^◌, ℕ, List, ◌++◌, length, get_or, ℤ, Bool, IfSome, IsTrue};
 ghost use Rattle.cert_pieces.specs.declared.line.form.Form.{Form};
 ghost use Rattle.cert_text.specs.line_text.specs.LineText.{IsLine};
-ghost use Rattle.cert_pieces.specs.Fields.{AreFour, IsField, behind_space};
+ghost use Rattle.cert_pieces.specs.Fields.{AreDigitsFrom, AreFour, IsField, behind_space};
 ghost use Rattle.cert_text.specs.line_text.specs.Numeral.{numeral};
 ghost use Rattle.cert_pieces.specs.LineParts.{IsPart};
 ghost use Rattle.cert_pieces.specs.Pieces.{between};
 
 use crate::line::digits::SMALL;
+use std::simd::prelude::*;
 
 /// A number that isn't below 0, and where it ends.
 #[derive(Clone, Copy)]
@@ -16,54 +17,58 @@ pub(crate) struct Field {
     pub(crate) end: usize,
 }
 
-/// The number that four digits of a piece spell, where four stand there.
-fn four_digits(piece: &[u8], at: usize) -> Option<u64>
-    requires { at + 4 ≤ length piece.now }
-    ensures { IfSome result (AreFour piece.now at) }
+/// Which of eight bytes of a piece are digits: the lowest bit tells of the first. They are compared at once.
+fn digits_at(piece: &[u8], at: usize) -> u64
+    requires { at + 8 ≤ length piece.now }
+    ensures { (n rest : ℕ) → n ≤ 8 → result + 1 ≡ 2 ^ n * (rest + 1) → AreDigitsFrom piece.now at n }
 {
-    let first = piece[at];
-    let second = piece[at + 1];
-    let third = piece[at + 2];
-    let last = piece[at + 3];
-    if !first.is_ascii_digit() || !second.is_ascii_digit() {
-        return None;
-    }
-    if !third.is_ascii_digit() || !last.is_ascii_digit() {
-        return None;
-    }
-    let front = 10 * (first - b'0') as u64 + (second - b'0') as u64;
-    let back = 10 * (third - b'0') as u64 + (last - b'0') as u64;
-    Some(100 * front + back)
+    let bytes = u8x8::from_slice(&piece[at..]);
+    let values = bytes - u8x8::splat(b'0');
+    values.simd_lt(u8x8::splat(10)).to_bitmask()
 }
 
-/// Whether four more digits may stand behind those of a number: not behind 0, nor where its size might leave 64 bits.
-fn may_take_four(size: u64) -> bool
-    ensures some { IsTrue result → 0 < size }
-    ensures small { IsTrue result → size < 10 ^ 14 }
+/// The number that four digits of a piece spell.
+fn four_digits(piece: &[u8], at: usize) -> u64
+    requires room { at + 4 ≤ length piece.now }
+    requires digits { AreDigitsFrom piece.now at 4 }
+    ensures { AreFour piece.now at result }
 {
-    0 < size && size < 100_000_000_000_000
+    let first = (piece[at] - b'0') as u64;
+    let second = (piece[at + 1] - b'0') as u64;
+    let third = (piece[at + 2] - b'0') as u64;
+    let last = (piece[at + 3] - b'0') as u64;
+    1_000 * first + 100 * second + 10 * third + last
 }
 
-/// Reads on in a number that begins at a place, behind its first digit, four digits at a time. It may stop before any four.
-fn read_fours(piece: &[u8], at: usize, first: u64) -> Field
+/// Reads on in a number that begins at a place, behind its first digit: eight digits, or four, where so many stand there.
+fn read_front(piece: &[u8], at: usize, first: u64) -> Field
     requires at { at < length piece.now }
     requires first { between at (at + 1) piece.now ≡ numeral first }
     requires digit { first < 10 }
     ensures spelled { between at result.end piece.now ≡ numeral result.size }
     ensures from { at < result.end }
     ensures to { result.end ≤ length piece.now }
-    ensures low { result.size < 10 ^ 19 }
+    ensures low { result.size < 10 ^ 9 }
 {
-    let mut size = first;
-    let mut end = at + 1;
-    while may_take_four(size) && piece.len() - end >= 4 {
-        let Some(four) = four_digits(piece, end) else {
-            return Field { size, end };
-        };
-        size = 10_000 * size + four;
-        end += 4;
+    let end = at + 1;
+    if first == 0 || piece.len() - end < 8 {
+        return Field { size: first, end };
     }
-    Field { size, end }
+    let digits = digits_at(piece, end);
+    if digits == 255 {
+        let eight = 10_000 * four_digits(piece, end) + four_digits(piece, end + 4);
+        return Field {
+            size: 100_000_000 * first + eight,
+            end: end + 8,
+        };
+    }
+    if digits % 16 == 15 {
+        return Field {
+            size: 10_000 * first + four_digits(piece, end),
+            end: end + 4,
+        };
+    }
+    Field { size: first, end }
 }
 
 /// Reads a number of at most nineteen digits and without a minus from a place of a piece on, up to the space behind it. Gives `None`
@@ -79,7 +84,7 @@ fn read_field(piece: &[u8], at: usize) -> Option<Field>
     if !first.is_ascii_digit() {
         return None;
     }
-    let front = read_fours(piece, at, (first - b'0') as u64);
+    let front = read_front(piece, at, (first - b'0') as u64);
     let mut size = front.size;
     for i in front.end..piece.len() {
         let byte = piece[i];

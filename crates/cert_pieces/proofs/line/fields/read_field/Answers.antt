@@ -4,15 +4,15 @@ use Rattle.cert_text.specs.cert_form.specs.wide_num.proofs.Decimal.{IsDigit}
 use Rattle.cert_pieces.proofs.WholeFields.{field_first, field_more}
 use Rattle.cert_pieces.proofs.line.fields.read_field.Goals as goal
 
-pub read_fours-front-requires-clause-first : goal.read_fours-front-requires-clause-first
-read_fours-front-requires-clause-first c =
+pub read_front-front-requires-clause-first : goal.read_front-front-requires-clause-first
+read_front-front-requires-clause-first c =
     let digit : IsDigit (get_or c.args.piece.now c.args.at 0) = (grind (arith, nat_tests), grind (arith, nat_tests)) in
     field_first c.args.piece.now c.args.at (omega arith) digit
 
 pub loop-i-init : goal.loop-i-init
 loop-i-init c = record {
-  spelled = c.read_fours-front.ensures.spelled;
-  low = c.read_fours-front.ensures.low;
+  spelled = c.read_front-front.ensures.spelled;
+  low = omega (arith, c.read_front-front.ensures.low);
 }
 
 pub loop-i-preserved : goal.loop-i-preserved
