@@ -6,12 +6,12 @@ use Rattle.std.proofs.Math.IntN.{*ℤ-zero}
 use Rattle.blocking.specs.far_num.specs.declared.Row.{Row}
 use Rattle.nearest_point.specs.Numbers.{is_zero, pairs_used}
 use Rattle.nearest_point.specs.Problem.{bounds, coefficients, weight_at}
+use Rattle.nearest_point.specs.Shown.{IsShownNearest}
 use Rattle.nearest_point.specs.point_laws.specs.Multipliers.{sum_at}
 use Rattle.nearest_point.specs.point_laws.proofs.Order.{cancel_nonneg}
 use Rattle.nearest_point.specs.wide_num.proofs.Ints.{lin, mul_assoc, mul_cancel, mul-sub, mul-zero_cases, swap_mul}
 use Rattle.nearest_point.specs.wide_num.proofs.Sums.{dot-same, dot-scale, dot-scale_left, total-same}
 use Rattle.nearest_point.specs.wide_num.specs.Sums.{dot, nth}
-use Rattle.core_price.specs.Answers.{IsAnswer}
 use Rattle.nearest_point.specs.lin_solve.specs.Elimination.{AreQuotients}
 use Rattle.core_price.specs.Lowest.{IsMultiple}
 
@@ -70,7 +70,8 @@ pairs_same (suc n) first second all_first all_second f s =
     ) refl
 
 module _ (prices : List ℤ) (weights : List ℕ) (rows : List Row) (g den : ℤ) (at first second : List ℤ) (all_den : ℤ) (all_at all_first all_second : List ℤ)
-    (h : IsMultiple g den at first second all_den all_at all_first all_second) (a : IsAnswer prices weights rows all_den all_at all_first all_second) where
+    (h : IsMultiple g den at first second all_den all_at all_first all_second)
+    (a : IsShownNearest prices weights rows all_den all_at all_first all_second) where
   some : g ≢ pos 0
   some = not-zero g h.positive
 
@@ -126,7 +127,7 @@ module _ (prices : List ℤ) (weights : List ℕ) (rows : List Row) (g den : ℤ
       below-size all_den top a.meets.positive small in omega (arith, f, e, k))
 
   -- an answer whose numbers are all divided by the same number is an answer
-  pub answer-divided : IsAnswer prices weights rows den at first second
+  pub answer-divided : IsShownNearest prices weights rows den at first second
   answer-divided = record {
     long_at = h.at_is.long ∙ a.long_at;
     long_first = h.first_is.long ∙ a.long_first;
@@ -154,6 +155,8 @@ module _ (prices : List ℤ) (weights : List ℕ) (rows : List Row) (g den : ℤ
     den_of_ones = λ ones. den-below (2 ^ 32) (a.den_of_ones ones);
     small_at = λ i lt. (let l : i < length all_at = omega (arith, lt, h.at_is.long) in let f = factor_size g (nth at i) h.positive in let e =
         ap unsigned_abs (h.at_is.is i l) in let k = a.small_at i l in omega (arith, f, e, k));
+    small_first = λ i lt. (let l : i < length all_first = omega (arith, lt, h.first_is.long) in let f = factor_size g (nth first i) h.positive in let e =
+        ap unsigned_abs (h.first_is.is i l) in let k = a.small_first i l in omega (arith, f, e, k));
     small_second = λ i lt. (let l : i < length all_second = omega (arith, lt, h.second_is.long) in let f = factor_size g (nth second i) h.positive in let e =
         ap unsigned_abs (h.second_is.is i l) in let k = a.small_second i l in omega (arith, f, e, k));
     few =

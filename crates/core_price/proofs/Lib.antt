@@ -12,7 +12,6 @@ mod Points
 mod PricedLaws
 mod Runs
 mod SameRows
-mod SolveLaws
 pub mod Spots
 mod Spreading
 mod StartLaws

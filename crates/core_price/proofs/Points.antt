@@ -10,6 +10,7 @@ use Rattle.nearest_point.specs.auction_model.specs.Prices.{Point, everyone, paid
 use Rattle.nearest_point.specs.auction_model.specs.Prices.{weight_of}
 use Rattle.blocking.specs.far_num.specs.declared.Row.{Row}
 use Rattle.nearest_point.specs.Problem.{bounds, coefficients, row_at, share_at, weight_at}
+use Rattle.nearest_point.specs.Shown.{IsShownNearest}
 use Rattle.nearest_point.specs.point_laws.specs.Multipliers.{AreFirst, AreSecond, AreShares, SumsTo}
 use Rattle.nearest_point.specs.point_laws.specs.Points.{MeetsRows, SamePoint as SameNumbers, square_distance as distance}
 use Rattle.nearest_point.specs.point_laws.proofs.PointLaws.{least, nearest, at_each}
@@ -20,7 +21,6 @@ use Rattle.blocking.specs.row_laws.specs.Winners.{for_bidders, for_winners, winn
 use Rattle.blocking.specs.row_laws.proofs.Sums.{over-is}
 use Rattle.blocking.specs.row_laws.proofs.Winners.{there_and_back, paid-zip, loser-zero, all-bidders}
 use Rattle.nearest_point.specs.wide_num.specs.Sums.{nth, total}
-use Rattle.core_price.specs.Answers.{IsAnswer}
 use Rattle.core_price.specs.Turns.{point_of}
 use Rattle.blocking.specs.row_laws.specs.Weights.{CanWeigh, weights_in}
 use Rattle.core_price.proofs.Spots.{spot, spot-inside, spot-number}
@@ -66,7 +66,7 @@ module _ (m : Market) (z : List ℕ) (len : length z ≡ m.bidders) where
 -- the answer of a turn, its prices being those of the winners
 module _ (m : Market) (z : List ℕ) (len : length z ≡ m.bidders) (weights : List ℕ) (weighed : CanWeigh m z weights) (prices : List ℤ)
     (some : length prices ≡ winners_in z) (rows : List Row) (den : ℤ) (at first second : List ℤ)
-    (answer : IsAnswer prices (weights_in z weights) rows den at first second) where
+    (answer : IsShownNearest prices (weights_in z weights) rows den at first second) where
   -- it has first multipliers, with a coordinate for each winner
   pub firsts : AreFirst (winners_in z) (length rows) (coefficients rows) (bounds rows) den (nth at) (nth first)
   firsts = subst (λ w. AreFirst w (length rows) (coefficients rows) (bounds rows) den (nth at) (nth first)) some answer.firsts

@@ -9,11 +9,11 @@ use Rattle.nearest_point.specs.auction_model.specs.Prices.{Point, weight_of}
 use Rattle.nearest_point.specs.auction_model.specs.PricingRun.{IsTurnPoint, MeetsRow, MeetsRows}
 use Rattle.blocking.specs.far_num.specs.declared.Row.{Row}
 use Rattle.nearest_point.specs.Problem.{row_at}
+use Rattle.nearest_point.specs.Shown.{IsShownNearest}
 use Rattle.blocking.specs.row_laws.specs.Rows.{Meets, row_in}
 use Rattle.blocking.specs.row_laws.specs.Surplus.{AsksWinnersOnly}
 use Rattle.blocking.specs.row_laws.specs.Winners.{for_bidders, for_winners, winners_in}
 use Rattle.blocking.specs.row_laws.proofs.Blocks.{meets-winners, meets-bidders}
-use Rattle.core_price.specs.Answers.{IsAnswer}
 use Rattle.core_price.specs.Turns.{point_of}
 use Rattle.blocking.specs.row_laws.specs.Weights.{CanWeigh, weights_in}
 use Rattle.core_price.proofs.Points.{MeetsBits, asks-winners, back-of, least-of, meets, nearest-of}
@@ -50,7 +50,7 @@ module _ (m : Market) (z : List ℕ) (len : length z ≡ m.bidders) (rows : List
       }
 
   module _ (weights : List ℕ) (weighed : CanWeigh m z weights) (prices : List ℤ) (some : length prices ≡ winners_in z) (den : ℤ) (at first second : List ℤ)
-      (answer : IsAnswer prices (weights_in z weights) rows den at first second) where
+      (answer : IsShownNearest prices (weights_in z weights) rows den at first second) where
     -- the answer of a turn is its point
     pub turn-point : (v : ℕ → ℤ) → ((k : ℕ) → k < m.bidders → v (suc k) ≡ of_bidder (for_bidders z prices) (suc k))
         → IsTurnPoint m (weight_of weights) z v (map (row_in z) rows) (point_of z den at)

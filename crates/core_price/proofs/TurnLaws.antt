@@ -25,7 +25,8 @@ use Rattle.blocking.specs.Look.{IsBlock}
 use Rattle.blocking.specs.far_num.specs.Members.{holds}
 use Rattle.blocking.specs.far_num.specs.declared.Row.{Row}
 use Rattle.nearest_point.specs.auction_model.specs.Prices.{AreWeights}
-use Rattle.nearest_point.specs.Problem.{IsNarrow, bounds, coefficients, row_at}
+use Rattle.nearest_point.specs.Problem.{IsNarrow, IsProblem, bounds, coefficients, row_at}
+use Rattle.nearest_point.specs.Shown.{IsShownNearest}
 use Rattle.nearest_point.proofs.Bits.{dot_single, holds_nonneg}
 use Rattle.nearest_point.proofs.Places.{lt_or}
 use Rattle.nearest_point.specs.point_laws.proofs.Order.{mul_nonneg, cancel_nonneg}
@@ -36,7 +37,6 @@ use Rattle.blocking.specs.row_laws.proofs.Blocks.{block-row, excess-row, free-ex
 use Rattle.blocking.specs.row_laws.proofs.Sizes.{won-low}
 use Rattle.blocking.specs.row_laws.proofs.Sums.{over-is}
 use Rattle.nearest_point.specs.wide_num.specs.Sums.{dot, nth}
-use Rattle.core_price.specs.Answers.{CanSolve, IsAnswer}
 use Rattle.core_price.specs.Lowest.{IsLowest}
 use Rattle.core_price.specs.SoFar.{CanTurn, HasEnded, IsSoFar, choice_at}
 use Rattle.core_price.specs.Turns.{IsPointOfTurn, last_turn, point_of, turn_of, turns_of}
@@ -93,7 +93,7 @@ turns-few m z weights rows choices past far = by (cases_eq (winners_in z) 0)
 
 -- the rows so far meet the conditions of the search for a point
 pub can-solve : (m : Market) (z : List ℕ) (prices : List ℤ) (weights : List ℕ) → CanTurn m z prices weights
-    → (rows : List Row) (choices : List (List ℕ)) (past : List Turn) → IsSoFar m z weights rows choices past → CanSolve prices (weights_in z weights) rows
+    → (rows : List Row) (choices : List (List ℕ)) (past : List Turn) → IsSoFar m z weights rows choices past → IsProblem prices (weights_in z weights) rows
 can-solve m z prices weights can rows choices past far = record {
   few = omega (arith, can.few.0, can.long);
   weighed = subst (λ n. AreWeights n (weights_in z weights)) (sym can.long) can.weighing.own;
@@ -118,7 +118,7 @@ can-solve m z prices weights can rows choices past far = record {
 -- a turn with its answer
 module _ (m : Market) (lawful : IsMarket m) (z : List ℕ) (win : IsWinning m z) (prices : List ℤ) (weights : List ℕ) (can : CanTurn m z prices weights)
     (rows : List Row) (choices : List (List ℕ)) (past : List Turn) (far : IsSoFar m z weights rows choices past)
-    (den : ℤ) (at first second : List ℤ) (answer : IsAnswer prices (weights_in z weights) rows den at first second) where
+    (den : ℤ) (at first second : List ℤ) (answer : IsShownNearest prices (weights_in z weights) rows den at first second) where
   len : length z ≡ m.bidders
   len = lawful.lengths z win.passed
 

@@ -8,10 +8,10 @@ use Rattle.nearest_point.specs.auction_model.specs.PricingRun.{GoOn, Turn as Bid
 use Rattle.blocking.specs.far_num.specs.declared.Row.{Row}
 use Rattle.blocking.specs.limits.specs.declared.TheConstants.{MOST_AMOUNT}
 use Rattle.nearest_point.specs.Problem.{AreBounds, AreTargets, HasSingles, bounds, row_at}
+use Rattle.nearest_point.specs.Shown.{IsShownNearest}
 use Rattle.blocking.specs.row_laws.specs.Rows.{IsGivenBy, row_in}
 use Rattle.blocking.specs.row_laws.specs.Winners.{for_bidders, winners_in}
 use Rattle.nearest_point.specs.wide_num.specs.Sums.{nth, total}
-use Rattle.core_price.specs.Answers.{IsAnswer}
 use Rattle.core_price.specs.Lowest.{IsLowest}
 use Rattle.core_price.specs.Turns.{EndsWith, IsPointOfTurn, last_turn, point_of, turns_of}
 use Rattle.blocking.specs.row_laws.specs.Weights.{CanWeigh, FewWin, weights_in}
@@ -52,7 +52,7 @@ pub record HasEnded (m : Market) (z : List ℕ) (prices : List ℤ) (weights : L
   pub long : length choices ≡ length rows
   pub given : (i : ℕ) → i < length rows → IsGivenBy m z (row_at rows i) (choice_at choices i)
   pub distinct : IsDistinct eqb (map (λ r. r.members) rows)
-  pub answer : IsAnswer prices (weights_in z weights) rows den at first second
+  pub answer : IsShownNearest prices (weights_in z weights) rows den at first second
   pub not_negative : (i : ℕ) → i < winners_in z → pos 0 ≤ℤ nth at i
   pub lowest : IsLowest den at first second
   pub each : AllByRecursion (IsPointOfTurn z weights) turns

@@ -2,8 +2,9 @@
 ghost use Rattle.nearest_point.specs.auction_model.specs.Market.{value_of};
 ghost use Rattle.nearest_point.specs.auction_model.specs.Prices.{AreVickreyPrices, IsUnblocked};
 ghost use Rattle.nearest_point.specs.auction_model.specs.Lowered.{of_bidder};
+ghost use Rattle.nearest_point.specs.Problem.{IsProblem};
+ghost use Rattle.nearest_point.specs.Shown.{IsShownNearest};
 ghost use Rattle.blocking.specs.Look.{IsFound};
-ghost use Rattle.core_price.specs.Answers.{CanSolve, IsAnswer};
 ghost use Rattle.core_price.specs.Lowest.{IsLowest};
 ghost use Rattle.core_price.specs.Rows.{block_choices, block_rows};
 ghost use Rattle.core_price.specs.SoFar.{CanTurn, HasEnded, IsSoFar};
@@ -101,8 +102,9 @@ fn turn_point(
     weights: &[u32],
     rows: &[Row],
 ) -> Result<Nearest, AllocError>
-    requires { CanSolve prices.now weights.now rows.now }
-    ensures answer { IfOk result (λ p. IsAnswer prices.now weights.now rows.now p.den p.at p.first p.second) }
+    requires { IsProblem prices.now weights.now rows.now }
+    ensures shown { IfOk result
+        (λ p. IsShownNearest prices.now weights.now rows.now p.den p.at p.first p.second) }
     ensures lowest { IfOk result (λ p. IsLowest p.den p.at p.first p.second) }
 {
     if prices.is_empty() {

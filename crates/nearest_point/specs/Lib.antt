@@ -2,6 +2,7 @@ pub mod Found
 pub mod Numbers
 pub mod Problem
 pub mod Search
+pub mod Shown
 pub mod Tried
 pub use Rattle.auction_model
 pub use Rattle.lin_solve

@@ -49,10 +49,13 @@ HasMembers m rows = (i : ℕ) → i < length rows → (0 < (row_at rows i).membe
 abbrev pub HasSingles : ℕ → List Row → Type 0
 HasSingles m rows = (j : ℕ) → j < m → (i : ℕ) × (i < length rows) × ((row_at rows i).members ≡ 2 ^ j)
 
--- what the search needs of all this
+-- A target, weights and rows with a nearest point that the search can work out. There are at most six coordinates, and each is a
+-- row of its own. Where a weight isn't 1, all is narrow.
 pub record IsProblem (target : List ℤ) (weights : List ℕ) (rows : List Row) : Type 0 where
   pub few : length target ≤ 6
   pub weighed : AreWeights (length target) weights
+  pub members : HasMembers (length target) rows
+  pub singles : HasSingles (length target) rows
   pub targets : AreTargets target
   pub row_bounds : AreBounds rows
   pub sizes : AreOnes (length target) weights ⊎ IsNarrow target rows

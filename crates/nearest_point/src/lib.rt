@@ -8,14 +8,11 @@
 //! comes first, and a search only where it finds none.
 #![tactic(auto)]
 
-ghost use Rattle.auction_model.specs.Ones.{AreOnes};
-ghost use Rattle.auction_model.specs.Prices.{AreWeights};
-ghost use Rattle.nearest_point.specs.Problem.{AreBounds, AreTargets, HasMembers, HasSingles, IsNarrow, bounds, coefficients, share_at, weight_at};
-ghost use Rattle.nearest_point.specs.Found.{HasParts, IsNear};
-ghost use Rattle.nearest_point.specs.Numbers.{AreBelow, pairs_used};
-ghost use Rattle.point_laws.specs.Multipliers.{AreFirst, AreSecond, SumsTo};
+ghost use Rattle.nearest_point.specs.Found.{IsRight};
+ghost use Rattle.nearest_point.specs.Problem.{IsProblem, bounds, coefficients, share_at};
+ghost use Rattle.nearest_point.specs.Shown.{IsShownNearest};
 ghost use Rattle.point_laws.specs.Points.{HasLeastSum, IsNearestTo, MeetsRows};
-ghost use Rattle.std.specs.Prelude.{IfOk, [], length, pos, ◌<ℤ◌, ◌^◌, ◌≡◌, ◌≤ℤ◌, ◌≤◌, ◌⊎◌};
+ghost use Rattle.std.specs.Prelude.{IfOk, length, ◌≤◌};
 ghost use Rattle.point_laws.specs.wide_num.specs.Sums.{nth};
 
 use lin_solve::far_num::Row;
@@ -58,28 +55,10 @@ pub fn nearest(
     weights: &[u32],
     rows: &[Row],
 ) -> Result<Nearest, AllocError>
-    requires coordinates { (1 ≤ length target.now) × (length target.now ≤ 6) }
-    requires weights { AreWeights (length target.now) weights.now }
-    requires members { HasMembers (length target.now) rows.now }
-    requires singles { HasSingles (length target.now) rows.now }
-    requires targets { AreTargets target.now }
-    requires bounds { AreBounds rows.now }
-    requires sizes { AreOnes (length target.now) weights.now ⊎ IsNarrow target.now rows.now }
-    ensures lengths { IfOk result
-        (λ p. (length p.at ≡ length target.now) × (length p.first ≡ length rows.now)
-        × (length p.second ≡ length rows.now)) }
-    ensures meets { IfOk result
-        (λ p. MeetsRows (length target.now) (length rows.now) (coefficients rows.now) (bounds rows.now) p.den
-        (nth p.at)) }
-    ensures first { IfOk result
-        (λ p. AreFirst (length target.now) (length rows.now) (coefficients rows.now) (bounds rows.now) p.den
-        (nth p.at) (nth p.first)) }
-    ensures first_sums { IfOk result
-        (λ p. SumsTo (length target.now) (length rows.now) (coefficients rows.now) p.den (nth p.first)) }
-    ensures second { IfOk result
-        (λ p. AreSecond (length target.now) (length rows.now) (coefficients rows.now) (bounds rows.now) p.den
-        (nth p.at) (nth p.first) (nth p.second) (nth target.now) (weight_at weights.now)) }
-    ensures few { IfOk result (λ p. pairs_used (length rows.now) (nth p.first) (nth p.second) ≤ length target.now) }
+    requires some { 1 ≤ length target.now }
+    requires problem { IsProblem target.now weights.now rows.now }
+    ensures shown { IfOk result
+        (λ p. IsShownNearest target.now weights.now rows.now p.den p.at p.first p.second) }
     ensures least { IfOk result
         (λ p. HasLeastSum (length target.now)
         (MeetsRows (length target.now) (length rows.now) (coefficients rows.now) (bounds rows.now)) p.den
@@ -88,10 +67,6 @@ pub fn nearest(
         (λ p. IsNearestTo (length target.now) (share_at weights.now) (nth target.now)
         (MeetsRows (length target.now) (length rows.now) (coefficients rows.now) (bounds rows.now)) p.den
         (nth p.at)) }
-    ensures denominator { IfOk result (λ p. p.den ≤ℤ pos (320 ^ 4)) }
-    ensures denominator_of_ones { AreOnes (length target.now) weights.now → IfOk result (λ p. p.den <ℤ pos (2 ^ 32)) }
-    ensures small { IfOk result
-        (λ p. AreBelow (2 ^ 109) p.at × AreBelow (2 ^ 109) p.first × AreBelow (2 ^ 109) p.second) }
 {
     let held = guess_or_search(alloc, target, weights, rows)?;
     let first = spread_out(alloc, rows.len(), &held.rows, &held.first)?;
@@ -111,14 +86,8 @@ fn guess_or_search(
     weights: &[u32],
     rows: &[Row],
 ) -> Result<Held, AllocError>
-    requires coordinates { (1 ≤ length target.now) × (length target.now ≤ 6) }
-    requires weights { AreWeights (length target.now) weights.now }
-    requires members { HasMembers (length target.now) rows.now }
-    requires targets { AreTargets target.now }
-    requires bounds { AreBounds rows.now }
-    requires sizes { AreOnes (length target.now) weights.now ⊎ IsNarrow target.now rows.now }
-    ensures near { IfOk result (λ h. IsNear target.now weights.now rows.now [] 0 h) }
-    ensures parts { IfOk result (λ h. HasParts target.now weights.now rows.now h) }
+    requires problem { IsProblem target.now weights.now rows.now }
+    ensures { IfOk result (IsRight target.now weights.now rows.now) }
 {
     match guess(alloc, target, weights, rows, &mut 0)? {
         Some(held) => Ok(held),
@@ -134,14 +103,9 @@ fn search_all(
     rows: &[Row],
     systems: &mut u32,
 ) -> Result<Held, AllocError>
-    requires coordinates { (1 ≤ length target.now) × (length target.now ≤ 6) }
-    requires weights { AreWeights (length target.now) weights.now }
-    requires members { HasMembers (length target.now) rows.now }
-    requires targets { AreTargets target.now }
-    requires bounds { AreBounds rows.now }
-    requires sizes { AreOnes (length target.now) weights.now ⊎ IsNarrow target.now rows.now }
-    ensures near { IfOk result (λ h. IsNear target.now weights.now rows.now [] 0 h) }
-    ensures parts { IfOk result (λ h. HasParts target.now weights.now rows.now h) }
+    requires problem { IsProblem target.now weights.now rows.now }
+    ensures { IfOk result (IsRight target.now weights.now rows.now) }
 {
-    search_from(alloc, target, weights, rows, &[], 0, systems)
+    let held = search_from(alloc, target, weights, rows, &[], 0, systems)?;
+    Ok(held)
 }

@@ -1,5 +1,5 @@
-ghost use Rattle.nearest_point.specs.Problem.{HasMembers, HasSingles, bounds, row_at};
-ghost use Rattle.std.specs.Prelude.{IfSome, IsTrue, length, pos, slice_index_or, ℕ, ◌<◌, ◌^◌, ◌≡◌, ◌≤ℤ◌, ◌≤◌};
+ghost use Rattle.nearest_point.specs.Problem.{HasSingles, IsProblem, bounds, row_at};
+ghost use Rattle.std.specs.Prelude.{IfOk, IfSome, IsTrue, length, pos, slice_index_or, ℕ, ◌<◌, ◌^◌, ◌≡◌, ◌≤ℤ◌, ◌≤◌};
 ghost use Rattle.point_laws.specs.wide_num.specs.Sums.{nth, total};
 
 use super::{Nearest, guess, nearest, search_all};
@@ -113,6 +113,25 @@ fn have_singles(size: usize, rows: &[Row]) -> bool
     true
 }
 
+// A weight of 1 for each coordinate, with which the conditions of the search are tested.
+fn tested_ones(
+    rt: &impl Abort,
+    alloc: Global,
+    target: &[i128],
+    rows: &[Row],
+) -> Result<Vec<u32>, AllocError>
+    ensures { IfOk result (λ weights. IsProblem target.now weights.items rows.now) }
+{
+    let weights = vec![in alloc; 1u32; target.len()]?;
+    assert!(rt; target.len() <= 6);
+    assert!(rt; are_ones(&weights));
+    assert!(rt; are_targets(MOST, target));
+    assert!(rt; are_bounds(MOST, rows));
+    assert!(rt; have_members(1 << target.len(), rows));
+    assert!(rt; have_singles(target.len(), rows));
+    Ok(weights)
+}
+
 // Tests the conditions of `nearest`, and calls it.
 fn answer(
     rt: &impl Abort,
@@ -120,14 +139,8 @@ fn answer(
     target: &[i128],
     rows: &[Row],
 ) -> Result<Nearest, AllocError> {
-    let weights = vec![in alloc; 1u32; target.len()]?;
+    let weights = tested_ones(rt, alloc, target, rows)?;
     assert!(rt; target.len() >= 1);
-    assert!(rt; target.len() <= 6);
-    assert!(rt; are_ones(&weights));
-    assert!(rt; are_targets(MOST, target));
-    assert!(rt; are_bounds(MOST, rows));
-    assert!(rt; have_members(1 << target.len(), rows));
-    assert!(rt; have_singles(target.len(), rows));
     nearest(alloc, target, &weights, rows)
 }
 
@@ -299,13 +312,7 @@ fn systems_solved(
     target: &[i128],
     rows: &[Row],
 ) -> Result<u32, AllocError> {
-    let weights = vec![in alloc; 1u32; target.len()]?;
-    assert!(rt; target.len() >= 1);
-    assert!(rt; target.len() <= 6);
-    assert!(rt; are_ones(&weights));
-    assert!(rt; are_targets(MOST, target));
-    assert!(rt; are_bounds(MOST, rows));
-    assert!(rt; have_members(1 << target.len(), rows));
+    let weights = tested_ones(rt, alloc, target, rows)?;
     let mut systems = 0;
     search_all(alloc, target, &weights, rows, &mut systems)?;
     Ok(systems)
@@ -347,11 +354,7 @@ fn sets_tried(
     target: &[i128],
     rows: &[Row],
 ) -> Result<u32, AllocError> {
-    let weights = vec![in alloc; 1u32; target.len()]?;
-    assert!(rt; target.len() <= 6);
-    assert!(rt; are_ones(&weights));
-    assert!(rt; are_targets(MOST, target));
-    assert!(rt; are_bounds(MOST, rows));
+    let weights = tested_ones(rt, alloc, target, rows)?;
     let mut sets = 0;
     let found = guess(alloc, target, &weights, rows, &mut sets)?;
     assert!(rt; found.is_some());

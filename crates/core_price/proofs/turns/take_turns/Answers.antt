@@ -7,7 +7,7 @@ use Rattle.nearest_point.specs.auction_model.specs.Prices.{IsUnblocked}
 use Rattle.blocking.specs.declared.look.Block.{Block}
 use Rattle.blocking.specs.Look.{IsBlock}
 use Rattle.blocking.specs.row_laws.specs.Winners.{for_bidders, winners_in}
-use Rattle.core_price.specs.Answers.{IsAnswer}
+use Rattle.nearest_point.specs.Shown.{IsShownNearest}
 use Rattle.core_price.specs.SoFar.{IsSoFar}
 use Rattle.core_price.specs.Turns.{point_of}
 use Rattle.blocking.specs.row_laws.specs.Weights.{weights_in}
@@ -41,8 +41,8 @@ find_block-requires g c =
     let far : IsSoFar m z ws rows choices past = c.turns.invariant.far in
     let near = c.in_ok-near.near in
     let d : to_z w128 (of_z w128 c.in_ok-near.near.den) ≡ c.in_ok-near.near.den = to_z-of_z w128 c.in_ok-near.near.den (search rules) in
-    let answer : IsAnswer prices (weights_in z ws) rows near.den near.at near.first near.second =
-    rw (c.deref.ensures.value, c.deref-in-turns.ensures.value, c.in_ok-own.ensures, c.winners.ensures) at c.in_ok-near.ensures.answer in
+    let answer : IsShownNearest prices (weights_in z ws) rows near.den near.at near.first near.second =
+    rw (c.deref.ensures.value, c.deref-in-turns.ensures.value, c.in_ok-own.ensures, c.winners.ensures) at c.in_ok-near.ensures.shown in
     let spread : c.deref-in-turns-2.result.now ≡ for_bidders z near.at = c.deref-in-turns-2.ensures.value ∙ c.in_ok-at.ensures
     ∙ ap (λ l. for_bidders l c.items.result.now) c.winners-in-turns.ensures ∙ ap (for_bidders z) c.items.ensures in
     let low = at-nonneg m lawful z win prices ws can rows choices past far near.den near.at near.first near.second answer in
@@ -65,8 +65,8 @@ returns-in-Free-clause-ended g c =
     let far : IsSoFar m z ws rows choices past = c.turns.invariant.far in
     let near = c.in_ok-near.near in
     let d : to_z w128 (of_z w128 c.in_ok-near.near.den) ≡ c.in_ok-near.near.den = to_z-of_z w128 c.in_ok-near.near.den (search rules) in
-    let answer : IsAnswer prices (weights_in z ws) rows near.den near.at near.first near.second =
-    rw (c.deref.ensures.value, c.deref-in-turns.ensures.value, c.in_ok-own.ensures, c.winners.ensures) at c.in_ok-near.ensures.answer in
+    let answer : IsShownNearest prices (weights_in z ws) rows near.den near.at near.first near.second =
+    rw (c.deref.ensures.value, c.deref-in-turns.ensures.value, c.in_ok-own.ensures, c.winners.ensures) at c.in_ok-near.ensures.shown in
     let spread : c.deref-in-turns-2.result.now ≡ for_bidders z near.at = c.deref-in-turns-2.ensures.value ∙ c.in_ok-at.ensures
     ∙ ap (λ l. for_bidders l c.items.result.now) c.winners-in-turns.ensures ∙ ap (for_bidders z) c.items.ensures in
     let free : IsUnblocked m z (point_of z near.den near.at) = rw (c.in-Free.is, d, spread) at c.in_ok-last.ensures.free in
@@ -107,8 +107,8 @@ turns-preserved g c =
     let far : IsSoFar m z ws rows choices past = c.turns.invariant.far in
     let near = c.in_ok-near.near in
     let d : to_z w128 (of_z w128 c.in_ok-near.near.den) ≡ c.in_ok-near.near.den = to_z-of_z w128 c.in_ok-near.near.den (search rules) in
-    let answer : IsAnswer prices (weights_in z ws) rows near.den near.at near.first near.second =
-    rw (c.deref.ensures.value, c.deref-in-turns.ensures.value, c.in_ok-own.ensures, c.winners.ensures) at c.in_ok-near.ensures.answer in
+    let answer : IsShownNearest prices (weights_in z ws) rows near.den near.at near.first near.second =
+    rw (c.deref.ensures.value, c.deref-in-turns.ensures.value, c.in_ok-own.ensures, c.winners.ensures) at c.in_ok-near.ensures.shown in
     let spread : c.deref-in-turns-2.result.now ≡ for_bidders z near.at = c.deref-in-turns-2.ensures.value ∙ c.in_ok-at.ensures
     ∙ ap (λ l. for_bidders l c.items.result.now) c.winners-in-turns.ensures ∙ ap (for_bidders z) c.items.ensures in
     let block : IsBlock m z near.den (for_bidders z near.at) c.in-Block.block = rw (c.in-Block.is, d, spread) at c.in_ok-last.ensures.block in
