@@ -1,6 +1,7 @@
 pub mod BookTable
 pub mod Counted
 pub mod Growing
+pub mod Raising
 pub mod SideLines
 pub mod SideValues
 pub mod TableValue

@@ -1,12 +1,12 @@
 // Counting one bid in a line, run by run. In one category, block `q` of a line has the places with `q` lots of that category
 // left, and a bid of `count` lots raises block `q` from block `q - count` of the line below. A block is left out where its
 // corners show that the bid changes nothing in it.
-ghost use Rattle.std.specs.Prelude.{◌≡◌, ℕ, ◌-◌, ◌≤◌, ◌<◌, ◌↔◌, IsTrue, length, slice_index_or, pos, ◌+ℤ◌, ◌≤ℤ◌, unsigned_abs, map};
+ghost use Rattle.std.specs.Prelude.{◌≡◌, ℕ, ◌-◌, ◌<◌, ◌↔◌, IsTrue, length, slice_index_or, pos, ◌+ℤ◌, ◌≤ℤ◌, map};
 ghost use Rattle.choices.specs.auction_model.specs.Package.{is_within};
-ghost use Rattle.choices.specs.auction_model.specs.Place.{states_of, widths_of};
+ghost use Rattle.choices.specs.auction_model.specs.Place.{states_of};
 ghost use Rattle.choices.specs.auction_model.specs.Steps.{raised};
-ghost use Rattle.choices.specs.limits.specs.declared.TheConstants.{MOST_STATES};
 ghost use Rattle.value_table.specs.Growing.{Grows, HasCorners};
+ghost use Rattle.value_table.specs.Raising.{CanRaise, CanRaiseLots};
 
 use crate::amount::Amount;
 use choices::bid_book::lots::{Package, Supply, used_categories};
@@ -20,14 +20,8 @@ fn raise_one<A: Amount>(
     below: &[A],
     worth: A,
 )
-    requires widths { widths.now ≡ widths_of supply.now }
+    requires lots { CanRaiseLots A.number A.most supply.now widths.now counts.now line.old below.now worth }
     requires one { length counts.now ≡ 1 }
-    requires categories { length counts.now ≤ length supply.now }
-    requires states { states_of supply.now ≤ MOST_STATES }
-    requires places { length below.now ≡ states_of supply.now }
-    requires line { length line.old ≡ states_of supply.now }
-    requires worth { unsigned_abs (A.number worth) ≤ A.most }
-    requires sizes { (s : ℕ) → unsigned_abs (slice_index_or (map A.number below.now) s (pos 0)) ≤ A.most }
     ensures { (s : ℕ) → s < length line.old
         → slice_index_or (map A.number line.new) s (pos 0)
         ≡ raised supply.now (map A.number below.now) counts.now (A.number worth) s
@@ -49,14 +43,8 @@ fn raise_two<A: Amount>(
     below: &[A],
     worth: A,
 )
-    requires widths { widths.now ≡ widths_of supply.now }
+    requires lots { CanRaiseLots A.number A.most supply.now widths.now counts.now line.old below.now worth }
     requires two { length counts.now ≡ 2 }
-    requires categories { length counts.now ≤ length supply.now }
-    requires states { states_of supply.now ≤ MOST_STATES }
-    requires places { length below.now ≡ states_of supply.now }
-    requires line { length line.old ≡ states_of supply.now }
-    requires worth { unsigned_abs (A.number worth) ≤ A.most }
-    requires sizes { (s : ℕ) → unsigned_abs (slice_index_or (map A.number below.now) s (pos 0)) ≤ A.most }
     ensures { (s : ℕ) → s < length line.old
         → slice_index_or (map A.number line.new) s (pos 0)
         ≡ raised supply.now (map A.number below.now) counts.now (A.number worth) s
@@ -81,10 +69,8 @@ fn raise_two<A: Amount>(
 /// Whether the lowest entry of a block that a bid may raise, at the place `first` of its lots, is at least the worth with the highest
 /// entry of the block below that it may be raised from. Where neither line falls the bid then changes nothing in the block.
 fn is_reached<A: Amount>(first: usize, line: &[A], below: &[A], worth: A) -> bool
-    requires places { length below.now ≡ length line.now }
+    requires lines { CanRaise A.number A.most (length line.now) line.now below.now worth }
     requires first { first < length line.now }
-    requires worth { unsigned_abs (A.number worth) ≤ A.most }
-    requires sizes { (s : ℕ) → unsigned_abs (slice_index_or (map A.number below.now) s (pos 0)) ≤ A.most }
     ensures { IsTrue result
         ↔ (A.number worth +ℤ slice_index_or (map A.number below.now) (length line.now - 1 - first) (pos 0))
         ≤ℤ slice_index_or (map A.number line.now) first (pos 0) }
@@ -102,15 +88,9 @@ fn raise_block<A: Amount>(
     below: &[A],
     worth: A,
 )
-    requires widths { widths.now ≡ widths_of supply.now }
+    requires lots { CanRaiseLots A.number A.most supply.now widths.now counts.now line.old below.now worth }
     requires some { 0 < length counts.now }
-    requires categories { length counts.now ≤ length supply.now }
     requires corners { HasCorners supply.now counts.now first (map A.number line.old) (map A.number below.now) }
-    requires states { states_of supply.now ≤ MOST_STATES }
-    requires places { length below.now ≡ states_of supply.now }
-    requires line { length line.old ≡ states_of supply.now }
-    requires worth { unsigned_abs (A.number worth) ≤ A.most }
-    requires sizes { (s : ℕ) → unsigned_abs (slice_index_or (map A.number below.now) s (pos 0)) ≤ A.most }
     ensures { (s : ℕ) → s < length line.old
         → slice_index_or (map A.number line.new) s (pos 0)
         ≡ raised supply.now (map A.number below.now) counts.now (A.number worth) s
@@ -145,14 +125,11 @@ fn raise_block<A: Amount>(
 
 /// Counts one more bid that fits in each entry of the line. Neither line falls where more is left.
 pub fn add_bid<A: Amount>(supply: &Supply, line: &mut [A], below: &[A], lots: &Package, worth: A)
-    requires places { length below.now ≡ states_of supply.now }
-    requires line { length line.old ≡ states_of supply.now }
+    requires lines { CanRaise A.number A.most (states_of supply.now) line.old below.now worth }
     requires categories { length lots.now ≡ length supply.now }
     requires fits { IsTrue (is_within lots.now supply.now) }
     requires below_grows { Grows supply.now (map A.number below.now) }
     requires line_grows { Grows supply.now (map A.number line.old) }
-    requires worth { unsigned_abs (A.number worth) ≤ A.most }
-    requires sizes { (s : ℕ) → unsigned_abs (slice_index_or (map A.number below.now) s (pos 0)) ≤ A.most }
     ensures { (s : ℕ) → s < length line.old
         → slice_index_or (map A.number line.new) s (pos 0)
         ≡ raised supply.now (map A.number below.now) lots.now (A.number worth) s

@@ -21,24 +21,12 @@ loop-i-init g c =
     (counted l c.args.j 0) refl refl
     c.requires.below places (λ s h. c.requires.line s (omega (arith, h, length-map below number)))
 
-pub add_bid-requires-clause-sizes : goal.add_bid-requires-clause-sizes
-add_bid-requires-clause-sizes g c =
-    line-within c.args.lowering.now g.A.Amount.most c.requires.range c.args.j (map g.A.Amount.number c.args.below.now) c.requires.below
-
 pub narrowed-worth-requires : goal.narrowed-worth-requires
 narrowed-worth-requires g c =
     let l = c.args.lowering.now in
     let known : c.loop-i.i + 1 ≤ (counted_bids l).bids c.args.j = omega (arith, c.loop-i-test.true, c.bids-i-end.ensures.bids) in
     let wide : SFits w128 c.worth.result = search rules in
     rw (to_z-of_z w128 c.worth.result wide, c.worth.ensures.worth)
-    (worth-within l g.A.Amount.most c.requires.range c.args.j (c.loop-i.i + 1) c.requires.bidder.0 c.requires.bidder.1 known)
-
-pub add_bid-requires-clause-worth : goal.add_bid-requires-clause-worth
-add_bid-requires-clause-worth g c =
-    let l = c.args.lowering.now in
-    let known : c.loop-i.i + 1 ≤ (counted_bids l).bids c.args.j = omega (arith, c.loop-i-test.true, c.bids-i-end.ensures.bids) in
-    let wide : SFits w128 c.worth.result = search rules in
-    rw (c.narrowed-worth.ensures, to_z-of_z w128 c.worth.result wide, c.worth.ensures.worth)
     (worth-within l g.A.Amount.most c.requires.range c.args.j (c.loop-i.i + 1) c.requires.bidder.0 c.requires.bidder.1 known)
 
 pub loop-i-preserved : goal.loop-i-preserved
@@ -80,10 +68,16 @@ add_bid-requires-clause-line_grows g c =
     rw c.supply.ensures.supply
     (part-grows (counted_bids l) (counted l) l.book.now.supply (c.args.j - 1) c.loop-i.i (map g.A.Amount.number c.loop-i.line) c.loop-i.invariant)
 
-pub add_bid-requires-clause-places : goal.add_bid-requires-clause-places
-add_bid-requires-clause-places g c =
-    rw c.supply.ensures.supply (sym (length-map c.args.below.now g.A.Amount.number) ∙ c.requires.below.places)
-
-pub add_bid-requires-clause-line : goal.add_bid-requires-clause-line
-add_bid-requires-clause-line g c =
-    rw c.supply.ensures.supply (sym (length-map c.loop-i.line g.A.Amount.number) ∙ c.loop-i.invariant.places)
+pub add_bid-requires-clause-lines : goal.add_bid-requires-clause-lines
+add_bid-requires-clause-lines g c =
+    let l = c.args.lowering.now in
+    let number = g.A.Amount.number in
+    let known : c.loop-i.i + 1 ≤ (counted_bids l).bids c.args.j = omega (arith, c.loop-i-test.true, c.bids-i-end.ensures.bids) in
+    let wide : SFits w128 c.worth.result = search rules in
+    record {
+      line = rw c.supply.ensures.supply (sym (length-map c.loop-i.line number) ∙ c.loop-i.invariant.places);
+      places = rw c.supply.ensures.supply (sym (length-map c.args.below.now number) ∙ c.requires.below.places);
+      worth = rw (c.narrowed-worth.ensures, to_z-of_z w128 c.worth.result wide, c.worth.ensures.worth)
+          (worth-within l g.A.Amount.most c.requires.range c.args.j (c.loop-i.i + 1) c.requires.bidder.0 c.requires.bidder.1 known);
+      sizes = line-within l g.A.Amount.most c.requires.range c.args.j (map number c.args.below.now) c.requires.below;
+    }

@@ -1,4 +1,5 @@
-use Rattle.std.proofs.Common.{◌≡◌, ◌∙◌, ap, get_or, map, take, pos}
+use Rattle.std.proofs.Common.{◌≡◌, ◌∙◌, ap, arith, get_or, map, take, pos}
+use Rattle.std.proofs.lemmas.List.{length-take}
 use Rattle.choices.specs.auction_model.specs.Package.{IsNothingFrom}
 use Rattle.choices.specs.auction_model.specs.Steps.{raised}
 use Rattle.choices.specs.auction_model.proofs.TrimLaws.{raised-trim}
@@ -33,5 +34,14 @@ raise_block-requires-clause-corners g c =
       below_grows = c.requires.below_grows;
     }))
 
-pub raise_block-requires-clause-states : goal.raise_block-requires-clause-states
-raise_block-requires-clause-states g c = rw c.counts-radices.ensures.counts c.counts-radices.ensures.kept.states
+pub raise_block-requires-clause-lots : goal.raise_block-requires-clause-lots
+raise_block-requires-clause-lots g c =
+    let used = c.used_categories-used.result in
+    let counts = c.counts-counts.result.now in
+    record {
+      widths = rw c.counts-radices.ensures.counts c.widths.ensures;
+      categories = rw (c.counts-radices.ensures.counts, c.counts-counts.ensures)
+          (omega (arith, c.requires.categories, length-take used c.args.lots.now));
+      states = rw c.counts-radices.ensures.counts c.counts-radices.ensures.kept.states;
+      lines = rw c.counts-radices.ensures.counts c.requires.lines;
+    }

@@ -11,19 +11,19 @@ pub overflow_mul-from : goal.overflow_mul-from
 overflow_mul-from g c =
     let width : get_or c.args.widths.now 0 0 ≤ 16384 = omega (
       arith,
-      ap (λ (l : List ℕ). get_or l 0 0) c.requires.widths,
+      ap (λ (l : List ℕ). get_or l 0 0) c.requires.lots.widths,
       width-first c.args.supply.now (omega arith),
       width-at_most c.args.supply.now (omega arith),
     ) in
     omega (arith, mul-le (get_or c.args.counts.now 0 0) (get_or c.args.widths.now 0 0) 65536 16384 (omega (arith, c.type_inv.counts 0)) width)
 
 pub bounds-widths-0 : goal.bounds-widths-0
-bounds-widths-0 g c = rw c.requires.widths (omega (arith, widths-count c.args.supply.now))
+bounds-widths-0 g c = rw c.requires.lots.widths (omega (arith, widths-count c.args.supply.now))
 
 pub raise_run-requires-clause-sizes : goal.raise_run-requires-clause-sizes
 raise_run-requires-clause-sizes g c =
     small-numbers g.A.Amount.number c.args.below.now 0 (length c.args.line.now - get_or c.args.counts.now 0 0 * get_or c.args.widths.now 0 0) g.A.Amount.most
-    c.requires.sizes
+    c.requires.lots.lines.sizes
 
 pub returns-then-from-all : goal.returns-then-from-all
 returns-then-from-all g c =
@@ -33,7 +33,7 @@ returns-then-from-all g c =
     let made = c.raise_run.new.line in
     let start = get_or c.args.counts.now 0 0 * get_or c.args.widths.now 0 0 in
     let k = length line - start in
-    let width : get_or c.args.widths.now 0 0 ≡ states_of (drop 1 supply) = ap (λ (l : List ℕ). get_or l 0 0) c.requires.widths
+    let width : get_or c.args.widths.now 0 0 ≡ states_of (drop 1 supply) = ap (λ (l : List ℕ). get_or l 0 0) c.requires.lots.widths
     ∙ width-first supply (omega arith) in
     let start_is : start ≡ get_or c.args.counts.now 0 0 * states_of (drop 1 supply) = ap (λ n. get_or c.args.counts.now 0 0 * n) width in
     let whole : length (drop start line) ≡ k = length-drop start line in
@@ -49,14 +49,15 @@ returns-then-from-all g c =
     ∙ ap (λ z. int_max (get_or (map number line) (start + i) (pos 0)) (number c.args.worth +ℤ z)) (read-first number c.args.below.now k i h) in
     λ s h. read-put number start k line made s
     ∙ run-back supply c.args.counts.now (map number c.args.below.now) (map number line) (map number made) (number c.args.worth) c.requires.one (omega arith)
-    (same ∙ c.requires.line) start k start_is (omega (arith, same)) (omega (arith, same)) (length-map made number ∙ count) call s (omega (arith, same, h))
+    (same ∙ c.requires.lots.lines.line) start k start_is (omega (arith, same)) (omega (arith, same)) (length-map made number ∙ count) call s
+    (omega (arith, same, h))
 
 pub returns-else-from-all : goal.returns-else-from-all
 returns-else-from-all g c =
     let number = g.A.Amount.number in
-    let width : get_or c.args.widths.now 0 0 ≡ states_of (drop 1 c.args.supply.now) = ap (λ (l : List ℕ). get_or l 0 0) c.requires.widths
+    let width : get_or c.args.widths.now 0 0 ≡ states_of (drop 1 c.args.supply.now) = ap (λ (l : List ℕ). get_or l 0 0) c.requires.lots.widths
     ∙ width-first c.args.supply.now (omega arith) in
     λ s h.
     let low : s < get_or c.args.counts.now 0 0 * get_or c.args.widths.now 0 0 = omega arith in
     sym (raised-before c.args.supply.now c.args.counts.now (map number c.args.below.now) (number c.args.worth) s
-    (get_or (map number c.args.line.now) s (pos 0)) (omega (arith, c.requires.one)) c.requires.categories (rw width at low))
+    (get_or (map number c.args.line.now) s (pos 0)) (omega (arith, c.requires.one)) c.requires.lots.categories (rw width at low))

@@ -1,0 +1,19 @@
+-- What is asked where one more bid is counted in a line.
+use Rattle.std.specs.Prelude.{◌≡◌, ℕ, ◌≤◌, List, length, map, slice_index_or, ℤ, pos, unsigned_abs}
+use Rattle.choices.specs.auction_model.specs.Place.{states_of, widths_of}
+use Rattle.choices.specs.limits.specs.declared.TheConstants.{MOST_STATES}
+
+-- a line and the line below it have so many places, and the worth and the numbers of the line below are so small that a sum of both
+-- is a number of their size
+pub record CanRaise {A : Type 0} (number : A → ℤ) (most states : ℕ) (own rest : List A) (amount : A) : Type 0 where
+  pub line : length own ≡ states
+  pub places : length rest ≡ states
+  pub worth : unsigned_abs (number amount) ≤ most
+  pub sizes : (s : ℕ) → unsigned_abs (slice_index_or (map number rest) s (pos 0)) ≤ most
+
+-- the same of the lines of a supply, for lots of its first categories
+pub record CanRaiseLots {A : Type 0} (number : A → ℤ) (most : ℕ) (supply spans lots : List ℕ) (own rest : List A) (amount : A) : Type 0 where
+  pub widths : spans ≡ widths_of supply
+  pub categories : length lots ≤ length supply
+  pub states : states_of supply ≤ MOST_STATES
+  pub lines : CanRaise number most (states_of supply) own rest amount
