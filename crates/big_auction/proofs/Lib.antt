@@ -2,6 +2,7 @@ pub mod Forward
 pub mod Drawing
 pub mod PriceBounds
 pub mod AwardLaw
+mod AwardRead
 pub mod ClockRounds
 pub mod Caps
 pub mod SealedRound

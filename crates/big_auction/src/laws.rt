@@ -3,10 +3,12 @@ ghost use Rattle.std.specs.Prelude.{◌≡◌, ◌≤◌, ℕ, IsTrue, List, rev
 ghost use Rattle.row_laws.specs.auction_model.specs.Book.{market_of};
 ghost use Rattle.clock_stage.specs.auction_rules.specs.BookOfLog.{book_of_log, is_complete};
 ghost use Rattle.clock_stage.specs.award_file.specs.Award.{IsAward};
+ghost use Rattle.clock_stage.specs.award_file.specs.Reading.{reading, states};
 ghost use Rattle.row_laws.specs.Winners.{winners_in};
 ghost use Rattle.log_file.specs.LogReading.{AreLog, log_records};
 ghost use Rattle.big_auction.specs.Answered.{AreAnsweredOk};
 ghost use Rattle.big_auction.specs.LogText.{log_text};
+ghost use Rattle.big_auction.specs.AwardText.{made_award_text};
 ghost use Rattle.big_auction.specs.MadeAward.{made_terms};
 ghost use Rattle.big_auction.specs.MadeLog.{made_log};
 
@@ -15,6 +17,11 @@ use log_file::written_log;
 /// The made award keeps all rules and limits of an award.
 pub fn lawful_award()
     ensures { IsAward made_terms }
+{}
+
+/// The text of the made award is read as its terms.
+pub fn stated_award()
+    ensures { reading made_award_text ≡ states made_terms }
 {}
 
 /// The text of the log of any number is read as its lines: each record states the line at its place.

@@ -10,6 +10,6 @@ mod prices;
 mod values;
 
 pub use clock_stage;
-pub use laws::{answered_log, few_winners, lawful_award, stated_log};
+pub use laws::{answered_log, few_winners, lawful_award, stated_award, stated_log};
 pub use log_file;
 pub use made::{Made, make};

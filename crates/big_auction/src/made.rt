@@ -12,7 +12,7 @@ ghost use Rattle.big_auction.specs.Parts.{counts_of, figures_of, full_rounds_for
 
 use crate::award::award_text;
 use crate::draws::Draws;
-use crate::laws::{answered_log, few_winners, lawful_award, stated_log};
+use crate::laws::{answered_log, few_winners, lawful_award, stated_award, stated_log};
 use crate::lines::{Bidder, add_bid, add_bidder, add_bids, add_close};
 use crate::prices::{final_prices, last_package};
 use crate::values::{BIDDERS, FULL_ROUNDS, Figures, Lots, STAYING, WIDEST};
@@ -33,9 +33,9 @@ pub struct Made {
     pub lines: u64,
 }
 
-/// The auction of a number: the bytes of its award and of its log, each a function of the number alone. The award is lawful, the
-/// log is read as its lines, each of them is answered Ok, the log is complete, and at most four bidders can win. The only error is want
-/// of memory.
+/// The auction of a number: the bytes of its award and of its log, each a function of the number alone. The award is lawful and read as
+/// its terms, the log is read as its lines, each of them is answered Ok, the log is complete, and at most four bidders can win. The only
+/// error is want of memory.
 pub fn make(alloc: Global, number: u32) -> Result<Made, AllocError>
     ensures award { IfOk result (λ made. made.award ≡ made_award_text) }
     ensures log { IfOk result (λ made. made.log ≡ log_text (made_log number)) }
@@ -43,6 +43,7 @@ pub fn make(alloc: Global, number: u32) -> Result<Made, AllocError>
     ensures auction { IfOk result (λ made. IsMadeAuction number) }
 {
     lawful_award();
+    stated_award();
     stated_log();
     answered_log();
     few_winners();

@@ -34,6 +34,7 @@ returns-clause-lines c = log-length c.args.number
 pub returns-clause-auction : goal.returns-clause-auction
 returns-clause-auction c = record {
   lawful = c.lawful_award.ensures;
+  stated = c.stated_award.ensures;
   read = c.stated_log.ensures c.args.number;
   answered = c.answered_log.ensures.answered c.args.number;
   complete = c.answered_log.ensures.complete c.args.number;
