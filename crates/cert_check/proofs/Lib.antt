@@ -12,7 +12,6 @@ pub mod PartLines
 pub mod LoweredLines
 pub mod Blocks
 pub mod CornerLaws
-pub mod CoarseLaws
 pub mod Gains
 pub mod Written
 pub mod FieldLaws

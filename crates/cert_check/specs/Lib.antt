@@ -9,7 +9,6 @@ pub mod Faults
 pub mod Narrow
 pub mod Growth
 pub mod Corners
-pub mod Coarse
 pub mod Worths
 pub mod LineTests
 pub mod EarlierBids

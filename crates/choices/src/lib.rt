@@ -3,6 +3,7 @@
 
 mod choice;
 mod chooser;
+pub mod coarse;
 mod grid;
 mod judging;
 mod listing;

@@ -1,6 +1,6 @@
 // What one bid asks of a line of a table.
 ghost use Rattle.std.specs.Prelude.{◌≡◌, ℕ, ◌^◌, ◌<◌, ◌≤◌, true, length, slice_index_or, pos, unsigned_abs};
-ghost use Rattle.cert_check.specs.Coarse.{AreCoarse};
+ghost use Rattle.cert_text.specs.choices.specs.Coarse.{AreCoarse};
 ghost use Rattle.cert_check.specs.Narrow.{AreNarrow};
 
 /// A line of a table and the line below it. Where `is_narrow` says so both stand in 64 bits too, and so small that no sum of four
@@ -42,15 +42,4 @@ pub struct NarrowRule {
     pub worth: i64,
     pub grow: bool,
     pub ghost small: { unsigned_abs worth ≤ 2 ^ 60 },
-}
-
-/// What a bid is worth in units of `2^shift`, rounded up. The mask names the places where it fits in a block of the last `level`
-/// categories of its package.
-#[derive(Drop)]
-pub struct CoarseRule<'a> {
-    pub worth: u16,
-    pub shift: u32,
-    pub level: usize,
-    pub mask: &'a [u16],
-    pub ghost small: { worth < 2 ^ 15 },
 }

@@ -6,8 +6,8 @@ use Rattle.cert_laws.specs.auction_model.proofs.RunLaws.{width-first, widths-cou
 use Rattle.cert_check.specs.Corners.{HasCorners}
 use Rattle.cert_check.proofs.Blocks.{tail-whole, tail-length, digit-room}
 use Rattle.cert_check.proofs.CornerLaws.{corner-keeps, corners-part, part-small, parts-more, parts-keep}
-use Rattle.cert_check.specs.Coarse.{AreCoarse, HasMask}
-use Rattle.cert_check.proofs.CoarseLaws.{coarse-part, coarse-keeps, mask-down, mask-here}
+use Rattle.cert_text.specs.choices.specs.Coarse.{AreCoarse, HasMask}
+use Rattle.cert_text.specs.choices.proofs.CoarseLaws.{coarse-part, coarse-keeps, mask-down, mask-here}
 use Rattle.cert_check.proofs.tables.coarse.+coarse_holds.Goals as goal
 
 pub bounds-widths-0 : goal.bounds-widths-0
@@ -24,19 +24,19 @@ returns-then-is_reached t c = λ _.
     (length c.args.line.now) c.args.rule.now.grow c.args.line.now c.args.below.now c.args.rule.now.worth c.requires.corners reached.0 c.requires.places
     reached.1
 
-pub mask_holds-requires-clause-first : goal.mask_holds-requires-clause-first
-mask_holds-requires-clause-first t c = omega
+pub is_covered-requires-clause-first : goal.is_covered-requires-clause-first
+is_covered-requires-clause-first t c = omega
     (arith, c.requires.corners.place, c.requires.places, c.requires.coarse.places, place-below c.args.supply.now c.args.lots.now c.requires.corners.fits)
 
-pub returns-then-mask_holds : goal.returns-then-mask_holds
-returns-then-mask_holds t c = λ _.
+pub returns-then-is_covered : goal.returns-then-is_covered
+returns-then-is_covered t c = λ _.
     let coarse = c.args.coarse.now in
     let supply = c.args.supply.now in
     let lots = c.args.lots.now in
     coarse-keeps (2 ^ coarse.shift) supply lots c.args.first coarse.worth c.args.line.now c.args.below.now c.args.low.now c.args.high.now coarse.mask.now
     c.args.rule.now.worth
-    c.requires.corners.place c.requires.places c.requires.below c.requires.coarse c.requires.worth
-    (mask-here coarse.level supply lots coarse.mask.now c.requires.some c.if-lots-coarse.true c.requires.mask) (c.mask_holds.ensures c.if-mask_holds.true)
+    c.requires.corners.place c.requires.places c.requires.below c.requires.coarse coarse.some c.requires.worth
+    (mask-here coarse.level supply lots coarse.mask.now c.requires.some c.if-lots-coarse.true c.requires.mask) (c.is_covered.ensures c.if-is_covered.true)
 
 pub loop-block-init : goal.loop-block-init
 loop-block-init t c = record {

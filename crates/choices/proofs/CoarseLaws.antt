@@ -1,18 +1,18 @@
 -- Lines in units, their parts, and masks.
 use Rattle.std.specs.Prelude.{◌≡◌, ℕ, suc, ◌+◌, ◌-◌, ◌*◌, ◌/◌, ◌%◌, ◌^◌, ◌≤◌, ◌<◌, nat_le, List, [], ◌∷◌, length, get_or, take, drop, ℤ, pos, ◌+ℤ◌, ◌≤ℤ◌}
+use Rattle.std.specs.Prelude.{IsTrue}
 use Rattle.std.proofs.Common.{sym, ◌∙◌, ap, subst, arith}
 use Rattle.std.proofs.lemmas.Bool.{and_parts, leb-true}
 use Rattle.std.proofs.lemmas.Int.{ints}
 use Rattle.std.proofs.lemmas.List.{length-drop, length-take-le, get_or-take, get_or-drop}
 use Rattle.std.proofs.lemmas.Nat.{div_below, mod_below, div-add-mod', mul-le}
 use Rattle.std.proofs.Math.Nat.{le-div_iff_mul-le}
-use Rattle.cert_laws.specs.auction_model.specs.Package.{is_within}
-use Rattle.cert_laws.specs.auction_model.specs.Place.{states_of, place_of, left_at}
-use Rattle.cert_laws.specs.auction_model.proofs.PlaceLaws.{states-positive, place-less}
-use Rattle.cert_laws.specs.auction_model.proofs.PartReads.{read-part}
-use Rattle.cert_laws.specs.wide_num.specs.Sums.{nth}
-use Rattle.cert_check.specs.Coarse.{AreCoarse, HasMask, IsCeiling, IsFloor, Marks}
-use Rattle.cert_check.specs.Corners.{KeepsBlock}
+use Rattle.bid_book.specs.auction_model.specs.Package.{is_within}
+use Rattle.bid_book.specs.auction_model.specs.Place.{states_of, place_of, left_at}
+use Rattle.bid_book.specs.auction_model.proofs.PlaceLaws.{states-positive, place-less}
+use Rattle.bid_book.specs.auction_model.proofs.PartReads.{read-part}
+use Rattle.bid_book.specs.wide_num.specs.Sums.{nth}
+use Rattle.choices.specs.Coarse.{AreCoarse, HasMask, IsCeiling, IsFloor, Marks}
 
 -- a number of a part of a list
 pub read-units : (xs : List ℕ) (from n i : ℕ) → i < n → get_or (take n (drop from xs)) i 0 ≡ get_or xs (from + i) 0
@@ -27,10 +27,11 @@ units-length xs from n room = let long = length-drop from xs in length-take-le n
 
 floor-part : (unit : ℕ) (line : List ℤ) (low : List ℕ) (a k : ℕ) → a + k ≤ length line → IsFloor unit line low
     → IsFloor unit (take k (drop a line)) (take k (drop a low))
-floor-part unit line low a k room floor s inside =
+floor-part unit line low a k room floor s inside some =
     let long = part-length line a k room in
     let lt : s < k = omega (arith, inside, long) in
-    rw (read-units low a k s lt, read-part line a k s lt) (floor (a + s) (omega (arith, lt, room)))
+    let any : 0 < get_or low (a + s) 0 = rw (read-units low a k s lt) at some in
+    rw (read-units low a k s lt, read-part line a k s lt) (floor (a + s) (omega (arith, lt, room)) any)
 
 ceiling-part : (unit : ℕ) (line : List ℤ) (high : List ℕ) (a k : ℕ) → a + k ≤ length line → IsCeiling unit line high
     → IsCeiling unit (take k (drop a line)) (take k (drop a high))
@@ -135,21 +136,24 @@ units-keep unit h w l above worth own test over size floor =
     let apart : (h + w) * unit ≡ h * unit + w * unit = omega arith in
     omega (arith, ints, product, apart, over, size, floor)
 
--- a block keeps the rule where it does so in units at each place that its mask names
+-- a block has the worth and what the line below has wherever the package fits, where it does so in units at each place that its
+-- mask names
 pub coarse-keeps : (unit : ℕ) (supply p : List ℕ) (first w : ℕ) (line below : List ℤ) (low high mask : List ℕ) (worth : ℤ)
     → first ≡ place_of supply p → length line ≡ states_of supply → length below ≡ states_of supply → AreCoarse unit line below low high
-    → worth ≤ℤ pos (w * unit) → Marks supply p mask
+    → 0 < w → worth ≤ℤ pos (w * unit) → Marks supply p mask
     → ((s : ℕ) → first + s < length low → get_or mask (first + s) 0 ≡ 2 ^ 16 - 1 → get_or high s 0 + w ≤ get_or low (first + s) 0)
-    → KeepsBlock supply p line below worth
-coarse-keeps unit supply p first w line below low high mask worth is places places_below c size marks test n inside fits =
+    → (n : ℕ) → n < states_of supply → IsTrue (is_within p (left_at supply n)) → (worth +ℤ nth below (n - place_of supply p)) ≤ℤ nth line n
+coarse-keeps unit supply p first w line below low high mask worth is places places_below c some size marks test n inside fits =
     let up : place_of supply p ≤ n = omega (arith, place-less supply p n inside fits) in
     let s = n - first in
     let n_is : first + s ≡ n = omega (arith, is, up) in
     let lies : first + s < length low = omega (arith, n_is, inside, places, c.places) in
     let named : get_or mask (first + s) 0 ≡ 2 ^ 16 - 1 = ap (λ (m : ℕ). get_or mask m 0) n_is ∙ marks n inside fits in
-    let own : pos (get_or low (first + s) 0 * unit) ≤ℤ nth line (first + s) = c.floor (first + s) (omega (arith, n_is, inside, places)) in
+    let enough : get_or high s 0 + w ≤ get_or low (first + s) 0 = test s lies named in
+    let any : 0 < get_or low (first + s) 0 = omega (arith, enough, some) in
+    let own : pos (get_or low (first + s) 0 * unit) ≤ℤ nth line (first + s) = c.floor (first + s) (omega (arith, n_is, inside, places)) any in
     let rest : nth below s ≤ℤ pos (get_or high s 0 * unit) = c.ceiling.above s (omega (arith, inside, places_below)) in
-    let keeps = units-keep unit (get_or high s 0) w (get_or low (first + s) 0) (nth below s) worth (nth line (first + s)) (test s lies named) rest size own in
+    let keeps = units-keep unit (get_or high s 0) w (get_or low (first + s) 0) (nth below s) worth (nth line (first + s)) enough rest size own in
     let line_is : nth line (first + s) ≡ nth line n = ap (nth line) n_is in
     let below_is : nth below s ≡ nth below (n - place_of supply p) = ap (λ (m : ℕ). nth below (n - m)) is in
     omega (arith, ints, keeps, line_is, below_is)

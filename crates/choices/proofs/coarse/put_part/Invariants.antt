@@ -1,5 +1,5 @@
 use Rattle.std.proofs.Common.{◌≡◌, ◌<◌, ◌+◌, ℕ, get_or, length}
-use Rattle.cert_check.proofs.tables.coarse.put_part.Given as goal
+use Rattle.choices.proofs.coarse.put_part.Given as goal
 
 abbrev pub invariant-loop-i : goal.invariant-loop-i
 invariant-loop-i l = record {

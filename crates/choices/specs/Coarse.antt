@@ -1,12 +1,12 @@
 -- Lines in 16 bits, as whole numbers of a unit.
 use Rattle.std.specs.Prelude.{◌≡◌, ℕ, ◌-◌, ◌*◌, ◌^◌, ◌≤◌, ◌<◌, IsTrue, List, length, get_or, drop, ℤ, pos, ◌≤ℤ◌}
-use Rattle.cert_laws.specs.auction_model.specs.Package.{is_within}
-use Rattle.cert_laws.specs.auction_model.specs.Place.{states_of, left_at}
-use Rattle.cert_laws.specs.wide_num.specs.Sums.{nth}
+use Rattle.bid_book.specs.auction_model.specs.Package.{is_within}
+use Rattle.bid_book.specs.auction_model.specs.Place.{states_of, left_at}
+use Rattle.bid_book.specs.wide_num.specs.Sums.{nth}
 
--- none of these units is above the number of the line
+-- where there are any of these units, they aren't above the number of the line
 abbrev pub IsFloor : ℕ → List ℤ → List ℕ → Type 0
-IsFloor unit line low = (s : ℕ) → s < length line → pos (get_or low s 0 * unit) ≤ℤ nth line s
+IsFloor unit line low = (s : ℕ) → s < length line → 0 < get_or low s 0 → pos (get_or low s 0 * unit) ≤ℤ nth line s
 
 -- none of these units is below the number of the line, and none is so large that a sum of two leaves 16 bits
 pub record IsCeiling (unit : ℕ) (line : List ℤ) (high : List ℕ) : Type 0 where

@@ -1,5 +1,5 @@
 use Rattle.std.proofs.Common.{◌≡◌, ◌≤◌, ◌<◌, ◌+◌, ◌*◌, ℕ, get_or, length}
-use Rattle.cert_check.proofs.tables.coarse.put_parts.Given as goal
+use Rattle.choices.proofs.coarse.put_parts.Given as goal
 
 abbrev pub invariant-loop-block : goal.invariant-loop-block
 invariant-loop-block l = record {

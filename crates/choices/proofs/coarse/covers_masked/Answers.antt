@@ -1,7 +1,7 @@
 use Rattle.std.proofs.Common.{◌≡◌, ◌∙◌, ℕ, ◌+◌, ◌-◌, ◌^◌, ◌≤◌, ◌%◌, inl, inr, ap, sym, subst, arith, get_or, bit_and}
 use Rattle.std.proofs.lemmas.Bool.{cases_lt}
 use Rattle.std.proofs.lemmas.Nat.{and_mask, le_or_l, le_or_r}
-use Rattle.cert_check.proofs.tables.coarse.covers_masked.Goals as goal
+use Rattle.choices.proofs.coarse.covers_masked.Goals as goal
 
 pub loop-i-preserved : goal.loop-i-preserved
 loop-i-preserved c = λ none s low named.

@@ -1,11 +1,10 @@
 use Rattle.std.proofs.Common.{◌≡◌, ◌∙◌, ℕ, ◌+◌, ◌*◌, ◌≤◌, ◌<◌, ap, sym, arith, length, get_or, take, drop, List}
-use Rattle.std.proofs.lemmas.List.{length-take-le, get_or-take}
-use Rattle.cert_laws.specs.auction_model.specs.Place.{states_of}
-use Rattle.cert_laws.specs.auction_model.proofs.RunLaws.{width-first, widths-count, width-at_most}
-use Rattle.cert_check.specs.Coarse.{Marks}
-use Rattle.cert_check.proofs.Blocks.{tail-whole}
-use Rattle.cert_check.proofs.CoarseLaws.{marks-run, marks-parts}
-use Rattle.cert_check.proofs.tables.coarse.+put_mask.Goals as goal
+use Rattle.std.proofs.lemmas.List.{length-take-le, get_or-take, take_rest}
+use Rattle.bid_book.specs.auction_model.specs.Place.{states_of}
+use Rattle.bid_book.specs.auction_model.proofs.RunLaws.{width-first, widths-count, width-at_most}
+use Rattle.choices.specs.Coarse.{Marks}
+use Rattle.choices.proofs.CoarseLaws.{marks-run, marks-parts}
+use Rattle.choices.proofs.coarse.+put_mask.Goals as goal
 
 pub bounds-widths-0 : goal.bounds-widths-0
 bounds-widths-0 t c = rw c.requires.widths (omega (arith, widths-count c.args.supply.now, c.requires.some, c.requires.categories))
@@ -30,7 +29,7 @@ returns-clause-marks t c =
     let width : W ≡ states_of (drop 1 supply) = ap (λ (l : List ℕ). get_or l 0 0) c.requires.widths ∙ width-first supply some in
     let room : W ≤ length part = omega (arith, width, width-at_most supply some, c.requires.room, c.put_mask.ensures.places) in
     let long : length (take W part) ≡ W = length-take-le W part room in
-    let marks : Marks (drop 1 supply) (drop 1 lots) part = rw (tail-whole supply, tail-whole lots) at c.put_mask.ensures.marks in
+    let marks : Marks (drop 1 supply) (drop 1 lots) part = rw (take_rest supply 1, take_rest lots 1) at c.put_mask.ensures.marks in
     marks-parts supply lots part c.put_parts.new.mask W c.requires.some c.requires.categories width marks
     (λ q i from to low.
     let inside : i < length (take W part) = omega (arith, long, low) in

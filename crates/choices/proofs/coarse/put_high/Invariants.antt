@@ -1,6 +1,6 @@
 use Rattle.std.proofs.Common.{◌≡◌, ◌≤◌, ◌<◌, ◌*◌, ◌^◌, ℕ, get_or, length, pos, ◌≤ℤ◌}
-use Rattle.cert_laws.specs.wide_num.specs.Sums.{nth}
-use Rattle.cert_check.proofs.tables.coarse.put_high.Given as goal
+use Rattle.bid_book.specs.wide_num.specs.Sums.{nth}
+use Rattle.choices.proofs.coarse.put_high.Given as goal
 
 abbrev pub invariant-loop-i : goal.invariant-loop-i
 invariant-loop-i l = record {
