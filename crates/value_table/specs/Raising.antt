@@ -1,6 +1,7 @@
 -- What is asked where one more bid is counted in a line.
-use Rattle.std.specs.Prelude.{◌≡◌, ℕ, ◌≤◌, List, length, map, slice_index_or, ℤ, pos, unsigned_abs}
+use Rattle.std.specs.Prelude.{◌≡◌, ℕ, ◌≤◌, ◌<◌, ◌^◌, IfSome, List, Option, length, map, slice_index_or, ℤ, pos, unsigned_abs}
 use Rattle.choices.specs.auction_model.specs.Place.{states_of, widths_of}
+use Rattle.choices.specs.Coarse.{AreCoarse}
 use Rattle.choices.specs.limits.specs.declared.TheConstants.{MOST_STATES}
 
 -- a line and the line below it have so many places, and the worth and the numbers of the line below are so small that a sum of both
@@ -17,3 +18,14 @@ pub record CanRaiseLots {A : Type 0} (number : A → ℤ) (most : ℕ) (supply s
   pub categories : length lots ≤ length supply
   pub states : states_of supply ≤ MOST_STATES
   pub lines : CanRaise number most (states_of supply) own rest amount
+
+-- a line and the line below it stand in units of 2^shift too
+pub record AreInUnits {A : Type 0} (number : A → ℤ) (shift : ℕ) (own rest : List A) (low high : List ℕ) : Type 0 where
+  pub small : shift < 64
+  pub coarse : AreCoarse (2 ^ shift) (map number own) (map number rest) low high
+  pub places : length low ≡ length own
+  pub places_below : length high ≡ length rest
+
+-- they do where there is a shift
+abbrev pub MayBeInUnits : {A : Type 0} → (A → ℤ) → Option ℕ → List A → List A → List ℕ → List ℕ → Type 0
+MayBeInUnits number shift own rest low high = IfSome shift (λ k. AreInUnits number k own rest low high)

@@ -1,6 +1,9 @@
 // The numbers of a line, in the two sizes in which lines are worked out.
-ghost use Rattle.std.specs.Prelude.{◌≡◌, ℕ, ◌^◌, ◌≤◌, ◌<◌, ◌↔◌, IsTrue, length, slice_index_or, ℤ, pos, ◌+ℤ◌, ◌≤ℤ◌, unsigned_abs, map};
+ghost use Rattle.std.specs.Prelude.{◌≡◌, ℕ, ◌*◌, ◌^◌, ◌≤◌, ◌<◌, ◌↔◌, IsTrue, length, slice_index_or, ℤ, pos, ◌+ℤ◌, ◌≤ℤ◌, unsigned_abs, map};
 ghost use Rattle.std.specs.Int.{int_max};
+ghost use Rattle.choices.specs.Coarse.{IsCeiling, IsFloor};
+
+use choices::coarse;
 
 /// A number of a line, so that lines of each size are worked out and read by the same functions.
 pub trait Amount: Copy {
@@ -42,6 +45,26 @@ pub trait Amount: Copy {
             → slice_index_or (map number line.new) s (pos 0)
             ≡ int_max (slice_index_or (map number line.old) s (pos 0))
             (number worth +ℤ slice_index_or (map number below.now) s (pos 0)) };
+
+    /// The numbers of a line in units of `2^shift`, rounded down.
+    fn put_low(low: &mut [u16], line: &[Self], shift: u32)
+        requires places { length low.old ≡ length line.now }
+        requires shift { shift < 64 }
+        ensures floor { IsFloor (2 ^ shift) (map number line.now) low.new }
+        ensures places { length low.new ≡ length line.now };
+
+    /// The same rounded up, and whether numbers of this size have such units. Those of 128 bits are never tested in 16.
+    fn put_high(high: &mut [u16], line: &[Self], shift: u32) -> bool
+        requires places { length high.old ≡ length line.now }
+        requires shift { shift < 64 }
+        ensures ceiling { IsTrue result → IsCeiling (2 ^ shift) (map number line.now) high.new }
+        ensures places { length high.new ≡ length line.now };
+
+    /// A worth in units of `2^shift`, rounded up, or 0 where it has none.
+    fn worth_units(worth: Self, shift: u32) -> u16
+        requires { shift < 64 }
+        ensures small { result < 2 ^ 15 }
+        ensures size { 0 < result → number worth ≤ℤ pos (result * 2 ^ shift) };
 }
 
 /// The number of a line at a place, in 128 bits.
@@ -83,6 +106,20 @@ impl Amount for i128 {
             }
         }
     }
+
+    fn put_low(low: &mut [u16], _line: &[i128], _shift: u32) {
+        for i in 0..low.len() {
+            low[i] = 0;
+        }
+    }
+
+    fn put_high(_high: &mut [u16], _line: &[i128], _shift: u32) -> bool {
+        false
+    }
+
+    fn worth_units(_worth: i128, _shift: u32) -> u16 {
+        0
+    }
 }
 
 impl Amount for i64 {
@@ -112,5 +149,17 @@ impl Amount for i64 {
         for i in 0..line.len() {
             line[i] = line[i].max(worth + below[i]);
         }
+    }
+
+    fn put_low(low: &mut [u16], line: &[i64], shift: u32) {
+        coarse::put_low(low, line, shift);
+    }
+
+    fn put_high(high: &mut [u16], line: &[i64], shift: u32) -> bool {
+        coarse::put_high(high, line, shift)
+    }
+
+    fn worth_units(worth: i64, shift: u32) -> u16 {
+        coarse::worth_units(worth, shift)
     }
 }

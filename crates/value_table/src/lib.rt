@@ -10,9 +10,11 @@ mod runs;
 mod side_lines;
 mod sides;
 mod table;
+mod tested;
 mod tracing;
 mod turn_lines;
 mod turn_table;
+mod units;
 
 pub use book_chooser::BookChooser;
 pub use choices;

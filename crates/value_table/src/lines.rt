@@ -8,8 +8,9 @@ ghost use Rattle.value_table.specs.Counted.{counted_bids, counted, IsWithin, IsC
 use crate::amount::Amount;
 use crate::lowering::Lowering;
 use crate::narrow::{narrow_into, narrowed, widen_into, widened};
-use crate::runs::add_bid;
+use crate::tested::add_bid;
 use crate::tracing::line_at;
+use crate::units::put_units;
 use choices::Grid;
 use choices::bid_book::line_text::wide_num::NumList;
 use std::alloc::{AllocError, Global};
@@ -30,8 +31,15 @@ fn add_idle<A: Amount>(lowering: &Lowering, j: u16, line: &mut [A])
     A::add_to_each(line, A::narrowed(idle));
 }
 
-/// Counts all bids of bidder `j` in a line that counts none.
-fn count_bids<A: Amount>(lowering: &Lowering, j: u16, line: &mut [A], below: &[A])
+/// Counts all bids of bidder `j` in a line that counts none, with two lists in which the lines may be put in 16 bits.
+fn count_bids<A: Amount>(
+    lowering: &Lowering,
+    j: u16,
+    line: &mut [A],
+    below: &[A],
+    low: &mut [u16],
+    high: &mut [u16],
+)
     requires range { IsWithin lowering.now A.most }
     requires bidder { (0 < j) × (j ≤ length lowering.now.book.now.bidders) }
     requires below { IsCountedLine lowering.now j (map A.number below.now) }
@@ -41,18 +49,35 @@ fn count_bids<A: Amount>(lowering: &Lowering, j: u16, line: &mut [A], below: &[A
         ≡ slice_index_or (map A.number below.now) s (pos 0) +ℤ counted lowering.now j 0 }
     ensures { IsCountedLine lowering.now (j - 1) (map A.number line.new) }
 {
+    let shift = put_units(lowering, j, line, below, low, high);
     for i in 0..lowering.bids(j) {
         if lowering.is_needless(j, i + 1) {
             continue;
         }
         let worth = A::narrowed(lowering.worth(j, i + 1));
         let bid = lowering.bid(j, i + 1);
-        add_bid(lowering.book.supply(), line, below, &bid.package, worth);
+        add_bid(
+            lowering.book.supply(),
+            line,
+            below,
+            &bid.package,
+            worth,
+            shift,
+            low,
+            high,
+        );
     }
 }
 
 /// Makes of a copy of line `j` line `j - 1`.
-fn turn_line<A: Amount>(lowering: &Lowering, j: u16, below: &[A], line: &mut [A])
+fn turn_line<A: Amount>(
+    lowering: &Lowering,
+    j: u16,
+    below: &[A],
+    line: &mut [A],
+    low: &mut [u16],
+    high: &mut [u16],
+)
     requires range { IsWithin lowering.now A.most }
     requires bidder { (0 < j) × (j ≤ length lowering.now.book.now.bidders) }
     requires below { IsCountedLine lowering.now j (map A.number below.now) }
@@ -60,7 +85,7 @@ fn turn_line<A: Amount>(lowering: &Lowering, j: u16, below: &[A], line: &mut [A]
     ensures { IsCountedLine lowering.now (j - 1) (map A.number line.new) }
 {
     add_idle(lowering, j, line);
-    count_bids(lowering, j, line, below);
+    count_bids(lowering, j, line, below, low, high);
 }
 
 /// Makes `line` line `j - 1`, from line `j`. It takes no memory.
@@ -72,7 +97,7 @@ pub fn put_line<A: Amount>(lowering: &Lowering, j: u16, below: &[A], line: &mut 
     ensures { IsCountedLine lowering.now (j - 1) (map A.number line.new) }
 {
     line.copy_from_slice(below);
-    turn_line(lowering, j, below, line);
+    turn_line(lowering, j, below, line, &mut [], &mut []);
 }
 
 /// The same where bids count their net amounts, worked out in 64 bits in two lists of room.
@@ -105,6 +130,8 @@ fn next_line<A: Amount>(
     lowering: &Lowering,
     j: u16,
     below: &[A],
+    low: &mut [u16],
+    high: &mut [u16],
 ) -> Result<Vec<A>, AllocError>
     requires range { IsWithin lowering.now A.most }
     requires bidder { (0 < j) × (j ≤ length lowering.now.book.now.bidders) }
@@ -112,8 +139,16 @@ fn next_line<A: Amount>(
     ensures { IfOk result (λ v. IsCountedLine lowering.now (j - 1) (map A.number v.items)) }
 {
     let mut line = Vec::from_slice(alloc, below)?;
-    turn_line(lowering, j, below, &mut line);
+    turn_line(lowering, j, below, &mut line, low, high);
     Ok(line)
+}
+
+/// Room for a line in 16 bits.
+fn units_room(alloc: Global, states: usize) -> Result<Vec<u16>, AllocError>
+    requires { states ≤ MOST_STATES }
+    ensures { IfOk result (λ v. length v.items ≡ states) }
+{
+    vec![in alloc; 0u16; states]
 }
 
 /// The lines from line 0 to line `top`, which is given.
@@ -130,10 +165,13 @@ pub fn lines_down<A: Amount>(
         (λ v. AreCountedLines lowering.now (suc top) 0 (map (λ l. map A.number l.items) v.items)) }
 {
     lowering.book.kept();
+    let mut low = units_room(alloc, first.len())?;
+    let mut high = units_room(alloc, first.len())?;
     let mut lines = Vec::new(alloc);
     lines.push(first)?;
     for k in (0..top).rev() {
-        let line = next_line(alloc, lowering, k as u16 + 1, &lines[0])?;
+        let j = k as u16 + 1;
+        let line = next_line(alloc, lowering, j, &lines[0], &mut low, &mut high)?;
         lines.insert(0, line)?;
     }
     Ok(lines)

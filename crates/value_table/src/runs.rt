@@ -2,14 +2,11 @@
 // left, and a bid of `count` lots raises block `q` from block `q - count` of the line below. A block is left out where its
 // corners show that the bid changes nothing in it.
 ghost use Rattle.std.specs.Prelude.{◌≡◌, ℕ, ◌-◌, ◌<◌, ◌↔◌, IsTrue, length, slice_index_or, pos, ◌+ℤ◌, ◌≤ℤ◌, map};
-ghost use Rattle.choices.specs.auction_model.specs.Package.{is_within};
-ghost use Rattle.choices.specs.auction_model.specs.Place.{states_of};
 ghost use Rattle.choices.specs.auction_model.specs.Steps.{raised};
-ghost use Rattle.value_table.specs.Growing.{Grows, HasCorners};
+ghost use Rattle.value_table.specs.Growing.{HasCorners};
 ghost use Rattle.value_table.specs.Raising.{CanRaise, CanRaiseLots};
 
 use crate::amount::Amount;
-use choices::bid_book::lots::{Package, Supply, used_categories};
 
 /// Counts one more bid that wants lots of the first of some categories alone: in the places with enough of it, which are one run.
 fn raise_one<A: Amount>(
@@ -68,7 +65,7 @@ fn raise_two<A: Amount>(
 
 /// Whether the lowest entry of a block that a bid may raise, at the place `first` of its lots, is at least the worth with the highest
 /// entry of the block below that it may be raised from. Where neither line falls the bid then changes nothing in the block.
-fn is_reached<A: Amount>(first: usize, line: &[A], below: &[A], worth: A) -> bool
+pub fn is_reached<A: Amount>(first: usize, line: &[A], below: &[A], worth: A) -> bool
     requires lines { CanRaise A.number A.most (length line.now) line.now below.now worth }
     requires first { first < length line.now }
     ensures { IsTrue result
@@ -79,7 +76,7 @@ fn is_reached<A: Amount>(first: usize, line: &[A], below: &[A], worth: A) -> boo
 }
 
 /// Counts one more bid in the places of some categories. `first` is the place of its lots.
-fn raise_block<A: Amount>(
+pub fn raise_block<A: Amount>(
     supply: &[u16],
     widths: &[usize],
     counts: &[u16],
@@ -121,31 +118,4 @@ fn raise_block<A: Amount>(
             worth,
         );
     }
-}
-
-/// Counts one more bid that fits in each entry of the line. Neither line falls where more is left.
-pub fn add_bid<A: Amount>(supply: &Supply, line: &mut [A], below: &[A], lots: &Package, worth: A)
-    requires lines { CanRaise A.number A.most (states_of supply.now) line.old below.now worth }
-    requires categories { length lots.now ≡ length supply.now }
-    requires fits { IsTrue (is_within lots.now supply.now) }
-    requires below_grows { Grows supply.now (map A.number below.now) }
-    requires line_grows { Grows supply.now (map A.number line.old) }
-    ensures { (s : ℕ) → s < length line.old
-        → slice_index_or (map A.number line.new) s (pos 0)
-        ≡ raised supply.now (map A.number below.now) lots.now (A.number worth) s
-        (slice_index_or (map A.number line.old) s (pos 0)) }
-{
-    let radices = supply.counts();
-    let counts = lots.counts();
-    let used = used_categories(counts);
-    let first = supply.place(lots);
-    raise_block(
-        radices,
-        supply.widths(),
-        &counts[..used],
-        first,
-        line,
-        below,
-        worth,
-    );
 }

@@ -4,10 +4,10 @@ use Rattle.choices.specs.auction_model.specs.Package.{IsNothingFrom}
 use Rattle.choices.specs.auction_model.specs.Steps.{raised}
 use Rattle.choices.specs.auction_model.proofs.TrimLaws.{raised-trim}
 use Rattle.value_table.proofs.CornerLaws.{trim-corners}
-use Rattle.value_table.proofs.runs.add_bid.Goals as goal
+use Rattle.value_table.proofs.tested.add_bid.Goals as goal
 
-pub returns : goal.returns
-returns g c =
+pub returns-clause-line : goal.returns-clause-line
+returns-clause-line g c =
     let number = g.A.Amount.number in
     let counts = c.counts-counts.result.now in
     let used = c.used_categories-used.result in
@@ -15,15 +15,15 @@ returns g c =
     let worth = number c.args.worth in
     λ s h.
     let old = get_or (map number c.args.line.now) s (pos 0) in
-    let made : get_or (map number c.raise_block.new.line) s (pos 0) ≡ raised c.counts-radices.result.now below (take used counts) worth s old =
-    c.raise_block.ensures s h in
+    let made : get_or (map number c.raise_lots.new.line) s (pos 0) ≡ raised c.counts-radices.result.now below (take used counts) worth s old =
+    c.raise_lots.ensures.line s h in
     let supply : raised c.counts-radices.result.now below (take used counts) worth s old ≡ raised c.args.supply.now below (take used counts) worth s old =
     ap (λ l. raised l below (take used counts) worth s old) c.counts-radices.ensures.counts in
     let whole = raised-trim used c.args.supply.now counts below worth s old c.used_categories-used.ensures.rest in
     made ∙ supply ∙ whole ∙ ap (λ l. raised c.args.supply.now below l worth s old) c.counts-counts.ensures
 
-pub raise_block-requires-clause-corners : goal.raise_block-requires-clause-corners
-raise_block-requires-clause-corners g c =
+pub raise_lots-requires-clause-corners : goal.raise_lots-requires-clause-corners
+raise_lots-requires-clause-corners g c =
     let used = c.used_categories-used.result in
     let rest : IsNothingFrom used c.args.lots.now = rw c.counts-counts.ensures at c.used_categories-used.ensures.rest in
     rw (c.counts-radices.ensures.counts, c.counts-counts.ensures)
@@ -34,8 +34,8 @@ raise_block-requires-clause-corners g c =
       below_grows = c.requires.below_grows;
     }))
 
-pub raise_block-requires-clause-lots : goal.raise_block-requires-clause-lots
-raise_block-requires-clause-lots g c =
+pub raise_lots-requires-clause-lots : goal.raise_lots-requires-clause-lots
+raise_lots-requires-clause-lots g c =
     let used = c.used_categories-used.result in
     let counts = c.counts-counts.result.now in
     record {

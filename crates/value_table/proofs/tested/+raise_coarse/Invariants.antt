@@ -1,0 +1,15 @@
+use Rattle.std.proofs.Common.{◌*◌, map, length}
+use Rattle.value_table.specs.Raising.{AreInUnits}
+use Rattle.value_table.proofs.BlockLaws.{IsRaisedTo}
+use Rattle.value_table.proofs.tested.+raise_coarse.Given as goal
+
+abbrev pub decreases-raise_coarse : goal.decreases-raise_coarse
+decreases-raise_coarse g l = length l.counts.now
+
+abbrev pub invariant-loop-block : goal.invariant-loop-block
+invariant-loop-block g l =
+    let number = g.A.Amount.number in
+    record {
+      raised : IsRaisedTo number l.supply l.counts (map number l.below) (number l.worth) l.initial.line l.line (l.block * l.width);
+      units : AreInUnits number l.coarse.shift l.line l.below l.low l.high;
+    }

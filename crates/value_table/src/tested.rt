@@ -1,0 +1,218 @@
+// Counting one bid in a line. Where the line and the line below it stand in 16 bits too, a block of the last few categories of the
+// bid is tested in these first, with a mask of the places where it fits: most bids change nothing in most blocks.
+ghost use Rattle.std.specs.Prelude.{◌≡◌, ℕ, ◌*◌, ◌^◌, ◌<◌, IsTrue, length, slice_index_or, pos, ◌≤ℤ◌, map};
+ghost use Rattle.choices.specs.Coarse.{HasMask};
+ghost use Rattle.choices.specs.auction_model.specs.Package.{is_within};
+ghost use Rattle.choices.specs.auction_model.specs.Place.{states_of};
+ghost use Rattle.choices.specs.auction_model.specs.Steps.{raised};
+ghost use Rattle.value_table.specs.Growing.{Grows, HasCorners};
+ghost use Rattle.value_table.specs.Raising.{AreInUnits, CanRaise, CanRaiseLots, MayBeInUnits};
+
+use crate::amount::Amount;
+use crate::runs::{is_reached, raise_block};
+use choices::bid_book::lots::{Package, Supply, used_categories};
+use choices::coarse::{CoarseBid, MASK_ROOM, is_covered, put_deep_mask};
+
+/// Counts one more bid in a block, where no mask for just these categories shows that it changes nothing there.
+fn raise_unless_covered<A: Amount>(
+    coarse: &CoarseBid,
+    supply: &[u16],
+    widths: &[usize],
+    counts: &[u16],
+    first: usize,
+    line: &mut [A],
+    below: &[A],
+    low: &mut [u16],
+    high: &[u16],
+    worth: A,
+)
+    requires lots { CanRaiseLots A.number A.most supply.now widths.now counts.now line.old below.now worth }
+    requires some { 0 < length counts.now }
+    requires corners { HasCorners supply.now counts.now first (map A.number line.old) (map A.number below.now) }
+    requires units { AreInUnits A.number coarse.now.shift line.old below.now low.old high.now }
+    requires worth { A.number worth ≤ℤ pos (coarse.now.worth * 2 ^ coarse.now.shift) }
+    requires mask { HasMask coarse.now.level supply.now counts.now coarse.now.mask.now }
+    ensures line { (s : ℕ) → s < length line.old
+        → slice_index_or (map A.number line.new) s (pos 0)
+        ≡ raised supply.now (map A.number below.now) counts.now (A.number worth) s
+        (slice_index_or (map A.number line.old) s (pos 0)) }
+    ensures units { AreInUnits A.number coarse.now.shift line.new below.now low.new high.now }
+{
+    if counts.len() == coarse.level && is_covered(coarse, first, low, high) {
+        return;
+    }
+    raise_block(supply, widths, counts, first, line, below, worth);
+    A::put_low(low, line, coarse.shift);
+}
+
+/// Counts one more bid in the places of some categories, of which the blocks for which there is a mask are tested in 16 bits.
+fn raise_coarse<A: Amount>(
+    coarse: &CoarseBid,
+    supply: &[u16],
+    widths: &[usize],
+    counts: &[u16],
+    first: usize,
+    line: &mut [A],
+    below: &[A],
+    low: &mut [u16],
+    high: &[u16],
+    worth: A,
+)
+    requires lots { CanRaiseLots A.number A.most supply.now widths.now counts.now line.old below.now worth }
+    requires some { 0 < length counts.now }
+    requires corners { HasCorners supply.now counts.now first (map A.number line.old) (map A.number below.now) }
+    requires units { AreInUnits A.number coarse.now.shift line.old below.now low.old high.now }
+    requires worth { A.number worth ≤ℤ pos (coarse.now.worth * 2 ^ coarse.now.shift) }
+    requires mask { HasMask coarse.now.level supply.now counts.now coarse.now.mask.now }
+    ensures line { (s : ℕ) → s < length line.old
+        → slice_index_or (map A.number line.new) s (pos 0)
+        ≡ raised supply.now (map A.number below.now) counts.now (A.number worth) s
+        (slice_index_or (map A.number line.old) s (pos 0)) }
+    ensures units { AreInUnits A.number coarse.now.shift line.new below.now low.new high.now }
+{
+    if is_reached(first, line, below, worth) {
+        return;
+    }
+    if counts.len() == coarse.level || counts.len() == 1 {
+        return raise_unless_covered(
+            coarse, supply, widths, counts, first, line, below, low, high, worth,
+        );
+    }
+    let width = widths[0];
+    let count = counts[0] as usize;
+    let rest = first - count * width;
+    for block in count..supply[0] as usize + 1 {
+        let to = block * width;
+        let from = (block - count) * width;
+        raise_coarse(
+            coarse,
+            &supply[1..],
+            &widths[1..],
+            &counts[1..],
+            rest,
+            &mut line[to..to + width],
+            &below[from..from + width],
+            &mut low[to..to + width],
+            &high[from..from + width],
+            worth,
+        );
+    }
+}
+
+/// Counts one more bid in lines that stand in units of `2^shift` too.
+fn raise_in_units<A: Amount>(
+    shift: u32,
+    supply: &[u16],
+    widths: &[usize],
+    counts: &[u16],
+    first: usize,
+    line: &mut [A],
+    below: &[A],
+    low: &mut [u16],
+    high: &[u16],
+    worth: A,
+)
+    requires lots { CanRaiseLots A.number A.most supply.now widths.now counts.now line.old below.now worth }
+    requires some { 0 < length counts.now }
+    requires corners { HasCorners supply.now counts.now first (map A.number line.old) (map A.number below.now) }
+    requires units { AreInUnits A.number shift line.old below.now low.old high.now }
+    ensures line { (s : ℕ) → s < length line.old
+        → slice_index_or (map A.number line.new) s (pos 0)
+        ≡ raised supply.now (map A.number below.now) counts.now (A.number worth) s
+        (slice_index_or (map A.number line.old) s (pos 0)) }
+    ensures units { AreInUnits A.number shift line.new below.now low.new high.now }
+{
+    if is_reached(first, line, below, worth) {
+        return;
+    }
+    let units = A::worth_units(worth, shift);
+    if units == 0 {
+        raise_block(supply, widths, counts, first, line, below, worth);
+        A::put_low(low, line, shift);
+        return;
+    }
+    let mut mask = [0u16; MASK_ROOM];
+    let level = put_deep_mask(supply, widths, counts, &mut mask);
+    let coarse = CoarseBid {
+        worth: units,
+        shift,
+        level,
+        mask: &mask,
+    };
+    raise_coarse(
+        &coarse, supply, widths, counts, first, line, below, low, high, worth,
+    );
+}
+
+/// Counts one more bid, in units where there is a shift.
+fn raise_lots<A: Amount>(
+    shift: Option<u32>,
+    supply: &[u16],
+    widths: &[usize],
+    counts: &[u16],
+    first: usize,
+    line: &mut [A],
+    below: &[A],
+    low: &mut [u16],
+    high: &[u16],
+    worth: A,
+)
+    requires lots { CanRaiseLots A.number A.most supply.now widths.now counts.now line.old below.now worth }
+    requires some { 0 < length counts.now }
+    requires corners { HasCorners supply.now counts.now first (map A.number line.old) (map A.number below.now) }
+    requires units { MayBeInUnits A.number shift line.old below.now low.old high.now }
+    ensures line { (s : ℕ) → s < length line.old
+        → slice_index_or (map A.number line.new) s (pos 0)
+        ≡ raised supply.now (map A.number below.now) counts.now (A.number worth) s
+        (slice_index_or (map A.number line.old) s (pos 0)) }
+    ensures units { MayBeInUnits A.number shift line.new below.now low.new high.now }
+{
+    match shift {
+        Some(shift) => raise_in_units(
+            shift, supply, widths, counts, first, line, below, low, high, worth,
+        ),
+        None => raise_block(supply, widths, counts, first, line, below, worth),
+    }
+}
+
+/// Counts one more bid that fits in each entry of the line. Neither line falls where more is left. Where there is a shift both stand
+/// in units of `2^shift` too.
+pub fn add_bid<A: Amount>(
+    supply: &Supply,
+    line: &mut [A],
+    below: &[A],
+    lots: &Package,
+    worth: A,
+    shift: Option<u32>,
+    low: &mut [u16],
+    high: &[u16],
+)
+    requires lines { CanRaise A.number A.most (states_of supply.now) line.old below.now worth }
+    requires categories { length lots.now ≡ length supply.now }
+    requires fits { IsTrue (is_within lots.now supply.now) }
+    requires below_grows { Grows supply.now (map A.number below.now) }
+    requires line_grows { Grows supply.now (map A.number line.old) }
+    requires units { MayBeInUnits A.number shift line.old below.now low.old high.now }
+    ensures line { (s : ℕ) → s < length line.old
+        → slice_index_or (map A.number line.new) s (pos 0)
+        ≡ raised supply.now (map A.number below.now) lots.now (A.number worth) s
+        (slice_index_or (map A.number line.old) s (pos 0)) }
+    ensures units { MayBeInUnits A.number shift line.new below.now low.new high.now }
+{
+    let radices = supply.counts();
+    let counts = lots.counts();
+    let used = used_categories(counts);
+    let first = supply.place(lots);
+    raise_lots(
+        shift,
+        radices,
+        supply.widths(),
+        &counts[..used],
+        first,
+        line,
+        below,
+        low,
+        high,
+        worth,
+    );
+}

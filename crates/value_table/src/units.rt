@@ -1,0 +1,58 @@
+// Lines in 16 bits, where they are so long that tests in these save time.
+ghost use Rattle.std.specs.Prelude.{◌≡◌, ◌≤◌, ◌<◌, length};
+ghost use Rattle.value_table.specs.Raising.{MayBeInUnits};
+
+use crate::amount::{Amount, number_at};
+use crate::lowering::Lowering;
+use choices::coarse::shift_for;
+
+/// From so many places on a line is tested in 16 bits.
+const LONG_LINE: usize = 2048;
+
+/// The most that bidder `j` counts.
+fn most_worth(lowering: &Lowering, j: u16) -> i128
+    requires { (0 < j) × (j ≤ length lowering.now.book.now.bidders) }
+{
+    let mut most = lowering.idle(j);
+    for i in 0..lowering.bids(j) {
+        most = most.max(lowering.worth(j, i + 1));
+    }
+    most
+}
+
+/// A shift with which the numbers of line `j - 1` have at most 15 bits, where there is one. Nothing but time rests on it.
+fn line_shift<A: Amount>(lowering: &Lowering, j: u16, below: &[A]) -> u32
+    requires bidder { (0 < j) × (j ≤ length lowering.now.book.now.bidders) }
+    requires some { 0 < length below.now }
+    ensures { result < 64 }
+{
+    let last = number_at(below, below.len() - 1).unsigned_abs();
+    let most = last.saturating_add(most_worth(lowering, j).unsigned_abs());
+    shift_for(most.min(u64::MAX as u128) as u64)
+}
+
+/// Puts line `j - 1`, which counts no bid of bidder `j` yet, and line `j` below it in 16 bits, where they are long and there is room
+/// for them, and gives the shift of their units.
+pub fn put_units<A: Amount>(
+    lowering: &Lowering,
+    j: u16,
+    line: &[A],
+    below: &[A],
+    low: &mut [u16],
+    high: &mut [u16],
+) -> Option<u32>
+    requires bidder { (0 < j) × (j ≤ length lowering.now.book.now.bidders) }
+    requires places { length line.now ≡ length below.now }
+    ensures { MayBeInUnits A.number result line.now below.now low.new high.new }
+{
+    let places = line.len();
+    if places < LONG_LINE || low.len() != places || high.len() != places {
+        return None;
+    }
+    let shift = line_shift(lowering, j, below);
+    if !A::put_high(high, below, shift) {
+        return None;
+    }
+    A::put_low(low, line, shift);
+    Some(shift)
+}
