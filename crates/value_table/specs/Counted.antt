@@ -1,12 +1,20 @@
 -- What a lowering counts, and its lines and tables: words of private contracts.
-use Rattle.std.specs.Prelude.{ℕ, ◌<◌, ◌^◌, IsTrue, List, length, ℤ, ◌≤ℤ◌}
-use Rattle.choices.specs.auction_model.specs.Book.{menu_of, net_of}
+use Rattle.std.specs.Prelude.{◌≡◌, ℕ, ◌<◌, ◌^◌, false, IsTrue, List, length, ℤ, ◌≤ℤ◌}
+use Rattle.choices.specs.auction_model.specs.Book.{Book, menu_of, net_of}
 use Rattle.choices.specs.auction_model.specs.Lowered.{lowered, spread}
 use Rattle.choices.specs.auction_model.specs.Menu.{Menu, without}
 use Rattle.choices.specs.auction_model.specs.Package.{is_within}
 use Rattle.choices.specs.auction_model.specs.Table.{IsLine, IsExactTable, AreLinesTo}
 use Rattle.value_table.specs.Turned.{bidder_at, in_order, worths_in_order}
 use Rattle.value_table.specs.declared.lowering.Lowering.{Lowering}
+
+-- the lowering of a book with its bidders in order: who has no bids, and what the others' bids count
+pub record IsLowering (of : Book) (but : ℕ) (by_den : ℤ) (by : List ℤ) (l : Lowering) : Type 0 where
+  pub book : l.book.now ≡ of
+  pub turned : l.turned ≡ false
+  pub skip : l.skip ≡ but
+  pub den : l.den ≡ by_den
+  pub surplus : l.surplus.now ≡ by
 
 -- which bidder of the book has number j
 abbrev pub seat : Lowering → ℕ → ℕ

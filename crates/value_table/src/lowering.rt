@@ -30,7 +30,23 @@ impl<'a> Lowering<'a> {
     ghost use Rattle.std.specs.Prelude.{◌<◌};
     ghost use Rattle.choices.specs.auction_model.specs.Book.{bids_of};
     ghost use Rattle.choices.specs.auction_model.specs.Package.{is_within};
-    ghost use Rattle.value_table.specs.Counted.{seat, counted_bids, counted, IsNeedless, IsNarrow};
+    ghost use Rattle.value_table.specs.BookTable.{IsInRange};
+    ghost use Rattle.value_table.specs.Counted.{seat, counted_bids, counted, IsLowering, IsNeedless, IsNarrow};
+
+    /// What the bids count with the bidders numbered as in the book.
+    pub fn new(book: &'a BidBook, skip: u16, den: i128, surplus: &'a [i128]) -> Lowering<'a>
+        requires bidders { length surplus.now ≡ length book.now.bidders }
+        requires range { IsInRange book.now skip den surplus.now }
+        ensures { IsLowering book.now skip den surplus.now result }
+    {
+        Lowering {
+            book,
+            turned: false,
+            skip,
+            den,
+            surplus,
+        }
+    }
 
     /// Which bidder of the book has number `j`.
     pub fn bidder(&self, j: u16) -> u16

@@ -7,7 +7,7 @@ ghost use Rattle.choices.specs.auction_model.specs.Book.{net_of, market_of};
 ghost use Rattle.choices.specs.auction_model.specs.Lowered.{lowered};
 ghost use Rattle.choices.specs.auction_model.specs.Table.{entry_at, IsEntry};
 ghost use Rattle.choices.specs.limits.specs.declared.TheConstants.{MOST_BIDDERS};
-ghost use Rattle.value_table.specs.Counted.{counted_bids, counted, IsCountedLine};
+ghost use Rattle.value_table.specs.Counted.{counted_bids, counted, IsLowering};
 ghost use Rattle.value_table.specs.BookTable.{menu_without, IsInRange};
 ghost use Rattle.value_table.specs.TableValue.{IsTableOf, IsPlain, IsPlainWithout};
 
@@ -53,13 +53,7 @@ impl ValueTable {
         ensures made { IfOk result (λ t. (t.skip ≡ skip) × (t.den ≡ den) × (t.surplus ≡ surplus.now)) }
         ensures exact { IfOk result (λ t. IsTableOf book.now t) }
     {
-        let lowering = Lowering {
-            book,
-            turned: false,
-            skip,
-            den,
-            surplus,
-        };
+        let lowering = Lowering::new(book, skip, den, surplus);
         let grid = all_lines(alloc, &lowering)?;
         let surplus = Vec::from_slice(alloc, surplus)?;
         Ok(ValueTable {
@@ -81,13 +75,7 @@ impl ValueTable {
     {
         book.kept();
         let surplus = Vec::from_slice(alloc, &self.surplus)?;
-        let lowering = Lowering {
-            book,
-            turned: false,
-            skip: j,
-            den: 1,
-            surplus: &surplus,
-        };
+        let lowering = Lowering::new(book, j, 1, &surplus);
         let grid = lines_without(alloc, &lowering, &self.grid)?;
         Ok(ValueTable {
             skip: j,
@@ -95,6 +83,14 @@ impl ValueTable {
             surplus,
             grid,
         })
+    }
+
+    /// What the bids count in this table.
+    fn lowering<'a>(&'a self, book: &'a BidBook) -> Lowering<'a>
+        requires { IsTableOf book.now self.now }
+        ensures { IsLowering book.now self.now.skip self.now.den self.now.surplus result }
+    {
+        Lowering::new(book, self.skip, self.den, &self.surplus)
     }
 
     /// The lines.
@@ -121,13 +117,7 @@ impl ValueTable {
             (lowered self.now.den (net_of book.now) self.now.surplus) 0 book.now.supply result }
         ensures size { unsigned_abs result ≤ 2 ^ 120 }
     {
-        let lowering = Lowering {
-            book,
-            turned: false,
-            skip: self.skip,
-            den: self.den,
-            surplus: &self.surplus,
-        };
+        let lowering = self.lowering(book);
         last_entry(&lowering, &self.grid)
     }
 
@@ -138,13 +128,7 @@ impl ValueTable {
             (λ c. IsFirstGreatest (fits_after (menu_without book.now self.now.skip) 0 book.now.supply)
             (sum_after (lowered self.now.den (net_of book.now) self.now.surplus) 0) c) }
     {
-        let lowering = Lowering {
-            book,
-            turned: false,
-            skip: self.skip,
-            den: self.den,
-            surplus: &self.surplus,
-        };
+        let lowering = self.lowering(book);
         let numbers = trace_lines(alloc, &lowering, &self.grid)?;
         Ok(Choice::new(numbers))
     }
@@ -178,13 +162,7 @@ pub fn win(alloc: Global, book: &BidBook) -> Result<Choice, AllocError>
 {
     book.kept();
     let surplus = zeros(alloc, book.bidders())?;
-    let lowering = Lowering {
-        book,
-        turned: false,
-        skip: 0,
-        den: 1,
-        surplus: &surplus,
-    };
+    let lowering = Lowering::new(book, 0, 1, &surplus);
     let numbers = narrow_choice(alloc, &lowering)?;
     Ok(Choice::new(numbers))
 }

@@ -7,6 +7,7 @@ ghost use Rattle.choices.specs.auction_model.specs.Market.{sum_after};
 ghost use Rattle.choices.specs.auction_model.specs.Menu.{fits_after};
 ghost use Rattle.choices.specs.auction_model.specs.Table.{IsEntry};
 ghost use Rattle.value_table.specs.BookTable.{menu_without, IsInRange};
+ghost use Rattle.value_table.specs.Counted.{IsLowering};
 ghost use Rattle.value_table.specs.TableValue.{IsTableOf};
 
 use crate::lowering::Lowering;
@@ -47,13 +48,7 @@ impl TurnTable {
         ensures made { IfOk result (λ t. (t.skip ≡ 0) × (t.den ≡ den) × (t.surplus ≡ surplus.now)) }
         ensures exact { IfOk result (λ t. IsTableOf book.now t) }
     {
-        let lowering = Lowering {
-            book,
-            turned: false,
-            skip: 0,
-            den,
-            surplus,
-        };
+        let lowering = Lowering::new(book, 0, den, surplus);
         let lines = TurnLines::build(alloc, &lowering)?;
         let surplus = Vec::from_slice(alloc, surplus)?;
         Ok(TurnTable {
@@ -63,6 +58,14 @@ impl TurnTable {
         })
     }
 
+    /// What the bids count in this table.
+    fn lowering<'a>(&'a self, book: &'a BidBook) -> Lowering<'a>
+        requires { IsTableOf book.now self.now }
+        ensures { IsLowering book.now self.now.skip self.now.den self.now.surplus result }
+    {
+        Lowering::new(book, 0, self.den, &self.surplus)
+    }
+
     /// The greatest sum: the entry of line 0 at the place of the whole supply.
     pub fn most(&self, book: &BidBook) -> i128
         requires { IsTableOf book.now self.now }
@@ -70,13 +73,7 @@ impl TurnTable {
             (lowered self.now.den (net_of book.now) self.now.surplus) 0 book.now.supply result }
         ensures size { unsigned_abs result ≤ 2 ^ 120 }
     {
-        let lowering = Lowering {
-            book,
-            turned: false,
-            skip: 0,
-            den: self.den,
-            surplus: &self.surplus,
-        };
+        let lowering = self.lowering(book);
         self.lines.most(&lowering)
     }
 
@@ -87,13 +84,7 @@ impl TurnTable {
             (λ c. IsFirstGreatest (fits_after (menu_without book.now self.now.skip) 0 book.now.supply)
             (sum_after (lowered self.now.den (net_of book.now) self.now.surplus) 0) c) }
     {
-        let lowering = Lowering {
-            book,
-            turned: false,
-            skip: 0,
-            den: self.den,
-            surplus: &self.surplus,
-        };
+        let lowering = self.lowering(book);
         let numbers = self.lines.trace(alloc, &lowering)?;
         Ok(Choice::new(numbers))
     }
@@ -103,13 +94,7 @@ impl TurnTable {
         requires { IsTableOf book.now self.now }
         ensures { IfOk result (λ g. g ≡ self.now.lines) }
     {
-        let lowering = Lowering {
-            book,
-            turned: false,
-            skip: 0,
-            den: self.den,
-            surplus: &self.surplus,
-        };
+        let lowering = self.lowering(book);
         let grid = self.lines.grid(alloc, &lowering)?;
         Ok(grid)
     }

@@ -1,27 +1,23 @@
 use Rattle.std.proofs.Common.{sym, subst, rules}
 use Rattle.std.proofs.lemmas.Int.{to_z-of_z}
-use Rattle.choices.specs.auction_model.specs.Book.{net_of}
-use Rattle.choices.specs.auction_model.specs.Lowered.{lowered}
-use Rattle.choices.specs.auction_model.specs.Table.{IsEntry}
-use Rattle.value_table.specs.BookTable.{menu_without, IsBookTable}
+use Rattle.value_table.specs.Counted.{IsCountedTable}
 use Rattle.value_table.specs.TableValue.{TableValue}
+use Rattle.value_table.proofs.LoweringLaws.{entry-from, table-of}
 use mir.Val.{SFits}
 use mir.Syntax.{w128}
 use Rattle.value_table.proofs.table.ValueTable.most.Goals as goal
 
 pub last_entry-requires : goal.last_entry-requires
 last_entry-requires c =
-    let den_fits : SFits w128 c.self.inside.den = search rules in
-    rw (to_z-of_z w128 c.self.inside.den den_fits, c.deref.ensures.value)
-    (subst (λ (t : TableValue). IsBookTable c.args.book.now t.skip t.den t.surplus t.lines) (sym c.self.view_is) c.requires.exact)
+    let l = c.lowering-lowering.result in
+    let t = c.args.self.now in
+    subst (λ (v : TableValue). IsCountedTable l v.lines) (sym c.self.view_is)
+    (table-of c.args.book.now t.skip t.den t.surplus l c.lowering-lowering.ensures t.lines c.requires.exact)
 
 pub returns-clause-most : goal.returns-clause-most
 returns-clause-most c =
-    let book = c.args.book.now in
+    let t = c.args.self.now in
     let z = c.last_entry.result in
-    let den_fits : SFits w128 c.self.inside.den = search rules in
     let z_fits : SFits w128 z = search rules in
-    let e : IsEntry (menu_without book c.self.inside.skip) (lowered c.self.inside.den (net_of book) c.self.inside.surplus.items) 0 book.supply z =
-    rw (to_z-of_z w128 c.self.inside.den den_fits, c.deref.ensures.value) at c.last_entry.ensures.most in
-    rw (to_z-of_z w128 z z_fits) (subst (λ (t : TableValue). IsEntry (menu_without book t.skip) (lowered t.den (net_of book) t.surplus) 0 book.supply z)
-    c.self.view_is e)
+    rw (to_z-of_z w128 z z_fits)
+    (entry-from c.args.book.now t.skip t.den t.surplus c.lowering-lowering.result c.lowering-lowering.ensures z c.last_entry.ensures.most)

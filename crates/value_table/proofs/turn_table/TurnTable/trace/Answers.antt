@@ -1,28 +1,18 @@
-use Rattle.std.proofs.Common.{sym, subst, rules}
-use Rattle.std.proofs.lemmas.Int.{to_z-of_z}
-use Rattle.choices.specs.auction_model.specs.Book.{net_of}
-use Rattle.choices.specs.auction_model.specs.Greatest.{IsFirstGreatest}
-use Rattle.choices.specs.auction_model.specs.Lowered.{lowered}
-use Rattle.choices.specs.auction_model.specs.Market.{sum_after}
-use Rattle.choices.specs.auction_model.specs.Menu.{fits_after}
-use Rattle.value_table.specs.BookTable.{menu_without, IsBookTable}
+use Rattle.std.proofs.Common.{sym, subst}
+use Rattle.value_table.specs.Counted.{IsCountedTable}
 use Rattle.value_table.specs.TableValue.{TableValue}
-use mir.Val.{SFits}
-use mir.Syntax.{w128}
+use Rattle.value_table.proofs.LoweringLaws.{first-from, table-of}
 use Rattle.value_table.proofs.turn_table.TurnTable.trace.Goals as goal
 
 pub trace-requires : goal.trace-requires
 trace-requires c =
-    let den_fits : SFits w128 c.self.inside.den = search rules in
-    rw (to_z-of_z w128 c.self.inside.den den_fits, c.deref.ensures.value)
-    (subst (λ (t : TableValue). IsBookTable c.args.book.now t.skip t.den t.surplus t.lines) (sym c.self.view_is) c.requires.exact)
+    let l = c.lowering-lowering.result in
+    let t = c.args.self.now in
+    subst (λ (v : TableValue). IsCountedTable l v.lines) (sym c.self.view_is)
+    (table-of c.args.book.now t.skip t.den t.surplus l c.lowering-lowering.ensures t.lines c.requires.exact)
 
 pub returns : goal.returns
 returns c =
-    let book = c.args.book.now in
-    let den_fits : SFits w128 c.self.inside.den = search rules in
-    let g : IsFirstGreatest (fits_after (menu_without book 0) 0 book.supply) (sum_after
-    (lowered c.self.inside.den (net_of book) c.self.inside.surplus.items) 0) c.in_ok-numbers.numbers =
-    rw (to_z-of_z w128 c.self.inside.den den_fits, c.deref.ensures.value) at c.in_ok-numbers.ensures in
-    rw c.new.ensures (subst (λ (t : TableValue). IsFirstGreatest (fits_after (menu_without book t.skip) 0 book.supply)
-    (sum_after (lowered t.den (net_of book) t.surplus) 0) c.in_ok-numbers.numbers) c.self.view_is g)
+    let t = c.args.self.now in
+    rw c.new.ensures (first-from c.args.book.now t.skip t.den t.surplus c.lowering-lowering.result c.lowering-lowering.ensures c.in_ok-numbers.numbers
+    c.in_ok-numbers.ensures)
