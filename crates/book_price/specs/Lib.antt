@@ -1,5 +1,6 @@
 pub mod Found
 pub mod Made
+pub mod Priced
 pub mod Reduced
 pub mod Stops
 pub use Rattle.cert_laws

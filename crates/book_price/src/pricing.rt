@@ -1,19 +1,12 @@
 // From a book to its prices with their certificate.
-ghost use Rattle.std.specs.Prelude.{◌≡◌, ◌≤◌, IfErr, IfOk};
-ghost use Rattle.std.specs.List.{AllByRecursion};
+ghost use Rattle.std.specs.Prelude.{IfErr, IfOk};
 ghost use Rattle.cert_laws.specs.auction_model.specs.Book.{market_of};
 ghost use Rattle.cert_laws.specs.auction_model.specs.Greatest.{IsWinning};
-ghost use Rattle.cert_laws.specs.auction_model.specs.PricingRun.{IsPricingRun};
-ghost use Rattle.cert_laws.specs.Priced.{IsPricedCert};
-ghost use Rattle.cert_laws.specs.Sound.{cert_point};
-ghost use Rattle.cert_laws.specs.Tests.{bidders_of, states};
-ghost use Rattle.cert_text.specs.CertValues.{cert_value, IsFor};
-ghost use Rattle.cert_laws.specs.auction_model.specs.Prices.{AreWeights, weight_of};
-ghost use Rattle.core_price.specs.Turns.{IsPointOfTurn, turns_of};
+ghost use Rattle.cert_laws.specs.auction_model.specs.Prices.{AreWeights};
+ghost use Rattle.cert_laws.specs.Tests.{bidders_of};
 ghost use Rattle.cert_laws.specs.row_laws.specs.Weights.{FewWin};
-ghost use Rattle.cert_laws.specs.row_laws.specs.Turns.{IsLastPoint};
 ghost use Rattle.vickrey.specs.value_table.specs.TableValue.{IsPlain, IsTableOf};
-ghost use Rattle.book_price.specs.Reduced.{IsReduced};
+ghost use Rattle.book_price.specs.Priced.{IsPricedBook};
 ghost use Rattle.book_price.specs.Stops.{IsBookStop};
 
 use crate::certificate::certificate;
@@ -50,16 +43,7 @@ pub struct PricedBook {
 /// memory.
 pub fn price_book(alloc: Global, book: &BidBook, weights: &[u32]) -> Result<PricedBook, PriceStop>
     requires { AreWeights (bidders_of book.now) weights.now }
-    ensures shape { IfOk result (λ p. IsFor (bidders_of book.now) (states book.now) p.cert) }
-    ensures cert { IfOk result (λ p. IsPricedCert book.now (weight_of weights.now) (cert_value p.cert)) }
-    ensures reduced { IfOk result (λ p. IsReduced (cert_value p.cert)) }
-    ensures few { IfOk result (λ p. FewWin p.cert.choice weights.now) }
-    ensures run { IfOk result
-        (λ p. IsPricingRun (market_of book.now) (weight_of weights.now) p.cert.choice
-        (turns_of p.cert.choice p.turns)) }
-    ensures each_turn { IfOk result (λ p. AllByRecursion (IsPointOfTurn p.cert.choice weights.now) p.turns) }
-    ensures last_turn { IfOk result
-        (λ p. IsLastPoint (turns_of p.cert.choice p.turns) (cert_point (cert_value p.cert))) }
+    ensures priced { IfOk result (IsPricedBook book.now weights.now) }
     ensures stops { IfErr result (IsBookStop book.now weights.now) }
 {
     keep_pages(alloc);
@@ -91,16 +75,7 @@ fn priced_book(
     requires winners { IsWinning (market_of book.now) winners }
     requires whole { IsTableOf book.now whole.now }
     requires plain { IsPlain whole.now }
-    ensures shape { IfOk result (λ p. IsFor (bidders_of book.now) (states book.now) p.cert) }
-    ensures cert { IfOk result (λ p. IsPricedCert book.now (weight_of weights.now) (cert_value p.cert)) }
-    ensures reduced { IfOk result (λ p. IsReduced (cert_value p.cert)) }
-    ensures few { IfOk result (λ p. FewWin p.cert.choice weights.now) }
-    ensures run { IfOk result
-        (λ p. IsPricingRun (market_of book.now) (weight_of weights.now) p.cert.choice
-        (turns_of p.cert.choice p.turns)) }
-    ensures each_turn { IfOk result (λ p. AllByRecursion (IsPointOfTurn p.cert.choice weights.now) p.turns) }
-    ensures last_turn { IfOk result
-        (λ p. IsLastPoint (turns_of p.cert.choice p.turns) (cert_point (cert_value p.cert))) }
+    ensures priced { IfOk result (IsPricedBook book.now weights.now) }
     ensures stops { IfErr result (IsBookStop book.now weights.now) }
 {
     book.kept();

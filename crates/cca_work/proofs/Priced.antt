@@ -3,25 +3,23 @@ use Rattle.std.proofs.Common.{inl, ◌≡◌, ℕ, List, [], length, map, ap, su
 use Rattle.std.specs.Prelude.{◌^◌, ℤ, pos, negsuc, ◌∷◌, ◌≤ℤ◌}
 use Rattle.std.specs.List.{AllByRecursion}
 use Rattle.std.proofs.lemmas.Int.{ints}
-use Rattle.outcome.specs.auction_model.specs.Book.{Book as BookValue, market_of}
-use Rattle.outcome.specs.auction_model.specs.PricingRun.{IsPricingRun}
+use Rattle.outcome.specs.auction_model.specs.Book.{Book as BookValue}
 use Rattle.cca_inputs.specs.cert_facts.specs.Facts.{AreFacts, HasFacts}
 use Rattle.cca_inputs.specs.cert_facts.specs.declared.shown.CertFacts.{CertFacts}
 use Rattle.cca_inputs.specs.cert_form.specs.Certificate.{CertValue}
 use Rattle.cca_inputs.specs.cert_form.specs.CertText.{IsCertificate}
 use Rattle.cca_inputs.specs.cert_form.specs.Says.{cert_text}
-use Rattle.place_price.specs.cert_laws.specs.Priced.{IsPricedCert}
-use Rattle.place_price.specs.cert_laws.specs.Sound.{IsSound, cert_point}
+use Rattle.place_price.specs.book_price.specs.Priced.{IsPricedBook}
+use Rattle.place_price.specs.book_price.specs.declared.pricing.PricedBook.{PricedBook}
+use Rattle.place_price.specs.cert_laws.specs.Sound.{IsSound}
 use Rattle.place_price.specs.cert_laws.specs.Tests.{Holds, bidders_of, states}
 use Rattle.cca_inputs.specs.cert_text.specs.CertValues.{cert_value, IsFor}
 use Rattle.cca_inputs.specs.cert_text.specs.declared.certificate.Certificate.{Certificate}
 use Rattle.outcome.specs.auction_model.specs.Prices.{weight_of}
-use Rattle.big_auction.specs.row_laws.specs.Weights.{FewWin}
 use Rattle.outcome.specs.core_price.specs.Turns.{IsPointOfTurn, turns_of}
 use Rattle.outcome.specs.core_price.specs.declared.priced.Turn.{Turn}
 use Rattle.outcome.specs.Payments.{ArePayments}
 use Rattle.outcome.specs.Turns.{CanPrintTurn}
-use Rattle.big_auction.specs.row_laws.specs.Turns.{IsLastPoint}
 use Rattle.outcome.specs.row_laws.specs.wide_num.specs.Range.{InRange}
 use Rattle.cca_inputs.specs.Outcome.{done}
 use Rattle.cca_inputs.specs.declared.file_text.FileText.{FileText}
@@ -47,24 +45,21 @@ can-print z weights [] all = tt
 can-print z weights (t ∷ turns) all = (record { payments = payments-of z weights t all.0; excess = all.0.excess }, can-print z weights turns all.1)
 
 -- a priced book gives its prices and its certificate
-pub priced : (book : BookValue) (weights : List ℕ) (form : PriceForm) (cert : Certificate) (turns : List Turn) (text appended : List ℕ)
-    → IsFor (bidders_of book) (states book) cert
-    → IsPricedCert book (weight_of weights) (cert_value cert) → FewWin cert.choice weights → IsPricingRun (market_of book) (weight_of weights) cert.choice
-    (turns_of cert.choice turns)
-    → IsLastPoint (turns_of cert.choice turns) (cert_point (cert_value cert)) → ArePrinted form book (cert_value cert) (turns_of cert.choice turns) text
-    → appended ≡ cert_text (cert_value cert) → PriceGives book weights form (done text (cert_file appended ∷ []))
-priced book weights form cert turns text appended shape is few run last printed written =
+pub priced : (book : BookValue) (weights : List ℕ) (form : PriceForm) (p : PricedBook) (text appended : List ℕ) → IsPricedBook book weights p
+    → ArePrinted form book (cert_value p.cert) (turns_of p.cert.choice p.turns) text → appended ≡ cert_text (cert_value p.cert)
+    → PriceGives book weights form (done text (cert_file appended ∷ []))
+priced book weights form p text appended is printed written =
     inl (
-      cert_value cert,
+      cert_value p.cert,
       text,
       record {
-        certificate = subst (λ (b : ℕ). IsCertificate b (states book) (cert_value cert)) shape.bidders_are
-            (subst (λ (s : ℕ). IsCertificate (length cert.choice) s (cert_value cert)) shape.states_are cert.rules);
-        priced = is;
-        few = few;
-        turns = turns_of cert.choice turns;
-        run = run;
-        last = last;
+        certificate = subst (λ (b : ℕ). IsCertificate b (states book) (cert_value p.cert)) is.shape.bidders_are
+            (subst (λ (s : ℕ). IsCertificate (length p.cert.choice) s (cert_value p.cert)) is.shape.states_are p.cert.rules);
+        priced = is.cert;
+        few = is.few;
+        turns = turns_of p.cert.choice p.turns;
+        run = is.run;
+        last = is.last_turn;
         printed = printed;
       },
       ap (λ (t : List ℕ). done text (cert_file t ∷ [])) written,

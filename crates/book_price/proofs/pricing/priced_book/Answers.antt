@@ -32,59 +32,25 @@ certificate-requires c = (
       c.requires.few c.requires.weights c.in_ok-priced.ensures.priced c.in_ok-priced.ensures.table),
 )
 
-pub returns-clause-cert : goal.returns-clause-cert
-returns-clause-cert c = c.in_ok-cert.ensures.priced c.args.weights.now (found-by c.args.book.now c.new-chooser.result.book.now c.args.winners
-    c.new-chooser.result.winners c.args.whole.now c.in_ok-alone.alone c.args.weights.now c.singles.result.now c.in_ok-priced.priced
-    c.new-chooser.ensures.book (c.new-chooser.ensures.winners ∙ c.in_ok-copied.ensures) c.singles.ensures c.requires.winners c.requires.whole c.requires.plain
-    c.in_ok-alone.ensures.singles c.in_ok-alone.ensures.tables
-    c.requires.few c.requires.weights c.in_ok-priced.ensures.priced c.in_ok-priced.ensures.table)
-
-pub returns-clause-reduced : goal.returns-clause-reduced
-returns-clause-reduced c =
-    let found =
-    found-by c.args.book.now c.new-chooser.result.book.now c.args.winners c.new-chooser.result.winners c.args.whole.now c.in_ok-alone.alone c.args.weights.now
-    c.singles.result.now c.in_ok-priced.priced
-    c.new-chooser.ensures.book (c.new-chooser.ensures.winners ∙ c.in_ok-copied.ensures) c.singles.ensures c.requires.winners c.requires.whole c.requires.plain
-    c.in_ok-alone.ensures.singles c.in_ok-alone.ensures.tables
-    c.requires.few c.requires.weights c.in_ok-priced.ensures.priced c.in_ok-priced.ensures.table in
-    subst IsReduced (sym c.in_ok-cert.ensures.value) (reduced_cert c.args.book.now c.args.winners c.args.whole.now c.in_ok-alone.alone c.args.weights.now
-    c.in_ok-priced.priced found)
-
-pub returns-clause-few : goal.returns-clause-few
-returns-clause-few c = subst (λ z. FewWin z c.args.weights.now) (sym (ap (λ (v : CertValue). v.choice) c.in_ok-cert.ensures.value)) c.requires.few
-
-pub returns-clause-run : goal.returns-clause-run
-returns-clause-run c =
-    let found =
-    found-by c.args.book.now c.new-chooser.result.book.now c.args.winners c.new-chooser.result.winners c.args.whole.now c.in_ok-alone.alone c.args.weights.now
-    c.singles.result.now c.in_ok-priced.priced
-    c.new-chooser.ensures.book (c.new-chooser.ensures.winners ∙ c.in_ok-copied.ensures) c.singles.ensures c.requires.winners c.requires.whole c.requires.plain
-    c.in_ok-alone.ensures.singles c.in_ok-alone.ensures.tables
-    c.requires.few c.requires.weights c.in_ok-priced.ensures.priced c.in_ok-priced.ensures.table in
-    let own = found.priced_is in
-    subst (λ (z : List ℕ). IsPricingRun (market_of c.args.book.now) (weight_of c.args.weights.now) z (turns_of z c.in_ok-priced.priced.turns))
-    (sym (ap (λ (v : CertValue). v.choice) c.in_ok-cert.ensures.value)) own.turns.run
-
-pub returns-clause-each_turn : goal.returns-clause-each_turn
-returns-clause-each_turn c =
-    let found =
-    found-by c.args.book.now c.new-chooser.result.book.now c.args.winners c.new-chooser.result.winners c.args.whole.now c.in_ok-alone.alone c.args.weights.now
-    c.singles.result.now c.in_ok-priced.priced
-    c.new-chooser.ensures.book (c.new-chooser.ensures.winners ∙ c.in_ok-copied.ensures) c.singles.ensures c.requires.winners c.requires.whole c.requires.plain
-    c.in_ok-alone.ensures.singles c.in_ok-alone.ensures.tables
-    c.requires.few c.requires.weights c.in_ok-priced.ensures.priced c.in_ok-priced.ensures.table in
-    let own = found.priced_is in
-    subst (λ (z : List ℕ). AllByRecursion (IsPointOfTurn z c.args.weights.now) c.in_ok-priced.priced.turns)
-    (sym (ap (λ (v : CertValue). v.choice) c.in_ok-cert.ensures.value)) own.turns.each
-
-pub returns-clause-last_turn : goal.returns-clause-last_turn
-returns-clause-last_turn c =
+pub returns-clause-priced : goal.returns-clause-priced
+returns-clause-priced c =
+    let book = c.args.book.now in
+    let z = c.args.winners in
+    let weights = c.args.weights.now in
     let p = c.in_ok-priced.priced in
     let found =
-    found-by c.args.book.now c.new-chooser.result.book.now c.args.winners c.new-chooser.result.winners c.args.whole.now c.in_ok-alone.alone c.args.weights.now
-    c.singles.result.now c.in_ok-priced.priced
+    found-by book c.new-chooser.result.book.now z c.new-chooser.result.winners c.args.whole.now c.in_ok-alone.alone weights c.singles.result.now p
     c.new-chooser.ensures.book (c.new-chooser.ensures.winners ∙ c.in_ok-copied.ensures) c.singles.ensures c.requires.winners c.requires.whole c.requires.plain
-    c.in_ok-alone.ensures.singles c.in_ok-alone.ensures.tables
-    c.requires.few c.requires.weights c.in_ok-priced.ensures.priced c.in_ok-priced.ensures.table in
-    point-is_last c.args.winners p.den p.at p.turns _ (cert_found c.args.book.now c.args.winners c.args.whole.now c.in_ok-alone.alone p)
-    found.priced_is.turns.last refl refl c.in_ok-cert.ensures.value
+    c.in_ok-alone.ensures.singles c.in_ok-alone.ensures.tables c.requires.few c.requires.weights c.in_ok-priced.ensures.priced c.in_ok-priced.ensures.table in
+    let own = found.priced_is in
+    let same = c.in_ok-cert.ensures.value in
+    let choice = sym (ap (λ (v : CertValue). v.choice) same) in
+    record {
+      shape = c.in_ok-cert.ensures.shape;
+      cert = c.in_ok-cert.ensures.priced weights found;
+      reduced = subst IsReduced (sym same) (reduced_cert book z c.args.whole.now c.in_ok-alone.alone weights p found);
+      few = subst (λ (z : List ℕ). FewWin z weights) choice c.requires.few;
+      run = subst (λ (z : List ℕ). IsPricingRun (market_of book) (weight_of weights) z (turns_of z p.turns)) choice own.turns.run;
+      each_turn = subst (λ (z : List ℕ). AllByRecursion (IsPointOfTurn z weights) p.turns) choice own.turns.each;
+      last_turn = point-is_last z p.den p.at p.turns _ (cert_found book z c.args.whole.now c.in_ok-alone.alone p) own.turns.last refl refl same;
+    }

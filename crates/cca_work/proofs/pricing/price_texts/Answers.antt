@@ -8,11 +8,8 @@ pub price_text-requires-clause-turns : goal.price_text-requires-clause-turns
 price_text-requires-clause-turns c =
     let choice = c.in_ok-priced.priced.cert.choice in
     subst (λ turns. AllByRecursion (CanPrintTurn choice) turns) (sym c.items.ensures)
-    (can-print choice c.args.weights.now c.in_ok-priced.priced.turns c.in_ok-priced.ensures.each_turn)
+    (can-print choice c.args.weights.now c.in_ok-priced.priced.turns c.in_ok-priced.ensures.priced.each_turn)
 
 pub returns-clause-done : goal.returns-clause-done
-returns-clause-done c =
-    priced c.args.book.now c.args.weights.now c.args.form c.in_ok-priced.priced.cert c.in_ok-priced.priced.turns c.in_ok-printed.printed c.in_ok-cert.cert
-    c.in_ok-priced.ensures.shape
-    c.in_ok-priced.ensures.cert c.in_ok-priced.ensures.few c.in_ok-priced.ensures.run c.in_ok-priced.ensures.last_turn
-    (rw c.items.ensures at c.in_ok-printed.ensures) c.in_ok-cert.ensures
+returns-clause-done c = priced c.args.book.now c.args.weights.now c.args.form c.in_ok-priced.priced c.in_ok-printed.printed c.in_ok-cert.cert
+    c.in_ok-priced.ensures.priced (rw c.items.ensures at c.in_ok-printed.ensures) c.in_ok-cert.ensures
