@@ -2,5 +2,6 @@ mod CertWork
 pub mod Counts
 mod Feeding
 pub mod Loads
+mod Placed
 mod Priced
 mod Progress

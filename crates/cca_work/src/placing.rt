@@ -4,6 +4,7 @@ ghost use Rattle.std.specs.List.{AllByRecursion};
 ghost use Rattle.outcome.specs.core_price.specs.Turns.{turns_of};
 ghost use Rattle.outcome.specs.Turns.{CanPrintTurn};
 ghost use Rattle.cca_inputs.specs.place_cert.specs.CertValues.{place_cert_value};
+ghost use Rattle.cca_inputs.specs.place_cert.specs.PlaceSays.{place_text};
 ghost use Rattle.outcome.specs.place_laws.specs.PlaceTests.{Holds};
 ghost use Rattle.cca_inputs.specs.Outcome.{done};
 ghost use Rattle.cca_inputs.specs.declared.status.FileKind.{FileKind};
@@ -20,7 +21,7 @@ use outcome::core_price::Turn;
 use outcome::place_check::{Verdict, check_places};
 use outcome::place_text;
 use outcome::print_form::line_text::wide_num::Text;
-use place_price::priced_places;
+use place_price::{PricedPlaces, priced_places};
 use std::alloc::{AllocError, Global};
 
 // What is printed of a certificate and the turns that led to it, with the lines of the turns where they are asked for.
@@ -45,14 +46,31 @@ fn placed_lines(
     Ok(text)
 }
 
-fn placed_texts(alloc: Global, slots: &Slots, rounds: bool) -> Result<PriceTexts, AllocError>
-    ensures { IfOk result (λ p. PlaceGives slots.now rounds (done p.printed (cert_file p.cert ∷ []))) }
+// The printed prices of slots that are priced, and the text of their certificate.
+fn slot_texts(
+    alloc: Global,
+    slots: &Slots,
+    priced: &PricedPlaces,
+    rounds: bool,
+) -> Result<PriceTexts, AllocError>
+    requires shape { length priced.now.cert.choice ≡ length slots.now.bidders }
+    requires holds { Holds slots.now (place_cert_value priced.now.cert) }
+    requires turns { AllByRecursion (CanPrintTurn priced.now.cert.choice) priced.now.turns }
+    ensures { IfOk result (λ p. ArePlacedLines slots.now rounds (place_cert_value priced.now.cert)
+        (turns_of priced.now.cert.choice priced.now.turns) p.printed
+        × (p.cert ≡ place_text (place_cert_value priced.now.cert))) }
 {
-    let priced = priced_places(alloc, slots)?;
     let cert = &priced.cert;
     let printed = placed_lines(alloc, slots, cert, priced.turns.items(), rounds)?;
     let cert = write_places(alloc, cert)?;
     Ok(PriceTexts { printed, cert })
+}
+
+fn placed_texts(alloc: Global, slots: &Slots, rounds: bool) -> Result<PriceTexts, AllocError>
+    ensures { IfOk result (λ p. PlaceGives slots.now rounds (done p.printed (cert_file p.cert ∷ []))) }
+{
+    let priced = priced_places(alloc, slots)?;
+    slot_texts(alloc, slots, &priced, rounds)
 }
 
 /// The placement of the bidders of a band with its prices, printed with the lines of the turns where they are asked for, and its

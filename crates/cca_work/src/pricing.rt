@@ -1,13 +1,18 @@
 // Prices of a book, with their certificate.
-ghost use Rattle.std.specs.Prelude.{◌≡◌, ℕ, [], ◌∷◌, IfOk, Err};
+ghost use Rattle.std.specs.Prelude.{◌≡◌, ◌≢◌, ℕ, [], ◌∷◌, IfOk, Err};
+ghost use Rattle.std.specs.List.{AllByRecursion};
+ghost use Rattle.cca_inputs.specs.cert_form.specs.Says.{cert_text};
+ghost use Rattle.cca_inputs.specs.cert_text.specs.CertValues.{cert_value, IsFor};
 ghost use Rattle.cca_inputs.specs.limits.specs.declared.LimitKind.{LimitKind};
 ghost use Rattle.outcome.specs.auction_model.specs.Prices.{AreWeights};
-ghost use Rattle.place_price.specs.cert_laws.specs.Tests.{bidders_of};
+ghost use Rattle.place_price.specs.cert_laws.specs.Tests.{Holds, bidders_of, states};
+ghost use Rattle.outcome.specs.core_price.specs.Turns.{turns_of};
+ghost use Rattle.outcome.specs.Turns.{CanPrintTurn};
 ghost use Rattle.outcome.specs.core_price.specs.declared.priced.PriceStop.{PriceStop};
 ghost use Rattle.cca_inputs.specs.Outcome.{done, stopped};
 ghost use Rattle.cca_inputs.specs.declared.status.FileKind.{FileKind};
 ghost use Rattle.cca_inputs.specs.declared.status.Status.{Status};
-ghost use Rattle.cca_work.specs.Gives.{PriceGives, cert_file, ones};
+ghost use Rattle.cca_work.specs.Gives.{ArePrinted, PriceGives, cert_file, ones};
 ghost use Rattle.cca_work.specs.Works.{IsWork};
 
 use crate::price_text::price_text;
@@ -18,7 +23,7 @@ use cca_inputs::weights_file::bid_book::BidBook;
 use cca_inputs::{FileKind, FileText, PriceForm};
 use outcome::core_price::PriceStop;
 use outcome::print_form::line_text::wide_num::Text;
-use place_price::book_price::price_book;
+use place_price::book_price::{PricedBook, price_book};
 use std::alloc::{AllocError, Global};
 
 /// The printed prices, and the text of their certificate.
@@ -35,6 +40,26 @@ pub fn ones_of(alloc: Global, book: &BidBook) -> Result<Vec<u32>, AllocError>
     vec![in alloc; 1u32; book.bidders()]
 }
 
+// The printed prices of a priced book, and the text of its certificate.
+fn priced_texts(
+    alloc: Global,
+    book: &BidBook,
+    priced: &PricedBook,
+    form: PriceForm,
+) -> Result<PriceTexts, PriceStop>
+    requires shape { IsFor (bidders_of book.now) (states book.now) priced.now.cert }
+    requires holds { (w : ℕ → ℕ) × Holds book.now w (cert_value priced.now.cert) }
+    requires turns { AllByRecursion (CanPrintTurn priced.now.cert.choice) priced.now.turns }
+    ensures done { IfOk result (λ p. ArePrinted form book.now (cert_value priced.now.cert)
+        (turns_of priced.now.cert.choice priced.now.turns) p.printed × (p.cert ≡ cert_text (cert_value priced.now.cert))) }
+    ensures memory { (n : ℕ) → result ≢ Err (PriceStop.Winners n) }
+{
+    let cert = &priced.cert;
+    let printed = price_text(alloc, book, cert, priced.turns.items(), form)?;
+    let cert = write_cert(alloc, cert)?;
+    Ok(PriceTexts { printed, cert })
+}
+
 fn price_texts(
     alloc: Global,
     book: &BidBook,
@@ -47,10 +72,7 @@ fn price_texts(
         → PriceGives book.now weights.now form (stopped (Status.Limit LimitKind.Winners n)) }
 {
     let priced = price_book(alloc, book, weights)?;
-    let cert = &priced.cert;
-    let printed = price_text(alloc, book, cert, priced.turns.items(), form)?;
-    let cert = write_cert(alloc, cert)?;
-    Ok(PriceTexts { printed, cert })
+    priced_texts(alloc, book, &priced, form)
 }
 
 /// The work whose one appended text is a certificate.
