@@ -1,5 +1,8 @@
 use Rattle.std.proofs.Common.{refl, sym, ap, subst, ◌∙◌, arith, Bool, IsTrue, List, ℕ, [], ◌∷◌, Err}
 use Rattle.std.proofs.lemmas.Result.{err_from_is_err_and}
+use Rattle.outcome.specs.auction_model.specs.Prices.{AreWeights}
+use Rattle.place_price.specs.book_price.proofs.Ones.{ones-weigh}
+use Rattle.place_price.specs.cert_laws.specs.Tests.{bidders_of}
 use Rattle.cca_inputs.specs.Command.{audit}
 use Rattle.cca_inputs.specs.declared.status.FileKind.TheVariants.{Award, Log, Cert}
 use Rattle.cca_work.specs.Gives.{CertGives, VerdictGives, ones}
@@ -52,6 +55,11 @@ checked-requires-clause-known g c =
     let new = g.F.Files.folder c.logged.new.files in
     let kept = logged-kept c.args.terms.now c.args.log.now old new c.in_ok-book.book c.in_ok-book.ensures in
     subst (λ (k : List ℕ → Bool). IsTrue (k c.args.cert.now)) (sym kept.knows) c.requires.cert
+
+pub checked-requires-clause-weights : goal.checked-requires-clause-weights
+checked-requires-clause-weights g c =
+    let bidders = bidders_of c.in_ok-book.book in
+    subst (AreWeights bidders) (sym (c.deref.ensures.value ∙ c.in_ok-weights.ensures)) (ones-weigh bidders)
 
 pub returns : goal.returns
 returns g c =

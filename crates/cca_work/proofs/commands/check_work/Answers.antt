@@ -1,5 +1,8 @@
 use Rattle.std.proofs.Common.{◌∙◌, refl, arith, [], ◌∷◌, sym, ap, subst, Err}
 use Rattle.std.proofs.lemmas.Result.{err_from_is_err_and}
+use Rattle.outcome.specs.auction_model.specs.Prices.{AreWeights}
+use Rattle.place_price.specs.book_price.proofs.Ones.{ones-weigh}
+use Rattle.place_price.specs.cert_laws.specs.Tests.{bidders_of}
 use Rattle.cca_inputs.specs.limits.specs.declared.TheConstants.{BOOK_BYTES}
 use Rattle.cca_inputs.specs.Answers.{BookAnswers}
 use Rattle.cca_inputs.specs.Command.{check}
@@ -35,6 +38,11 @@ returns-in_err-weights g c =
     let stopped = no-memory command old mid _ _ at in
     let is = err_from_is_err_and c.from_residual-in_err-weights.result c.from_residual-in_err-weights.ensures.1 in
     subst (Works command old mid) (sym (is.1 ∙ ap (λ (s : Stop). Err s) is.2)) stopped
+
+pub checked-requires-clause-weights : goal.checked-requires-clause-weights
+checked-requires-clause-weights g c =
+    let bidders = bidders_of c.in_ok-book.book in
+    subst (AreWeights bidders) (sym (c.deref.ensures.value ∙ c.in_ok-weights.ensures)) (ones-weigh bidders)
 
 pub returns : goal.returns
 returns g c =

@@ -1,5 +1,8 @@
-use Rattle.std.proofs.Common.{refl, arith, [], sym, ap, subst, ◌∙◌, Err}
+use Rattle.std.proofs.Common.{◌≡◌, List, length, refl, arith, [], sym, ap, subst, ◌∙◌, Err}
+use Rattle.std.specs.List.{AllByRecursion}
 use Rattle.std.proofs.lemmas.Result.{err_from_is_err_and}
+use Rattle.outcome.specs.review.specs.Edits.{edit_lots}
+use Rattle.outcome.specs.review.specs.declared.edit.Edit.{Edit}
 use Rattle.cca_inputs.specs.limits.specs.declared.TheConstants.{BOOK_BYTES, EDITS_BYTES}
 use Rattle.cca_inputs.specs.Answers.{BookAnswers, EditsAnswers}
 use Rattle.cca_inputs.specs.Command.{review}
@@ -37,6 +40,11 @@ returns-in_err-edits g c =
     c.in_err-edits.ensures.loads _ (λ bytes s x. x) (λ files. refl) (λ files. (refl, tt)) c.in_err-edits.field-0.0 c.in_err-edits.ensures.stop in
     let is = err_from_is_err_and c.from_residual-in_err-edits.result c.from_residual-in_err-edits.ensures.1 in
     subst (Works command old new) (sym (is.1 ∙ ap (λ (s : Stop). Err s) is.2)) stopped
+
+pub reviewed-requires : goal.reviewed-requires
+reviewed-requires g c =
+    let said = c.in_ok-edits.ensures.value in
+    subst (λ (edits : List Edit). AllByRecursion (λ e. length (edit_lots e) ≡ length c.in_ok-book.book.supply) edits) (sym c.items.ensures) said.says.1
 
 pub returns : goal.returns
 returns g c =

@@ -1,5 +1,7 @@
 use Rattle.std.proofs.Common.{refl, arith, [], ◌∷◌, sym, ap, subst, ◌∙◌, Err}
 use Rattle.std.proofs.lemmas.Result.{err_from_is_err_and}
+use Rattle.outcome.specs.auction_model.specs.Prices.{AreWeights}
+use Rattle.place_price.specs.cert_laws.specs.Tests.{bidders_of}
 use Rattle.cca_inputs.specs.limits.specs.declared.TheConstants.{BOOK_BYTES, WEIGHTS_BYTES}
 use Rattle.cca_inputs.specs.Answers.{BookAnswers, WeightsAnswers}
 use Rattle.cca_inputs.specs.Command.{weigh_check}
@@ -38,6 +40,11 @@ returns-in_err-weights g c =
     c.in_err-weights.ensures.loads _ (λ bytes s x. x) (λ files. refl) (λ files. (refl, tt)) c.in_err-weights.field-0.0 c.in_err-weights.ensures.stop in
     let is = err_from_is_err_and c.from_residual-in_err-weights.result c.from_residual-in_err-weights.ensures.1 in
     subst (Works command old new) (sym (is.1 ∙ ap (λ (s : Stop). Err s) is.2)) stopped
+
+pub checked-requires-clause-weights : goal.checked-requires-clause-weights
+checked-requires-clause-weights g c =
+    let weighed = c.in_ok-weights.ensures.value in
+    subst (AreWeights (bidders_of c.in_ok-book.book)) (sym c.items.ensures) weighed.says.1
 
 pub returns : goal.returns
 returns g c =
