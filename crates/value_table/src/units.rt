@@ -1,4 +1,4 @@
-// Lines in 16 bits, where they are so long that tests in these save time.
+// Lines in 16 bits, where they are so long, and so many bids count in them, that tests in these save time.
 ghost use Rattle.std.specs.Prelude.{◌≡◌, ◌≤◌, ◌<◌, length};
 ghost use Rattle.value_table.specs.Raising.{MayBeInUnits};
 
@@ -8,6 +8,23 @@ use choices::coarse::shift_for;
 
 /// From so many places on a line is tested in 16 bits.
 const LONG_LINE: usize = 2048;
+
+/// From so many bids on that aren't needless it is. With fewer, more blocks have to be raised, and rounding these again takes more than
+/// the tests save.
+const MANY_BIDS: u16 = 400;
+
+/// How many bids of bidder `j` aren't needless.
+fn needed_bids(lowering: &Lowering, j: u16) -> u16
+    requires { (0 < j) × (j ≤ length lowering.now.book.now.bidders) }
+{
+    let mut count: u16 = 0;
+    for i in 0..lowering.bids(j) {
+        if !lowering.is_needless(j, i + 1) {
+            count = count.saturating_add(1);
+        }
+    }
+    count
+}
 
 /// The most that bidder `j` counts.
 fn most_worth(lowering: &Lowering, j: u16) -> i128
@@ -31,8 +48,8 @@ fn line_shift<A: Amount>(lowering: &Lowering, j: u16, below: &[A]) -> u32
     shift_for(most.min(u64::MAX as u128) as u64)
 }
 
-/// Puts line `j - 1`, which counts no bid of bidder `j` yet, and line `j` below it in 16 bits, where they are long and there is room
-/// for them, and gives the shift of their units.
+/// Puts line `j - 1`, which counts no bid of bidder `j` yet, and line `j` below it in 16 bits, where they are long, many bids count
+/// in them and there is room for them, and gives the shift of their units.
 pub fn put_units<A: Amount>(
     lowering: &Lowering,
     j: u16,
@@ -47,6 +64,9 @@ pub fn put_units<A: Amount>(
 {
     let places = line.len();
     if places < LONG_LINE || low.len() != places || high.len() != places {
+        return None;
+    }
+    if needed_bids(lowering, j) < MANY_BIDS {
         return None;
     }
     let shift = line_shift(lowering, j, below);
