@@ -1,5 +1,6 @@
 -- Digits that are compared at once.
-use Rattle.std.proofs.Common.{◌≡◌, ℕ, suc, zero, ◌+◌, ◌-◌, ◌*◌, ◌%◌, ◌≤◌, ◌<◌, ◌^◌, Bool, true, false, cond, ltb, List, [], ◌∷◌, map, length, get_or, take, drop, replicate}
+use Rattle.std.proofs.Common.{◌≡◌, ℕ, suc, zero, ◌+◌, ◌-◌, ◌*◌, ◌%◌, ◌≤◌, ◌<◌, ◌^◌, Bool, true, false, cond, ltb}
+use Rattle.std.proofs.Common.{List, [], ◌∷◌, map, length, get_or, take, drop, replicate}
 use Rattle.std.proofs.Common.{refl, sym, ap, ◌∙◌, arith, w8, Fits, mul_assoc}
 use Rattle.std.proofs.Math.Nat.{mul_comm, pow-suc}
 use Rattle.std.proofs.lemmas.Bool.Decides.{nat_tests}
@@ -17,7 +18,8 @@ pub digits_mask : (v : List ℕ) → length v ≡ 8
     → mask_l (map (top 7) (zip2 (λ a b. cond (ltb a b) 255 0) (zip2 (λ a b. (a + (256 - b)) % 256) v (replicate 8 48)) (replicate 8 10))) % 2 ^ 64
     ≡ mask_l (map is_spelled v)
 digits_mask v long =
-    let values : zip2 (λ a b. (a + (256 - b)) % 256) v (replicate 8 48) ≡ map (λ x. (x + 208) % 256) v = zip2_splat (λ a b. (a + (256 - b)) % 256) v 8 48 long in
+    let values : zip2 (λ a b. (a + (256 - b)) % 256) v (replicate 8 48) ≡ map (λ x. (x + 208) % 256) v =
+    zip2_splat (λ a b. (a + (256 - b)) % 256) v 8 48 long in
     ap (λ xs. mask_l (map (top 7) (zip2 (λ a b. cond (ltb a b) 255 0) xs (replicate 8 10))) % 2 ^ 64) values
     ∙ bitmask_splat w8 ltb (map (λ x. (x + 208) % 256) v) 8 10 (length-map v (λ x. (x + 208) % 256) ∙ long) (omega arith)
     ∙ ap mask_l (map-map (λ x. ltb x 10) (λ x. (x + 208) % 256) v)
