@@ -1,13 +1,15 @@
 -- Bids that change no entry.
-use Rattle.std.specs.Prelude.{◌≡◌, ℕ, zero, suc, ◌+◌, ◌-◌, ◌≤◌, ◌<◌, List, length, ℤ, pos, ◌≤ℤ◌, refl}
-use Rattle.std.proofs.Common.{arith, sym, subst}
+use Rattle.std.specs.Prelude.{ℕ, zero, suc, ◌≤◌, ◌<◌, length, ℤ, neg_ℤ, pos, ◌≤ℤ◌, refl}
+use Rattle.std.specs.Int.{int_max}
+use Rattle.std.proofs.Common.{arith}
+use Rattle.std.proofs.lemmas.Int.{ints, int_max_is}
 use Rattle.choices.specs.auction_model.specs.Book.{bids_of}
-use Rattle.choices.specs.auction_model.proofs.LineLaws.{IsLineUpTo}
-use Rattle.choices.specs.auction_model.proofs.DominatedLaws.{lowered-in_order, line-dominated}
+use Rattle.choices.specs.auction_model.specs.Lowered.{of_bidder}
+use Rattle.choices.specs.auction_model.proofs.DominatedLaws.{lowered-in_order}
 use Rattle.choices.specs.bid_book.specs.Better.{IsBetter}
 use Rattle.choices.specs.bid_book.specs.Kept.{IsBidBook}
 use Rattle.value_table.specs.declared.lowering.Lowering.{Lowering}
-use Rattle.value_table.specs.Counted.{seat, net_at, counted_bids, counted, IsNeedless}
+use Rattle.value_table.specs.Counted.{seat, net_at, counted, IsNeedless}
 
 counted-in_order : (l : Lowering) (j i h : ℕ) → 0 < h → h < i → pos 0 ≤ℤ l.den → pos 0 ≤ℤ net_at l j i → net_at l j i ≤ℤ net_at l j h
     → counted l j i ≤ℤ counted l j h
@@ -29,13 +31,9 @@ needless-better l j i h kept known some den better = record {
 pub needless-idle : (l : Lowering) (j i : ℕ) → 0 < i → counted l j i ≤ℤ counted l j 0 → IsNeedless l j i
 needless-idle l j i some le = record { other = 0; earlier = some; smaller = refl; worth = le }
 
--- a line that counts the bids before such a bid counts it too
-pub line-needless : (l : Lowering) (j i : ℕ) (line : List ℤ) → 0 < j → IsNeedless l j (i + 1) → IsLineUpTo (counted_bids l) (counted l) l.book.now.supply
-    (j - 1) i line → IsLineUpTo (counted_bids l) (counted l) l.book.now.supply (j - 1) (i + 1) line
-line-needless l j i line some n was =
-    let next : j ≡ suc (j - 1) = omega arith in
-    let up : i + 1 ≡ suc i = omega arith in
-    let needless : IsNeedless l (suc (j - 1)) (suc i) = subst (λ (k : ℕ). IsNeedless l k (suc i)) next (subst (IsNeedless l j) up n) in
-    subst (λ (k : ℕ). IsLineUpTo (counted_bids l) (counted l) l.book.now.supply (j - 1) k line) (sym up)
-    (line-dominated (counted_bids l) (counted l) l.book.now.supply (j - 1) i needless.other line (omega (arith, needless.earlier)) needless.smaller
-    needless.worth was)
+-- having none never counts less than 0
+pub idle-sign : (l : Lowering) (j : ℕ) → pos 0 ≤ℤ counted l j 0
+idle-sign l j = sign (of_bidder l.surplus.now j)
+  where
+    sign : (s : ℤ) → pos 0 ≤ℤ int_max (pos 0) (neg_ℤ s)
+    sign s = omega (arith, ints, int_max_is (pos 0) (neg_ℤ s))

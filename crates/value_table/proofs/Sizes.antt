@@ -4,7 +4,7 @@ use Rattle.std.proofs.Common.{arith}
 use Rattle.choices.specs.auction_model.specs.Lowered.{lowered, of_bidder}
 use Rattle.choices.specs.auction_model.proofs.BoundLaws.{caps_of, lowered-capped, parts-capped, cap-in_sum, line-sizes, AreCapped}
 use Rattle.value_table.specs.declared.lowering.Lowering.{Lowering}
-use Rattle.value_table.specs.Counted.{net_at, counted_bids, counted, IsCountedLine, IsWithin}
+use Rattle.value_table.specs.Counted.{net_at, counted_bids, counted, IsCountedLine, IsWithin, IsLineWithin}
 
 module _ (l : Lowering) where
   -- where all sums are below a number in size, so is each number of a line
@@ -34,6 +34,14 @@ module _ (l : Lowering) where
     lowered-capped (counted_bids l).bids (net_at l) l.den
         l.surplus.now j i known,
   )
+
+  -- so a line and what the bidder before it counts are
+  pub line-room : (most : ℕ) → IsWithin l most → (j : ℕ) (line : List ℤ) → zero < j → j ≤ length l.book.now.bidders → IsCountedLine l j line
+      → IsLineWithin l most j line
+  line-room most within j line p q e = record {
+    numbers = line-within most within j line e;
+    worths = λ i known. worth-within most within j i p q known;
+  }
 
   -- no number of a line is above 2^120 in size
   pub line-small : (k : ℕ) (line : List ℤ) → IsCountedLine l k line → (s : ℕ) → unsigned_abs (get_or line s (pos 0)) ≤ 2 ^ 120

@@ -1,5 +1,5 @@
 -- What a lowering counts, and its lines and tables: words of private contracts.
-use Rattle.std.specs.Prelude.{◌≡◌, ℕ, ◌<◌, ◌^◌, false, IsTrue, List, length, ℤ, ◌≤ℤ◌}
+use Rattle.std.specs.Prelude.{◌≡◌, ℕ, ◌≤◌, ◌<◌, ◌^◌, false, IsTrue, List, length, slice_index_or, ℤ, pos, ◌≤ℤ◌, unsigned_abs}
 use Rattle.choices.specs.auction_model.specs.Book.{Book, menu_of, net_of}
 use Rattle.choices.specs.auction_model.specs.Lowered.{lowered, spread}
 use Rattle.choices.specs.auction_model.specs.Menu.{Menu, without}
@@ -46,11 +46,15 @@ abbrev pub IsWholeTable : Lowering → List (List ℤ) → Type 0
 IsWholeTable l table = IsExactTable (without (in_order l.turned (menu_of l.book.now)) 0) (counted l) l.book.now.supply table
 
 -- an earlier number of bidder j, or none, takes no more than its bid i and counts at least as much
-pub record IsNeedless (l : Lowering) (j i : ℕ) : Type 0 where
+pub record IsBeaten (m : Menu) (counts : ℕ → ℕ → ℤ) (j i : ℕ) : Type 0 where
   pub other : ℕ
   pub earlier : other < i
-  pub smaller : IsTrue (is_within ((counted_bids l).lots j other) ((counted_bids l).lots j i))
-  pub worth : counted l j i ≤ℤ counted l j other
+  pub smaller : IsTrue (is_within (m.lots j other) (m.lots j i))
+  pub worth : counts j i ≤ℤ counts j other
+
+-- so bid i of bidder j changes no entry
+abbrev pub IsNeedless : Lowering → ℕ → ℕ → Type 0
+IsNeedless l j i = IsBeaten (counted_bids l) (counted l) j i
 
 -- each sum is below this number in size
 abbrev pub IsWithin : Lowering → ℕ → Type 0
@@ -59,3 +63,8 @@ IsWithin l most = spread (counted_bids l).bids (length l.book.now.bidders) (net_
 -- no sum leaves 62 bits
 abbrev pub IsNarrow : Lowering → Type 0
 IsNarrow l = IsWithin l (2 ^ 61)
+
+-- line j and what bidder j counts are at most this in size, so that a sum of both is at most twice as large
+pub record IsLineWithin (l : Lowering) (most j : ℕ) (line : List ℤ) : Type 0 where
+  pub numbers : (s : ℕ) → unsigned_abs (slice_index_or line s (pos 0)) ≤ most
+  pub worths : (i : ℕ) → i ≤ (counted_bids l).bids j → unsigned_abs (counted l j i) ≤ most

@@ -1,5 +1,5 @@
-// The numbers of a line, in the two sizes in which lines are worked out.
-ghost use Rattle.std.specs.Prelude.{◌≡◌, ℕ, ◌*◌, ◌^◌, ◌≤◌, ◌<◌, ◌↔◌, IsTrue, length, slice_index_or, ℤ, pos, ◌+ℤ◌, ◌≤ℤ◌, unsigned_abs, map};
+// The numbers of a line, in the three sizes in which lines are worked out.
+ghost use Rattle.std.specs.Prelude.{◌≡◌, ℕ, ◌*◌, ◌^◌, ◌≤◌, ◌<◌, ◌↔◌, IsTrue, length, slice_index_or, ℤ, pos, ◌-◌, ◌+ℤ◌, ◌≤ℤ◌, unsigned_abs, map};
 ghost use Rattle.std.specs.Int.{int_max};
 ghost use Rattle.choices.specs.Coarse.{IsCeiling, IsFloor};
 
@@ -13,9 +13,10 @@ pub trait Amount: Copy {
     /// How far from zero a worth and a number of the line below may be.
     ghost most: { ℕ };
 
-    /// A whole number in this size.
+    /// A whole number in this size, which isn't below zero.
     fn narrowed(wide: i128) -> Self
-        requires { unsigned_abs wide ≤ most }
+        requires size { unsigned_abs wide ≤ most }
+        requires sign { pos 0 ≤ℤ wide }
         ensures { number result ≡ wide };
 
     /// The number in 128 bits.
@@ -53,7 +54,8 @@ pub trait Amount: Copy {
         ensures floor { IsFloor (2 ^ shift) (map number line.now) low.new }
         ensures places { length low.new ≡ length line.now };
 
-    /// The same rounded up, and whether numbers of this size have such units. Those of 128 bits are never tested in 16.
+    /// The same rounded up, and whether numbers of this size have such units. Those of 128 bits are never tested in 16, nor are those of
+    /// 32, which take few steps as they are.
     fn put_high(high: &mut [u16], line: &[Self], shift: u32) -> bool
         requires places { length high.old ≡ length line.now }
         requires shift { shift < 64 }
@@ -161,5 +163,49 @@ impl Amount for i64 {
 
     fn worth_units(worth: i64, shift: u32) -> u16 {
         coarse::worth_units(worth, shift)
+    }
+}
+
+impl Amount for u32 {
+    ghost number = { λ n. pos n };
+
+    ghost most = { 2 ^ 31 - 1 };
+
+    fn narrowed(wide: i128) -> u32 {
+        wide as u32
+    }
+
+    fn wide(amount: u32) -> i128 {
+        amount as i128
+    }
+
+    fn is_at_least(entry: u32, worth: u32, below: u32) -> bool {
+        worth + below <= entry
+    }
+
+    fn add_to_each(line: &mut [u32], amount: u32) {
+        for place in 0..line.len() {
+            line[place] += amount;
+        }
+    }
+
+    fn raise_run(line: &mut [u32], below: &[u32], worth: u32) {
+        for i in 0..line.len() {
+            line[i] = line[i].max(worth + below[i]);
+        }
+    }
+
+    fn put_low(low: &mut [u16], _line: &[u32], _shift: u32) {
+        for i in 0..low.len() {
+            low[i] = 0;
+        }
+    }
+
+    fn put_high(_high: &mut [u16], _line: &[u32], _shift: u32) -> bool {
+        false
+    }
+
+    fn worth_units(_worth: u32, _shift: u32) -> u16 {
+        0
     }
 }

@@ -7,6 +7,7 @@ mod lines;
 mod lowering;
 mod narrow;
 mod runs;
+mod short;
 mod side_lines;
 mod sides;
 mod table;

@@ -3,11 +3,12 @@
 ghost use Rattle.std.specs.Prelude.{◌≡◌, ℕ, suc, ◌-◌, ◌^◌, ◌≤◌, ◌<◌, [], length, IfOk, slice_index_or, pos, ◌+ℤ◌, unsigned_abs, map};
 ghost use Rattle.choices.specs.auction_model.specs.Table.{IsEntry};
 ghost use Rattle.choices.specs.limits.specs.declared.TheConstants.{MOST_STATES};
-ghost use Rattle.value_table.specs.Counted.{counted_bids, counted, IsWithin, IsCountedLine, AreCountedLines, IsCountedTable, IsWholeTable};
+ghost use Rattle.value_table.specs.Counted.{counted_bids, counted, IsWithin, IsLineWithin, IsCountedLine, AreCountedLines, IsCountedTable, IsWholeTable};
 
 use crate::amount::Amount;
 use crate::lowering::Lowering;
 use crate::narrow::{narrow_into, narrowed, widen_into, widened};
+use crate::short::short_before;
 use crate::tested::add_bid;
 use crate::tracing::line_at;
 use crate::units::put_units;
@@ -17,7 +18,7 @@ use std::alloc::{AllocError, Global};
 
 /// Adds what bidder `j` counts where it isn't used to each number of line `j`.
 fn add_idle<A: Amount>(lowering: &Lowering, j: u16, line: &mut [A])
-    requires range { IsWithin lowering.now A.most }
+    requires range { IsLineWithin lowering.now A.most j (map A.number line.old) }
     requires bidder { (0 < j) × (j ≤ length lowering.now.book.now.bidders) }
     requires line { IsCountedLine lowering.now j (map A.number line.old) }
     ensures { (s : ℕ) → s < length line.old
@@ -31,7 +32,8 @@ fn add_idle<A: Amount>(lowering: &Lowering, j: u16, line: &mut [A])
     A::add_to_each(line, A::narrowed(idle));
 }
 
-/// Counts all bids of bidder `j` in a line that counts none, with two lists in which the lines may be put in 16 bits.
+/// Counts all bids of bidder `j` in a line that counts none, with two lists in which the lines may be put in 16 bits. The last come
+/// first: they are mostly the largest, behind which the others change little.
 fn count_bids<A: Amount>(
     lowering: &Lowering,
     j: u16,
@@ -40,7 +42,7 @@ fn count_bids<A: Amount>(
     low: &mut [u16],
     high: &mut [u16],
 )
-    requires range { IsWithin lowering.now A.most }
+    requires range { IsLineWithin lowering.now A.most j (map A.number below.now) }
     requires bidder { (0 < j) × (j ≤ length lowering.now.book.now.bidders) }
     requires below { IsCountedLine lowering.now j (map A.number below.now) }
     requires places { length line.old ≡ length below.now }
@@ -50,7 +52,7 @@ fn count_bids<A: Amount>(
     ensures { IsCountedLine lowering.now (j - 1) (map A.number line.new) }
 {
     let shift = put_units(lowering, j, line, below, low, high);
-    for i in 0..lowering.bids(j) {
+    for i in (0..lowering.bids(j)).rev() {
         if lowering.is_needless(j, i + 1) {
             continue;
         }
@@ -78,7 +80,7 @@ fn turn_line<A: Amount>(
     low: &mut [u16],
     high: &mut [u16],
 )
-    requires range { IsWithin lowering.now A.most }
+    requires range { IsLineWithin lowering.now A.most j (map A.number below.now) }
     requires bidder { (0 < j) × (j ≤ length lowering.now.book.now.bidders) }
     requires below { IsCountedLine lowering.now j (map A.number below.now) }
     requires copied { line.old ≡ below.now }
@@ -125,7 +127,7 @@ pub fn put_narrow_line(
 }
 
 /// Line `j - 1`, from line `j`.
-fn next_line<A: Amount>(
+pub fn next_line<A: Amount>(
     alloc: Global,
     lowering: &Lowering,
     j: u16,
@@ -133,7 +135,7 @@ fn next_line<A: Amount>(
     low: &mut [u16],
     high: &mut [u16],
 ) -> Result<Vec<A>, AllocError>
-    requires range { IsWithin lowering.now A.most }
+    requires range { IsLineWithin lowering.now A.most j (map A.number below.now) }
     requires bidder { (0 < j) × (j ≤ length lowering.now.book.now.bidders) }
     requires below { IsCountedLine lowering.now j (map A.number below.now) }
     ensures { IfOk result (λ v. IsCountedLine lowering.now (j - 1) (map A.number v.items)) }
@@ -212,8 +214,25 @@ fn grid_down<A: Amount>(
     Ok(grid)
 }
 
-/// The lines before line `top`, of which `first` has the numbers: worked out in 64 bits where no sum is larger.
+/// The lines before line `top`, of which `first` has the numbers: worked out in 32 bits while sums are so small, and else in more.
 fn lines_before(
+    alloc: Global,
+    lowering: &Lowering,
+    top: usize,
+    first: &[i128],
+) -> Result<Grid, AllocError>
+    requires top { top ≤ length lowering.now.book.now.bidders }
+    requires first { IsCountedLine lowering.now top first.now }
+    ensures { IfOk result (λ g. AreCountedLines lowering.now top 0 g) }
+{
+    match short_before(alloc, lowering, top, first)? {
+        Some(grid) => Ok(grid),
+        None => long_before(alloc, lowering, top, first),
+    }
+}
+
+/// The same worked out in 64 bits where no sum is larger, and else in 128.
+fn long_before(
     alloc: Global,
     lowering: &Lowering,
     top: usize,

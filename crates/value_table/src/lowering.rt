@@ -1,5 +1,5 @@
 // What bids count in a table.
-ghost use Rattle.std.specs.Prelude.{IsTrue, ℕ, slice_index_or, ◌≡◌, ◌+◌, ◌*◌, ◌^◌, ◌≤◌, length, pos, neg_ℤ, ◌-ℤ◌, ◌*ℤ◌, unsigned_abs};
+ghost use Rattle.std.specs.Prelude.{IsFalse, IsTrue, ℕ, slice_index_or, ◌≡◌, ◌+◌, ◌*◌, ◌^◌, ◌≤◌, length, pos, neg_ℤ, ◌-ℤ◌, ◌*ℤ◌, unsigned_abs};
 ghost use Rattle.std.specs.Int.{int_max};
 ghost use Rattle.value_table.specs.Turned.{IsOrderInRange};
 
@@ -27,7 +27,7 @@ pub struct Lowering<'a> {
 }
 
 impl<'a> Lowering<'a> {
-    ghost use Rattle.std.specs.Prelude.{◌<◌};
+    ghost use Rattle.std.specs.Prelude.{◌<◌, ◌≤ℤ◌};
     ghost use Rattle.choices.specs.auction_model.specs.Book.{bids_of};
     ghost use Rattle.choices.specs.auction_model.specs.Package.{is_within};
     ghost use Rattle.value_table.specs.BookTable.{IsInRange};
@@ -110,7 +110,8 @@ impl<'a> Lowering<'a> {
     pub fn is_needless(&self, j: u16, i: u16) -> bool
         requires bidder { (0 < j) × (j ≤ length self.now.book.now.bidders) }
         requires bid { (0 < i) × (i ≤ (counted_bids self.now).bids j) }
-        ensures { IsTrue result → IsNeedless self.now j i }
+        ensures needless { IsTrue result → IsNeedless self.now j i }
+        ensures sign { IsFalse result → pos 0 ≤ℤ counted self.now j i }
     {
         self.book.kept();
         if self.den >= 0 && self.book.better(self.bidder(j), i) != 0 {

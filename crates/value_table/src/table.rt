@@ -13,6 +13,7 @@ ghost use Rattle.value_table.specs.TableValue.{IsTableOf, IsPlain, IsPlainWithou
 
 use crate::lines::{all_lines, last_entry, last_narrow_line, lines_down, lines_without};
 use crate::lowering::Lowering;
+use crate::short::short_lines;
 use crate::tracing::{trace_lines, trace_slices};
 use choices::bid_book::BidBook;
 use choices::{Choice, Grid, Numbers};
@@ -163,11 +164,25 @@ pub fn win(alloc: Global, book: &BidBook) -> Result<Choice, AllocError>
     book.kept();
     let surplus = zeros(alloc, book.bidders())?;
     let lowering = Lowering::new(book, 0, 1, &surplus);
-    let numbers = narrow_choice(alloc, &lowering)?;
+    let numbers = plain_choice(alloc, &lowering)?;
     Ok(Choice::new(numbers))
 }
 
-/// The first of the greatest choices where no bidder has a surplus, by lines of 64 bits.
+/// The first of the greatest choices where no bidder has a surplus, by lines of 32 bits while sums are so small.
+fn plain_choice(alloc: Global, lowering: &Lowering) -> Result<Numbers, AllocError>
+    requires den { lowering.now.den ≡ pos 1 }
+    requires zeros { (k : ℕ) → slice_index_or lowering.now.surplus.now k (pos 0) ≡ pos 0 }
+    ensures { IfOk result
+        (λ v. IsFirstGreatest (fits_after (counted_bids lowering.now) 0 lowering.now.book.now.supply)
+        (sum_after (counted lowering.now) 0) v) }
+{
+    match short_lines(alloc, lowering)? {
+        Some(lines) => trace_slices(alloc, lowering, &lines),
+        None => narrow_choice(alloc, lowering),
+    }
+}
+
+/// The same by lines of 64 bits.
 fn narrow_choice(alloc: Global, lowering: &Lowering) -> Result<Numbers, AllocError>
     requires den { lowering.now.den ≡ pos 1 }
     requires zeros { (k : ℕ) → slice_index_or lowering.now.surplus.now k (pos 0) ≡ pos 0 }

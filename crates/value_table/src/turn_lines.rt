@@ -10,13 +10,15 @@ ghost use Rattle.value_table.specs.TurnLines.{lines_in};
 use crate::amount::{Amount, number_at};
 use crate::lines::{grid_of, last_line, last_narrow_line, lines_down};
 use crate::lowering::Lowering;
+use crate::short::short_lines;
 use crate::tracing::{line_at, trace_slices};
 use choices::{Grid, Numbers};
 use std::alloc::{AllocError, Global};
 
-/// The lines of an exact table, of 64 bits where no sum is larger.
+/// The lines of an exact table, of 32 bits or of 64 where no sum is larger.
 #[derive(Drop)]
 pub enum TurnLines {
+    Short(Vec<Vec<u32>>),
     Narrow(Vec<Vec<i64>>),
     Wide(Vec<Vec<i128>>),
 }
@@ -24,6 +26,16 @@ pub enum TurnLines {
 impl TurnLines {
     /// The lines of the exact table, from the last to the first.
     pub fn build(alloc: Global, lowering: &Lowering) -> Result<TurnLines, AllocError>
+        ensures { IfOk result (λ t. IsCountedTable lowering.now (lines_in t)) }
+    {
+        match short_lines(alloc, lowering)? {
+            Some(lines) => Ok(TurnLines::Short(lines)),
+            None => TurnLines::build_long(alloc, lowering),
+        }
+    }
+
+    /// The same of 64 bits where no sum is larger, and else of 128.
+    fn build_long(alloc: Global, lowering: &Lowering) -> Result<TurnLines, AllocError>
         ensures { IfOk result (λ t. IsCountedTable lowering.now (lines_in t)) }
     {
         if lowering.is_narrow() {
@@ -44,6 +56,7 @@ impl TurnLines {
             (sum_after (counted lowering.now) 0) v) }
     {
         match self {
+            TurnLines::Short(lines) => trace_slices(alloc, lowering, lines),
             TurnLines::Narrow(lines) => trace_slices(alloc, lowering, lines),
             TurnLines::Wide(lines) => trace_slices(alloc, lowering, lines),
         }
@@ -56,6 +69,7 @@ impl TurnLines {
         ensures size { unsigned_abs result ≤ 2 ^ 120 }
     {
         match self {
+            TurnLines::Short(lines) => first_entry(lowering, lines),
             TurnLines::Narrow(lines) => first_entry(lowering, lines),
             TurnLines::Wide(lines) => first_entry(lowering, lines),
         }
@@ -67,6 +81,7 @@ impl TurnLines {
         ensures { IfOk result (λ g. g ≡ lines_in self.now) }
     {
         match self {
+            TurnLines::Short(lines) => grid_of(alloc, lowering, lines),
             TurnLines::Narrow(lines) => grid_of(alloc, lowering, lines),
             TurnLines::Wide(lines) => grid_of(alloc, lowering, lines),
         }

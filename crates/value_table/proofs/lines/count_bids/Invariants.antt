@@ -1,11 +1,11 @@
 use Rattle.std.proofs.Common.{◌-◌, map}
-use Rattle.choices.specs.auction_model.proofs.LineLaws.{IsLineUpTo}
 use Rattle.value_table.specs.Counted.{counted_bids, counted}
 use Rattle.value_table.specs.Raising.{MayBeInUnits}
+use Rattle.value_table.proofs.DownLaws.{IsLineFrom}
 use Rattle.value_table.proofs.lines.count_bids.Given as goal
 
 abbrev pub invariant-loop-i : goal.invariant-loop-i
 invariant-loop-i g l = record {
-  line : IsLineUpTo (counted_bids l.lowering) (counted l.lowering) l.lowering.book.now.supply (l.j - 1) l.i (map g.A.Amount.number l.line);
+  line : IsLineFrom (counted_bids l.lowering) (counted l.lowering) l.lowering.book.now.supply (l.j - 1) l.i (map g.A.Amount.number l.line);
   units : MayBeInUnits g.A.Amount.number l.shift l.line l.below l.low l.high;
 }

@@ -2,7 +2,7 @@ use Rattle.std.proofs.Common.{sym, subst, arith, ◌∙◌, ◌^◌}
 use Rattle.std.proofs.lemmas.List.{map-id}
 use Rattle.value_table.specs.Counted.{IsCountedLine}
 use Rattle.value_table.proofs.Sizes.{line-within}
-use Rattle.value_table.proofs.lines.lines_before.Goals as goal
+use Rattle.value_table.proofs.lines.long_before.Goals as goal
 
 pub narrowed-requires : goal.narrowed-requires
 narrowed-requires c =

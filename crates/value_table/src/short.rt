@@ -1,0 +1,131 @@
+// Lines in numbers of 32 bits, while sums are so small: a step takes a third of the time that it takes in 64.
+ghost use Rattle.std.specs.Prelude.{◌≡◌, ℕ, suc, ◌-◌, ◌^◌, ◌≤◌, ◌<◌, length, IfOk, IfSome, IsTrue, slice_index_or, map, pos, unsigned_abs};
+ghost use Rattle.choices.specs.limits.specs.declared.TheConstants.{MOST_STATES};
+ghost use Rattle.value_table.specs.Counted.{counted_bids, counted, IsLineWithin, IsCountedLine, AreCountedLines};
+
+use crate::lines::{grid_of, next_line};
+use crate::lowering::Lowering;
+use choices::Grid;
+use std::alloc::{AllocError, Global};
+
+/// The greatest number of which a sum of two is one of 32 bits.
+const SHORT: u128 = (1 << 31) - 1;
+
+/// Whether bidder `j` counts at most so much with each of its numbers.
+fn has_short_worths(lowering: &Lowering, j: u16) -> bool
+    requires { (0 < j) × (j ≤ length lowering.now.book.now.bidders) }
+    ensures { IsTrue result → (i : ℕ) → i ≤ (counted_bids lowering.now).bids j
+        → unsigned_abs (counted lowering.now j i) ≤ 2 ^ 31 - 1 }
+{
+    if lowering.idle(j).unsigned_abs() > SHORT {
+        return false;
+    }
+    for i in 0..lowering.bids(j) {
+        if lowering.worth(j, i + 1).unsigned_abs() > SHORT {
+            return false;
+        }
+    }
+    true
+}
+
+/// Whether line `j` and what bidder `j` counts are so small that line `j - 1` has numbers of 32 bits.
+fn is_short(lowering: &Lowering, j: u16, below: &[u32]) -> bool
+    requires bidder { (0 < j) × (j ≤ length lowering.now.book.now.bidders) }
+    requires below { IsCountedLine lowering.now j (map (λ n. pos n) below.now) }
+    ensures { IsTrue result → IsLineWithin lowering.now (2 ^ 31 - 1) j (map (λ n. pos n) below.now) }
+{
+    (below[below.len() - 1] as u128) <= SHORT && has_short_worths(lowering, j)
+}
+
+/// The lines from line 0 to line `top`, which is given, or None where one of them needs more bits.
+pub fn short_lines_down(
+    alloc: Global,
+    lowering: &Lowering,
+    top: usize,
+    first: Vec<u32>,
+) -> Result<Option<Vec<Vec<u32>>>, AllocError>
+    requires top { top ≤ length lowering.now.book.now.bidders }
+    requires first { IsCountedLine lowering.now top (map (λ n. pos n) first.items) }
+    ensures { IfOk result (λ found. IfSome found
+        (λ v. AreCountedLines lowering.now (suc top) 0 (map (λ l. map (λ n. pos n) l.items) v.items))) }
+{
+    lowering.book.kept();
+    let mut lines = Vec::new(alloc);
+    lines.push(first)?;
+    for k in (0..top).rev() {
+        let j = k as u16 + 1;
+        if !is_short(lowering, j, &lines[0]) {
+            return Ok(None);
+        }
+        let line = next_line(alloc, lowering, j, &lines[0], &mut [], &mut [])?;
+        lines.insert(0, line)?;
+    }
+    Ok(Some(lines))
+}
+
+/// So many zeros of 32 bits.
+fn zero_short_line(alloc: Global, states: usize) -> Result<Vec<u32>, AllocError>
+    requires { states ≤ MOST_STATES }
+    ensures places { IfOk result (λ v. length v.items ≡ states) }
+    ensures zeros { IfOk result (λ v. (s : ℕ) → s < states → slice_index_or v.items s 0 ≡ 0) }
+{
+    vec![in alloc; 0u32; states]
+}
+
+/// All lines of a table, or None where one of them needs more bits.
+pub fn short_lines(alloc: Global, lowering: &Lowering) -> Result<Option<Vec<Vec<u32>>>, AllocError>
+    ensures { IfOk result (λ found. IfSome found
+        (λ v. AreCountedLines lowering.now (suc (length lowering.now.book.now.bidders)) 0 (map (λ l. map (λ n. pos n) l.items) v.items))) }
+{
+    let last = zero_short_line(alloc, lowering.book.supply().states())?;
+    short_lines_down(alloc, lowering, lowering.book.bidders(), last)
+}
+
+/// The numbers in 32 bits each, or None where one needs more.
+fn shortened(alloc: Global, line: &[i128]) -> Result<Option<Vec<u32>>, AllocError>
+    requires { length line.now ≤ MOST_STATES }
+    ensures { IfOk result (λ found. IfSome found (λ v. map (λ n. pos n) v.items ≡ line.now)) }
+{
+    let mut numbers = vec![in alloc; 0u32; line.len()]?;
+    if shorten_into(&mut numbers, line) {
+        Ok(Some(numbers))
+    } else {
+        Ok(None)
+    }
+}
+
+/// The same in a list of room, and whether no number needs more.
+fn shorten_into(numbers: &mut [u32], line: &[i128]) -> bool
+    requires { length numbers.old ≡ length line.now }
+    ensures { IsTrue result → map (λ n. pos n) numbers.new ≡ line.now }
+{
+    for i in 0..line.len() {
+        if line[i] < 0 || line[i] > u32::MAX as i128 {
+            return false;
+        }
+        numbers[i] = line[i] as u32;
+    }
+    true
+}
+
+/// The lines before line `top`, of which `first` has the numbers, or None where one of them needs more bits.
+pub fn short_before(
+    alloc: Global,
+    lowering: &Lowering,
+    top: usize,
+    first: &[i128],
+) -> Result<Option<Grid>, AllocError>
+    requires top { top ≤ length lowering.now.book.now.bidders }
+    requires first { IsCountedLine lowering.now top first.now }
+    ensures { IfOk result (λ found. IfSome found (λ g. AreCountedLines lowering.now top 0 g)) }
+{
+    lowering.book.kept();
+    let Some(line) = shortened(alloc, first)? else {
+        return Ok(None);
+    };
+    let Some(lines) = short_lines_down(alloc, lowering, top, line)? else {
+        return Ok(None);
+    };
+    let grid = grid_of(alloc, lowering, &lines[..top])?;
+    Ok(Some(grid))
+}
