@@ -1,10 +1,11 @@
 -- Lines of numbers of 32 bits.
-use Rattle.std.proofs.Common.{◌≡◌, ◌∙◌, ℕ, zero, suc, ◌+◌, ◌-◌, ◌≤◌, ◌<◌, max, IsTrue, List, [], ◌∷◌, get_or, map, ℤ, pos, ◌+ℤ◌, ◌≤ℤ◌, unsigned_abs}
+use Rattle.std.proofs.Common.{◌≡◌, ◌∙◌, ℕ, zero, suc, ◌+◌, ◌-◌, ◌*◌, ◌^◌, ◌≤◌, ◌<◌, max, IsTrue, List, [], ◌∷◌, get_or, map, ℤ, pos, ◌+ℤ◌, ◌≤ℤ◌, unsigned_abs}
 use Rattle.std.proofs.Common.{refl, ap, subst, sym, arith, inl, inr, length}
 use Rattle.std.specs.Int.{int_max}
 use Rattle.std.proofs.lemmas.Bool.{cases_lt}
 use Rattle.std.proofs.lemmas.Int.{ints, int_max_is}
 use Rattle.std.proofs.lemmas.List.{length-map, get_or_past}
+use Rattle.choices.specs.Coarse.{IsCeiling, IsFloor}
 use Rattle.choices.specs.auction_model.specs.Menu.{Menu}
 use Rattle.choices.specs.auction_model.specs.Package.{is_within}
 use Rattle.choices.specs.auction_model.specs.Place.{states_of, left_at}
@@ -39,6 +40,22 @@ max-short xs ys s a =
     max-is (get_or xs s 0) (a + get_or ys s 0)
     ∙ ap (λ (z : ℤ). int_max z (pos a +ℤ pos (get_or ys s 0))) (sym (read-short xs s))
     ∙ ap (λ (z : ℤ). int_max (get_or (map (λ n. pos n) xs) s (pos 0)) (pos a +ℤ z)) (sym (read-short ys s))
+
+-- such a line rounded down
+pub floor-short : (unit : ℕ) (xs low : List ℕ) → ((s : ℕ) → s < length xs → get_or low s 0 * unit ≤ get_or xs s 0) → IsFloor unit (map (λ n. pos n) xs) low
+floor-short unit xs low is s h some = rw (read-short xs s) (omega (arith, ints, is s (omega (arith, h, length-map xs (λ n. pos n)))))
+
+-- where there are no units it is rounded down too
+pub floor-none : (unit : ℕ) (xs low : List ℕ) → ((s : ℕ) → s < length xs → get_or low s 0 ≡ 0) → IsFloor unit (map (λ n. pos n) xs) low
+floor-none unit xs low is s h some = absurd (omega (arith, some, is s (omega (arith, h, length-map xs (λ n. pos n)))))
+
+-- and rounded up
+pub ceiling-short : (unit : ℕ) (xs high : List ℕ) → ((s : ℕ) → s < length xs → get_or xs s 0 ≤ get_or high s 0 * unit)
+    → ((s : ℕ) → s < length xs → get_or high s 0 ≤ 2 ^ 15) → IsCeiling unit (map (λ n. pos n) xs) high
+ceiling-short unit xs high above short = record {
+  above = λ s h. rw (read-short xs s) (omega (arith, ints, above s (omega (arith, h, length-map xs (λ n. pos n)))));
+  short = λ s h. short s (omega (arith, h, length-map xs (λ n. pos n)));
+}
 
 -- the last place of a line has the largest number
 pub line-top : (m : Menu) (counts : ℕ → ℕ → ℤ) (supply : List ℕ) (k : ℕ) (line : List ℤ) → IsLine m counts supply k line → (s : ℕ) → s < states_of supply

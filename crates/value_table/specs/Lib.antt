@@ -2,6 +2,7 @@ pub mod BookTable
 pub mod Counted
 pub mod Growing
 pub mod Raising
+pub mod Rows
 pub mod SideLines
 pub mod SideValues
 pub mod TableValue

@@ -2,7 +2,11 @@
 ghost use Rattle.std.specs.Prelude.{◌≡◌, ℕ, ◌*◌, ◌^◌, ◌≤◌, ◌<◌, ◌↔◌, IsTrue, length, slice_index_or, ℤ, pos, ◌-◌, ◌+ℤ◌, ◌≤ℤ◌, unsigned_abs, map};
 ghost use Rattle.std.specs.Int.{int_max};
 ghost use Rattle.choices.specs.Coarse.{IsCeiling, IsFloor};
+ghost use Rattle.choices.specs.limits.specs.declared.TheConstants.{MOST_STATES};
+ghost use Rattle.value_table.specs.Rows.{AreRowsRaised, HasRows};
 
+use crate::shape::Rows;
+use crate::{rows, short_units};
 use choices::coarse;
 
 /// A number of a line, so that lines of each size are worked out and read by the same functions.
@@ -47,6 +51,15 @@ pub trait Amount: Copy {
             ≡ int_max (slice_index_or (map number line.old) s (pos 0))
             (number worth +ℤ slice_index_or (map number below.now) s (pos 0)) };
 
+    /// Raises the front of each row in the same way.
+    fn raise_rows(line: &mut [Self], below: &[Self], rows: &Rows, worth: Self)
+        requires places { length line.old ≡ length below.now }
+        requires rows { HasRows rows.now (length line.old) }
+        requires few { length line.old ≤ MOST_STATES }
+        requires worth { unsigned_abs (number worth) ≤ most }
+        requires sizes { (s : ℕ) → unsigned_abs (slice_index_or (map number below.now) s (pos 0)) ≤ most }
+        ensures { AreRowsRaised rows.now (map number below.now) (number worth) (map number line.old) (map number line.new) };
+
     /// The numbers of a line in units of `2^shift`, rounded down.
     fn put_low(low: &mut [u16], line: &[Self], shift: u32)
         requires places { length low.old ≡ length line.now }
@@ -54,8 +67,7 @@ pub trait Amount: Copy {
         ensures floor { IsFloor (2 ^ shift) (map number line.now) low.new }
         ensures places { length low.new ≡ length line.now };
 
-    /// The same rounded up, and whether numbers of this size have such units. Those of 128 bits are never tested in 16, nor are those of
-    /// 32, which take few steps as they are.
+    /// The same rounded up, and whether numbers of this size have such units. Those of 128 bits are never tested in 16.
     fn put_high(high: &mut [u16], line: &[Self], shift: u32) -> bool
         requires places { length high.old ≡ length line.now }
         requires shift { shift < 64 }
@@ -109,10 +121,12 @@ impl Amount for i128 {
         }
     }
 
+    fn raise_rows(line: &mut [i128], below: &[i128], rows: &Rows, worth: i128) {
+        rows::raise_wide(line, below, rows, worth);
+    }
+
     fn put_low(low: &mut [u16], _line: &[i128], _shift: u32) {
-        for i in 0..low.len() {
-            low[i] = 0;
-        }
+        short_units::put_none(low);
     }
 
     fn put_high(_high: &mut [u16], _line: &[i128], _shift: u32) -> bool {
@@ -151,6 +165,10 @@ impl Amount for i64 {
         for i in 0..line.len() {
             line[i] = line[i].max(worth + below[i]);
         }
+    }
+
+    fn raise_rows(line: &mut [i64], below: &[i64], rows: &Rows, worth: i64) {
+        rows::raise_long(line, below, rows, worth);
     }
 
     fn put_low(low: &mut [u16], line: &[i64], shift: u32) {
@@ -195,17 +213,19 @@ impl Amount for u32 {
         }
     }
 
-    fn put_low(low: &mut [u16], _line: &[u32], _shift: u32) {
-        for i in 0..low.len() {
-            low[i] = 0;
-        }
+    fn raise_rows(line: &mut [u32], below: &[u32], rows: &Rows, worth: u32) {
+        rows::raise_short(line, below, rows, worth);
     }
 
-    fn put_high(_high: &mut [u16], _line: &[u32], _shift: u32) -> bool {
-        false
+    fn put_low(low: &mut [u16], line: &[u32], shift: u32) {
+        short_units::put_low(low, line, shift);
     }
 
-    fn worth_units(_worth: u32, _shift: u32) -> u16 {
-        0
+    fn put_high(high: &mut [u16], line: &[u32], shift: u32) -> bool {
+        short_units::put_high(high, line, shift)
+    }
+
+    fn worth_units(worth: u32, shift: u32) -> u16 {
+        short_units::worth_units(worth, shift)
     }
 }

@@ -146,7 +146,7 @@ pub fn next_line<A: Amount>(
 }
 
 /// Room for a line in 16 bits.
-fn units_room(alloc: Global, states: usize) -> Result<Vec<u16>, AllocError>
+pub fn units_room(alloc: Global, states: usize) -> Result<Vec<u16>, AllocError>
     requires { states ≤ MOST_STATES }
     ensures { IfOk result (λ v. length v.items ≡ states) }
 {

@@ -2,11 +2,13 @@
 // left, and a bid of `count` lots raises block `q` from block `q - count` of the line below. A block is left out where its
 // corners show that the bid changes nothing in it.
 ghost use Rattle.std.specs.Prelude.{◌≡◌, ℕ, ◌-◌, ◌<◌, ◌↔◌, IsTrue, length, slice_index_or, pos, ◌+ℤ◌, ◌≤ℤ◌, map};
+ghost use Rattle.choices.specs.auction_model.specs.Package.{is_within};
 ghost use Rattle.choices.specs.auction_model.specs.Steps.{raised};
 ghost use Rattle.value_table.specs.Growing.{HasCorners};
 ghost use Rattle.value_table.specs.Raising.{CanRaise, CanRaiseLots};
 
 use crate::amount::Amount;
+use crate::shape::Rows;
 
 /// Counts one more bid that wants lots of the first of some categories alone: in the places with enough of it, which are one run.
 fn raise_one<A: Amount>(
@@ -31,7 +33,7 @@ fn raise_one<A: Amount>(
     }
 }
 
-/// Counts one more bid that wants lots of two categories, without a call for each run.
+/// Counts one more bid that wants lots of two categories: of each row of the first the front is raised.
 fn raise_two<A: Amount>(
     supply: &[u16],
     widths: &[usize],
@@ -42,25 +44,22 @@ fn raise_two<A: Amount>(
 )
     requires lots { CanRaiseLots A.number A.most supply.now widths.now counts.now line.old below.now worth }
     requires two { length counts.now ≡ 2 }
+    requires fits { IsTrue (is_within counts.now supply.now) }
     ensures { (s : ℕ) → s < length line.old
         → slice_index_or (map A.number line.new) s (pos 0)
         ≡ raised supply.now (map A.number below.now) counts.now (A.number worth) s
         (slice_index_or (map A.number line.old) s (pos 0)) }
 {
     let width = widths[0];
-    let count = counts[0] as usize;
-    for row in count..supply[0] as usize + 1 {
-        let to = row * width;
-        let from = (row - count) * width;
-        raise_one(
-            &supply[1..],
-            &widths[1..],
-            &counts[1..],
-            &mut line[to..to + width],
-            &below[from..from + width],
-            worth,
-        );
-    }
+    let skip = counts[1] as usize * widths[1];
+    let from = counts[0] as usize * width + skip;
+    let all = line.len();
+    let rows = Rows {
+        count: (supply[0] - counts[0]) as usize + 1,
+        width,
+        run: width - skip,
+    };
+    A::raise_rows(&mut line[from..], &below[..all - from], &rows, worth);
 }
 
 /// Whether the lowest entry of a block that a bid may raise, at the place `first` of its lots, is at least the worth with the highest

@@ -1,9 +1,9 @@
-// Lines in numbers of 32 bits, while sums are so small: a step takes a third of the time that it takes in 64.
+// Lines in numbers of 32 bits, while sums are so small: vectors hold twice as many as in 64, and a whole table takes a quarter less.
 ghost use Rattle.std.specs.Prelude.{◌≡◌, ℕ, suc, ◌-◌, ◌^◌, ◌≤◌, ◌<◌, length, IfOk, IfSome, IsTrue, slice_index_or, map, pos, unsigned_abs};
 ghost use Rattle.choices.specs.limits.specs.declared.TheConstants.{MOST_STATES};
 ghost use Rattle.value_table.specs.Counted.{counted_bids, counted, IsLineWithin, IsCountedLine, AreCountedLines};
 
-use crate::lines::{grid_of, next_line};
+use crate::lines::{grid_of, next_line, units_room};
 use crate::lowering::Lowering;
 use choices::Grid;
 use std::alloc::{AllocError, Global};
@@ -50,6 +50,8 @@ pub fn short_lines_down(
         (λ v. AreCountedLines lowering.now (suc top) 0 (map (λ l. map (λ n. pos n) l.items) v.items))) }
 {
     lowering.book.kept();
+    let mut low = units_room(alloc, first.len())?;
+    let mut high = units_room(alloc, first.len())?;
     let mut lines = Vec::new(alloc);
     lines.push(first)?;
     for k in (0..top).rev() {
@@ -57,7 +59,7 @@ pub fn short_lines_down(
         if !is_short(lowering, j, &lines[0]) {
             return Ok(None);
         }
-        let line = next_line(alloc, lowering, j, &lines[0], &mut [], &mut [])?;
+        let line = next_line(alloc, lowering, j, &lines[0], &mut low, &mut high)?;
         lines.insert(0, line)?;
     }
     Ok(Some(lines))

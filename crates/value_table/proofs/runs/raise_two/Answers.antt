@@ -1,70 +1,59 @@
-use Rattle.std.proofs.Common.{◌-◌, arith, get_or}
+use Rattle.std.proofs.Common.{◌∙◌, ◌+◌, ◌-◌, ◌*◌, ◌≤◌, arith, length, drop, get_or}
 use Rattle.std.proofs.lemmas.Grind.{common_steps}
+use Rattle.std.proofs.lemmas.List.{length-drop, length-take-le}
 use Rattle.choices.specs.auction_model.proofs.RunLaws.{widths-count}
-use Rattle.value_table.proofs.BlockLaws.{block-asks, raised-first, raised-more, raised-whole}
-use Rattle.value_table.proofs.RowParts.{row-small, row-inside}
+use Rattle.value_table.proofs.NumberParts.{small-numbers}
+use Rattle.value_table.proofs.RowSteps.{skip-less, start-inside, left-rows, two-back}
 use Rattle.value_table.proofs.runs.raise_two.Goals as goal
 
 pub bounds-widths-0 : goal.bounds-widths-0
 bounds-widths-0 g c = rw c.requires.lots.widths (omega (arith, widths-count c.args.supply.now, c.requires.two, c.requires.lots.categories))
 
-pub loop-row-init : goal.loop-row-init
-loop-row-init g c =
-    raised-first g.A.Amount.number g.A.Amount.most c.args.supply.now c.args.widths.now c.args.counts.now c.args.line.now c.args.below.now c.args.worth
-    (omega (arith, c.requires.two)) c.requires.lots
+pub offset_bounds-line-from : goal.offset_bounds-line-from
+offset_bounds-line-from g c =
+    let inside = start-inside c.args.supply.now c.args.widths.now c.args.counts.now c.requires.lots.widths c.requires.two c.requires.lots.categories
+    c.requires.fits in
+    let room : get_or c.args.counts.now 0 0 * get_or c.args.widths.now 0 0 + get_or c.args.counts.now 1 0 * get_or c.args.widths.now 1 0
+    ≤ length c.args.line.now = omega (arith, inside, c.requires.lots.lines.line) in
+    grind (arith, common_steps, room)
 
-pub overflow_mul-to : goal.overflow_mul-to
-overflow_mul-to g c =
-    omega (
+pub invariant_of-rows : goal.invariant_of-rows
+invariant_of-rows g c =
+    let less = skip-less c.args.supply.now c.args.widths.now c.args.counts.now c.requires.lots.widths c.requires.two (omega (
       arith,
-      row-small c.args.supply.now c.args.widths.now c.loop-row.row
-          c.requires.lots.widths (omega (arith, c.requires.two, c.requires.lots.categories)) c.requires.lots.states
-          (omega (arith, c.loop-row-test.true, c.type_inv.supply 0)),
-    )
+      c.requires.two,
+      c.requires.lots.categories,
+    )) c.requires.fits in
+    record { some = (omega arith, omega (arith, less)); inside = omega arith }
 
-pub overflow_mul-from : goal.overflow_mul-from
-overflow_mul-from g c =
-    omega (
-      arith,
-      row-small c.args.supply.now c.args.widths.now (c.loop-row.row - get_or c.args.counts.now 0 0)
-          c.requires.lots.widths (omega (arith, c.requires.two, c.requires.lots.categories)) c.requires.lots.states
-          (omega (arith, c.loop-row-test.true, c.type_inv.supply 0)),
-    )
-
-pub offset_bounds-line-to : goal.offset_bounds-line-to
-offset_bounds-line-to g c = grind (arith, common_steps)
-
-pub slice_bounds-raise_one-end-in-loop-row-3 : goal.slice_bounds-raise_one-end-in-loop-row-3
-slice_bounds-raise_one-end-in-loop-row-3 g c =
-    omega (
+pub raise_rows-requires-clause-rows : goal.raise_rows-requires-clause-rows
+raise_rows-requires-clause-rows g c =
+    let supply = c.args.supply.now in
+    let widths = c.args.widths.now in
+    let counts = c.args.counts.now in
+    let line = c.args.line.now in
+    let start = get_or counts 0 0 * get_or widths 0 0 + get_or counts 1 0 * get_or widths 1 0 in
+    let k = length line - start in
+    length-take-le k (drop start line) (omega (arith, length-drop start line)) ∙ omega (
       arith,
       c.requires.lots.lines.line,
-      c.loop-row.auto.line,
-      row-inside c.args.supply.now c.args.widths.now c.loop-row.row
-          c.requires.lots.widths (omega (arith, c.requires.two, c.requires.lots.categories)) (omega (arith, c.loop-row-test.true)),
+      left-rows supply widths counts
+          c.requires.lots.widths c.requires.two c.requires.lots.categories c.requires.fits,
     )
 
-pub offset_bounds-below-from : goal.offset_bounds-below-from
-offset_bounds-below-from g c =
-    omega (
-      arith,
-      c.requires.lots.lines.places,
-      row-inside c.args.supply.now c.args.widths.now (c.loop-row.row - get_or c.args.counts.now 0 0)
-          c.requires.lots.widths (omega (arith, c.requires.two, c.requires.lots.categories)) (omega (arith, c.loop-row-test.true)),
-    )
-
-pub raise_one-requires-clause-lots : goal.raise_one-requires-clause-lots
-raise_one-requires-clause-lots g c =
-    block-asks g.A.Amount.number g.A.Amount.most c.args.supply.now c.args.widths.now c.args.counts.now c.args.line.now c.args.below.now c.args.worth
-    (omega (arith, c.requires.two)) c.requires.lots c.loop-row.row c.loop-row.line c.loop-row-test.true c.loop-row.auto.line
-
-pub loop-row-preserved : goal.loop-row-preserved
-loop-row-preserved g c =
-    raised-more g.A.Amount.number g.A.Amount.most c.args.supply.now c.args.widths.now c.args.counts.now c.args.line.now c.args.below.now c.args.worth
-    (omega (arith, c.requires.two)) c.requires.lots c.loop-row.row c.loop-row.line c.raise_one.new.line c.loop-row.auto.row c.loop-row-test.true
-    c.loop-row.auto.line c.raise_one.auto.line c.raise_one.ensures c.loop-row.invariant
+pub raise_rows-requires-clause-sizes : goal.raise_rows-requires-clause-sizes
+raise_rows-requires-clause-sizes g c =
+    let widths = c.args.widths.now in
+    let counts = c.args.counts.now in
+    let start = get_or counts 0 0 * get_or widths 0 0 + get_or counts 1 0 * get_or widths 1 0 in
+    small-numbers g.A.Amount.number c.args.below.now 0 (length c.args.line.now - start) g.A.Amount.most c.requires.lots.lines.sizes
 
 pub returns : goal.returns
 returns g c =
-    raised-whole g.A.Amount.number g.A.Amount.most c.args.supply.now c.args.widths.now c.args.counts.now c.args.line.now c.args.below.now c.args.worth
-    (omega (arith, c.requires.two)) c.requires.lots c.loop-row.row c.loop-row.line c.loop-row-test.false c.loop-row.invariant
+    let line = c.args.line.now in
+    let start = get_or c.args.counts.now 0 0 * get_or c.args.widths.now 0 0 + get_or c.args.counts.now 1 0 * get_or c.args.widths.now 1 0 in
+    let k = length line - start in
+    two-back c.args.supply.now c.args.widths.now c.args.counts.now c.requires.lots.widths c.requires.two c.requires.lots.categories c.requires.fits
+    g.A.Amount.number (g.A.Amount.number c.args.worth) line c.args.below.now c.raise_rows.new.line k c.requires.lots.lines.line (omega arith)
+    (c.raise_rows.auto.line ∙ length-take-le k (drop start line) (omega (arith, length-drop start line)))
+    c.raise_rows.ensures.raised c.raise_rows.ensures.kept

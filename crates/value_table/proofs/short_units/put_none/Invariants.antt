@@ -1,5 +1,5 @@
 use Rattle.std.proofs.Common.{◌≡◌, ◌<◌, ℕ, get_or, length}
-use Rattle.value_table.proofs.amount.U32Amount.put_low.Given as goal
+use Rattle.value_table.proofs.short_units.put_none.Given as goal
 
 abbrev pub invariant-loop-i : goal.invariant-loop-i
 invariant-loop-i l = record {

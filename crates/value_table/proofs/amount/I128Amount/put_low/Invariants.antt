@@ -1,8 +1,0 @@
-use Rattle.std.proofs.Common.{◌≡◌, ◌<◌, ℕ, get_or, length}
-use Rattle.value_table.proofs.amount.I128Amount.put_low.Given as goal
-
-abbrev pub invariant-loop-i : goal.invariant-loop-i
-invariant-loop-i l = record {
-  places : length l.low ≡ length l.fn.low;
-  none : (s : ℕ) → s < l.i → get_or l.low s 0 ≡ 0;
-}

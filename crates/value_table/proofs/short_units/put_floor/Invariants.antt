@@ -1,0 +1,8 @@
+use Rattle.std.proofs.Common.{◌≡◌, ◌<◌, ◌≤◌, ◌*◌, ◌^◌, ℕ, get_or, length}
+use Rattle.value_table.proofs.short_units.put_floor.Given as goal
+
+abbrev pub invariant-loop-i : goal.invariant-loop-i
+invariant-loop-i l = record {
+  places : length l.low ≡ length l.line;
+  floor : (s : ℕ) → s < l.i → get_or l.low s 0 * 2 ^ l.shift ≤ get_or l.line s 0;
+}
