@@ -55,7 +55,7 @@ raised-low (u ∷ supply) (a ∷ p) below worth q r old some few h low =
     (cond-false _ _ old (and_left (nat_le a q) (is_within p (left_at supply r)) (lt-leb a q low)))
 
 -- a place of another block: the rest of the bid is counted in that block, from the part of the line that lies so many blocks before
-raised-high : (supply p : List ℕ) (below part : List ℤ) (worth : ℤ) (q r : ℕ) (old : ℤ) → 0 < length p → length p ≤ length supply
+pub raised-high : (supply p : List ℕ) (below part : List ℤ) (worth : ℤ) (q r : ℕ) (old : ℤ) → 0 < length p → length p ≤ length supply
     → r < states_of (drop 1 supply) → get_or p 0 0 ≤ q
     → ((i : ℕ) → i < states_of (drop 1 supply) → get_or part i (pos 0) ≡ get_or below ((q - get_or p 0 0) * states_of (drop 1 supply) + i) (pos 0))
     → raised supply below p worth (q * states_of (drop 1 supply) + r) old ≡ raised (drop 1 supply) part (drop 1 p) worth r old

@@ -1,10 +1,13 @@
 -- The fields of a line, read from its front.
-use Rattle.std.proofs.Common.{◌≡◌, ℕ, ◌≤◌, ◌<◌, ◌^◌, List, [], ◌∷◌, ◌++◌, length, refl, sym, ap, ◌∙◌, arith, append_assoc}
+use Rattle.std.proofs.Common.{◌≡◌, ℕ, ◌≤◌, ◌<◌, ◌^◌, ◌-◌, List, [], ◌∷◌, ◌++◌, length, take, drop, refl, sym, ap, ◌∙◌, arith, append_assoc}
+use Rattle.std.proofs.lemmas.List.{take-append-drop, take_all, length-drop}
 use Rattle.std.specs.List.{AllByRecursion, All}
 use Rattle.std.specs.Fmt.{decimal}
 use Rattle.std.proofs.lemmas.List.Elements.{All-nil, All-cons, All-head, All-tail}
 use Rattle.book_form.specs.line_text.specs.wide_num.proofs.Decimal.{decimal_one}
 use Rattle.book_form.specs.line_text.specs.Decimals.{decimals_text}
+use Rattle.book_form.specs.line_text.specs.Fields as line
+use Rattle.book_form.specs.line_text.proofs.Decimals.{decimal_numeral}
 use Rattle.book_form.proofs.TextLaws.{numbers-push}
 use Rattle.bid_book.specs.Stops.{AreNumbers, IsField}
 use Rattle.book_form.specs.line_text.proofs.DecimalFields.{one_field, number_own, decimals_stop}
@@ -70,3 +73,18 @@ spelled_further text had rest field more n spelled is field_is =
 pub not_spaced : (rest : List ℕ) (ns : List ℕ) → 0 < length rest → ((behind : List ℕ) → rest ≡ 32 ∷ behind → ⊥) → rest ≡ decimals_text ns → ⊥
 not_spaced rest [] long other is = omega (arith, ap length is)
 not_spaced rest (n ∷ ns) long other is = other (decimal n ++ decimals_text ns) is
+
+-- a number at the front of what follows a space is the first field, and the rest follows it
+pub short_found : (text behind : List ℕ) (n stop : ℕ) → text ≡ 32 ∷ behind → line.IsField behind n stop → n ≤ 2 ^ 42
+    → IsField text (decimal n) (take (length behind - stop) (drop stop behind))
+short_found text behind n stop is field small =
+    let rest : take (length behind - stop) (drop stop behind) ≡ drop stop behind =
+    take_all _ _ (omega (arith, length-drop stop behind)) in
+    let spelled : take stop behind ≡ decimal n = field.spelled ∙ sym (decimal_numeral n (omega arith)) in
+    let whole : behind ≡ decimal n ++ drop stop behind =
+    sym (take-append-drop stop behind) ∙ ap (λ (l : List ℕ). l ++ drop stop behind) spelled in
+    rw rest (record {
+      spelled = is ∙ ap (λ (l : List ℕ). 32 ∷ l) whole;
+      own = number_own n (omega arith);
+      stops = field.ends;
+    })

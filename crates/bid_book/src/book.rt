@@ -22,10 +22,10 @@ use std::marker::Model;
 pub struct Entry {
     /// The package with its amount.
     pub bid: Bid,
-    /// The amount less the reserve of the package.
-    pub net: i128,
     /// An earlier bid of the same bidder that is no larger in any category and worth at least as much, or 0.
     pub better: u16,
+    /// The amount less the reserve of the package.
+    pub net: i128,
 }
 
 /// A bidder with its bids, in the order of their packages.

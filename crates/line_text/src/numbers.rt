@@ -149,16 +149,25 @@ fn read_natural(text: &[u8]) -> Natural
 fn read_short(text: &[u8]) -> Option<Natural>
     ensures { IfSome result (λ number. ReadsNatural text.now number) }
 {
-    let mut n = 0u64;
+    let (number, stop) = short_field(text)?;
+    Some(Natural::Within(number as u128, stop))
+}
+
+/// The natural number at the front of the text, up to a space or to its end, and where it ends. It is a fast way for numbers of few
+/// digits: where it gives none, there may be a longer number or no number at all.
+pub fn short_field(text: &[u8]) -> Option<(u64, usize)>
+    ensures { IfSome result (λ field. IsField text.now field.0 field.1) }
+{
+    let mut number = 0u64;
     let mut stop: usize = 0;
-    while stop < text.len() && n < SHORT && text[stop].is_ascii_digit() {
-        n = 10 * n + (text[stop] - b'0') as u64;
+    while stop < text.len() && number < SHORT && text[stop].is_ascii_digit() {
+        number = 10 * number + (text[stop] - b'0') as u64;
         stop += 1;
     }
     if !ends_at(text, stop) || !may_be_number(text, stop) {
         return None;
     }
-    Some(Natural::Within(n as u128, stop))
+    Some((number, stop))
 }
 
 /// Whether a field ends at this place.

@@ -1,32 +1,35 @@
 // Packages and bids.
-ghost use Rattle.std.specs.Prelude.{◌≡◌, ◌⊎◌, ℕ, ◌≤◌, ◌<◌, [], length, All, IfOk, None, Some, slice_index};
+ghost use Rattle.std.specs.Prelude.{◌≡◌, ◌⊎◌, ℕ, ◌≤◌, ◌<◌, [], length, All, IfNone, IfOk, IfSome, None, Some, slice_index, take};
 ghost use Rattle.auction_model.specs.Package.{is_within, cost_of};
 ghost use Rattle.auction_model.specs.PackageTests.{first_over};
-ghost use Rattle.limits.specs.declared.TheConstants.{MOST_POINTS, MOST_PRICE};
+ghost use Rattle.limits.specs.declared.TheConstants.{MOST_CATEGORIES, MOST_COUNT, MOST_POINTS, MOST_PRICE};
 ghost use Rattle.lots.specs.Limits.{categories_stop, IsPackage};
 
 use crate::counts::{
     are_within, check_categories, cost_among, first_above, have_none, points_among,
 };
 use crate::{LotStop, Supply};
+use limits::{MOST_CATEGORIES, MOST_COUNT};
 use std::alloc::{AllocError, Global};
 use std::marker::Model;
 
-/// A count of lots for each of 1 to 6 categories.
+/// A count of lots for each of 1 to 6 categories. It holds them itself, so it takes no memory.
 #[derive(Drop)]
 pub struct Package {
-    counts: Vec<u16>,
+    /// The counts, category by category, and then nothing that counts.
+    counts: [u16; MOST_CATEGORIES],
+    categories: u8,
 }
 
 impl Model for Package {
-    ghost use Rattle.std.specs.Prelude.{List, ℕ};
-    ghost use Rattle.lots.specs.Limits.{IsPackage};
+    ghost use Rattle.std.specs.Prelude.{◌≡◌, ◌≤◌, ◌<◌, List, ℕ, length, take};
+    ghost use Rattle.limits.specs.declared.TheConstants.{MOST_CATEGORIES};
 
     ghost Value = { List ℕ };
 
-    ghost view = { λ p. p.counts.items };
+    ghost view = { λ p. take p.categories p.counts };
 
-    ghost invariant = { λ p. IsPackage p.counts.items };
+    ghost invariant = { λ p. (0 < p.categories) × (p.categories ≤ MOST_CATEGORIES) × (length p.counts ≡ MOST_CATEGORIES) };
 }
 
 /// A package with an amount, reserve included.
@@ -38,30 +41,53 @@ pub struct Bid {
 
 impl Package {
     /// The package of these counts. It stops at a number of categories that isn't 1 to 6.
-    pub fn new(alloc: Global, counts: &[u16]) -> Result<Package, LotStop>
+    pub fn new(_alloc: Global, counts: &[u16]) -> Result<Package, LotStop>
         ensures made { IfOk result (λ p. (p ≡ counts.now) × (categories_stop counts.now ≡ None)) }
         ensures stopped { (stop : LotStop) → result ≡ Err stop
             → (stop ≡ LotStop.Memory) ⊎ (categories_stop counts.now ≡ Some stop) }
     {
         check_categories(counts)?;
-        let counts = Vec::from_slice(alloc, counts)?;
-        Ok(Package { counts })
+        Ok(Package::of_counts(counts))
     }
 
-    /// The package that keeps these counts.
-    pub(crate) fn of_counts(counts: Vec<u16>) -> Package
-        requires { IsPackage counts.items }
-        ensures { result ≡ counts.items }
+    /// The package of these counts, of which there are 1 to 6, or None where one is above 999.
+    pub fn from_numbers(numbers: &[u64]) -> Option<Package>
+        requires { IsPackage numbers.now }
+        ensures made { IfSome result (λ p. p ≡ numbers.now) }
+        ensures above { IfNone result ((i : ℕ) × (i < length numbers.now) × (MOST_COUNT < slice_index numbers.now i)) }
     {
-        Package { counts }
+        let mut counts = [0; MOST_CATEGORIES];
+        for i in 0..numbers.len() {
+            if numbers[i] > MOST_COUNT {
+                return None;
+            }
+            counts[i] = numbers[i] as u16;
+        }
+        Some(Package {
+            counts,
+            categories: numbers.len() as u8,
+        })
+    }
+
+    /// The package of these counts, of which there are 1 to 6.
+    pub(crate) fn of_counts(counts: &[u16]) -> Package
+        requires { IsPackage counts.now }
+        ensures { result ≡ counts.now }
+    {
+        Package {
+            counts: padded(counts),
+            categories: counts.len() as u8,
+        }
     }
 
     /// The same package once more.
-    pub fn copied(&self, alloc: Global) -> Result<Package, AllocError>
+    pub fn copied(&self, _alloc: Global) -> Result<Package, AllocError>
         ensures { IfOk result (λ p. p ≡ self.now) }
     {
-        let counts = Vec::from_slice(alloc, &self.counts)?;
-        Ok(Package { counts })
+        Ok(Package {
+            counts: self.counts,
+            categories: self.categories,
+        })
     }
 
     /// Takes over the counts of another package of as many categories. It takes no memory.
@@ -69,7 +95,8 @@ impl Package {
         requires { length self.old ≡ length other.now }
         ensures { self.new ≡ other.now }
     {
-        self.counts.copy_from_slice(&other.counts);
+        self.counts = other.counts;
+        self.categories = other.categories;
     }
 
     /// How many categories there are.
@@ -77,7 +104,7 @@ impl Package {
         ensures count { result ≡ length self.now }
         ensures kept { IsPackage self.now }
     {
-        self.counts.len()
+        self.categories as usize
     }
 
     /// The count of a category, which is counted from 0.
@@ -85,21 +112,29 @@ impl Package {
         requires { category < length self.now }
         ensures { result ≡ slice_index self.now category }
     {
-        self.counts[category]
+        self.counts()[category]
     }
 
     /// The counts, category by category.
     pub fn counts(&self) -> &[u16]
         ensures { result.now ≡ self.now }
     {
-        &self.counts
+        self.held()
+    }
+
+    /// The same, with what the type keeps.
+    fn held(&self) -> &[u16]
+        ensures value { result.now ≡ self.now }
+        ensures kept { IsPackage self.now }
+    {
+        &self.counts[..self.categories as usize]
     }
 
     /// Whether all counts are 0.
     pub fn is_empty(&self) -> bool
         ensures { result ≡ is_within self.now [] }
     {
-        have_none(&self.counts)
+        have_none(self.held())
     }
 
     /// The eligibility points of the package: the sum of points times count.
@@ -108,7 +143,7 @@ impl Package {
         requires most { All (λ p. p ≤ MOST_POINTS) points.now }
         ensures { result ≡ cost_of points.now self.now }
     {
-        points_among(points, &self.counts)
+        points_among(points, self.held())
     }
 
     /// The price of the package: the sum of price times count.
@@ -117,7 +152,7 @@ impl Package {
         requires most { All (λ p. p ≤ MOST_PRICE) prices.now }
         ensures { result ≡ cost_of prices.now self.now }
     {
-        cost_among(prices, &self.counts)
+        cost_among(prices, self.held())
     }
 
     /// Whether no count is above that of the supply.
@@ -125,7 +160,7 @@ impl Package {
         requires { length self.now ≡ length supply.now }
         ensures { result ≡ is_within self.now supply.now }
     {
-        are_within(&self.counts, supply.counts())
+        are_within(self.held(), supply.counts())
     }
 
     /// The first category, counted from 1, whose count is above that of the supply.
@@ -133,6 +168,16 @@ impl Package {
         requires { length self.now ≡ length supply.now }
         ensures { result ≡ first_over 1 self.now supply.now }
     {
-        first_above(&self.counts, supply.counts())
+        first_above(self.held(), supply.counts())
     }
+}
+
+/// The counts, and zeros behind them.
+fn padded(counts: &[u16]) -> [u16; MOST_CATEGORIES]
+    requires { length counts.now ≤ MOST_CATEGORIES }
+    ensures { take (length counts.now) result ≡ counts.now }
+{
+    let mut all = [0; MOST_CATEGORIES];
+    all[..counts.len()].copy_from_slice(counts);
+    all
 }

@@ -119,7 +119,7 @@ impl Supply {
         ensures place { IfOk result (λ p. place_of self.now p ≡ place) }
     {
         let counts = counts_at(alloc, &self.counts, self.states, place)?;
-        Ok(Package::of_counts(counts))
+        Ok(Package::of_counts(&counts))
     }
 
     /// The place of what the package leaves of the supply of a place, or None where the package exceeds that.

@@ -44,7 +44,7 @@ module _ (book : Book) (j : ℕ) (bids : List BookBid) (some : 0 < j) where
     to = omega (arith, down, are.to, bidders-same book j bids some);
     after = rw right (right-with (lines_of old.right.items) old.right_from new.right_from up own are.after);
     before = rw left (left-with (lines_of old.left.items) old.left_to new.left_to down low known are.before);
-    rooms = rw room (record { below = are.rooms.below; line = are.rooms.line });
+    rooms = rw room are.rooms;
   }
 
 -- the first of the greatest has the greatest value

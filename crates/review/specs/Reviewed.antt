@@ -5,15 +5,10 @@ use Rattle.value_table.specs.auction_model.specs.Greatest.{IsWinning}
 use Rattle.value_table.specs.auction_model.specs.Market.{value_of}
 use Rattle.value_table.specs.auction_model.specs.Package.{is_within, less, cost_of}
 use Rattle.value_table.specs.auction_model.specs.Place.{states_of, place_of, left_at}
+use Rattle.value_table.specs.LineRooms.{HasRoom}
 use Rattle.value_table.specs.SideLines.{IsLeftLine, IsRightLine}
 use Rattle.review.specs.ReviewValue.{AreLeftLines, AreRightLines, lines_of}
-use Rattle.review.specs.declared.lines.Rooms.{Rooms}
 use Rattle.review.specs.declared.lines.SideLines.{SideLines}
-
--- there is room for a line in each of two lists
-pub record AreRooms (book : Book) (rooms : Rooms) : Type 0 where
-  pub below : length rooms.below.items ≡ states_of book.supply
-  pub line : length rooms.line.items ≡ states_of book.supply
 
 -- the lines are those of the book, but for the ones that are stale
 pub record AreSideLines (book : Book) (lines : SideLines) : Type 0 where
@@ -21,7 +16,7 @@ pub record AreSideLines (book : Book) (lines : SideLines) : Type 0 where
   pub to : lines.left_to ≤ length book.bidders
   pub after : AreRightLines book lines.right_from (lines_of lines.right.items)
   pub before : AreLeftLines book lines.left_to (lines_of lines.left.items)
-  pub rooms : AreRooms book lines.rooms
+  pub rooms : HasRoom (states_of book.supply) lines.rooms
 
 -- the choice is the winning one
 pub record IsReviewed (book : Book) (lines : SideLines) (choice : List ℕ) : Type 0 where

@@ -1,14 +1,16 @@
 // The lines of both sides of a book that a review keeps: for each bidder and one more, a number for each place of the supply.
 ghost use Rattle.std.specs.Prelude.{◌≡◌, ◌+◌, ◌-◌, ◌≤◌, ◌<◌, IfOk, List, length, pos, replicate};
 ghost use Rattle.value_table.specs.auction_model.specs.Book.{Book, BookBid};
+ghost use Rattle.value_table.specs.auction_model.specs.Place.{states_of};
 ghost use Rattle.value_table.specs.bid_book.specs.Changes.{with_bids};
+ghost use Rattle.value_table.specs.LineRooms.{HasRoom};
 ghost use Rattle.review.specs.ReviewValue.{AreLeftLines, AreRightLines, lines_of};
-ghost use Rattle.review.specs.Reviewed.{AreRooms, AreSideLines};
+ghost use Rattle.review.specs.Reviewed.{AreSideLines};
 
 use std::alloc::{AllocError, Global};
 use std::mem;
 use value_table::choices::bid_book::BidBook;
-use value_table::{narrow_left_line, narrow_right_line};
+use value_table::{LineRooms, narrow_left_line, narrow_right_line};
 
 /// The lines of both sides of a book. An edit makes some of them stale, and these are worked out again only where they are needed.
 #[derive(Drop)]
@@ -21,17 +23,8 @@ pub struct SideLines {
     pub left: Vec<Vec<i128>>,
     /// The lines of the left side are those of the book up to this one.
     pub left_to: usize,
-    /// Room for two lines in 64 bits.
-    pub rooms: Rooms,
-}
-
-/// Room in which a line is worked out in 64 bits.
-#[derive(Drop)]
-pub struct Rooms {
-    /// For the line that it is worked out from.
-    pub below: Vec<i64>,
-    /// For the line itself.
-    pub line: Vec<i64>,
+    /// Room in which a line is worked out.
+    pub rooms: LineRooms,
 }
 
 impl SideLines {
@@ -43,7 +36,7 @@ impl SideLines {
         let states = book.supply().states();
         let right = zero_lines(alloc, bidders + 1, states)?;
         let left = zero_lines(alloc, bidders + 1, states)?;
-        let rooms = new_rooms(alloc, states)?;
+        let rooms = LineRooms::new(alloc, states)?;
         Ok(SideLines {
             right,
             right_from: bidders,
@@ -117,15 +110,6 @@ fn zero_lines(alloc: Global, count: usize, states: usize) -> Result<Vec<Vec<i128
     Ok(lines)
 }
 
-/// Room for lines of so many numbers.
-fn new_rooms(alloc: Global, states: usize) -> Result<Rooms, AllocError>
-    ensures { IfOk result (λ rooms. (length rooms.below.items ≡ states) × (length rooms.line.items ≡ states)) }
-{
-    let below = vec![in alloc; 0i64; states]?;
-    let line = vec![in alloc; 0i64; states]?;
-    Ok(Rooms { below, line })
-}
-
 /// A line of so many zeros.
 fn zero_line(alloc: Global, states: usize) -> Result<Vec<i128>, AllocError>
     ensures { IfOk result (λ v. v.items ≡ replicate states (pos 0)) }
@@ -139,15 +123,15 @@ fn renew_right(
     alloc: Global,
     book: &BidBook,
     lines: &mut Vec<Vec<i128>>,
-    rooms: &mut Rooms,
+    rooms: &mut LineRooms,
     bottom: usize,
     top: usize,
 )
     requires top { (bottom ≤ top) × (top ≤ length book.now.bidders) }
     requires lines { AreRightLines book.now top (lines_of lines.old.items) }
-    requires rooms { AreRooms book.now rooms.old }
+    requires rooms { HasRoom (states_of book.now.supply) rooms.old }
     ensures lines { AreRightLines book.now bottom (lines_of lines.new.items) }
-    ensures rooms { AreRooms book.now rooms.new }
+    ensures rooms { HasRoom (states_of book.now.supply) rooms.new }
 {
     book.kept();
     for k in (bottom..top).rev() {
@@ -160,25 +144,18 @@ fn renew_right_line(
     alloc: Global,
     book: &BidBook,
     lines: &mut Vec<Vec<i128>>,
-    rooms: &mut Rooms,
+    rooms: &mut LineRooms,
     k: usize,
 )
     requires bidder { k < length book.now.bidders }
     requires lines { AreRightLines book.now (k + 1) (lines_of lines.old.items) }
-    requires rooms { AreRooms book.now rooms.old }
+    requires rooms { HasRoom (states_of book.now.supply) rooms.old }
     ensures lines { AreRightLines book.now k (lines_of lines.new.items) }
-    ensures rooms { AreRooms book.now rooms.new }
+    ensures rooms { HasRoom (states_of book.now.supply) rooms.new }
 {
     book.kept();
     let mut line = mem::replace(&mut lines[k], Vec::new(alloc));
-    narrow_right_line(
-        book,
-        k as u16 + 1,
-        &lines[k + 1],
-        &mut line,
-        &mut rooms.below,
-        &mut rooms.line,
-    );
+    narrow_right_line(book, k as u16 + 1, &lines[k + 1], &mut line, rooms);
     lines[k] = line;
 }
 
@@ -188,15 +165,15 @@ fn renew_left(
     alloc: Global,
     book: &BidBook,
     lines: &mut Vec<Vec<i128>>,
-    rooms: &mut Rooms,
+    rooms: &mut LineRooms,
     bottom: usize,
     top: usize,
 )
     requires top { (bottom ≤ top) × (top ≤ length book.now.bidders) }
     requires lines { AreLeftLines book.now bottom (lines_of lines.old.items) }
-    requires rooms { AreRooms book.now rooms.old }
+    requires rooms { HasRoom (states_of book.now.supply) rooms.old }
     ensures lines { AreLeftLines book.now top (lines_of lines.new.items) }
-    ensures rooms { AreRooms book.now rooms.new }
+    ensures rooms { HasRoom (states_of book.now.supply) rooms.new }
 {
     book.kept();
     for k in bottom..top {
@@ -209,24 +186,17 @@ fn renew_left_line(
     alloc: Global,
     book: &BidBook,
     lines: &mut Vec<Vec<i128>>,
-    rooms: &mut Rooms,
+    rooms: &mut LineRooms,
     k: usize,
 )
     requires bidder { (0 < k) × (k ≤ length book.now.bidders) }
     requires lines { AreLeftLines book.now (k - 1) (lines_of lines.old.items) }
-    requires rooms { AreRooms book.now rooms.old }
+    requires rooms { HasRoom (states_of book.now.supply) rooms.old }
     ensures lines { AreLeftLines book.now k (lines_of lines.new.items) }
-    ensures rooms { AreRooms book.now rooms.new }
+    ensures rooms { HasRoom (states_of book.now.supply) rooms.new }
 {
     book.kept();
     let mut line = mem::replace(&mut lines[k], Vec::new(alloc));
-    narrow_left_line(
-        book,
-        k as u16,
-        &lines[k - 1],
-        &mut line,
-        &mut rooms.below,
-        &mut rooms.line,
-    );
+    narrow_left_line(book, k as u16, &lines[k - 1], &mut line, rooms);
     lines[k] = line;
 }

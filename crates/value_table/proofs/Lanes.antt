@@ -1,6 +1,6 @@
 -- Four numbers at a time.
-use Rattle.std.proofs.Common.{◌≡◌, ◌∙◌, ℕ, ◌+◌, ◌-◌, ◌^◌, ◌≤◌, ◌<◌, max, false, cond, ltb, List, length, get_or, take, drop, replicate, ap, arith, inl, inr, w32}
-use lib.Lanes.{zip2, sel_l, top, Each1, Each2, chunk, put_chunk}
+use Rattle.std.proofs.Common.{◌≡◌, ◌∙◌, ℕ, ◌+◌, ◌-◌, ◌^◌, ◌≤◌, ◌<◌, max, false, cond, ltb, List, length, get_or, replicate, ap, arith, inl, inr, w32}
+use lib.Lanes.{zip2, sel_l, top, Each2, chunk, put_chunk}
 use mathlib.Core.List.{map}
 use mir.Val.{Fits}
 use Rattle.std.proofs.lemmas.Bool.{cases_lt, lt-ltb, le-ltb, cond-true, cond-false}

@@ -1,18 +1,18 @@
 -- The rows of a block of two categories, row by row, and what a bid changes in them.
-use Rattle.std.specs.Prelude.{◌≡◌, refl, ℕ, suc, max, map, take, nat_le, [], ◌∷◌, ◌+◌, ◌-◌}
+use Rattle.std.specs.Prelude.{◌≡◌, ℕ, max, map, take, nat_le, [], ◌∷◌, ◌+◌, ◌-◌}
 use Rattle.std.specs.Prelude.{◌*◌, ◌/◌, ◌%◌, ◌≤◌, ◌<◌, List, length, get_or, drop, ℤ, pos, ◌+ℤ◌, IsTrue}
 use Rattle.std.specs.Int.{int_max}
 use Rattle.std.proofs.Common.{sym, ◌∙◌, ap, subst, arith, inl, inr}
 use Rattle.std.proofs.Math.Nat.{mul-le-mul_right}
-use Rattle.std.proofs.lemmas.Bool.{cases_lt, le-leb, and_parts, leb-true}
+use Rattle.std.proofs.lemmas.Bool.{cases_lt, and_parts, leb-true}
 use Rattle.std.proofs.lemmas.List.{get_or-drop, length-drop, length-map}
-use Rattle.std.proofs.lemmas.Nat.{mod_below, div-add-mod', div-mul-add, mod-mul-add}
-use Rattle.choices.specs.auction_model.specs.Package.{less, is_within}
-use Rattle.choices.specs.auction_model.specs.Place.{states_of, place_of, left_at, widths_of}
+use Rattle.std.proofs.lemmas.Nat.{mod_below, div-add-mod'}
+use Rattle.choices.specs.auction_model.specs.Package.{is_within}
+use Rattle.choices.specs.auction_model.specs.Place.{states_of, widths_of}
 use Rattle.choices.specs.auction_model.specs.Steps.{raised}
-use Rattle.choices.specs.auction_model.proofs.PlaceLaws.{states-positive, place-less_below}
+use Rattle.choices.specs.auction_model.proofs.PlaceLaws.{states-positive}
 use Rattle.choices.specs.auction_model.proofs.PartReads.{read-before, read-middle, read-after}
-use Rattle.choices.specs.auction_model.proofs.RunLaws.{raised-before, raised-last, states-first, width-first, widths-rest}
+use Rattle.choices.specs.auction_model.proofs.RunLaws.{raised-before, raised-high, raised-last, states-first, width-first, widths-rest}
 use Rattle.value_table.proofs.NumberParts.{read-put, read-number, read-first}
 use Rattle.value_table.proofs.ShortLaws.{read-short, max-short}
 use Rattle.value_table.specs.declared.shape.Rows.{Rows}
@@ -94,17 +94,6 @@ slice-more number rows inside below initial line made worth n k k_is low all cou
 pub row-room : (rows : Rows) (n places : ℕ) → n < rows.count → places ≡ (rows.count - 1) * rows.width + rows.run → n * rows.width + rows.run ≤ places
 row-room rows n places low all =
     let up : n * rows.width ≤ (rows.count - 1) * rows.width = mul-le-mul_right rows.width (omega (arith, low)) in omega (arith, up, all)
-
--- a place of another block: the rest of the bid is counted in that block, from the part of the line that lies so many blocks before
-raised-high : (supply p : List ℕ) (below part : List ℤ) (worth : ℤ) (q r : ℕ) (old : ℤ) → 0 < length p → length p ≤ length supply
-    → r < states_of (drop 1 supply) → get_or p 0 0 ≤ q
-    → ((i : ℕ) → i < states_of (drop 1 supply) → get_or part i (pos 0) ≡ get_or below ((q - get_or p 0 0) * states_of (drop 1 supply) + i) (pos 0))
-    → raised supply below p worth (q * states_of (drop 1 supply) + r) old ≡ raised (drop 1 supply) part (drop 1 p) worth r old
-raised-high [] p below part worth q r old some few h high reads = absurd (omega arith)
-raised-high (u ∷ supply) [] below part worth q r old some few h high reads = absurd (omega arith)
-raised-high (u ∷ supply) (a ∷ p) below part worth q r old some few h high reads =
-    let at = place_of supply (less (left_at supply r) p) in
-    rw (div-mul-add q (states_of supply) r h, mod-mul-add q (states_of supply) r h, le-leb a q high, ← reads at (place-less_below supply p r h)) refl
 
 -- a bid that wants lots of two categories
 module _ (supply p : List ℕ) (below : List ℤ) (worth : ℤ) (two : length p ≡ 2) (few : length p ≤ length supply) where

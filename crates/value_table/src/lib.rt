@@ -6,6 +6,7 @@ mod book_chooser;
 mod lines;
 mod lowering;
 mod narrow;
+mod rooms;
 mod rows;
 mod runs;
 mod shape;
@@ -22,6 +23,7 @@ mod units;
 
 pub use book_chooser::BookChooser;
 pub use choices;
+pub use rooms::LineRooms;
 pub use side_lines::{left_line, narrow_left_line, narrow_right_line, right_line, right_number};
 pub use sides::Sides;
 pub use table::{ValueTable, plain_table, win};

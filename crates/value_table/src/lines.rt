@@ -72,7 +72,7 @@ fn count_bids<A: Amount>(
 }
 
 /// Makes of a copy of line `j` line `j - 1`.
-fn turn_line<A: Amount>(
+pub fn turn_line<A: Amount>(
     lowering: &Lowering,
     j: u16,
     below: &[A],

@@ -3,8 +3,9 @@ ghost use Rattle.std.specs.Prelude.{◌≡◌, ℕ, suc, ◌-◌, ◌^◌, ◌�
 ghost use Rattle.choices.specs.limits.specs.declared.TheConstants.{MOST_STATES};
 ghost use Rattle.value_table.specs.Counted.{counted_bids, counted, IsLineWithin, IsCountedLine, AreCountedLines};
 
-use crate::lines::{grid_of, next_line, units_room};
+use crate::lines::{grid_of, next_line, turn_line, units_room};
 use crate::lowering::Lowering;
+use crate::narrow::widen_into;
 use choices::Grid;
 use std::alloc::{AllocError, Global};
 
@@ -130,4 +131,33 @@ pub fn short_before(
     };
     let grid = grid_of(alloc, lowering, &lines[..top])?;
     Ok(Some(grid))
+}
+
+/// Makes `line` line `j - 1`, from line `j`, in two lists of room, and says whether it could: it doesn't where a number needs more bits.
+/// It takes no memory.
+pub fn put_short_line(
+    lowering: &Lowering,
+    j: u16,
+    below: &[i128],
+    line: &mut [i128],
+    below_room: &mut [u32],
+    line_room: &mut [u32],
+) -> bool
+    requires bidder { (0 < j) × (j ≤ length lowering.now.book.now.bidders) }
+    requires below { IsCountedLine lowering.now j below.now }
+    requires places { length line.old ≡ length below.now }
+    requires below_room { length below_room.old ≡ length below.now }
+    requires line_room { length line_room.old ≡ length below.now }
+    ensures { IsTrue result → IsCountedLine lowering.now (j - 1) line.new }
+{
+    if !shorten_into(below_room, below) {
+        return false;
+    }
+    if !is_short(lowering, j, below_room) {
+        return false;
+    }
+    line_room.copy_from_slice(below_room);
+    turn_line(lowering, j, below_room, line_room, &mut [], &mut []);
+    widen_into(line, line_room);
+    true
 }

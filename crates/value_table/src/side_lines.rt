@@ -4,12 +4,15 @@ ghost use Rattle.choices.specs.auction_model.specs.Book.{bids_of, menu_of, net_o
 ghost use Rattle.choices.specs.auction_model.specs.Place.{states_of, left_at};
 ghost use Rattle.choices.specs.auction_model.specs.Steps.{IsFirstNumber};
 ghost use Rattle.choices.specs.auction_model.specs.Table.{IsLine};
+ghost use Rattle.value_table.specs.LineRooms.{HasRoom};
 ghost use Rattle.value_table.specs.SideLines.{IsLeftLine, IsRightLine};
 ghost use Rattle.value_table.specs.SideValues.{IsRightEntry};
 ghost use Rattle.value_table.specs.Turned.{in_order, worths_in_order};
 
 use crate::lines::{put_line, put_narrow_line};
 use crate::lowering::Lowering;
+use crate::rooms::LineRooms;
+use crate::short::put_short_line;
 use crate::tracing::first_number;
 use choices::bid_book::BidBook;
 use choices::bid_book::lots::limits::MOST_BIDDERS;
@@ -40,64 +43,44 @@ pub fn left_line(book: &BidBook, k: u16, before: &[i128], line: &mut [i128])
     plain_line(book, true, &zeros[..bidders], turned, before, line);
 }
 
-/// The same as `right_line`, faster: it is worked out in 64 bits, in two lists of room as long as a line.
+/// The same as `right_line`, faster: it is worked out in 32 bits, or where these are too few in 64, in lists of room as long as a line.
 pub fn narrow_right_line(
     book: &BidBook,
     k: u16,
     after: &[i128],
     line: &mut [i128],
-    after_room: &mut [i64],
-    line_room: &mut [i64],
+    rooms: &mut LineRooms,
 )
     requires bidder { (0 < k) × (k ≤ length book.now.bidders) }
     requires after { IsRightLine book.now k after.now }
     requires places { length line.old ≡ states_of book.now.supply }
-    requires after_room { length after_room.old ≡ states_of book.now.supply }
-    requires line_room { length line_room.old ≡ states_of book.now.supply }
-    ensures { IsRightLine book.now (k - 1) line.new }
+    requires rooms { HasRoom (states_of book.now.supply) rooms.old }
+    ensures line { IsRightLine book.now (k - 1) line.new }
+    ensures rooms { HasRoom (states_of book.now.supply) rooms.new }
 {
     let zeros = [0i128; MOST_BIDDERS];
-    plain_narrow_line(
-        book,
-        false,
-        &zeros[..book.bidders()],
-        k,
-        after,
-        line,
-        after_room,
-        line_room,
-    );
+    plain_narrow_line(book, false, &zeros[..book.bidders()], k, after, line, rooms);
 }
 
-/// The same as `left_line`, faster: it is worked out in 64 bits, in two lists of room as long as a line.
+/// The same as `left_line`, faster: it is worked out in 32 bits, or where these are too few in 64, in lists of room as long as a line.
 pub fn narrow_left_line(
     book: &BidBook,
     k: u16,
     before: &[i128],
     line: &mut [i128],
-    before_room: &mut [i64],
-    line_room: &mut [i64],
+    rooms: &mut LineRooms,
 )
     requires bidder { (0 < k) × (k ≤ length book.now.bidders) }
     requires before { IsLeftLine book.now (k - 1) before.now }
     requires places { length line.old ≡ states_of book.now.supply }
-    requires before_room { length before_room.old ≡ states_of book.now.supply }
-    requires line_room { length line_room.old ≡ states_of book.now.supply }
-    ensures { IsLeftLine book.now k line.new }
+    requires rooms { HasRoom (states_of book.now.supply) rooms.old }
+    ensures line { IsLeftLine book.now k line.new }
+    ensures rooms { HasRoom (states_of book.now.supply) rooms.new }
 {
     let zeros = [0i128; MOST_BIDDERS];
     let bidders = book.bidders();
     let turned = bidders as u16 - k + 1;
-    plain_narrow_line(
-        book,
-        true,
-        &zeros[..bidders],
-        turned,
-        before,
-        line,
-        before_room,
-        line_room,
-    );
+    plain_narrow_line(book, true, &zeros[..bidders], turned, before, line, rooms);
 }
 
 /// The first number of bidder `k`, by the order of ties, with which it and the bidders after it reach the entry of a place: the entry
@@ -144,7 +127,7 @@ fn plain_line(
     put_line(&lowering, j, below, line);
 }
 
-/// The same as `plain_line`, worked out in 64 bits.
+/// The same as `plain_line`, worked out in 32 bits or 64.
 fn plain_narrow_line(
     book: &BidBook,
     turned: bool,
@@ -152,8 +135,7 @@ fn plain_narrow_line(
     j: u16,
     below: &[i128],
     line: &mut [i128],
-    below_room: &mut [i64],
-    line_room: &mut [i64],
+    rooms: &mut LineRooms,
 )
     requires bidder { (0 < j) × (j ≤ length book.now.bidders) }
     requires count { length surplus.now ≡ length book.now.bidders }
@@ -161,10 +143,10 @@ fn plain_narrow_line(
     requires below { IsLine (in_order turned (menu_of book.now))
         (worths_in_order turned (length book.now.bidders) (net_of book.now)) book.now.supply j below.now }
     requires places { length line.old ≡ states_of book.now.supply }
-    requires below_room { length below_room.old ≡ states_of book.now.supply }
-    requires line_room { length line_room.old ≡ states_of book.now.supply }
-    ensures { IsLine (in_order turned (menu_of book.now))
+    requires rooms { HasRoom (states_of book.now.supply) rooms.old }
+    ensures line { IsLine (in_order turned (menu_of book.now))
         (worths_in_order turned (length book.now.bidders) (net_of book.now)) book.now.supply (j - 1) line.new }
+    ensures rooms { HasRoom (states_of book.now.supply) rooms.new }
 {
     book.kept();
     let lowering = Lowering {
@@ -174,7 +156,17 @@ fn plain_narrow_line(
         den: 1,
         surplus,
     };
-    put_narrow_line(&lowering, j, below, line, below_room, line_room);
+    let is_put = put_short_line(
+        &lowering,
+        j,
+        below,
+        line,
+        &mut rooms.short_below,
+        &mut rooms.short_line,
+    );
+    if !is_put {
+        put_narrow_line(&lowering, j, below, line, &mut rooms.below, &mut rooms.line);
+    }
 }
 
 /// The first number of bidder `k` that reaches the entry, where no bidder has a surplus.

@@ -1,17 +1,21 @@
 // Guesses which earlier bid of a bidder makes the next one needless. Nothing is proved of a guess: whoever asks tests it.
-use lots::limits::{MOST_CATEGORIES, MOST_STATES};
+ghost use Rattle.std.specs.Prelude.{◌≡◌, ◌<◌, ◌≤◌, length};
+
+use lots::limits::MOST_CATEGORIES;
 use lots::{Package, Supply};
 use std::alloc::{AllocError, Global};
 
-/// The bids of one bidder so far. They come in the order of their places.
+/// The bids of one bidder so far. They come in the order of their places. A run is the places that differ in the last category alone.
 #[derive(Drop)]
 pub(crate) struct Rivals {
     /// How many bids there are.
     count: u16,
-    /// For each place up to that of the last bid the greatest offer of the bids that fit there, or 0.
-    best: Vec<u64>,
-    /// The counts of the place behind these.
-    next: [u16; MOST_CATEGORIES],
+    /// For each place before `reached` the greatest offer of the bids that fit there, and 0 where there is none.
+    best: Vec<i64>,
+    /// The place where the next run begins.
+    reached: usize,
+    /// The counts of the next run.
+    run: [u16; MOST_CATEGORIES],
 }
 
 impl Rivals {
@@ -20,7 +24,8 @@ impl Rivals {
         Rivals {
             count: 0,
             best: Vec::new(alloc),
-            next: [0; MOST_CATEGORIES],
+            reached: 0,
+            run: [0; MOST_CATEGORIES],
         }
     }
 
@@ -28,7 +33,8 @@ impl Rivals {
     pub(crate) fn clear(&mut self) {
         self.count = 0;
         self.best.clear();
-        self.next = [0; MOST_CATEGORIES];
+        self.reached = 0;
+        self.run = [0; MOST_CATEGORIES];
     }
 
     /// The earlier bid that is worth most of those that are no larger, or 0; then this bid is one of them.
@@ -38,32 +44,58 @@ impl Rivals {
         package: &Package,
         net: i128,
     ) -> Result<u16, AllocError> {
-        let place = place_among(supply.counts(), package.counts());
-        for _place in self.best.len()..(MOST_STATES as usize).min(place) {
-            self.add_place(supply, 0)?;
+        self.best.resize(supply.states(), 0)?;
+        let place = place_among(supply.counts(), package.counts()).min(supply.states());
+        while self.reached <= place && self.reached < self.best.len() {
+            self.raise_run(supply);
         }
         self.count = self.count.wrapping_add(1);
-        let rival = self.add_place(supply, offer(net, self.count))?;
-        Ok(number_of(rival))
+        let own = offer(net, self.count);
+        Ok(number_of(self.put(place, own)))
     }
 
-    /// Adds a place at which this offer stands, or none where it is 0. Gives the greatest offer of the bids that are smaller.
-    fn add_place(&mut self, supply: &Supply, own: u64) -> Result<u64, AllocError> {
-        let below = best_below(&self.best, &self.next, supply.widths());
-        self.best.push(own.max(below))?;
-        step(&mut self.next, supply.counts());
-        Ok(below)
+    /// Works out the next run: what a place has one lot less than is worth most of it, and what its run has before it.
+    fn raise_run(&mut self, supply: &Supply)
+        requires { self.old.reached < length self.old.best.items }
+        ensures reached { self.old.reached < self.new.reached }
+    {
+        let Some((last, others)) = supply.counts().split_last() else {
+            self.reached += 1;
+            return;
+        };
+        let len = *last as usize + 1;
+        let (before, rest) = self.best.split_at_mut(self.reached);
+        let count = len.min(rest.len());
+        let run = &mut rest[..count];
+        let widths = supply.widths();
+        for category in 0..others.len().min(widths.len()).min(MOST_CATEGORIES) {
+            if self.run[category] != 0 {
+                raise_from(run, before, widths[category]);
+            }
+        }
+        rise(run);
+        next_run(&mut self.run, others);
+        self.reached += len;
+    }
+
+    /// Counts an offer at a place of the last run, and at those behind it. Gives the greatest that stood there.
+    fn put(&mut self, place: usize, own: i64) -> i64 {
+        let end = self.reached.min(self.best.len());
+        if place >= end {
+            return 0;
+        }
+        put_first(&mut self.best[place..end], own)
     }
 }
 
 /// A net amount and the number of its bid in one number, which is greater where the amount is.
-fn offer(net: i128, number: u16) -> u64 {
-    u64::try_from(net).unwrap_or(0) << 16 | number as u64
+fn offer(net: i128, number: u16) -> i64 {
+    i64::try_from(net).unwrap_or(0) << 16 | number as i64
 }
 
 /// The number of the bid of an offer, and 0 where there is none.
-fn number_of(offer: u64) -> u16 {
-    (offer % (1 << 16)) as u16
+fn number_of(offer: i64) -> u16 {
+    (offer & 0xffff) as u16
 }
 
 /// The place of the counts, where they fit the supply.
@@ -77,20 +109,45 @@ fn place_among(supply: &[u16], counts: &[u16]) -> usize {
     place
 }
 
-/// The greatest offer of the places that have one lot less of one category than the next place.
-fn best_below(best: &[u64], next: &[u16; MOST_CATEGORIES], widths: &[usize]) -> u64 {
-    let mut most: u64 = 0;
-    for i in 0..widths.len().min(MOST_CATEGORIES) {
-        let width = widths[i];
-        if next[i] != 0 && 0 < width && width <= best.len() {
-            most = most.max(best[best.len() - width]);
-        }
+/// Raises each offer of a run to that of the place which is so far before it.
+fn raise_from(run: &mut [i64], before: &[i64], width: usize) {
+    if width <= before.len() && run.len() <= width {
+        raise(run, &before[before.len() - width..][..run.len()]);
     }
-    most
 }
 
-/// Goes on to the counts of the next place.
-fn step(counts: &mut [u16; MOST_CATEGORIES], supply: &[u16]) {
+/// Raises each offer to the one beside it.
+fn raise(run: &mut [i64], below: &[i64])
+    requires { length run.old ≡ length below.now }
+{
+    for i in 0..run.len() {
+        run[i] = run[i].max(below[i]);
+    }
+}
+
+/// Raises each offer to those before it.
+fn rise(run: &mut [i64]) {
+    let mut most = 0;
+    for offer in run {
+        most = most.max(*offer);
+        *offer = most;
+    }
+}
+
+/// Raises offers, which rise, to this one. Gives what the first was.
+fn put_first(places: &mut [i64], own: i64) -> i64 {
+    let first = places.first().copied().unwrap_or(0);
+    for offer in places {
+        if own <= *offer {
+            break;
+        }
+        *offer = own;
+    }
+    first
+}
+
+/// Goes on to the counts of the next run.
+fn next_run(counts: &mut [u16; MOST_CATEGORIES], supply: &[u16]) {
     for i in (0..supply.len().min(MOST_CATEGORIES)).rev() {
         if counts[i] < supply[i] {
             counts[i] += 1;

@@ -10,8 +10,7 @@ ghost use Rattle.bid_book.specs.Stages.{Adds, AddsBid, AddsBidder, last_excess, 
 
 use crate::book::Entry;
 use crate::book::rivals::Rivals;
-use crate::read::fields::{is_name, lot_counts, numbers_behind};
-use crate::stop::lots_stop;
+use crate::read::fields::{is_name, numbers_behind};
 use crate::{BidBook, LimitKind, Name};
 use book_form::Excess;
 use book_form::line_text::LineStop;
@@ -123,7 +122,7 @@ fn read_bid(alloc: Global, book: &BidBook, line: &[u8]) -> Result<Entry, LineSto
     let Some(amount) = numbers.pop() else {
         return Err(LineStop::Form);
     };
-    let package = read_package(alloc, supply, &numbers)?;
+    let package = read_package(supply, &numbers)?;
     if !comes_next(book, &package) {
         return Err(LineStop::Form);
     }
@@ -140,11 +139,7 @@ fn read_bid(alloc: Global, book: &BidBook, line: &[u8]) -> Result<Entry, LineSto
 }
 
 /// The package of these counts, where it has the categories of the supply and fits in it.
-fn read_package(
-    alloc: Global,
-    supply: &Supply,
-    numbers: &[u64],
-) -> Result<Package, LineStop<Excess>>
+fn read_package(supply: &Supply, numbers: &[u64]) -> Result<Package, LineStop<Excess>>
     ensures ok { IfOk result
         (λ p. (p ≡ numbers.now) × (length numbers.now ≡ length supply.now)
         × IsTrue (is_within numbers.now supply.now)) }
@@ -155,10 +150,8 @@ fn read_package(
     if numbers.len() != supply.categories() {
         return Err(LineStop::Form);
     }
-    let counts = lot_counts(alloc, numbers)?;
-    let package = match Package::new(alloc, &counts) {
-        Ok(package) => package,
-        Err(stop) => return Err(lots_stop(stop)),
+    let Some(package) = Package::from_numbers(numbers) else {
+        return Err(LineStop::Form);
     };
     if !package.fits(supply) {
         return Err(LineStop::Form);

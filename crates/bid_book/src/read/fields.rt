@@ -10,8 +10,8 @@ ghost use Rattle.lots.specs.limits.specs.declared.TheConstants.{MOST_AMOUNT, MOS
 use crate::LimitKind;
 use crate::stop::NoNumber;
 use book_form::Excess;
-use book_form::line_text::{LineStop, field_len, read_at_most};
-use lots::limits::{MOST_AMOUNT, MOST_COUNT, MOST_NAME_BYTES};
+use book_form::line_text::{LineStop, field_len, read_at_most, short_field};
+use lots::limits::{MOST_AMOUNT, MOST_CATEGORIES, MOST_COUNT, MOST_NAME_BYTES};
 use std::alloc::Global;
 
 /// The numbers of a line behind its word, each behind one space.
@@ -33,7 +33,7 @@ fn read_numbers(alloc: Global, text: &[u8]) -> Result<Vec<u64>, LineStop<Excess>
     ensures form { result ≡ Err LineStop.Form → (ns : List ℕ) → AreNumbers ns → text.now ≡ decimals_text ns → ⊥ }
     ensures no_limit { (kind : LimitKind) (count : ℕ) → result ≡ Err (LineStop.Limit (kind, count)) → ⊥ }
 {
-    let mut numbers = Vec::new(alloc);
+    let mut numbers = Vec::with_capacity(alloc, MOST_CATEGORIES + 1)?;
     let mut rest = text;
     while !rest.is_empty() {
         let (number, more) = first_number(rest)?;
@@ -50,6 +50,18 @@ fn first_number(text: &[u8]) -> Result<(u64, &[u8]), NoNumber>
     ensures found { IfOk result (λ p. (p.0 ≤ MOST_AMOUNT) × IsField text.now (decimal p.0) p.1.now) }
     ensures none { IfErr result (λ _. (ns : List ℕ) → AreNumbers ns → text.now ≢ decimals_text ns) }
 {
+    match short_number(text) {
+        Some(found) => Ok(found),
+        None => long_number(text),
+    }
+}
+
+/// The same for a number of any size.
+fn long_number(text: &[u8]) -> Result<(u64, &[u8]), NoNumber>
+    requires { 0 < length text.now }
+    ensures found { IfOk result (λ p. (p.0 ≤ MOST_AMOUNT) × IsField text.now (decimal p.0) p.1.now) }
+    ensures none { IfErr result (λ _. (ns : List ℕ) → AreNumbers ns → text.now ≢ decimals_text ns) }
+{
     let Some((field, more)) = first_field(text) else {
         return Err(NoNumber);
     };
@@ -59,13 +71,36 @@ fn first_number(text: &[u8]) -> Result<(u64, &[u8]), NoNumber>
     }
 }
 
+/// The same in one pass, for a number of few digits. None says nothing.
+fn short_number(text: &[u8]) -> Option<(u64, &[u8])>
+    ensures { IfSome result (λ p. (p.0 ≤ MOST_AMOUNT) × IsField text.now (decimal p.0) p.1.now) }
+{
+    let behind = behind_space(text)?;
+    let (number, stop) = short_field(behind)?;
+    if number > MOST_AMOUNT {
+        return None;
+    }
+    Some((number, &behind[stop..]))
+}
+
 /// The first field of a text, which has to stand behind a space, and what follows it.
 fn first_field(text: &[u8]) -> Option<(&[u8], &[u8])>
     ensures found { IfSome result (λ parts. IsField text.now parts.0.now parts.1.now) }
     ensures none { IfNone result ((behind : List ℕ) → text.now ≡ 32 ∷ behind → ⊥) }
 {
+    match behind_space(text) {
+        Some(behind) => Some(behind.split_at(field_len(behind))),
+        None => None,
+    }
+}
+
+/// What follows the space that a text begins with.
+fn behind_space(text: &[u8]) -> Option<&[u8]>
+    ensures found { IfSome result (λ behind. text.now ≡ 32 ∷ behind.now) }
+    ensures none { IfNone result ((behind : List ℕ) → text.now ≡ 32 ∷ behind → ⊥) }
+{
     match text {
-        [b' ', behind @ ..] => Some(behind.split_at(field_len(behind))),
+        [b' ', behind @ ..] => Some(behind),
         _ => None,
     }
 }

@@ -34,5 +34,5 @@ returns-clause-lines c =
     let put = with_items c.replace-line.result line in
     let long : length line ≡ c.replace-line.result.len = c.narrow_left_line.auto.line ∙ c.deref_mut.ensures.len in
     let same : put.items ≡ line = take_at line (drop (length line) c.replace-line.result.items) c.replace-line.result.len long in
-    let made = left-set c.args.book.now k (lines_of lines) line c.requires.bidder.1 c.requires.bidder.0 c.requires.lines c.narrow_left_line.ensures in
+    let made = left-set c.args.book.now k (lines_of lines) line c.requires.bidder.1 c.requires.bidder.0 c.requires.lines c.narrow_left_line.ensures.line in
     subst (AreLeftLines c.args.book.now k) (sym (lines-set lines k c.replace-line.new.dest put ∙ ap (set (lines_of lines) k) same)) made

@@ -35,6 +35,6 @@ returns-clause-lines c =
     let long : length line ≡ c.replace-line.result.len = c.narrow_right_line.auto.line ∙ c.deref_mut.ensures.len in
     let same : put.items ≡ line = take_at line (drop (length line) c.replace-line.result.items) c.replace-line.result.len long in
     let down : k + 1 - 1 ≡ k = omega arith in
-    let own : IsRightLine c.args.book.now k line = subst (λ (n : ℕ). IsRightLine c.args.book.now n line) down c.narrow_right_line.ensures in
+    let own : IsRightLine c.args.book.now k line = subst (λ (n : ℕ). IsRightLine c.args.book.now n line) down c.narrow_right_line.ensures.line in
     let made = right-set c.args.book.now k (lines_of lines) line (omega (arith, c.requires.bidder)) c.requires.lines own in
     subst (AreRightLines c.args.book.now k) (sym (lines-set lines k c.replace-line.new.dest put ∙ ap (set (lines_of lines) k) same)) made

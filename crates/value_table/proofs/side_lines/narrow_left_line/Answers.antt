@@ -12,10 +12,10 @@ plain_narrow_line-requires-clause-below c =
     subst (λ (n : ℕ). IsLine (in_order true (menu_of book)) (worths_in_order true (length book.bidders) (net_of book)) book.supply n c.args.before.now) place
     (line-turned book (c.args.k - 1) c.args.before.now (omega arith) c.requires.before)
 
-pub returns : goal.returns
-returns c =
+pub returns-clause-line : goal.returns-clause-line
+returns-clause-line c =
     let book = c.args.book.now in
     let place : c.bidders-bidders.result - c.args.k + 1 - 1 ≡ length book.bidders - c.args.k = omega (arith, c.bidders-bidders.ensures.bidders) in
     line-left book c.args.k c.plain_narrow_line.new.line (omega arith)
     (subst (λ (n : ℕ). IsLine (in_order true (menu_of book)) (worths_in_order true (length book.bidders) (net_of book)) book.supply n
-    c.plain_narrow_line.new.line) place c.plain_narrow_line.ensures)
+    c.plain_narrow_line.new.line) place c.plain_narrow_line.ensures.line)

@@ -5,4 +5,4 @@ use Rattle.lots.proofs.CountLaws.{none-within}
 use Rattle.lots.proofs.package.Package.is_empty.Goals as goal
 
 pub returns : goal.returns
-returns c = c.have_none.ensures ∙ none-within c.deref.result.now ∙ ap (λ p. is_within p []) (c.deref.ensures.value ∙ c.self.view_is)
+returns c = c.have_none.ensures ∙ none-within c.held.result.now ∙ ap (λ p. is_within p []) c.held.ensures.value

@@ -3,7 +3,7 @@ use Rattle.std.proofs.lemmas.Bool.Decides.{nat_tests}
 use Rattle.wide_num.proofs.Decimal.{IsDigit, digits_more, read_on_more}
 use Rattle.line_text.specs.Fields.{IsField, HasNoLeadingZero}
 use Rattle.line_text.proofs.Fronts.{field_made}
-use Rattle.line_text.proofs.numbers.read_short.Goals as goal
+use Rattle.line_text.proofs.numbers.short_field.Goals as goal
 
 pub loop-stop-preserved : goal.loop-stop-preserved
 loop-stop-preserved c =
@@ -22,7 +22,5 @@ returns c =
     let text = c.args.text.now in
     let stop = c.loop-stop.stop in
     let fine : HasNoLeadingZero text stop = c.may_be_number.ensures.0 c.if-not-may_be_number.false in
-    let field = field_made text stop c.loop-stop.invariant.digits c.loop-stop.invariant.within (c.if-not-ends_at.ensures refl) fine in (
-      subst (λ (n : ℕ). IsField text n stop) (sym c.loop-stop.invariant.value) field,
-      omega (arith, c.loop-stop.auto.n-fits),
-    )
+    let field = field_made text stop c.loop-stop.invariant.digits c.loop-stop.invariant.within (c.if-not-ends_at.ensures refl) fine in
+    subst (λ (n : ℕ). IsField text n stop) (sym c.loop-stop.invariant.value) field

@@ -1,6 +1,6 @@
 use Rattle.std.proofs.Common.{◌≡◌, ◌≤◌, ◌-◌, take, length}
 use Rattle.wide_num.proofs.Decimal.{read_on, AreDigits}
-use Rattle.line_text.proofs.numbers.read_short.Given as goal
+use Rattle.line_text.proofs.numbers.short_field.Given as goal
 
 abbrev pub decreases-loop-stop : goal.decreases-loop-stop
 decreases-loop-stop l = length l.text - l.stop
@@ -9,5 +9,5 @@ abbrev pub invariant-loop-stop : goal.invariant-loop-stop
 invariant-loop-stop l = record {
   within : l.stop ≤ length l.text;
   digits : AreDigits (take l.stop l.text);
-  value : l.n ≡ read_on 0 (take l.stop l.text);
+  value : l.number ≡ read_on 0 (take l.stop l.text);
 }

@@ -1,5 +1,5 @@
 use Rattle.bid_book.proofs.FieldReads.{first_number, not_spaced}
-use Rattle.bid_book.proofs.read.fields.first_number.Goals as goal
+use Rattle.bid_book.proofs.read.fields.long_number.Goals as goal
 
 pub returns-in_default-clause-none : goal.returns-in_default-clause-none
 returns-in_default-clause-none c = λ ns small is. not_spaced c.args.text.now ns c.requires c.in_default.ensures.none is
