@@ -1,9 +1,9 @@
 -- What digits at the front of a text say of the numeral there.
 use Rattle.std.proofs.Common.{◌≡◌, ◌≢◌, ℕ, suc, zero, ◌≤◌, ◌<◌, List, [], ◌∷◌, ◌++◌, length, get_or, take, drop, refl, sym, ap, subst, ◌∙◌, arith}
-use Rattle.std.proofs.Common.{length-append, length-take, inl, inr}
-use Rattle.std.proofs.lemmas.Bool.{cases_lt}
+use Rattle.std.proofs.Common.{length-append, length-take, take-append-drop, inl, inr}
+use Rattle.std.proofs.lemmas.Bool.{cases_eq, cases_lt}
 use Rattle.line_text.specs.Numeral.{numeral}
-use Rattle.wide_num.proofs.Decimal.{AreDigits, IsDigit, IsNumeral, read_on}
+use Rattle.wide_num.proofs.Decimal.{AreDigits, IsDigit, IsNumeral, read_on, read_on-take_le}
 use Rattle.line_text.proofs.Numerals.{numeral_is, one_numeral}
 use Rattle.line_text.specs.Fields.{FieldEnds, IsField, HasNoLeadingZero}
 
@@ -97,6 +97,12 @@ ends_at [] i lt e = absurd (omega arith)
 ends_at (c ∷ text) zero lt e = e
 ends_at (c ∷ text) (suc i) lt e = ends_at text i (omega arith) e
 
+-- and where a field ends within the text, a space stands
+pub space_there : (text : List ℕ) (i : ℕ) → i < length text → FieldEnds (drop i text) → get_or text i 0 ≡ 32
+space_there [] i lt ends = absurd (omega arith)
+space_there (c ∷ text) zero lt ends = ends
+space_there (c ∷ text) (suc i) lt ends = space_there text i (omega arith) ends
+
 -- a field ends at the end of the text
 pub ends_last : (text : List ℕ) (i : ℕ) → length text ≤ i → FieldEnds (drop i text)
 ends_last [] zero le = tt
@@ -115,3 +121,43 @@ one_front (x ∷ xs) (y ∷ ys) r q dx dy er eq e =
     let heads : x ≡ y = cc in
     let tails : xs ++ r ≡ ys ++ q = cc in
     let rest = one_front xs ys r q dx.1 dy.1 er eq tails in cc (heads, rest)
+
+take_front : (xs rest : List ℕ) (i : ℕ) → i ≤ length xs → take i (xs ++ rest) ≡ take i xs
+take_front xs rest zero le = refl
+take_front [] rest (suc i) le = absurd (omega arith)
+take_front (x ∷ xs) rest (suc i) le = ap (λ (t : List ℕ). x ∷ t) (take_front xs rest i (omega arith))
+
+field_parts : (text : List ℕ) (n s : ℕ) → IsField text n s → text ≡ numeral n ++ drop s text
+field_parts text n s field = sym (take-append-drop s text) ∙ ap (λ (t : List ℕ). t ++ drop s text) field.spelled
+
+-- digits at the front write no greater number than the field there
+pub front_no_greater : (text : List ℕ) (i : ℕ) → AreDigits (take i text) → i ≤ length text → (n s : ℕ) → IsField text n s → read_on 0 (take i text) ≤ n
+front_no_greater text i d le n s field =
+    let e = field_parts text n s field in
+    let low = within_field (numeral n) (drop s text) i field.ends (subst (λ (t : List ℕ). AreDigits (take i t)) e d) (omega (arith, le, ap length e)) in
+    let same : read_on 0 (take i text) ≡ read_on 0 (take i (numeral n)) = ap (λ (t : List ℕ). read_on 0 (take i t)) e
+    ∙ ap (read_on 0) (take_front (numeral n) (drop s text) i low) in
+    omega (arith, same, read_on-take_le 0 i (numeral n), (numeral_is n).value)
+
+-- where digits below a bound lead to no digit, and make no field, no number below the bound is a field
+pub no_field_below : (most : ℕ) (text : List ℕ) (i : ℕ) → AreDigits (take i text) → i ≤ length text
+    → (read_on 0 (take i text) < most → i < length text → IsDigit (get_or text i 0) → ⊥)
+    → (FieldEnds (drop i text) → HasNoLeadingZero text i → ⊥)
+    → (n s : ℕ) → IsField text n s → most ≤ n
+no_field_below most text i d le stops fails n s field =
+    elim (cases_lt (read_on 0 (take i text)) most) [
+      | inl low ↦ absurd (elim (cases_lt i (length text)) [
+        | inl inside ↦ elim (cases_eq (get_or text i 0) 32) [
+          | inl space ↦ none (ends_at text i inside space)
+          | inr other ↦ no_number_at text i d inside other (stops low inside) n (drop s text) field.ends e
+        ]
+        | inr end ↦ none (ends_last text i end)
+      ])
+      | inr high ↦ omega (arith, high, front_no_greater text i d le n s field)
+    ]
+  where
+    e : text ≡ numeral n ++ drop s text
+    e = field_parts text n s field
+
+    none : FieldEnds (drop i text) → ⊥
+    none ends = fails ends (no_leading_zero text i d le ends n (drop s text) field.ends e)

@@ -1,5 +1,6 @@
 // Signed numbers of a line.
-ghost use Rattle.std.specs.Prelude.{◌≡◌, ◌≢◌, ℕ, ◌+◌, ◌*◌, ◌≤◌, ◌<◌, ◌↔◌, length, List, ◌∷◌, IsTrue, slice_index, MatchOption, IfOk, IfSome, drop, [], ℤ};
+ghost use Rattle.std.specs.Prelude.{◌≡◌, ◌≢◌, ℕ, ◌+◌, ◌*◌, ◌^◌, ◌≤◌, ◌<◌, ◌↔◌, length, List, ◌∷◌, IsTrue, slice_index, MatchOption, IfOk, IfSome, IfNone, drop, []};
+ghost use Rattle.std.specs.Prelude.{ℤ};
 ghost use Rattle.line_text.specs.Numeral.{numbers_text};
 ghost use Rattle.line_text.specs.Fields.{FieldEnds, ReadsNatural, ReadsSigned, IsField, IsTally, HasNoLeadingZero, IsNoField, KeepsField, HasNumbers};
 
@@ -145,18 +146,21 @@ fn read_natural(text: &[u8]) -> Natural
     }
 }
 
-/// The same for a number of few digits, and None where there is none.
+/// The same for a number of few digits. Where it is None, no number below 2^60 stands there as a field.
 fn read_short(text: &[u8]) -> Option<Natural>
-    ensures { IfSome result (λ number. ReadsNatural text.now number) }
+    ensures found { IfSome result (λ number. ReadsNatural text.now number) }
+    ensures none { IfNone result ((n stop : ℕ) → IsField text.now n stop → 2 ^ 60 ≤ n) }
 {
     let (number, stop) = short_field(text)?;
     Some(Natural::Within(number as u128, stop))
 }
 
 /// The natural number at the front of the text, up to a space or to its end, and where it ends. It is a fast way for numbers of few
-/// digits: where it gives none, there may be a longer number or no number at all.
+/// digits: it gives the number where it is below 2^60, and may give a greater one. Where it gives none, no number below 2^60 stands
+/// there as a field.
 pub fn short_field(text: &[u8]) -> Option<(u64, usize)>
-    ensures { IfSome result (λ field. IsField text.now field.0 field.1) }
+    ensures found { IfSome result (λ field. IsField text.now field.0 field.1) }
+    ensures none { IfNone result ((n stop : ℕ) → IsField text.now n stop → 2 ^ 60 ≤ n) }
 {
     let mut number = 0u64;
     let mut stop: usize = 0;
@@ -173,7 +177,7 @@ pub fn short_field(text: &[u8]) -> Option<(u64, usize)>
 /// Whether a field ends at this place.
 fn ends_at(text: &[u8], stop: usize) -> bool
     requires { stop ≤ length text.now }
-    ensures { IsTrue result → FieldEnds (drop stop text.now) }
+    ensures { IsTrue result ↔ FieldEnds (drop stop text.now) }
 {
     if stop == text.len() {
         return true;

@@ -1,9 +1,12 @@
-use Rattle.std.proofs.Common.{◌∙◌, ℕ, ◌+◌, ◌-◌, ◌*◌, ◌<◌, ap, sym, arith, get_or, length, subst, refl}
+use Rattle.std.proofs.Common.{◌∙◌, ℕ, ◌+◌, ◌-◌, ◌*◌, ◌<◌, ◌^◌, ap, sym, arith, get_or, length, take, drop, subst, refl}
 use Rattle.std.proofs.lemmas.Bool.Decides.{nat_tests}
-use Rattle.wide_num.proofs.Decimal.{IsDigit, digits_more, read_on_more}
-use Rattle.line_text.specs.Fields.{IsField, HasNoLeadingZero}
-use Rattle.line_text.proofs.Fronts.{field_made}
+use Rattle.wide_num.proofs.Decimal.{IsDigit, read_on, digits_more, read_on_more}
+use Rattle.line_text.specs.Fields.{FieldEnds, IsField, HasNoLeadingZero}
+use Rattle.line_text.proofs.Fronts.{field_made, no_field_below}
 use Rattle.line_text.proofs.numbers.short_field.Goals as goal
+use Rattle.line_text.proofs.numbers.short_field.Goals.{then-loop-stop-test+then-number-lt-SHORT+else-is_ascii_digit, then-loop-stop-test+else-number-lt-SHORT}
+use Rattle.line_text.proofs.numbers.short_field.Goals.{else-loop-stop-test, then-not-ends_at-via-then-not-ends_at}
+use Rattle.line_text.proofs.numbers.short_field.Goals.{then-not-ends_at-via-else-not-ends_at+then-not-may_be_number}
 
 pub loop-stop-preserved : goal.loop-stop-preserved
 loop-stop-preserved c =
@@ -17,10 +20,27 @@ loop-stop-preserved c =
       value = ap (λ (x : ℕ). 10 * x + (get_or text stop 0 - 48)) c.loop-stop.invariant.value ∙ sym (read_on_more text stop inside);
     }
 
-pub returns : goal.returns
-returns c =
+pub returns-clause-found : goal.returns-clause-found
+returns-clause-found c =
     let text = c.args.text.now in
     let stop = c.loop-stop.stop in
     let fine : HasNoLeadingZero text stop = c.may_be_number.ensures.0 c.if-not-may_be_number.false in
-    let field = field_made text stop c.loop-stop.invariant.digits c.loop-stop.invariant.within (c.if-not-ends_at.ensures refl) fine in
+    let field = field_made text stop c.loop-stop.invariant.digits c.loop-stop.invariant.within (c.if-not-ends_at.ensures.0 refl) fine in
     subst (λ (n : ℕ). IsField text n stop) (sym c.loop-stop.invariant.value) field
+
+pub returns-then-not-ends_at-clause-none : goal.returns-then-not-ends_at-clause-none
+returns-then-not-ends_at-clause-none c =
+    let text = c.args.text.now in
+    let stop = c.loop-stop.stop in
+    let stops : read_on 0 (take stop text) < 2 ^ 60 → stop < length text → IsDigit (get_or text stop 0) → ⊥ = λ low inside digit.
+    elim c.loop-stop-test.branch [
+      | then-loop-stop-test+then-number-lt-SHORT+else-is_ascii_digit w ↦ grind (arith, nat_tests, digit.0, digit.1, w.if-is_ascii_digit.false)
+      | then-loop-stop-test+else-number-lt-SHORT w ↦ omega (arith, low, c.loop-stop.invariant.value, w.if-number-lt-SHORT.false)
+      | else-loop-stop-test w ↦ omega (arith, inside, w.loop-stop-test.false)
+    ] in
+    let fails : FieldEnds (drop stop text) → HasNoLeadingZero text stop → ⊥ = λ ends fine.
+    elim c.then-not-ends_at.branch [
+      | then-not-ends_at-via-then-not-ends_at w ↦ (let yes = c.ends_at.ensures.1 ends in cc (yes, w.if-not-ends_at.true))
+      | then-not-ends_at-via-else-not-ends_at+then-not-may_be_number w ↦ (let yes = w.may_be_number.ensures.1 fine in cc (yes, w.if-not-may_be_number.true))
+    ] in
+    no_field_below (2 ^ 60) text stop c.loop-stop.invariant.digits c.loop-stop.invariant.within stops fails
