@@ -81,7 +81,7 @@ fn sums_of_members(rt: HostRuntime) {
 
 #[test]
 fn points_and_rows(rt: HostRuntime) -> Result<(), Fail> {
-    let mut at = FarList::new(rt.alloc());
+    let mut at = FarList::with_capacity(rt.alloc(), 2)?;
     at.push(pair(1, 2))?;
     at.push(pair(3, 4))?;
     let point = FarPoint { den: 3, at };

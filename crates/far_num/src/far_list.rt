@@ -1,5 +1,5 @@
 ghost use Rattle.far_num.specs.declared.Far.{Far};
-ghost use Rattle.std.specs.Prelude.{List, [], if◌then◌else◌, is_ok, ◌++◌, ◌∷◌, ◌≡◌};
+ghost use Rattle.std.specs.Prelude.{IfOk, List, [], if◌then◌else◌, is_ok, ◌++◌, ◌∷◌, ◌≡◌};
 
 use crate::Far;
 use std::alloc::{AllocError, Global};
@@ -18,13 +18,14 @@ impl Model for FarList {
 }
 
 impl FarList {
-    /// The empty list. It takes no memory.
-    pub fn new(alloc: Global) -> Self
-        ensures { result ≡ [] }
+    /// The empty list, with room for so many pairs, so that it needn't grow before it has more. The only error is want of
+    /// memory.
+    pub fn with_capacity(alloc: Global, pairs: usize) -> Result<Self, AllocError>
+        ensures { IfOk result (λ list. list ≡ []) }
     {
-        FarList {
-            pairs: Vec::new(alloc),
-        }
+        Ok(FarList {
+            pairs: Vec::with_capacity(alloc, pairs)?,
+        })
     }
 
     /// Appends one pair. For want of memory the list stays as it is.

@@ -26,6 +26,13 @@ primitive_part v y g ne c p = record {
   );
 }
 
+-- a row whose content is 1 is its own primitive part
+pub primitive_itself : (v : List ℤ) → ContentOf (length v) (nth v) (pos 1) → IsPrimitivePart v v
+primitive_itself v c = record { long = refl; g = pos 1; apart = λ e. absurd (omega (arith, ints, e)); is = λ i l. one_times (nth v i); primitive = (c.e, c.sum_is) }
+  where
+    one_times : (x : ℤ) → pos 1 *ℤ x ≡ x
+    one_times x = *ℤ_comm (pos 1) x ∙ *ℤ-one x
+
 -- the primitive part of s times v less t times w is these two rows combined and reduced
 pub reduces : (s t : ℤ) (v w m y : List ℤ) → IsMix s t v w m → IsPrimitivePart m y → Reduces s t v w y
 reduces s t v w m y h p = record {

@@ -13,7 +13,7 @@ pub fn column(alloc: Global, lines: &[NumList], i: usize) -> Result<NumList, All
     requires { (k : ℕ) → k < length lines.now → i < length (slice_index_or lines.now k []) }
     ensures { IfOk result (λ y. IsColumn lines.now i y) }
 {
-    let mut out = NumList::new(alloc);
+    let mut out = NumList::with_capacity(alloc, lines.len())?;
     for line in lines {
         out.push(line.items()[i])?;
     }
@@ -25,7 +25,7 @@ fn zeros(alloc: Global, width: usize) -> Result<NumList, AllocError>
     ensures long { IfOk result (λ y. length y ≡ width) }
     ensures zero { IfOk result (λ y. (k : ℕ) → k < width → nth y k ≡ pos 0) }
 {
-    let mut out = NumList::new(alloc);
+    let mut out = NumList::with_capacity(alloc, width)?;
     for _k in 0..width {
         out.push(0)?;
     }
@@ -60,7 +60,7 @@ fn kept_columns(
     ensures columns { IfOk result (λ all. (i : ℕ) → i < length lines.now
         → IsKeptColumn lines.now left_out i (slice_index_or all.items i [])) }
 {
-    let mut all = Vec::new(alloc);
+    let mut all = Vec::with_capacity(alloc, lines.len())?;
     for i in 0..lines.len() {
         all.push(kept_column(alloc, lines, left_out, i)?)?;
     }

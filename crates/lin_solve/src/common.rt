@@ -25,7 +25,7 @@ pub fn all_pivots(
     ensures pivots { IfOk result (λ all.
         ArePivots lines.now (nth fars.now) (nth nears.now) (length lines.now) all.items) }
 {
-    let mut all = Vec::new(alloc);
+    let mut all = Vec::with_capacity(alloc, lines.len())?;
     for i in 0..lines.len() {
         all.push(pivot_at(alloc, lines, i, fars, nears)?)?;
     }
@@ -62,7 +62,7 @@ pub fn values(alloc: Global, den: i128, pivots: &[Pivot]) -> Result<FarList, All
     ensures long { IfOk result (λ out. length out ≡ length pivots.now) }
     ensures values { IfOk result (λ out. AreValues pivots.now den (length pivots.now) (far_at out) (near_at out)) }
 {
-    let mut out = FarList::new(alloc);
+    let mut out = FarList::with_capacity(alloc, pivots.len())?;
     for pivot in pivots {
         let far = quotient(den, pivot.c, pivot.far);
         let near = quotient(den, pivot.c, pivot.near);

@@ -72,7 +72,7 @@ fn cleared(
     ensures rows { IfOk result (λ next. (j : ℕ) → j < length free.now → flag free.now j ≡ true → j ≢ pivot
         → IsNext line.now basis.now pivot j (slice_index_or next.items j [])) }
 {
-    let mut next = Vec::new(alloc);
+    let mut next = Vec::with_capacity(alloc, free.len())?;
     for j in 0..free.len() {
         next.push(next_row(alloc, line, pivot, j, basis, free)?)?;
     }
@@ -83,7 +83,7 @@ fn cleared(
 fn unit(alloc: Global, width: usize, j: usize) -> Result<NumList, AllocError>
     ensures { IfOk result (λ v. IsUnit width j v) }
 {
-    let mut out = NumList::new(alloc);
+    let mut out = NumList::with_capacity(alloc, width)?;
     for i in 0..width {
         out.push(if i == j { 1 } else { 0 })?;
     }
@@ -95,7 +95,7 @@ fn units(alloc: Global, width: usize) -> Result<Vec<NumList>, AllocError>
     ensures long { IfOk result (λ rows. length rows.items ≡ width) }
     ensures units { IfOk result (λ rows. (j : ℕ) → j < width → IsUnit width j (slice_index_or rows.items j [])) }
 {
-    let mut rows = Vec::new(alloc);
+    let mut rows = Vec::with_capacity(alloc, width)?;
     for j in 0..width {
         rows.push(unit(alloc, width, j)?)?;
     }

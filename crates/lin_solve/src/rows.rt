@@ -63,7 +63,7 @@ fn mix(alloc: Global, s: i128, v: &[i128], t: i128, w: &[i128]) -> Result<NumLis
         → unsigned_abs s * unsigned_abs (nth v.now i) + unsigned_abs t * unsigned_abs (nth w.now i) < 2 ^ 120 }
     ensures { IfOk result (λ y. IsMix s t v.now w.now y) }
 {
-    let mut out = NumList::new(alloc);
+    let mut out = NumList::with_capacity(alloc, v.len())?;
     for i in 0..v.len() {
         out.push(minus_products(s, v[i], t, w[i]))?;
     }
@@ -77,7 +77,7 @@ pub fn quotients(alloc: Global, g: i128, v: &[i128]) -> Result<NumList, AllocErr
     requires room { (i : ℕ) → i < length v.now → unsigned_abs (nth v.now i) < 2 ^ 120 }
     ensures { IfOk result (λ y. AreQuotients g v.now y) }
 {
-    let mut out = NumList::new(alloc);
+    let mut out = NumList::with_capacity(alloc, v.len())?;
     for x in v {
         out.push(div_exact(*x, g))?;
     }
@@ -85,13 +85,16 @@ pub fn quotients(alloc: Global, g: i128, v: &[i128]) -> Result<NumList, AllocErr
 }
 
 /// The numbers divided by what they share.
-fn primitive(alloc: Global, v: &[i128]) -> Result<NumList, AllocError>
-    requires room { (i : ℕ) → i < length v.now → unsigned_abs (nth v.now i) < 2 ^ 120 }
-    requires apart { (p : ℕ) × (p < length v.now) × (nth v.now p ≢ pos 0) }
-    ensures { IfOk result (λ y. IsPrimitivePart v.now y) }
+fn primitive(alloc: Global, v: NumList) -> Result<NumList, AllocError>
+    requires room { (i : ℕ) → i < length v → unsigned_abs (nth v i) < 2 ^ 120 }
+    requires apart { (p : ℕ) × (p < length v) × (nth v p ≢ pos 0) }
+    ensures { IfOk result (λ y. IsPrimitivePart v y) }
 {
-    let shared = content(v);
-    quotients(alloc, shared, v)
+    let shared = content(v.items());
+    if shared == 1 {
+        return Ok(v);
+    }
+    quotients(alloc, shared, v.items())
 }
 
 /// `s` times `v` less `t` times `w`, divided by what its numbers share.
@@ -109,5 +112,5 @@ pub fn reduced(
     ensures { IfOk result (λ y. Reduces s t v.now w.now y) }
 {
     let mixed = mix(alloc, s, v, t, w)?;
-    primitive(alloc, mixed.items())
+    primitive(alloc, mixed)
 }

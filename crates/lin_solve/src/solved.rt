@@ -60,7 +60,7 @@ fn solve_within(
 fn far_parts(alloc: Global, right: &[Far]) -> Result<NumList, AllocError>
     ensures { IfOk result (λ y. AreParts (length right.now) (far_at right.now) y) }
 {
-    let mut out = NumList::new(alloc);
+    let mut out = NumList::with_capacity(alloc, right.len())?;
     for pair in right {
         out.push(pair.far)?;
     }
@@ -70,7 +70,7 @@ fn far_parts(alloc: Global, right: &[Far]) -> Result<NumList, AllocError>
 fn near_parts(alloc: Global, right: &[Far]) -> Result<NumList, AllocError>
     ensures { IfOk result (λ y. AreParts (length right.now) (near_at right.now) y) }
 {
-    let mut out = NumList::new(alloc);
+    let mut out = NumList::with_capacity(alloc, right.len())?;
     for pair in right {
         out.push(pair.near)?;
     }

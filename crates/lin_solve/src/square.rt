@@ -30,7 +30,7 @@ impl Square {
         ensures entries { IfOk result (λ m. (k i : ℕ) → k < size → i < size
             → row m k i ≡ nth entries.now (k * size + i)) }
     {
-        let mut lines = Vec::new(alloc);
+        let mut lines = Vec::with_capacity(alloc, size)?;
         for k in 0..size {
             lines.push(line_of(alloc, entries, k * size, size)?)?;
         }
@@ -57,7 +57,7 @@ fn line_of(
     ensures long { IfOk result (λ y. length y ≡ size) }
     ensures entries { IfOk result (λ y. (i : ℕ) → i < size → nth y i ≡ nth entries.now (start + i)) }
 {
-    let mut line = NumList::new(alloc);
+    let mut line = NumList::with_capacity(alloc, size)?;
     for i in 0..size {
         line.push(entries[start + i])?;
     }

@@ -40,7 +40,7 @@ fn without_positive(
     places: &[usize],
     factors: &[i128],
 ) -> Result<Vec<usize>, AllocError> {
-    let mut kept = Vec::new(alloc);
+    let mut kept = Vec::with_capacity(alloc, places.len())?;
     let mut is_out = false;
     for (place, factor) in places.iter().zip(factors) {
         if *factor > 0 && !is_out {
@@ -83,7 +83,7 @@ fn shared_part(alloc: Global, members: u16, lowered: &[i128]) -> Result<Vec<i128
     ensures long { IfOk result (λ v. length v.items ≡ length lowered.now) }
     ensures small { IfOk result (λ v. IsBelowBy 20 v.items) }
 {
-    let mut out = Vec::new(alloc);
+    let mut out = Vec::with_capacity(alloc, lowered.len())?;
     for (j, x) in lowered.iter().enumerate() {
         out.push(member_part(members, j, *x))?;
     }

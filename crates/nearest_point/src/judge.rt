@@ -50,7 +50,7 @@ fn has_signs(held: &Held) -> bool
 fn rows_with_signs(alloc: Global, held: &Held) -> Result<Vec<usize>, AllocError>
     requires { IsSized held.now }
 {
-    let mut kept = Vec::new(alloc);
+    let mut kept = Vec::with_capacity(alloc, held.rows.len())?;
     for (i, row) in held.rows.iter().enumerate() {
         if !is_less(held.first[i], held.second[i], 0) {
             kept.push(*row)?;
@@ -63,7 +63,7 @@ fn rows_with_signs(alloc: Global, held: &Held) -> Result<Vec<usize>, AllocError>
 fn rows_by_multiplier(alloc: Global, held: &Held) -> Result<Vec<usize>, AllocError>
     requires { IsSized held.now }
 {
-    let mut list = Vec::new(alloc);
+    let mut list = Vec::with_capacity(alloc, held.rows.len())?;
     for (i, row) in held.rows.iter().enumerate() {
         list.push((held.first[i], held.second[i], *row))?;
     }
@@ -72,7 +72,7 @@ fn rows_by_multiplier(alloc: Global, held: &Held) -> Result<Vec<usize>, AllocErr
 }
 
 fn rows_of(alloc: Global, list: &[(i128, i128, usize)]) -> Result<Vec<usize>, AllocError> {
-    let mut rows = Vec::new(alloc);
+    let mut rows = Vec::with_capacity(alloc, list.len())?;
     for (_, _, row) in list {
         rows.push(*row)?;
     }

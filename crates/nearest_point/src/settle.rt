@@ -145,7 +145,7 @@ fn point_of(
 pub(crate) fn lowered_target(alloc: Global, weights: &[u32]) -> Result<Vec<i128>, AllocError>
     ensures { IfOk result (λ v. IsLowered weights.now v.items) }
 {
-    let mut out = Vec::new(alloc);
+    let mut out = Vec::with_capacity(alloc, weights.len())?;
     for weight in weights {
         out.push(-(*weight as i128))?;
     }
@@ -208,7 +208,7 @@ fn point_part(
         (λ v. IsPart rows.now forced.now (weight_at weights.now) den target.now multipliers.now v.items) }
     ensures small { IfOk result (λ v. AreBelow (2 ^ 113) v.items) }
 {
-    let mut out = Vec::new(alloc);
+    let mut out = Vec::with_capacity(alloc, target.len())?;
     for (j, aim) in target.iter().enumerate() {
         let moved = column(rows, forced, multipliers, j);
         out.push(coordinate(den, *aim, weights[j], moved))?;

@@ -31,7 +31,7 @@ pub(crate) fn gram_matrix(
         → (pos 0 ≤ℤ row m i k) × (row m i k ≤ℤ pos (length lowered.now * top))) }
 {
     let size = forced.len();
-    let mut entries = Vec::new(alloc);
+    let mut entries = Vec::with_capacity(alloc, size * size)?;
     for place in 0..size * size {
         let one = rows[forced[place / size]];
         let other = rows[forced[place % size]];
@@ -77,7 +77,7 @@ pub(crate) fn right_sides(
         (λ y. (edge i : ℕ) → IsEdge edge target.now rows.now → i < length forced.now
         → unsigned_abs (near_at y i) ≤ edge) }
 {
-    let mut out = FarList::new(alloc);
+    let mut out = FarList::with_capacity(alloc, forced.len())?;
     for place in forced {
         out.push(right_side(lowered, target, rows[*place]))?;
     }
@@ -106,7 +106,7 @@ pub(crate) fn far_parts(alloc: Global, pairs: &[Far]) -> Result<Vec<i128>, Alloc
     ensures long { IfOk result (λ v. length v.items ≡ length pairs.now) }
     ensures parts { IfOk result (λ v. (i : ℕ) → i < length pairs.now → nth v.items i ≡ far_at pairs.now i) }
 {
-    let mut out = Vec::new(alloc);
+    let mut out = Vec::with_capacity(alloc, pairs.len())?;
     for pair in pairs {
         out.push(pair.far)?;
     }
@@ -118,7 +118,7 @@ pub(crate) fn near_parts(alloc: Global, pairs: &[Far]) -> Result<Vec<i128>, Allo
     ensures long { IfOk result (λ v. length v.items ≡ length pairs.now) }
     ensures parts { IfOk result (λ v. (i : ℕ) → i < length pairs.now → nth v.items i ≡ near_at pairs.now i) }
 {
-    let mut out = Vec::new(alloc);
+    let mut out = Vec::with_capacity(alloc, pairs.len())?;
     for pair in pairs {
         out.push(pair.near)?;
     }

@@ -64,6 +64,10 @@ fn euclid(a: u128, b: u128) -> u128
     ensures greatest { IsGcd a b result }
     ensures range { result < 2 ^ 120 }
 {
+    // What is shared so far is often 1.
+    if a == 1 {
+        return 1;
+    }
     let mut x = a;
     let mut y = b;
     while y != 0 {

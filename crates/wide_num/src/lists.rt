@@ -80,6 +80,16 @@ impl NumList {
         }
     }
 
+    /// The empty list, with room for so many numbers, so that it needn't grow before it has more. The only error is want of
+    /// memory.
+    pub fn with_capacity(alloc: Global, numbers: usize) -> Result<Self, AllocError>
+        ensures { IfOk result (λ list. list ≡ []) }
+    {
+        Ok(NumList {
+            numbers: Vec::with_capacity(alloc, numbers)?,
+        })
+    }
+
     /// Appends one number. For want of memory the list stays as it is.
     pub fn push(&mut self, number: i128) -> Result<(), AllocError>
         ensures { self.new ≡ (if is_ok result then self.old ++ number ∷ [] else self.old) }
