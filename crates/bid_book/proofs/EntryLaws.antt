@@ -1,5 +1,5 @@
 -- What the lines of bidders and bids say.
-use Rattle.std.proofs.Common.{inl, inr, ◌≡◌, ◌≢◌, ℕ, zero, suc, ◌+◌, ◌≤◌, ◌<◌, ◌^◌, Option, Some, None, Result, Ok, Err, List, [], ◌∷◌, ◌++◌, length, get_or, take, refl}
+use Rattle.std.proofs.Common.{inl, inr, ◌≡◌, ◌≢◌, ℕ, ◌+◌, ◌≤◌, ◌<◌, ◌^◌, Option, Some, None, Result, Ok, Err, List, [], ◌∷◌, ◌++◌, length, get_or, take, refl}
 use Rattle.std.proofs.Common.{sym, ap, subst, ◌∙◌, arith, length-append}
 use Rattle.std.specs.Prelude.{IfNone, IsTrue, MatchResult, codes, sum, pos, ◌-ℤ◌}
 use mir.Syntax.{w128}
@@ -30,6 +30,7 @@ use Rattle.bid_book.proofs.FieldReads.{each_all}
 use Rattle.bid_book.proofs.Spelled.{within_parts}
 use Rattle.bid_book.proofs.Growth.{parts_of, last_of, with_last, last_excess-push, bids_excess-push}
 use Rattle.bid_book.proofs.HeadLaws.{one_list}
+use Rattle.bid_book.proofs.Within.{each_at}
 use Rattle.bid_book.proofs.OneLine.{not_bid}
 
 byte_low : (c : ℕ) → IsNameByte c → c < 128
@@ -77,14 +78,8 @@ within_low (a ∷ p) (b ∷ s) same within few =
 
 -- so none of its counts is above 999
 pub not_above : (p s : List ℕ) → length p ≡ length s → IsTrue (is_within p s) → sum s ≤ 40 → (i : ℕ) → i < length p → 999 < get_or p i 0 → ⊥
-not_above [] s same within few i low above = omega (arith, low)
-not_above (a ∷ p) [] same within few i low above = omega arith
-not_above (a ∷ p) (b ∷ s) same within few zero low above =
-    let all = within_low (a ∷ p) (b ∷ s) same within few in omega (arith, all.0, above)
-not_above (a ∷ p) (b ∷ s) same within few (suc i) low above =
-    let parts = within_parts a b p s within in
-    let whole : sum (b ∷ s) ≡ b + sum s = sum_by-cons (λ (n : ℕ). n) b s in
-    not_above p s (omega arith) parts.1 (omega (arith, whole)) i (omega (arith, low)) above
+not_above p s same within few i low above =
+    let most : get_or p i 0 ≤ 999 = each_at (λ (n : ℕ). n ≤ 999) p i 0 (within_low p s same within few) low in omega (arith, most, above)
 
 low_numbers : (lots : List ℕ) (amount : ℕ) → AllByRecursion (λ n. n ≤ 999) lots → amount ≤ 2 ^ 42 → AreNumbers (lots ++ amount ∷ [])
 low_numbers [] amount all top = (top, tt)

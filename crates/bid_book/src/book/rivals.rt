@@ -5,17 +5,21 @@ use lots::limits::MOST_CATEGORIES;
 use lots::{Package, Supply};
 use std::alloc::{AllocError, Global};
 
-/// The bids of one bidder so far. They come in the order of their places. A run is the places that differ in the last category alone.
+/// How many places a block has at least, where the supply has as many: so many are worth the work that each block takes.
+const SOME_PLACES: usize = 8;
+
+/// The bids of one bidder so far. They come in the order of their places. A block is the places that differ in the last few
+/// categories alone, the inner ones.
 #[derive(Drop)]
 pub(crate) struct Rivals {
     /// How many bids there are.
     count: u16,
     /// For each place before `reached` the greatest offer of the bids that fit there, and 0 where there is none.
     best: Vec<i64>,
-    /// The place where the next run begins.
+    /// The place where the next block begins.
     reached: usize,
-    /// The counts of the next run.
-    run: [u16; MOST_CATEGORIES],
+    /// The counts of the next block in the outer categories.
+    outer: [u16; MOST_CATEGORIES],
 }
 
 impl Rivals {
@@ -25,7 +29,7 @@ impl Rivals {
             count: 0,
             best: Vec::new(alloc),
             reached: 0,
-            run: [0; MOST_CATEGORIES],
+            outer: [0; MOST_CATEGORIES],
         }
     }
 
@@ -34,7 +38,7 @@ impl Rivals {
         self.count = 0;
         self.best.clear();
         self.reached = 0;
-        self.run = [0; MOST_CATEGORIES];
+        self.outer = [0; MOST_CATEGORIES];
     }
 
     /// The earlier bid that is worth most of those that are no larger, or 0; then this bid is one of them.
@@ -46,46 +50,82 @@ impl Rivals {
     ) -> Result<u16, AllocError> {
         self.best.resize(supply.states(), 0)?;
         let place = place_among(supply.counts(), package.counts()).min(supply.states());
+        let inner = first_inner(supply.counts(), supply.widths());
         while self.reached <= place && self.reached < self.best.len() {
-            self.raise_run(supply);
+            self.raise_block(supply, inner);
         }
         self.count = self.count.wrapping_add(1);
         let own = offer(net, self.count);
-        Ok(number_of(self.put(place, own)))
+        Ok(number_of(self.put(supply, inner, place, own)))
     }
 
-    /// Works out the next run: what a place has one lot less than is worth most of it, and what its run has before it.
-    fn raise_run(&mut self, supply: &Supply)
+    /// Works out the next block: what a place has one lot less than is worth most of it.
+    fn raise_block(&mut self, supply: &Supply, inner: usize)
         requires { self.old.reached < length self.old.best.items }
         ensures reached { self.old.reached < self.new.reached }
     {
-        let Some((last, others)) = supply.counts().split_last() else {
-            self.reached += 1;
-            return;
-        };
-        let len = *last as usize + 1;
-        let (before, rest) = self.best.split_at_mut(self.reached);
-        let count = len.min(rest.len());
-        let run = &mut rest[..count];
         let widths = supply.widths();
-        for category in 0..others.len().min(widths.len()).min(MOST_CATEGORIES) {
-            if self.run[category] != 0 {
-                raise_from(run, before, widths[category]);
+        let (before, rest) = self.best.split_at_mut(self.reached);
+        let len = block_len(widths, inner, rest.len());
+        let block = &mut rest[..len];
+        for category in 0..inner.min(widths.len()).min(MOST_CATEGORIES) {
+            if self.outer[category] != 0 {
+                raise_from(block, before, widths[category]);
             }
         }
-        rise(run);
-        next_run(&mut self.run, others);
+        raise_inside(block, supply.counts(), widths, inner, 0);
+        next_counts(&mut self.outer, supply.counts(), inner);
         self.reached += len;
     }
 
-    /// Counts an offer at a place of the last run, and at those behind it. Gives the greatest that stood there.
-    fn put(&mut self, place: usize, own: i64) -> i64 {
+    /// Counts an offer at a place of the last block, and at those behind it. Gives the greatest that stood there.
+    fn put(&mut self, supply: &Supply, inner: usize, place: usize, own: i64) -> i64 {
         let end = self.reached.min(self.best.len());
-        if place >= end {
+        let begin = end - block_len(supply.widths(), inner, end);
+        if place < begin || place >= end {
             return 0;
         }
-        put_first(&mut self.best[place..end], own)
+        // Along one category the offers rise, so the first that is no less ends the work.
+        if supply.counts().len() <= inner.saturating_add(1) {
+            return put_first(&mut self.best[place..end], own);
+        }
+        let first = self.best[place];
+        if first < own {
+            self.best[place] = own;
+            let block = &mut self.best[begin..end];
+            raise_inside(
+                block,
+                supply.counts(),
+                supply.widths(),
+                inner,
+                place - begin,
+            );
+        }
+        first
     }
+}
+
+/// The first inner category: the last of those with which a block has some places, or 0.
+fn first_inner(counts: &[u16], widths: &[usize]) -> usize {
+    let mut inner = counts.len().min(widths.len());
+    while 0 < inner {
+        inner -= 1;
+        if widths[inner].wrapping_mul(counts[inner] as usize + 1) >= SOME_PLACES {
+            break;
+        }
+    }
+    inner
+}
+
+/// How many places a block has, up to this many.
+fn block_len(widths: &[usize], inner: usize, most: usize) -> usize
+    ensures most { result ≤ most }
+    ensures some { 0 < most → 0 < result }
+{
+    if inner == 0 || inner > widths.len() || widths[inner - 1] == 0 {
+        return most;
+    }
+    widths[inner - 1].min(most)
 }
 
 /// A net amount and the number of its bid in one number, which is greater where the amount is.
@@ -109,26 +149,56 @@ fn place_among(supply: &[u16], counts: &[u16]) -> usize {
     place
 }
 
-/// Raises each offer of a run to that of the place which is so far before it.
-fn raise_from(run: &mut [i64], before: &[i64], width: usize) {
-    if width <= before.len() && run.len() <= width {
-        raise(run, &before[before.len() - width..][..run.len()]);
+/// Raises each offer of a block to that of the place which is so far before it.
+fn raise_from(block: &mut [i64], before: &[i64], width: usize) {
+    if width <= before.len() && block.len() <= width {
+        raise(block, &before[before.len() - width..][..block.len()]);
     }
 }
 
 /// Raises each offer to the one beside it.
-fn raise(run: &mut [i64], below: &[i64])
-    requires { length run.old ≡ length below.now }
+fn raise(block: &mut [i64], below: &[i64])
+    requires { length block.old ≡ length below.now }
 {
-    for i in 0..run.len() {
-        run[i] = run[i].max(below[i]);
+    for i in 0..block.len() {
+        block[i] = block[i].max(below[i]);
+    }
+}
+
+/// Raises the offers of a block from a place on to those of the places in the block that have a lot less.
+fn raise_inside(block: &mut [i64], counts: &[u16], widths: &[usize], inner: usize, from: usize) {
+    if counts.len() <= inner.saturating_add(1) {
+        let from = from.min(block.len());
+        rise(&mut block[from..]);
+        return;
+    }
+    for category in inner..counts.len().min(widths.len()) {
+        raise_along(block, widths[category], counts[category], from);
+    }
+}
+
+/// Raises the offers of a block from a place on to those of the places that have a lot less in a category of this width and count.
+fn raise_along(block: &mut [i64], width: usize, count: u16, from: usize) {
+    let all = width.wrapping_mul(count as usize + 1);
+    if all == 0 {
+        return;
+    }
+    let mut phase = from % all;
+    for place in from..block.len() {
+        if phase >= width && place >= width {
+            block[place] = block[place].max(block[place - width]);
+        }
+        phase += 1;
+        if phase == all {
+            phase = 0;
+        }
     }
 }
 
 /// Raises each offer to those before it.
-fn rise(run: &mut [i64]) {
+fn rise(offers: &mut [i64]) {
     let mut most = 0;
-    for offer in run {
+    for offer in offers {
         most = most.max(*offer);
         *offer = most;
     }
@@ -146,9 +216,9 @@ fn put_first(places: &mut [i64], own: i64) -> i64 {
     first
 }
 
-/// Goes on to the counts of the next run.
-fn next_run(counts: &mut [u16; MOST_CATEGORIES], supply: &[u16]) {
-    for i in (0..supply.len().min(MOST_CATEGORIES)).rev() {
+/// Goes on to the counts of the next block in the outer categories, which are those before the inner ones.
+fn next_counts(counts: &mut [u16; MOST_CATEGORIES], supply: &[u16], inner: usize) {
+    for i in (0..supply.len().min(inner).min(MOST_CATEGORIES)).rev() {
         if counts[i] < supply[i] {
             counts[i] += 1;
             return;
