@@ -111,9 +111,20 @@ fn plain_narrow_line(
         line,
         &mut rooms.short_below,
         &mut rooms.short_line,
+        &mut rooms.low,
+        &mut rooms.high,
     );
     if !is_put {
-        put_narrow_line(&lowering, j, below, line, &mut rooms.below, &mut rooms.line);
+        put_narrow_line(
+            &lowering,
+            j,
+            below,
+            line,
+            &mut rooms.below,
+            &mut rooms.line,
+            &mut rooms.low,
+            &mut rooms.high,
+        );
     }
 }
 
