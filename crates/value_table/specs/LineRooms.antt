@@ -8,3 +8,5 @@ pub record HasRoom (states : ℕ) (rooms : LineRooms) : Type 0 where
   pub short_line : length rooms.short_line.items ≡ states
   pub below : length rooms.below.items ≡ states
   pub line : length rooms.line.items ≡ states
+  pub low : length rooms.low.items ≡ states
+  pub high : length rooms.high.items ≡ states

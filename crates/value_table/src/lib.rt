@@ -24,7 +24,7 @@ mod units;
 pub use book_chooser::BookChooser;
 pub use choices;
 pub use rooms::LineRooms;
-pub use side_lines::{left_line, narrow_left_line, narrow_right_line, right_line, right_number};
+pub use side_lines::{narrow_left_line, narrow_right_line, right_number};
 pub use sides::Sides;
 pub use table::{ValueTable, plain_table, win};
 pub use turn_table::TurnTable;

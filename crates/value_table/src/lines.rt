@@ -90,8 +90,15 @@ pub fn turn_line<A: Amount>(
     count_bids(lowering, j, line, below, low, high);
 }
 
-/// Makes `line` line `j - 1`, from line `j`. It takes no memory.
-pub fn put_line<A: Amount>(lowering: &Lowering, j: u16, below: &[A], line: &mut [A])
+/// Makes `line` line `j - 1`, from line `j`, with two lists in which the lines may be put in 16 bits. It takes no memory.
+pub fn put_line<A: Amount>(
+    lowering: &Lowering,
+    j: u16,
+    below: &[A],
+    line: &mut [A],
+    low: &mut [u16],
+    high: &mut [u16],
+)
     requires range { IsWithin lowering.now A.most }
     requires bidder { (0 < j) × (j ≤ length lowering.now.book.now.bidders) }
     requires below { IsCountedLine lowering.now j (map A.number below.now) }
@@ -99,10 +106,10 @@ pub fn put_line<A: Amount>(lowering: &Lowering, j: u16, below: &[A], line: &mut 
     ensures { IsCountedLine lowering.now (j - 1) (map A.number line.new) }
 {
     line.copy_from_slice(below);
-    turn_line(lowering, j, below, line, &mut [], &mut []);
+    turn_line(lowering, j, below, line, low, high);
 }
 
-/// The same where bids count their net amounts, worked out in 64 bits in two lists of room.
+/// The same where bids count their net amounts, worked out in 64 bits in two more lists of room.
 pub fn put_narrow_line(
     lowering: &Lowering,
     j: u16,
@@ -110,6 +117,8 @@ pub fn put_narrow_line(
     line: &mut [i128],
     below_room: &mut [i64],
     line_room: &mut [i64],
+    low: &mut [u16],
+    high: &mut [u16],
 )
     requires bidder { (0 < j) × (j ≤ length lowering.now.book.now.bidders) }
     requires den { lowering.now.den ≡ pos 1 }
@@ -122,7 +131,7 @@ pub fn put_narrow_line(
 {
     lowering.book.kept();
     narrow_into(below_room, below);
-    put_line(lowering, j, below_room, line_room);
+    put_line(lowering, j, below_room, line_room, low, high);
     widen_into(line, line_room);
 }
 

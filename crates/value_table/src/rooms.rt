@@ -3,15 +3,19 @@ ghost use Rattle.std.specs.Prelude.{◌≤◌, IfOk};
 ghost use Rattle.choices.specs.limits.specs.declared.TheConstants.{MOST_STATES};
 ghost use Rattle.value_table.specs.LineRooms.{HasRoom};
 
+use crate::lines::units_room;
 use std::alloc::{AllocError, Global};
 
-/// Room in which a line is worked out from the one behind it, in 32 bits where both are so small and else in 64.
+/// Room in which a line is worked out from the one behind it, in 32 bits where both are so small and else in 64, and in which both may
+/// be put in 16 bits.
 #[derive(Drop)]
 pub struct LineRooms {
     pub short_below: Vec<u32>,
     pub short_line: Vec<u32>,
     pub below: Vec<i64>,
     pub line: Vec<i64>,
+    pub low: Vec<u16>,
+    pub high: Vec<u16>,
 }
 
 impl LineRooms {
@@ -24,11 +28,15 @@ impl LineRooms {
         let short_line = vec![in alloc; 0u32; states]?;
         let below = vec![in alloc; 0i64; states]?;
         let line = vec![in alloc; 0i64; states]?;
+        let low = units_room(alloc, states)?;
+        let high = units_room(alloc, states)?;
         Ok(LineRooms {
             short_below,
             short_line,
             below,
             line,
+            low,
+            high,
         })
     }
 }

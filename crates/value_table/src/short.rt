@@ -133,8 +133,8 @@ pub fn short_before(
     Ok(Some(grid))
 }
 
-/// Makes `line` line `j - 1`, from line `j`, in two lists of room, and says whether it could: it doesn't where a number needs more bits.
-/// It takes no memory.
+/// Makes `line` line `j - 1`, from line `j`, in two lists of room and two in which the lines may be put in 16 bits, and says whether it
+/// could: it doesn't where a number needs more bits. It takes no memory.
 pub fn put_short_line(
     lowering: &Lowering,
     j: u16,
@@ -142,6 +142,8 @@ pub fn put_short_line(
     line: &mut [i128],
     below_room: &mut [u32],
     line_room: &mut [u32],
+    low: &mut [u16],
+    high: &mut [u16],
 ) -> bool
     requires bidder { (0 < j) × (j ≤ length lowering.now.book.now.bidders) }
     requires below { IsCountedLine lowering.now j below.now }
@@ -157,7 +159,7 @@ pub fn put_short_line(
         return false;
     }
     line_room.copy_from_slice(below_room);
-    turn_line(lowering, j, below_room, line_room, &mut [], &mut []);
+    turn_line(lowering, j, below_room, line_room, low, high);
     widen_into(line, line_room);
     true
 }

@@ -9,7 +9,7 @@ ghost use Rattle.value_table.specs.SideLines.{IsLeftLine, IsRightLine};
 ghost use Rattle.value_table.specs.SideValues.{IsRightEntry};
 ghost use Rattle.value_table.specs.Turned.{in_order, worths_in_order};
 
-use crate::lines::{put_line, put_narrow_line};
+use crate::lines::put_narrow_line;
 use crate::lowering::Lowering;
 use crate::rooms::LineRooms;
 use crate::short::put_short_line;
@@ -18,32 +18,8 @@ use choices::bid_book::BidBook;
 use choices::bid_book::lots::limits::MOST_BIDDERS;
 
 /// Makes `line` the line of the bidders after `k - 1` from that of the bidders after `k`: line `k - 1` of the exact table of the net
-/// amounts from line `k`. Each has one number for each place of the supply. It takes no memory.
-pub fn right_line(book: &BidBook, k: u16, after: &[i128], line: &mut [i128])
-    requires bidder { (0 < k) × (k ≤ length book.now.bidders) }
-    requires after { IsRightLine book.now k after.now }
-    requires places { length line.old ≡ states_of book.now.supply }
-    ensures { IsRightLine book.now (k - 1) line.new }
-{
-    let zeros = [0i128; MOST_BIDDERS];
-    plain_line(book, false, &zeros[..book.bidders()], k, after, line);
-}
-
-/// Makes `line` the line of the bidders up to `k` from that of the bidders up to `k - 1`. Each has one number for each place of the
-/// supply: the greatest net value of a choice of these bidders within what the place leaves. It takes no memory.
-pub fn left_line(book: &BidBook, k: u16, before: &[i128], line: &mut [i128])
-    requires bidder { (0 < k) × (k ≤ length book.now.bidders) }
-    requires before { IsLeftLine book.now (k - 1) before.now }
-    requires places { length line.old ≡ states_of book.now.supply }
-    ensures { IsLeftLine book.now k line.new }
-{
-    let zeros = [0i128; MOST_BIDDERS];
-    let bidders = book.bidders();
-    let turned = bidders as u16 - k + 1;
-    plain_line(book, true, &zeros[..bidders], turned, before, line);
-}
-
-/// The same as `right_line`, faster: it is worked out in 32 bits, or where these are too few in 64, in lists of room as long as a line.
+/// amounts from line `k`. Each has one number for each place of the supply. It is worked out in 32 bits, or where these are too few in
+/// 64, in lists of room as long as a line, and takes no memory.
 pub fn narrow_right_line(
     book: &BidBook,
     k: u16,
@@ -62,7 +38,8 @@ pub fn narrow_right_line(
     plain_narrow_line(book, false, &zeros[..book.bidders()], k, after, line, rooms);
 }
 
-/// The same as `left_line`, faster: it is worked out in 32 bits, or where these are too few in 64, in lists of room as long as a line.
+/// Makes `line` the line of the bidders up to `k` from that of the bidders up to `k - 1`, in the same way. Each number is the greatest
+/// net value of a choice of these bidders within what the place leaves.
 pub fn narrow_left_line(
     book: &BidBook,
     k: u16,
@@ -97,37 +74,8 @@ pub fn right_number(book: &BidBook, k: u16, place: usize, entry: i128, after: &[
     plain_number(book, &zeros[..book.bidders()], k, place, entry, after)
 }
 
-/// Line `j - 1` of the table of the net amounts from line `j`, with the bidders as in the book or turned round. No bidder has a
-/// surplus.
-fn plain_line(
-    book: &BidBook,
-    turned: bool,
-    surplus: &[i128],
-    j: u16,
-    below: &[i128],
-    line: &mut [i128],
-)
-    requires bidder { (0 < j) × (j ≤ length book.now.bidders) }
-    requires count { length surplus.now ≡ length book.now.bidders }
-    requires zeros { (k : ℕ) → slice_index_or surplus.now k (pos 0) ≡ pos 0 }
-    requires below { IsLine (in_order turned (menu_of book.now))
-        (worths_in_order turned (length book.now.bidders) (net_of book.now)) book.now.supply j below.now }
-    requires places { length line.old ≡ states_of book.now.supply }
-    ensures { IsLine (in_order turned (menu_of book.now))
-        (worths_in_order turned (length book.now.bidders) (net_of book.now)) book.now.supply (j - 1) line.new }
-{
-    book.kept();
-    let lowering = Lowering {
-        book,
-        turned,
-        skip: 0,
-        den: 1,
-        surplus,
-    };
-    put_line(&lowering, j, below, line);
-}
-
-/// The same as `plain_line`, worked out in 32 bits or 64.
+/// Line `j - 1` of the table of the net amounts from line `j`, with the bidders as in the book or turned round, worked out in 32 bits or
+/// 64. No bidder has a surplus.
 fn plain_narrow_line(
     book: &BidBook,
     turned: bool,
@@ -163,9 +111,20 @@ fn plain_narrow_line(
         line,
         &mut rooms.short_below,
         &mut rooms.short_line,
+        &mut rooms.low,
+        &mut rooms.high,
     );
     if !is_put {
-        put_narrow_line(&lowering, j, below, line, &mut rooms.below, &mut rooms.line);
+        put_narrow_line(
+            &lowering,
+            j,
+            below,
+            line,
+            &mut rooms.below,
+            &mut rooms.line,
+            &mut rooms.low,
+            &mut rooms.high,
+        );
     }
 }
 
