@@ -4,10 +4,12 @@ ghost use Rattle.std.specs.Prelude.{◌≡◌, ℕ, suc, ◌-◌, ◌^◌, ◌�
 ghost use Rattle.choices.specs.auction_model.specs.Table.{IsEntry};
 ghost use Rattle.choices.specs.limits.specs.declared.TheConstants.{MOST_STATES};
 ghost use Rattle.value_table.specs.Counted.{counted_bids, counted, IsWithin, IsLineWithin, IsCountedLine, AreCountedLines, IsCountedTable, IsWholeTable};
+ghost use Rattle.value_table.specs.LineRooms.{HasRoom};
 
 use crate::amount::Amount;
 use crate::lowering::Lowering;
 use crate::narrow::{narrow_into, narrowed, widen_into, widened};
+use crate::rooms::LineRooms;
 use crate::short::short_before;
 use crate::tested::add_bid;
 use crate::tracing::line_at;
@@ -109,30 +111,34 @@ pub fn put_line<A: Amount>(
     turn_line(lowering, j, below, line, low, high);
 }
 
-/// The same where bids count their net amounts, worked out in 64 bits in two more lists of room.
+/// The same where bids count their net amounts, worked out in 64 bits.
 pub fn put_narrow_line(
     lowering: &Lowering,
     j: u16,
     below: &[i128],
     line: &mut [i128],
-    below_room: &mut [i64],
-    line_room: &mut [i64],
-    low: &mut [u16],
-    high: &mut [u16],
+    rooms: &mut LineRooms,
 )
     requires bidder { (0 < j) × (j ≤ length lowering.now.book.now.bidders) }
     requires den { lowering.now.den ≡ pos 1 }
     requires zeros { (k : ℕ) → slice_index_or lowering.now.surplus.now k (pos 0) ≡ pos 0 }
     requires below { IsCountedLine lowering.now j below.now }
     requires places { length line.old ≡ length below.now }
-    requires below_room { length below_room.old ≡ length below.now }
-    requires line_room { length line_room.old ≡ length below.now }
-    ensures { IsCountedLine lowering.now (j - 1) line.new }
+    requires rooms { HasRoom (length below.now) rooms.old }
+    ensures line { IsCountedLine lowering.now (j - 1) line.new }
+    ensures rooms { HasRoom (length below.now) rooms.new }
 {
     lowering.book.kept();
-    narrow_into(below_room, below);
-    put_line(lowering, j, below_room, line_room, low, high);
-    widen_into(line, line_room);
+    narrow_into(&mut rooms.below, below);
+    put_line(
+        lowering,
+        j,
+        &rooms.below,
+        &mut rooms.line,
+        &mut rooms.low,
+        &mut rooms.high,
+    );
+    widen_into(line, &rooms.line);
 }
 
 /// Line `j - 1`, from line `j`.

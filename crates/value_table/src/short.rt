@@ -2,10 +2,12 @@
 ghost use Rattle.std.specs.Prelude.{◌≡◌, ℕ, suc, ◌-◌, ◌^◌, ◌≤◌, ◌<◌, length, IfOk, IfSome, IsTrue, slice_index_or, map, pos, unsigned_abs};
 ghost use Rattle.choices.specs.limits.specs.declared.TheConstants.{MOST_STATES};
 ghost use Rattle.value_table.specs.Counted.{counted_bids, counted, IsLineWithin, IsCountedLine, AreCountedLines};
+ghost use Rattle.value_table.specs.LineRooms.{HasRoom};
 
 use crate::lines::{grid_of, next_line, turn_line, units_room};
 use crate::lowering::Lowering;
 use crate::narrow::widen_into;
+use crate::rooms::LineRooms;
 use choices::Grid;
 use std::alloc::{AllocError, Global};
 
@@ -133,33 +135,36 @@ pub fn short_before(
     Ok(Some(grid))
 }
 
-/// Makes `line` line `j - 1`, from line `j`, in two lists of room and two in which the lines may be put in 16 bits, and says whether it
-/// could: it doesn't where a number needs more bits. It takes no memory.
+/// Makes `line` line `j - 1`, from line `j`, and says whether it could: it doesn't where a number needs more bits. It takes no memory.
 pub fn put_short_line(
     lowering: &Lowering,
     j: u16,
     below: &[i128],
     line: &mut [i128],
-    below_room: &mut [u32],
-    line_room: &mut [u32],
-    low: &mut [u16],
-    high: &mut [u16],
+    rooms: &mut LineRooms,
 ) -> bool
     requires bidder { (0 < j) × (j ≤ length lowering.now.book.now.bidders) }
     requires below { IsCountedLine lowering.now j below.now }
     requires places { length line.old ≡ length below.now }
-    requires below_room { length below_room.old ≡ length below.now }
-    requires line_room { length line_room.old ≡ length below.now }
-    ensures { IsTrue result → IsCountedLine lowering.now (j - 1) line.new }
+    requires rooms { HasRoom (length below.now) rooms.old }
+    ensures line { IsTrue result → IsCountedLine lowering.now (j - 1) line.new }
+    ensures rooms { HasRoom (length below.now) rooms.new }
 {
-    if !shorten_into(below_room, below) {
+    if !shorten_into(&mut rooms.short_below, below) {
         return false;
     }
-    if !is_short(lowering, j, below_room) {
+    if !is_short(lowering, j, &rooms.short_below) {
         return false;
     }
-    line_room.copy_from_slice(below_room);
-    turn_line(lowering, j, below_room, line_room, low, high);
-    widen_into(line, line_room);
+    rooms.short_line.copy_from_slice(&rooms.short_below);
+    turn_line(
+        lowering,
+        j,
+        &rooms.short_below,
+        &mut rooms.short_line,
+        &mut rooms.low,
+        &mut rooms.high,
+    );
+    widen_into(line, &rooms.short_line);
     true
 }

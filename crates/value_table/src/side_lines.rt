@@ -104,27 +104,8 @@ fn plain_narrow_line(
         den: 1,
         surplus,
     };
-    let is_put = put_short_line(
-        &lowering,
-        j,
-        below,
-        line,
-        &mut rooms.short_below,
-        &mut rooms.short_line,
-        &mut rooms.low,
-        &mut rooms.high,
-    );
-    if !is_put {
-        put_narrow_line(
-            &lowering,
-            j,
-            below,
-            line,
-            &mut rooms.below,
-            &mut rooms.line,
-            &mut rooms.low,
-            &mut rooms.high,
-        );
+    if !put_short_line(&lowering, j, below, line, rooms) {
+        put_narrow_line(&lowering, j, below, line, rooms);
     }
 }
 

@@ -11,8 +11,8 @@ invariant_of-lowering c = record {
   range = zeros-range c.args.book.now c.args.turned c.args.surplus.now c.kept.ensures c.requires.zeros;
 }
 
-pub put_short_line-is_put-requires-clause-below : goal.put_short_line-is_put-requires-clause-below
-put_short_line-is_put-requires-clause-below c =
+pub put_short_line-requires-clause-below : goal.put_short_line-requires-clause-below
+put_short_line-requires-clause-below c =
     let book = c.args.book.now in
     let turned = c.args.turned in
     line-lowered (in_order turned (menu_of book)) (worths_in_order turned (length book.bidders) (net_of book)) c.args.surplus.now
@@ -25,16 +25,16 @@ put_narrow_line-requires-clause-below c =
     line-lowered (in_order turned (menu_of book)) (worths_in_order turned (length book.bidders) (net_of book)) c.args.surplus.now
     (λ j. refl) c.requires.zeros book.supply c.args.j c.args.below.now c.requires.below
 
-pub returns-then-not-is_put-clause-line : goal.returns-then-not-is_put-clause-line
-returns-then-not-is_put-clause-line c =
+pub returns-then-not-put_short_line-clause-line : goal.returns-then-not-put_short_line-clause-line
+returns-then-not-put_short_line-clause-line c =
     let book = c.args.book.now in
     let turned = c.args.turned in
     line-plain (in_order turned (menu_of book)) (worths_in_order turned (length book.bidders) (net_of book)) c.args.surplus.now book.supply
-    (c.args.j - 1) c.put_narrow_line.new.line (λ j. refl) c.requires.zeros c.put_narrow_line.ensures
+    (c.args.j - 1) c.put_narrow_line.new.line (λ j. refl) c.requires.zeros c.put_narrow_line.ensures.line
 
-pub returns-else-not-is_put-clause-line : goal.returns-else-not-is_put-clause-line
-returns-else-not-is_put-clause-line c =
+pub returns-else-not-put_short_line-clause-line : goal.returns-else-not-put_short_line-clause-line
+returns-else-not-put_short_line-clause-line c =
     let book = c.args.book.now in
     let turned = c.args.turned in
     line-plain (in_order turned (menu_of book)) (worths_in_order turned (length book.bidders) (net_of book)) c.args.surplus.now book.supply
-    (c.args.j - 1) c.put_short_line-is_put.new.line (λ j. refl) c.requires.zeros (c.put_short_line-is_put.ensures c.if-not-is_put.false)
+    (c.args.j - 1) c.put_short_line.new.line (λ j. refl) c.requires.zeros (c.put_short_line.ensures.line c.if-not-put_short_line.false)
