@@ -1,9 +1,11 @@
 // Grids.
-ghost use Rattle.std.specs.Prelude.{◌≡◌, ◌<◌, ◌++◌, ◌∷◌, [], map, length, OnOk, OnErr, slice_index_or};
-ghost use Rattle.std.specs.Rc.{rc_slice_items};
+ghost use Rattle.std.specs.Prelude.{◌≡◌, ◌+◌, ◌<◌, ◌≤◌, ◌++◌, ◌∷◌, [], map, length, take, drop, pos, OnOk, OnErr, IsTrue, slice_index_or};
 ghost use Rattle.bid_book.specs.auction_model.specs.Table.{entry_at};
-ghost use Rattle.choices.specs.Lines.{width_of};
+ghost use Rattle.choices.specs.GridLines.{numbers_in};
+ghost use Rattle.choices.specs.LentLines.{numbers_of};
+ghost use Rattle.choices.specs.Lines.{width_of, IsEven};
 
+use crate::grid_line::{GridLine, LineNumbers};
 use bid_book::line_text::wide_num::NumList;
 use std::alloc::{AllocError, Global};
 use std::marker::Model;
@@ -12,19 +14,19 @@ use std::rc::RcSlice;
 /// Lines of equally many numbers. Grids may share lines. Lines and places in a line are counted from 0.
 #[derive(Drop)]
 pub struct Grid {
-    lines: Vec<RcSlice<i128>>,
+    lines: Vec<GridLine>,
 }
 
 impl Model for Grid {
     ghost use Rattle.std.specs.Prelude.{map};
-    ghost use Rattle.std.specs.Rc.{rc_slice_items};
+    ghost use Rattle.choices.specs.GridLines.{numbers_in};
     ghost use Rattle.choices.specs.Lines.{Lines, IsEven};
 
     ghost Value = { Lines };
 
-    ghost view = { λ g. map rc_slice_items g.lines.items };
+    ghost view = { λ g. map numbers_in g.lines.items };
 
-    ghost invariant = { λ g. IsEven (map rc_slice_items g.lines.items) };
+    ghost invariant = { λ g. IsEven (map numbers_in g.lines.items) };
 }
 
 impl Grid {
@@ -35,6 +37,14 @@ impl Grid {
         Grid {
             lines: Vec::new(alloc),
         }
+    }
+
+    /// The rule that each grid keeps: its lines have equally many numbers. Nothing is done: proofs read the clause.
+    pub fn kept(&self)
+        ensures { IsEven self.now }
+    {
+        // The rules of a type are known where a field of it is used.
+        let _ = &self.lines;
     }
 
     /// How many lines there are.
@@ -58,7 +68,18 @@ impl Grid {
         ensures unchanged { OnErr result (self.new ≡ self.old) }
     {
         let line = RcSlice::from_vec(line.into_vec())?;
-        self.lines.push(line)?;
+        self.lines.push(GridLine::Wide(line))?;
+        Ok(())
+    }
+
+    /// The same of a line of numbers of 32 bits, which stay so: they take a quarter of the room.
+    pub fn push_short(&mut self, line: Vec<u32>) -> Result<(), AllocError>
+        requires { 0 < length self.old → length line.items ≡ width_of self.old }
+        ensures pushed { OnOk result (self.new ≡ self.old ++ map (λ n. pos n) line.items ∷ []) }
+        ensures unchanged { OnErr result (self.new ≡ self.old) }
+    {
+        let line = RcSlice::from_vec(line)?;
+        self.lines.push(GridLine::Short(line))?;
         Ok(())
     }
 
@@ -70,18 +91,18 @@ impl Grid {
         ensures pushed { OnOk result (self.new ≡ self.old ++ slice_index_or from.now line [] ∷ []) }
         ensures unchanged { OnErr result (self.new ≡ self.old) }
     {
-        let shared = from.lines[line].clone()?;
+        let shared = from.lines[line].share()?;
         self.lines.push(shared)?;
         Ok(())
     }
 
     /// The numbers of a line.
-    pub fn line(&self, line: usize) -> &[i128]
+    pub fn line(&self, line: usize) -> LineNumbers<'_>
         requires { line < length self.now }
-        ensures line { result.now ≡ slice_index_or self.now line [] }
-        ensures width { length result.now ≡ width_of self.now }
+        ensures { numbers_of result ≡ slice_index_or self.now line [] }
     {
-        line_of(&self.lines, line)
+        let own = line_of(&self.lines, line);
+        own.numbers()
     }
 
     /// The number of a line at a place.
@@ -90,13 +111,33 @@ impl Grid {
         requires place { place < width_of self.now }
         ensures { result ≡ entry_at self.now line place }
     {
-        let numbers = self.line(line);
-        numbers[place]
+        let own = line_of(&self.lines, line);
+        own.entry(place)
+    }
+
+    /// Writes the numbers of a line from a place on, as many as there is room for.
+    pub fn put_part(&self, line: usize, from: usize, to: &mut [i128])
+        requires line { line < length self.now }
+        requires part { from + length to.old ≤ width_of self.now }
+        ensures { to.new ≡ take (length to.old) (drop from (slice_index_or self.now line [])) }
+    {
+        let own = line_of(&self.lines, line);
+        own.put_part(from, to);
+    }
+
+    /// Whether a line is seen to have the numbers of a line of another grid. Where the two keep them in different sizes it isn't.
+    pub fn is_line_of(&self, line: usize, other: &Grid, place: usize) -> bool
+        requires line { line < length self.now }
+        requires place { place < length other.now }
+        ensures { IsTrue result → slice_index_or self.now line [] ≡ slice_index_or other.now place [] }
+    {
+        let own = line_of(&self.lines, line);
+        own.is_same(line_of(&other.lines, place))
     }
 }
 
-fn first_width(lines: &[RcSlice<i128>]) -> usize
-    ensures { result ≡ width_of (map rc_slice_items lines.now) }
+fn first_width(lines: &[GridLine]) -> usize
+    ensures { result ≡ width_of (map numbers_in lines.now) }
 {
     if lines.is_empty() {
         0
@@ -106,9 +147,9 @@ fn first_width(lines: &[RcSlice<i128>]) -> usize
     }
 }
 
-fn line_of(lines: &[RcSlice<i128>], line: usize) -> &[i128]
+fn line_of(lines: &[GridLine], line: usize) -> &GridLine
     requires { line < length lines.now }
-    ensures { result.now ≡ slice_index_or (map rc_slice_items lines.now) line [] }
+    ensures { numbers_in result.now ≡ slice_index_or (map numbers_in lines.now) line [] }
 {
-    lines[line].as_slice()
+    &lines[line]
 }

@@ -1,13 +1,13 @@
-use Rattle.std.proofs.Common.{◌≡◌, ◌∙◌, sym, ap, subst, arith, rules, get_or, length, map, [], ◌∷◌, ◌++◌, ℤ, Global}
-use Rattle.std.specs.Rc.{rc_slice_items}
+use Rattle.std.proofs.Common.{◌≡◌, ◌∙◌, sym, ap, subst, arith, rules, get_or, length, map, [], ◌∷◌, ◌++◌}
 use Rattle.std.proofs.lemmas.List.{map-append, get_or-map, length-map}
+use Rattle.choices.specs.GridLines.{numbers_in}
 use Rattle.choices.specs.Lines.{IsEven}
 use Rattle.choices.proofs.EvenLaws.{even-more}
 use Rattle.choices.proofs.grid.Grid.push_shared.Goals as goal
 
 pub invariant_of-self-2 : goal.invariant_of-self-2
 invariant_of-self-2 c =
-    let f = rc_slice_items {X = ℤ} {Z = Global} in
+    let f = numbers_in in
     let copy : f c.in_ok-shared.shared ≡ f c.index.result.now = search rules in
     let read : f c.index.result.now ≡ get_or c.args.from.now c.args.line [] =
     ap f c.index.ensures ∙ sym (get_or-map f c.from.inside.lines.items c.args.line c.index.result.now []
