@@ -1,5 +1,6 @@
 // Guesses which earlier bid of a bidder makes the next one needless. Nothing is proved of a guess: whoever asks tests it.
-ghost use Rattle.std.specs.Prelude.{◌≡◌, ◌<◌, ◌≤◌, length};
+ghost use Rattle.std.specs.Prelude.{◌≡◌, ◌<◌, ◌≤◌, length, OnOk};
+ghost use Rattle.lots.specs.auction_model.specs.Place.{states_of};
 
 use lots::limits::MOST_CATEGORIES;
 use lots::{Package, Supply};
@@ -48,34 +49,35 @@ impl Rivals {
         package: &Package,
         net: i128,
     ) -> Result<u16, AllocError> {
-        self.best.resize(supply.states(), 0)?;
         let place = place_among(supply.counts(), package.counts()).min(supply.states());
         let inner = first_inner(supply.counts(), supply.widths());
-        while self.reached <= place && self.reached < self.best.len() {
-            self.raise_block(supply, inner);
+        while self.reached <= place && self.reached < supply.states() {
+            self.raise_block(supply, inner)?;
         }
         self.count = self.count.wrapping_add(1);
         let own = offer(net, self.count);
         Ok(number_of(self.put(supply, inner, place, own)))
     }
 
-    /// Works out the next block: what a place has one lot less than is worth most of it.
-    fn raise_block(&mut self, supply: &Supply, inner: usize)
-        requires { self.old.reached < length self.old.best.items }
-        ensures reached { self.old.reached < self.new.reached }
+    /// Works out the next block: what a place has one lot less than is worth most of it. Along the inner categories nothing is left to
+    /// do, since the offers of the blocks before rise along these.
+    fn raise_block(&mut self, supply: &Supply, inner: usize) -> Result<(), AllocError>
+        requires { self.old.reached < states_of supply.now }
+        ensures { OnOk result (self.old.reached < self.new.reached) }
     {
         let widths = supply.widths();
+        let len = block_len(widths, inner, supply.states() - self.reached);
+        self.best.resize(self.reached + len, 0)?;
         let (before, rest) = self.best.split_at_mut(self.reached);
-        let len = block_len(widths, inner, rest.len());
         let block = &mut rest[..len];
         for category in 0..inner.min(widths.len()).min(MOST_CATEGORIES) {
             if self.outer[category] != 0 {
                 raise_from(block, before, widths[category]);
             }
         }
-        raise_inside(block, supply.counts(), widths, inner, 0);
         next_counts(&mut self.outer, supply.counts(), inner);
         self.reached += len;
+        Ok(())
     }
 
     /// Counts an offer at a place of the last block, and at those behind it. Gives the greatest that stood there.
