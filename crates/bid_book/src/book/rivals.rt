@@ -7,7 +7,7 @@ use lots::{Package, Supply};
 use std::alloc::{AllocError, Global};
 
 /// How many places a block has at least, where the supply has as many: so many are worth the work that each block takes.
-const SOME_PLACES: usize = 8;
+const SOME_PLACES: usize = 4;
 
 /// The bids of one bidder so far. They come in the order of their places. A block is the places that differ in the last few
 /// categories alone, the inner ones.
