@@ -23,6 +23,12 @@ use cert_text::choices::bid_book::lots::{Package, Supply, used_categories};
 /// The greatest number with which the rules are tested in 64 bits.
 const MOST_NARROW: i128 = 1 << 60;
 
+/// The same, below which the bits of a narrow line stay.
+const NARROW_EDGE: u128 = 1 << 60;
+
+/// All bits of 64.
+const LAST_BITS: u128 = (1 << 64) - 1;
+
 /// Room for the longest line.
 const MOST_ROOM: usize = MOST_STATES as usize;
 
@@ -200,19 +206,27 @@ fn pair_fault(offers: &Offers, j: u16, lines: &LinePair) -> usize
     found
 }
 
-/// The numbers of a line in 64 bits each, and whether all are so small that no sum of four leaves these.
+/// The last 64 bits of a number.
+fn last_bits(bits: u128) -> i64
+    ensures { bits < 2 ^ 60 → result ≡ pos bits }
+{
+    ((bits & LAST_BITS) as u64).cast_signed()
+}
+
+/// The numbers of a line in 64 bits each, and whether all are so small that no sum of four leaves these, and none is below 0. It goes
+/// on where one isn't, and looks at the bits of all at the end, so that no number costs a test.
 fn narrow_into(numbers: &mut [i64], line: &[i128]) -> bool
     requires places { length numbers.old ≡ length line.now }
     ensures same { IsTrue result → numbers.new ≡ line.now }
     ensures small { IsTrue result → IsSmall line.now }
 {
+    let mut seen = 0;
     for i in 0..line.len() {
-        if !is_narrow(line[i]) {
-            return false;
-        }
-        numbers[i] = line[i] as i64;
+        let bits = line[i].cast_unsigned();
+        seen |= bits;
+        numbers[i] = last_bits(bits);
     }
-    true
+    seen < NARROW_EDGE
 }
 
 /// The same as `line_fault`, with room for `N` numbers of each line in 64 bits.
