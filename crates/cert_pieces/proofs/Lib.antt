@@ -3,6 +3,7 @@ pub mod Steps
 pub mod Following
 pub mod Runs
 pub mod DigitMasks
+pub mod DigitWords
 pub mod WholeFields
 pub mod Unfit
 pub mod Places

@@ -13,7 +13,7 @@ use Rattle.cert_text.specs.cert_form.specs.wide_num.proofs.Decimal.{IsDigit}
 use Rattle.cert_text.specs.cert_form.specs.Lines.{signed}
 use Rattle.cert_pieces.specs.declared.line.fields.Field.{Field}
 use Rattle.cert_pieces.specs.declared.line.form.Form.TheVariants.{Signed}
-use Rattle.cert_pieces.specs.Fields.{AreDigitsFrom, AreFour, IsField, behind_space}
+use Rattle.cert_pieces.specs.Fields.{IsField, behind_space}
 use Rattle.cert_pieces.specs.LineParts.{IsPart}
 use Rattle.cert_pieces.specs.Pieces.{between}
 use Rattle.cert_pieces.proofs.Following.{follows, keeps_more, kept_now}
@@ -40,56 +40,6 @@ field_more piece at i size le lt digit some is =
     ∙ ap (λ (l : List ℕ). l ++ get_or piece i 0 ∷ []) is
     ∙ ap (λ (c : ℕ). numeral size ++ c ∷ []) (omega (arith, digit))
     ∙ sym (numeral_push size (get_or piece i 0 - 48) some (omega (arith, digit)))
-
--- four digits more
-pub field_fours : (piece : List ℕ) (at i size four : ℕ) → at ≤ i → i + 4 ≤ length piece → AreFour piece i four → 0 < size
-    → between at i piece ≡ numeral size → between at (i + 4) piece ≡ numeral (10000 * size + four)
-field_fours piece at i size four le room fours some is =
-    let byte : ℕ → ℕ = λ n. get_or piece n 0 in
-    let none : i + 0 ≡ i = omega arith in
-    let two : i + 1 + 1 ≡ i + 2 = omega arith in
-    let three : i + 1 + 1 + 1 ≡ i + 3 = omega arith in
-    let end : i + 1 + 1 + 1 + 1 ≡ i + 4 = omega arith in
-    let first : IsDigit (byte i) = subst (λ (n : ℕ). IsDigit (byte n)) none (fours.digits 0 (omega arith)) in
-    let second : IsDigit (byte (i + 1)) = fours.digits 1 (omega arith) in
-    let third : IsDigit (byte (i + 1 + 1)) = subst (λ (n : ℕ). IsDigit (byte n)) (sym two) (fours.digits 2 (omega arith)) in
-    let last : IsDigit (byte (i + 1 + 1 + 1)) = subst (λ (n : ℕ). IsDigit (byte n)) (sym three) (fours.digits 3 (omega arith)) in
-    let a = byte i - 48 in
-    let b = byte (i + 1) - 48 in
-    let c = byte (i + 1 + 1) - 48 in
-    let d = byte (i + 1 + 1 + 1) - 48 in
-    let one = field_more piece at i size le (omega (arith, room)) first some is in
-    let more = field_more piece at (i + 1) (10 * size + a) (omega (arith, le)) (omega (arith, room)) second (omega (arith, some)) one in
-    let much = field_more piece at (i + 1 + 1) (10 * (10 * size + a) + b) (omega (arith, le)) (omega (arith, room)) third (omega (arith, some)) more in
-    let all = field_more piece at (i + 1 + 1 + 1) (10 * (10 * (10 * size + a) + b) + c) (omega (arith, le)) (omega (arith, room)) last
-    (omega (arith, some)) much in
-    let c_is : c ≡ byte (i + 2) - 48 = ap (λ (n : ℕ). byte n - 48) two in
-    let d_is : d ≡ byte (i + 3) - 48 = ap (λ (n : ℕ). byte n - 48) three in
-    let sum : 10 * (10 * (10 * (10 * size + a) + b) + c) + d ≡ 10000 * size + four = omega (arith, fours.value, c_is, d_is) in
-    subst (λ (n : ℕ). between at n piece ≡ numeral (10000 * size + four)) end (all ∙ ap numeral sum)
-
--- the last four of eight digits
-pub fourth : (piece : List ℕ) (i : ℕ) → AreDigitsFrom piece i 8 → AreDigitsFrom piece (i + 4) 4
-fourth piece i digits k lt = subst (λ (n : ℕ). IsDigit (get_or piece n 0)) {x = i + (4 + k)} (omega arith) (digits (4 + k) (omega (arith, lt)))
-
--- eight digits more
-pub field_eight : (piece : List ℕ) (at i size front back : ℕ) → at ≤ i → i + 8 ≤ length piece → AreFour piece i front → AreFour piece (i + 4) back → 0 < size
-    → between at i piece ≡ numeral size → between at (i + 8) piece ≡ numeral (100000000 * size + (10000 * front + back))
-field_eight piece at i size front back le room first last some is =
-    let half = field_fours piece at i size front le (omega (arith, room)) first some is in
-    let whole = field_fours piece at (i + 4) (10000 * size + front) back (omega (arith, le)) (omega (arith, room)) last (omega (arith, some)) half in
-    let end : i + 4 + 4 ≡ i + 8 = omega arith in
-    let sum : 10000 * (10000 * size + front) + back ≡ 100000000 * size + (10000 * front + back) = omega arith in
-    subst (λ (n : ℕ). between at n piece ≡ numeral (100000000 * size + (10000 * front + back))) end (whole ∙ ap numeral sum)
-
-pub fours-small : (piece : List ℕ) (i four : ℕ) → AreFour piece i four → four < 10 ^ 4
-fours-small piece i four fours =
-    let none : get_or piece (i + 0) 0 ≡ get_or piece i 0 = ap (λ (n : ℕ). get_or piece n 0) {y = i} (omega arith) in
-    let a = (fours.digits 0 (omega arith)).1 in
-    let b = (fours.digits 1 (omega arith)).1 in
-    let c = (fours.digits 2 (omega arith)).1 in
-    let d = (fours.digits 3 (omega arith)).1 in
-    omega (arith, fours.value, none, a, b, c, d)
 
 -- a number and its space
 with_space : (piece : List ℕ) (at : ℕ) (f : Field) → IsField piece at f → between at (f.end + 1) piece ≡ numeral f.size ++ 32 ∷ []

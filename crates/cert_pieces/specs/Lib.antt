@@ -3,6 +3,7 @@ pub mod Pieces
 pub mod Partway
 pub mod Forms
 pub mod LineParts
+pub mod Words
 pub mod Fields
 pub mod Stops
 pub mod Dues

@@ -13,6 +13,7 @@ pub(crate) mod form;
 pub(crate) mod numbers;
 pub(crate) mod phase;
 pub(crate) mod tally;
+pub(crate) mod words;
 
 use crate::line::digits::{is_zero, read_digits};
 use crate::line::fields::put_fields;

@@ -1,14 +1,13 @@
 // Whole numbers of a piece, one behind the other.
-ghost use Rattle.std.specs.Prelude.{◌≡◌, ◌+◌, ◌*◌, ◌≤◌, ◌<◌, ◌^◌, ℕ, List, ◌++◌, length, get_or, ℤ, Bool, IfSome, IsTrue};
+ghost use Rattle.std.specs.Prelude.{◌≡◌, ◌+◌, ◌≤◌, ◌<◌, ◌^◌, List, ◌++◌, length, Bool, IfSome, IsTrue, ℕ};
 ghost use Rattle.cert_pieces.specs.declared.line.form.Form.{Form};
 ghost use Rattle.cert_text.specs.line_text.specs.LineText.{IsLine};
-ghost use Rattle.cert_pieces.specs.Fields.{AreDigitsFrom, AreFour, IsField, behind_space};
-ghost use Rattle.cert_text.specs.line_text.specs.Numeral.{numeral};
+ghost use Rattle.cert_pieces.specs.Fields.{IsField, IsFront, behind_space};
 ghost use Rattle.cert_pieces.specs.LineParts.{IsPart};
 ghost use Rattle.cert_pieces.specs.Pieces.{between};
 
 use crate::line::digits::SMALL;
-use std::simd::prelude::*;
+use crate::line::words::{digit_count, spelled, word_at};
 
 /// A number that isn't below 0, and where it ends.
 #[derive(Clone, Copy)]
@@ -17,65 +16,10 @@ pub(crate) struct Field {
     pub(crate) end: usize,
 }
 
-/// Which of eight bytes of a piece are digits: the lowest bit tells of the first. They are compared at once.
-fn digits_at(piece: &[u8], at: usize) -> u64
-    requires { at + 8 ≤ length piece.now }
-    ensures { (n rest : ℕ) → n ≤ 8 → result + 1 ≡ 2 ^ n * (rest + 1) → AreDigitsFrom piece.now at n }
-{
-    let bytes = u8x8::from_slice(&piece[at..]);
-    let values = bytes - u8x8::splat(b'0');
-    values.simd_lt(u8x8::splat(10)).to_bitmask()
-}
-
-/// The number that four digits of a piece spell.
-fn four_digits(piece: &[u8], at: usize) -> u64
-    requires room { at + 4 ≤ length piece.now }
-    requires digits { AreDigitsFrom piece.now at 4 }
-    ensures { AreFour piece.now at result }
-{
-    let first = (piece[at] - b'0') as u64;
-    let second = (piece[at + 1] - b'0') as u64;
-    let third = (piece[at + 2] - b'0') as u64;
-    let last = (piece[at + 3] - b'0') as u64;
-    1_000 * first + 100 * second + 10 * third + last
-}
-
-/// Reads on in a number that begins at a place, behind its first digit: eight digits, or four, where so many stand there.
-fn read_front(piece: &[u8], at: usize, first: u64) -> Field
-    requires at { at < length piece.now }
-    requires first { between at (at + 1) piece.now ≡ numeral first }
-    requires digit { first < 10 }
-    ensures spelled { between at result.end piece.now ≡ numeral result.size }
-    ensures from { at < result.end }
-    ensures to { result.end ≤ length piece.now }
-    ensures low { result.size < 10 ^ 9 }
-{
-    let end = at + 1;
-    if first == 0 || piece.len() - end < 8 {
-        return Field { size: first, end };
-    }
-    let digits = digits_at(piece, end);
-    if digits == 255 {
-        let eight = 10_000 * four_digits(piece, end) + four_digits(piece, end + 4);
-        return Field {
-            size: 100_000_000 * first + eight,
-            end: end + 8,
-        };
-    }
-    if digits % 16 == 15 {
-        return Field {
-            size: 10_000 * first + four_digits(piece, end),
-            end: end + 4,
-        };
-    }
-    Field { size: first, end }
-}
-
-/// Reads a number of at most nineteen digits and without a minus from a place of a piece on, up to the space behind it. Gives `None`
-/// where no such number stands there whole.
-fn read_field(piece: &[u8], at: usize) -> Option<Field>
+/// Reads the first digit of a number.
+fn read_first(piece: &[u8], at: usize) -> Option<Field>
     requires { at ≤ length piece.now }
-    ensures { IfSome result (IsField piece.now at) }
+    ensures { IfSome result (IsFront piece.now at) }
 {
     if at == piece.len() {
         return None;
@@ -84,15 +28,61 @@ fn read_field(piece: &[u8], at: usize) -> Option<Field>
     if !first.is_ascii_digit() {
         return None;
     }
-    let front = read_front(piece, at, (first - b'0') as u64);
+    Some(Field {
+        size: (first - b'0') as u64,
+        end: at + 1,
+    })
+}
+
+/// Reads up to eight digits of a number at once. Behind a first digit 0 there is none.
+fn read_eight(piece: &[u8], at: usize) -> Option<Field>
+    requires { at + 8 ≤ length piece.now }
+    ensures { IfSome result (IsFront piece.now at) }
+{
+    if piece[at] == b'0' {
+        return Some(Field {
+            size: 0,
+            end: at + 1,
+        });
+    }
+    let count = digit_count(piece, at);
+    if count == 0 {
+        return None;
+    }
+    Some(Field {
+        size: spelled(word_at(piece, at), count),
+        end: at + count,
+    })
+}
+
+/// Reads the first digits of a number: up to eight of them where so many bytes are left, and else one.
+fn read_front(piece: &[u8], at: usize) -> Option<Field>
+    requires { at ≤ length piece.now }
+    ensures { IfSome result (IsFront piece.now at) }
+{
+    if piece.len() - at < 8 {
+        return read_first(piece, at);
+    }
+    read_eight(piece, at)
+}
+
+/// Reads a number of at most nineteen digits and without a minus from a place of a piece on, up to the space behind it. Gives `None`
+/// where no such number stands there whole.
+fn read_field(piece: &[u8], at: usize) -> Option<Field>
+    requires { at ≤ length piece.now }
+    ensures { IfSome result (IsField piece.now at) }
+{
+    let Some(front) = read_front(piece, at) else {
+        return None;
+    };
     let mut size = front.size;
     for i in front.end..piece.len() {
         let byte = piece[i];
-        if !byte.is_ascii_digit() {
-            if byte != b' ' {
-                return None;
-            }
+        if byte == b' ' {
             return Some(Field { size, end: i });
+        }
+        if !byte.is_ascii_digit() {
+            return None;
         }
         if !may_go_on(size) {
             return None;
