@@ -13,6 +13,9 @@ use crate::tables::rule::NarrowRule;
 /// From this number on a mark has its highest bit.
 const MARK: u64 = 1 << 62;
 
+/// The highest bit of 64.
+const HIGHEST: u64 = 1 << 63;
+
 /// A number with the bit of `MARK` where an entry is at least the worth and the entry below.
 fn mark(here: i64, below: i64, worth: i64) -> u64
     requires here { unsigned_abs here ≤ 2 ^ 60 }
@@ -37,6 +40,29 @@ pub fn covers_all(line: &[i64], below: &[i64], worth: i64) -> bool
         marks &= mark(line[i], below[i], worth);
     }
     marks >= MARK
+}
+
+/// The bits of what a number is above another one, with the highest of them where it is below it.
+fn gap(here: i64, below: i64) -> u64
+    requires here { unsigned_abs here ≤ 2 ^ 60 }
+    requires below { unsigned_abs below ≤ 2 ^ 60 }
+    ensures { result < 2 ^ 63 → below ≤ℤ here }
+{
+    (here - below).cast_unsigned()
+}
+
+/// The same as `covers_all` for a worth of 0, with a step less for each number.
+pub fn none_below(line: &[i64], below: &[i64]) -> bool
+    requires places { length below.now ≡ length line.now }
+    requires small { IsSmall line.now }
+    requires small_below { IsSmall below.now }
+    ensures { IsTrue result → (s : ℕ) → s < length line.now → nth below.now s ≤ℤ nth line.now s }
+{
+    let mut gaps = 0;
+    for i in 0..line.len() {
+        gaps |= gap(line[i], below[i]);
+    }
+    gaps < HIGHEST
 }
 
 /// Whether a block of a package of one category is seen to keep the rule: its places are one run.

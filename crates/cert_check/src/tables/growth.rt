@@ -6,7 +6,7 @@ ghost use Rattle.cert_check.specs.Growth.{Grows, RisesBy};
 ghost use Rattle.cert_check.specs.Narrow.{IsSmall};
 ghost use Rattle.cert_text.specs.limits.specs.declared.TheConstants.{MOST_STATES};
 
-use crate::tables::blocks::covers_all;
+use crate::tables::blocks::none_below;
 
 /// Whether no number is below the one `width` places before it.
 fn rises_by(line: &[i128], width: usize) -> bool
@@ -53,7 +53,7 @@ fn rises_narrow(line: &[i64], width: usize) -> bool
     if width >= all {
         return true;
     }
-    covers_all(&line[width..], &line[..all - width], 0)
+    none_below(&line[width..], &line[..all - width])
 }
 
 /// Whether no line of the second of two categories falls, without a call for each.

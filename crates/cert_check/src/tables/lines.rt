@@ -11,7 +11,7 @@ ghost use Rattle.cert_check.specs.Corners.{BothGrow, KeepsBlock};
 ghost use Rattle.cert_check.specs.Growth.{Grows};
 ghost use Rattle.cert_check.specs.Narrow.{IsSmall};
 
-use crate::tables::blocks::covers_all;
+use crate::tables::blocks::none_below;
 use crate::tables::coarse::{put_coarse, rule_holds, shift_of};
 use crate::tables::growth::{is_growing, is_growing_narrow};
 use crate::tables::offers::Offers;
@@ -58,7 +58,7 @@ fn none_kept(lines: &LinePair) -> bool
     if !lines.is_narrow {
         return false;
     }
-    covers_all(lines.narrow_line, lines.narrow_below, 0)
+    none_below(lines.narrow_line, lines.narrow_below)
 }
 
 /// The first place at which a line is below the line below it, and its length where there is none.
