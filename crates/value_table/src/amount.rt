@@ -1,13 +1,17 @@
 // The numbers of a line, in the three sizes in which lines are worked out.
-ghost use Rattle.std.specs.Prelude.{◌≡◌, ℕ, ◌*◌, ◌^◌, ◌≤◌, ◌<◌, ◌↔◌, IsTrue, length, slice_index_or, ℤ, pos, ◌-◌, ◌+ℤ◌, ◌≤ℤ◌, unsigned_abs, map};
+ghost use Rattle.std.specs.Prelude.{◌≡◌, ℕ, ◌*◌, ◌^◌, ◌≤◌, ◌<◌, ◌↔◌, IsTrue, OnOk, [], ◌∷◌, ◌++◌, length, slice_index_or, ℤ, pos, ◌-◌, ◌+ℤ◌, ◌≤ℤ◌, unsigned_abs, map};
 ghost use Rattle.std.specs.Int.{int_max};
 ghost use Rattle.choices.specs.Coarse.{IsCeiling, IsFloor};
+ghost use Rattle.choices.specs.Lines.{width_of};
 ghost use Rattle.choices.specs.limits.specs.declared.TheConstants.{MOST_STATES};
 ghost use Rattle.value_table.specs.Rows.{AreRowsRaised, HasRows};
 
+use crate::narrow::widened;
 use crate::shape::Rows;
 use crate::{rows, short_units};
-use choices::coarse;
+use choices::bid_book::line_text::wide_num::NumList;
+use choices::{Grid, coarse};
+use std::alloc::{AllocError, Global};
 
 /// A number of a line, so that lines of each size are worked out and read by the same functions.
 pub trait Amount: Copy {
@@ -79,6 +83,12 @@ pub trait Amount: Copy {
         requires { shift < 64 }
         ensures small { result < 2 ^ 15 }
         ensures size { 0 < result → number worth ≤ℤ pos (result * 2 ^ shift) };
+
+    /// Adds a line at the end of a grid, which keeps it in 32 bits where it has these, and else in 128. It is as long as the others.
+    fn push_line(alloc: Global, grid: &mut Grid, line: &[Self]) -> Result<(), AllocError>
+        requires few { length line.now ≤ MOST_STATES }
+        requires width { 0 < length grid.old → length line.now ≡ width_of grid.old }
+        ensures { OnOk result (grid.new ≡ grid.old ++ map number line.now ∷ []) };
 }
 
 /// The number of a line at a place, in 128 bits.
@@ -136,6 +146,12 @@ impl Amount for i128 {
     fn worth_units(_worth: i128, _shift: u32) -> u16 {
         0
     }
+
+    fn push_line(alloc: Global, grid: &mut Grid, line: &[i128]) -> Result<(), AllocError> {
+        let numbers = Vec::from_slice(alloc, line)?;
+        grid.push_line(NumList::from_vec(numbers))?;
+        Ok(())
+    }
 }
 
 impl Amount for i64 {
@@ -182,6 +198,12 @@ impl Amount for i64 {
     fn worth_units(worth: i64, shift: u32) -> u16 {
         coarse::worth_units(worth, shift)
     }
+
+    fn push_line(alloc: Global, grid: &mut Grid, line: &[i64]) -> Result<(), AllocError> {
+        let numbers = widened(alloc, line)?;
+        grid.push_line(NumList::from_vec(numbers))?;
+        Ok(())
+    }
 }
 
 impl Amount for u32 {
@@ -227,5 +249,11 @@ impl Amount for u32 {
 
     fn worth_units(worth: u32, shift: u32) -> u16 {
         short_units::worth_units(worth, shift)
+    }
+
+    fn push_line(alloc: Global, grid: &mut Grid, line: &[u32]) -> Result<(), AllocError> {
+        let numbers = Vec::from_slice(alloc, line)?;
+        grid.push_short(numbers)?;
+        Ok(())
     }
 }

@@ -1,21 +1,22 @@
 // The lines of a table, from the last to the first. Line `k` has at each place the greatest sum that the bidders after `k`
 // count with what the place leaves.
 ghost use Rattle.std.specs.Prelude.{◌≡◌, ℕ, suc, ◌-◌, ◌^◌, ◌≤◌, ◌<◌, [], length, IfOk, slice_index_or, pos, ◌+ℤ◌, unsigned_abs, map};
+ghost use Rattle.choices.specs.auction_model.specs.Place.{states_of};
 ghost use Rattle.choices.specs.auction_model.specs.Table.{IsEntry};
+ghost use Rattle.choices.specs.Lines.{width_of};
 ghost use Rattle.choices.specs.limits.specs.declared.TheConstants.{MOST_STATES};
 ghost use Rattle.value_table.specs.Counted.{counted_bids, counted, IsWithin, IsLineWithin, IsCountedLine, AreCountedLines, IsCountedTable, IsWholeTable};
 ghost use Rattle.value_table.specs.LineRooms.{HasRoom};
 
 use crate::amount::Amount;
 use crate::lowering::Lowering;
-use crate::narrow::{narrow_into, narrowed, widen_into, widened};
+use crate::narrow::{narrow_into, narrowed, widen_into};
 use crate::rooms::LineRooms;
 use crate::short::short_before;
 use crate::tested::add_bid;
 use crate::tracing::line_at;
 use crate::units::put_units;
-use choices::Grid;
-use choices::bid_book::line_text::wide_num::NumList;
+use choices::{Grid, LineNumbers};
 use std::alloc::{AllocError, Global};
 
 /// Adds what bidder `j` counts where it isn't used to each number of line `j`.
@@ -206,8 +207,7 @@ pub fn grid_of<A: Amount>(
     lowering.book.kept();
     let mut grid = Grid::new(alloc);
     for i in 0..lines.len() {
-        let wide = widened(alloc, line_at(lines, i))?;
-        grid.push_line(NumList::from_vec(wide))?;
+        A::push_line(alloc, &mut grid, line_at(lines, i))?;
     }
     Ok(grid)
 }
@@ -229,42 +229,61 @@ fn grid_down<A: Amount>(
     Ok(grid)
 }
 
-/// The lines before line `top`, of which `first` has the numbers: worked out in 32 bits while sums are so small, and else in more.
+/// The lines before line `top`, which has the numbers of a line of a grid: worked out in 32 bits while that line has these and sums
+/// are so small, and else in more.
 fn lines_before(
     alloc: Global,
     lowering: &Lowering,
     top: usize,
-    first: &[i128],
+    whole: &Grid,
+    line: usize,
 ) -> Result<Grid, AllocError>
     requires top { top ≤ length lowering.now.book.now.bidders }
-    requires first { IsCountedLine lowering.now top first.now }
+    requires line { line < length whole.now }
+    requires width { width_of whole.now ≡ states_of lowering.now.book.now.supply }
+    requires first { IsCountedLine lowering.now top (slice_index_or whole.now line []) }
     ensures { IfOk result (λ g. AreCountedLines lowering.now top 0 g) }
 {
-    match short_before(alloc, lowering, top, first)? {
-        Some(grid) => Ok(grid),
-        None => long_before(alloc, lowering, top, first),
+    lowering.book.kept();
+    if let LineNumbers::Short(first) = whole.line(line) {
+        if let Some(grid) = short_before(alloc, lowering, top, first)? {
+            return Ok(grid);
+        }
     }
+    let first = wide_line(alloc, whole, line)?;
+    long_before(alloc, lowering, top, first)
 }
 
-/// The same worked out in 64 bits where no sum is larger, and else in 128.
+/// The numbers of a line of a grid in 128 bits.
+fn wide_line(alloc: Global, grid: &Grid, line: usize) -> Result<Vec<i128>, AllocError>
+    requires line { line < length grid.now }
+    requires width { length (slice_index_or grid.now line []) ≡ width_of grid.now }
+    requires few { width_of grid.now ≤ MOST_STATES }
+    ensures { IfOk result (λ v. v.items ≡ slice_index_or grid.now line []) }
+{
+    let mut numbers = zero_line(alloc, grid.width())?;
+    grid.put_part(line, 0, &mut numbers);
+    Ok(numbers)
+}
+
+/// The lines before line `top`, which is given: worked out in 64 bits where no sum is larger, and else in 128.
 fn long_before(
     alloc: Global,
     lowering: &Lowering,
     top: usize,
-    first: &[i128],
+    first: Vec<i128>,
 ) -> Result<Grid, AllocError>
     requires top { top ≤ length lowering.now.book.now.bidders }
-    requires first { IsCountedLine lowering.now top first.now }
+    requires first { IsCountedLine lowering.now top first.items }
     ensures { IfOk result (λ g. AreCountedLines lowering.now top 0 g) }
 {
     lowering.book.kept();
     if lowering.is_narrow() {
-        let narrow = narrowed(alloc, first)?;
+        let narrow = narrowed(alloc, &first)?;
         let grid = grid_down(alloc, lowering, top, narrow)?;
         return Ok(grid);
     }
-    let wide = Vec::from_slice(alloc, first)?;
-    let grid = grid_down(alloc, lowering, top, wide)?;
+    let grid = grid_down(alloc, lowering, top, first)?;
     Ok(grid)
 }
 
@@ -302,16 +321,6 @@ fn zero_narrow_line(alloc: Global, states: usize) -> Result<Vec<i64>, AllocError
     vec![in alloc; 0i64; states]
 }
 
-/// The exact table.
-pub fn all_lines(alloc: Global, lowering: &Lowering) -> Result<Grid, AllocError>
-    ensures { IfOk result (λ g. IsCountedTable lowering.now g) }
-{
-    let last = last_line(alloc, lowering)?;
-    let mut grid = lines_before(alloc, lowering, lowering.book.bidders(), &last)?;
-    grid.push_line(NumList::from_vec(last))?;
-    Ok(grid)
-}
-
 /// The exact table without bidder `skip`, from that of all bids for the same worths. A bidder that isn't there counts
 /// nothing, so the lines from `skip` on are those of all bids, and the one before has the numbers of the first of them:
 /// they are shared.
@@ -322,7 +331,7 @@ pub fn lines_without(alloc: Global, lowering: &Lowering, whole: &Grid) -> Result
     ensures { IfOk result (λ g. IsCountedTable lowering.now g) }
 {
     let skip = lowering.skip as usize;
-    let mut grid = lines_before(alloc, lowering, skip - 1, whole.line(skip))?;
+    let mut grid = lines_before(alloc, lowering, skip - 1, whole, skip)?;
     grid.push_shared(whole, skip)?;
     for k in skip..whole.lines() {
         grid.push_shared(whole, k)?;
@@ -336,6 +345,5 @@ pub fn last_entry(lowering: &Lowering, lines: &Grid) -> i128
     ensures most { IsEntry (counted_bids lowering.now) (counted lowering.now) 0 lowering.now.book.now.supply result }
     ensures size { unsigned_abs result ≤ 2 ^ 120 }
 {
-    let line = lines.line(0);
-    line[lowering.book.supply().states() - 1]
+    lines.entry(0, lowering.book.supply().states() - 1)
 }

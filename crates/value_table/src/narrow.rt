@@ -1,8 +1,7 @@
 // Lines in numbers of 64 bits, where no sum is larger: they take half the room.
-ghost use Rattle.std.specs.Prelude.{◌≡◌, ℕ, ◌^◌, ◌≤◌, length, IfOk, slice_index_or, pos, unsigned_abs, map};
+ghost use Rattle.std.specs.Prelude.{◌≡◌, ℕ, ◌^◌, ◌≤◌, length, IfOk, slice_index_or, pos, unsigned_abs};
 ghost use Rattle.choices.specs.limits.specs.declared.TheConstants.{MOST_STATES};
 
-use crate::amount::{Amount, number_at};
 use std::alloc::{AllocError, Global};
 
 /// The numbers in 64 bits each.
@@ -28,9 +27,9 @@ pub fn narrow_into(numbers: &mut [i64], line: &[i128])
 }
 
 /// The numbers in 128 bits each.
-pub fn widened<A: Amount>(alloc: Global, line: &[A]) -> Result<Vec<i128>, AllocError>
+pub fn widened(alloc: Global, line: &[i64]) -> Result<Vec<i128>, AllocError>
     requires { length line.now ≤ MOST_STATES }
-    ensures { IfOk result (λ v. v.items ≡ map A.number line.now) }
+    ensures { IfOk result (λ v. v.items ≡ line.now) }
 {
     let mut numbers = vec![in alloc; 0i128; line.len()]?;
     widen_into(&mut numbers, line);
@@ -38,11 +37,11 @@ pub fn widened<A: Amount>(alloc: Global, line: &[A]) -> Result<Vec<i128>, AllocE
 }
 
 /// The same in a list of room.
-pub fn widen_into<A: Amount>(numbers: &mut [i128], line: &[A])
-    requires places { length numbers.old ≡ length line.now }
-    ensures { numbers.new ≡ map A.number line.now }
+pub fn widen_into(numbers: &mut [i128], line: &[i64])
+    requires { length numbers.old ≡ length line.now }
+    ensures { numbers.new ≡ line.now }
 {
     for i in 0..line.len() {
-        numbers[i] = number_at(line, i);
+        numbers[i] = line[i] as i128;
     }
 }

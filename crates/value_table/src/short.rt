@@ -6,7 +6,6 @@ ghost use Rattle.value_table.specs.LineRooms.{HasRoom};
 
 use crate::lines::{grid_of, next_line, turn_line, units_room};
 use crate::lowering::Lowering;
-use crate::narrow::widen_into;
 use crate::rooms::LineRooms;
 use choices::Grid;
 use std::alloc::{AllocError, Global};
@@ -86,20 +85,7 @@ pub fn short_lines(alloc: Global, lowering: &Lowering) -> Result<Option<Vec<Vec<
     short_lines_down(alloc, lowering, lowering.book.bidders(), last)
 }
 
-/// The numbers in 32 bits each, or None where one needs more.
-fn shortened(alloc: Global, line: &[i128]) -> Result<Option<Vec<u32>>, AllocError>
-    requires { length line.now ≤ MOST_STATES }
-    ensures { IfOk result (λ found. IfSome found (λ v. map (λ n. pos n) v.items ≡ line.now)) }
-{
-    let mut numbers = vec![in alloc; 0u32; line.len()]?;
-    if shorten_into(&mut numbers, line) {
-        Ok(Some(numbers))
-    } else {
-        Ok(None)
-    }
-}
-
-/// The same in a list of room, and whether no number needs more.
+/// Writes the numbers in 32 bits each, and says whether none needs more.
 fn shorten_into(numbers: &mut [u32], line: &[i128]) -> bool
     requires { length numbers.old ≡ length line.now }
     ensures { IsTrue result → map (λ n. pos n) numbers.new ≡ line.now }
@@ -113,21 +99,28 @@ fn shorten_into(numbers: &mut [u32], line: &[i128]) -> bool
     true
 }
 
+/// Writes the numbers in 128 bits each.
+fn lengthen_into(numbers: &mut [i128], line: &[u32])
+    requires { length numbers.old ≡ length line.now }
+    ensures { numbers.new ≡ map (λ n. pos n) line.now }
+{
+    for i in 0..line.len() {
+        numbers[i] = line[i] as i128;
+    }
+}
+
 /// The lines before line `top`, of which `first` has the numbers, or None where one of them needs more bits.
 pub fn short_before(
     alloc: Global,
     lowering: &Lowering,
     top: usize,
-    first: &[i128],
+    first: &[u32],
 ) -> Result<Option<Grid>, AllocError>
     requires top { top ≤ length lowering.now.book.now.bidders }
-    requires first { IsCountedLine lowering.now top first.now }
+    requires first { IsCountedLine lowering.now top (map (λ n. pos n) first.now) }
     ensures { IfOk result (λ found. IfSome found (λ g. AreCountedLines lowering.now top 0 g)) }
 {
-    lowering.book.kept();
-    let Some(line) = shortened(alloc, first)? else {
-        return Ok(None);
-    };
+    let line = Vec::from_slice(alloc, first)?;
     let Some(lines) = short_lines_down(alloc, lowering, top, line)? else {
         return Ok(None);
     };
@@ -165,6 +158,6 @@ pub fn put_short_line(
         &mut rooms.low,
         &mut rooms.high,
     );
-    widen_into(line, &rooms.short_line);
+    lengthen_into(line, &rooms.short_line);
     true
 }

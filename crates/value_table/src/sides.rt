@@ -1,16 +1,17 @@
 // Tables from two sides.
-ghost use Rattle.std.specs.Prelude.{◌≡◌, ℕ, ◌+◌, ◌^◌, ◌≤◌, ◌<◌, length, IfOk, slice_index_or, pos, unsigned_abs};
+ghost use Rattle.std.specs.Prelude.{◌≡◌, ℕ, ◌+◌, ◌^◌, ◌≤◌, ◌<◌, [], length, IfOk, slice_index_or, pos, unsigned_abs};
 ghost use Rattle.choices.specs.auction_model.specs.Book.{Book, market_of};
 ghost use Rattle.choices.specs.auction_model.specs.Greatest.{IsGreatestValue};
 ghost use Rattle.choices.specs.auction_model.specs.Market.{value_of};
 ghost use Rattle.choices.specs.auction_model.specs.Place.{left_at};
 ghost use Rattle.choices.specs.auction_model.specs.Prices.{allowed_without};
+ghost use Rattle.choices.specs.Lines.{width_of};
 ghost use Rattle.value_table.specs.SideValues.{AreSidesOf, IsLeftEntry, IsRightEntry, IsTurnedTable, IsGreatestPair, AreFullLines};
 ghost use Rattle.value_table.specs.TableValue.{IsTableOf, IsPlainWithout};
 
-use crate::lines::all_lines;
 use crate::lowering::Lowering;
 use crate::table::{ValueTable, plain_table, zeros};
+use crate::turn_lines::all_lines;
 use choices::Grid;
 use choices::bid_book::BidBook;
 use std::alloc::{AllocError, Global};
@@ -68,8 +69,7 @@ impl Sides {
         requires place { place < self.now.states }
         ensures { (book : Book) → AreSidesOf book self.now → IsLeftEntry book k (left_at book.supply place) result }
     {
-        let line = self.left.line(self.bidders - k);
-        line[place]
+        self.left.entry(self.bidders - k, place)
     }
 
     /// The greatest value of a choice that doesn't use bidder `j`.
@@ -79,9 +79,8 @@ impl Sides {
             → IsGreatestValue (allowed_without (market_of book) j) (value_of (market_of book)) result }
         ensures size { unsigned_abs result ≤ 2 ^ 121 }
     {
-        let before = self.left.line(self.bidders - (j as usize - 1));
-        let after = self.right.grid().line(j as usize);
-        greatest_pair(before, after)
+        let before = self.bidders - (j as usize - 1);
+        greatest_pair(&self.left, before, self.right.grid(), j as usize)
     }
 
     /// The exact table of the net amounts without bidder `j`, as `ValueTable::build` gives it. The lines from `j` on are shared
@@ -125,19 +124,23 @@ fn turned_lines(alloc: Global, book: &BidBook) -> Result<Grid, AllocError>
     Ok(lines)
 }
 
-/// The greatest sum of a number of one line and the number of the other as far from its end.
-fn greatest_pair(before: &[i128], after: &[i128]) -> i128
-    requires some { 0 < length before.now }
-    requires places { length before.now ≡ length after.now }
-    requires before { (s : ℕ) → unsigned_abs (slice_index_or before.now s (pos 0)) ≤ 2 ^ 120 }
-    requires after { (s : ℕ) → unsigned_abs (slice_index_or after.now s (pos 0)) ≤ 2 ^ 120 }
-    ensures most { IsGreatestPair (length before.now) before.now after.now result }
+/// The greatest sum of a number of a line of one grid and the number of a line of the other as far from its end.
+fn greatest_pair(left: &Grid, before: usize, right: &Grid, after: usize) -> i128
+    requires before_line { before < length left.now }
+    requires after_line { after < length right.now }
+    requires some { 0 < width_of left.now }
+    requires places { width_of left.now ≡ width_of right.now }
+    requires before { (s : ℕ) → unsigned_abs (slice_index_or (slice_index_or left.now before []) s (pos 0)) ≤ 2 ^ 120 }
+    requires after { (s : ℕ) → unsigned_abs (slice_index_or (slice_index_or right.now after []) s (pos 0)) ≤ 2 ^ 120 }
+    ensures most { IsGreatestPair (width_of left.now)
+        (slice_index_or left.now before [])
+        (slice_index_or right.now after []) result }
     ensures size { unsigned_abs result ≤ 2 ^ 121 }
 {
-    let last = before.len() - 1;
-    let mut most = before[0] + after[last];
-    for s in 1..before.len() {
-        most = most.max(before[s] + after[last - s]);
+    let places = left.width();
+    let mut most = left.entry(before, 0) + right.entry(after, places - 1);
+    for s in 1..places {
+        most = most.max(left.entry(before, s) + right.entry(after, places - 1 - s));
     }
     most
 }

@@ -11,10 +11,11 @@ ghost use Rattle.value_table.specs.Counted.{counted_bids, counted, IsLowering};
 ghost use Rattle.value_table.specs.BookTable.{menu_without, IsInRange};
 ghost use Rattle.value_table.specs.TableValue.{IsTableOf, IsPlain, IsPlainWithout};
 
-use crate::lines::{all_lines, last_entry, last_narrow_line, lines_down, lines_without};
+use crate::lines::{last_entry, last_narrow_line, lines_down, lines_without};
 use crate::lowering::Lowering;
 use crate::short::short_lines;
 use crate::tracing::{trace_lines, trace_slices};
+use crate::turn_lines::all_lines;
 use choices::bid_book::BidBook;
 use choices::{Choice, Grid, Numbers};
 use std::alloc::{AllocError, Global};
@@ -32,11 +33,14 @@ pub struct ValueTable {
 }
 
 impl Model for ValueTable {
+    ghost use Rattle.choices.specs.Lines.{IsEven};
     ghost use Rattle.value_table.specs.TableValue.{TableValue};
 
     ghost Value = { TableValue };
 
     ghost view = { λ t. record { skip = t.skip; den = t.den; surplus = t.surplus.items; lines = t.grid } };
+
+    ghost invariant = { λ t. IsEven t.grid };
 }
 
 impl ValueTable {
@@ -107,8 +111,7 @@ impl ValueTable {
         requires place { place < length (slice_index_or self.now.lines k []) }
         ensures { result ≡ entry_at self.now.lines k place }
     {
-        let line = self.grid.line(k);
-        line[place]
+        self.grid.entry(k, place)
     }
 
     /// The greatest sum: the entry of line 0 at the place of the whole supply.

@@ -11,7 +11,7 @@ ghost use Rattle.value_table.specs.Counted.{counted_bids, counted, IsCountedLine
 
 use crate::amount::{Amount, number_at};
 use crate::lowering::Lowering;
-use choices::{Grid, Numbers, place_after};
+use choices::{Grid, LineNumbers, Numbers, place_after};
 use std::alloc::{AllocError, Global};
 
 /// What bid `i` of bidder `j` and the bidders after it count at a place, or None where the package of the bid doesn't fit.
@@ -106,6 +106,25 @@ fn next_step<A: Amount>(lowering: &Lowering, j: u16, place: usize, here: i128, b
     Step { number, place }
 }
 
+/// The same from the lines of a table, each in the size in which it is kept.
+fn grid_step(lowering: &Lowering, j: u16, place: usize, lines: &Grid) -> Step
+    requires bidder { (0 < j) × (j ≤ length lowering.now.book.now.bidders) }
+    requires place { place < states_of lowering.now.book.now.supply }
+    requires table { IsCountedTable lowering.now lines.now }
+    ensures place { result.place < states_of lowering.now.book.now.supply }
+    ensures walk { (r : List ℕ)
+        → IsFirstGreatest (fits_after (counted_bids lowering.now) j (left_at lowering.now.book.now.supply result.place))
+        (sum_after (counted lowering.now) j) r
+        → IsFirstGreatest (fits_after (counted_bids lowering.now) (j - 1) (left_at lowering.now.book.now.supply place))
+        (sum_after (counted lowering.now) (j - 1)) (result.number ∷ r) }
+{
+    let here = lines.entry(j as usize - 1, place);
+    match lines.line(j as usize) {
+        LineNumbers::Short(below) => next_step(lowering, j, place, here, below),
+        LineNumbers::Wide(below) => next_step(lowering, j, place, here, below),
+    }
+}
+
 /// The first of the greatest choices, from the lines of its table.
 pub fn trace_lines(alloc: Global, lowering: &Lowering, lines: &Grid) -> Result<Numbers, AllocError>
     requires { IsCountedTable lowering.now lines.now }
@@ -116,8 +135,7 @@ pub fn trace_lines(alloc: Global, lowering: &Lowering, lines: &Grid) -> Result<N
     let mut numbers = Numbers::new(alloc);
     let mut place = lowering.book.supply().states() - 1;
     for k in 0..lowering.book.bidders() {
-        let own = lines.line(k);
-        let step = next_step(lowering, k as u16 + 1, place, own[place], lines.line(k + 1));
+        let step = grid_step(lowering, k as u16 + 1, place, lines);
         place = step.place;
         numbers.push(step.number)?;
     }

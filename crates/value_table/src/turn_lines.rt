@@ -96,3 +96,12 @@ fn first_entry<A: Amount>(lowering: &Lowering, lines: &[Vec<A>]) -> i128
 {
     number_at(line_at(lines, 0), lowering.book.supply().states() - 1)
 }
+
+/// The exact table.
+pub fn all_lines(alloc: Global, lowering: &Lowering) -> Result<Grid, AllocError>
+    ensures { IfOk result (λ g. IsCountedTable lowering.now g) }
+{
+    let lines = TurnLines::build(alloc, lowering)?;
+    let grid = lines.grid(alloc, lowering)?;
+    Ok(grid)
+}
