@@ -1,9 +1,7 @@
 // The lines of a table, from the last to the first. Line `k` has at each place the greatest sum that the bidders after `k`
 // count with what the place leaves.
 ghost use Rattle.std.specs.Prelude.{◌≡◌, ℕ, suc, ◌-◌, ◌^◌, ◌≤◌, ◌<◌, [], length, IfOk, slice_index_or, pos, ◌+ℤ◌, unsigned_abs, map};
-ghost use Rattle.choices.specs.auction_model.specs.Place.{states_of};
 ghost use Rattle.choices.specs.auction_model.specs.Table.{IsEntry};
-ghost use Rattle.choices.specs.Lines.{width_of};
 ghost use Rattle.choices.specs.limits.specs.declared.TheConstants.{MOST_STATES};
 ghost use Rattle.value_table.specs.Counted.{counted_bids, counted, IsWithin, IsLineWithin, IsCountedLine, AreCountedLines, IsCountedTable, IsWholeTable};
 ghost use Rattle.value_table.specs.LineRooms.{HasRoom};
@@ -229,8 +227,8 @@ fn grid_down<A: Amount>(
     Ok(grid)
 }
 
-/// The lines before line `top`, which has the numbers of a line of a grid: worked out in 32 bits while that line has these and sums
-/// are so small, and else in more.
+/// The lines before line `top`, which has the numbers of a line of a grid: worked out in 32 bits where that line is kept in these and
+/// sums stay so small, and else in more.
 fn lines_before(
     alloc: Global,
     lowering: &Lowering,
@@ -240,7 +238,6 @@ fn lines_before(
 ) -> Result<Grid, AllocError>
     requires top { top ≤ length lowering.now.book.now.bidders }
     requires line { line < length whole.now }
-    requires width { width_of whole.now ≡ states_of lowering.now.book.now.supply }
     requires first { IsCountedLine lowering.now top (slice_index_or whole.now line []) }
     ensures { IfOk result (λ g. AreCountedLines lowering.now top 0 g) }
 {
@@ -257,10 +254,10 @@ fn lines_before(
 /// The numbers of a line of a grid in 128 bits.
 fn wide_line(alloc: Global, grid: &Grid, line: usize) -> Result<Vec<i128>, AllocError>
     requires line { line < length grid.now }
-    requires width { length (slice_index_or grid.now line []) ≡ width_of grid.now }
-    requires few { width_of grid.now ≤ MOST_STATES }
+    requires few { length (slice_index_or grid.now line []) ≤ MOST_STATES }
     ensures { IfOk result (λ v. v.items ≡ slice_index_or grid.now line []) }
 {
+    grid.kept();
     let mut numbers = zero_line(alloc, grid.width())?;
     grid.put_part(line, 0, &mut numbers);
     Ok(numbers)

@@ -33,14 +33,11 @@ pub struct ValueTable {
 }
 
 impl Model for ValueTable {
-    ghost use Rattle.choices.specs.Lines.{IsEven};
     ghost use Rattle.value_table.specs.TableValue.{TableValue};
 
     ghost Value = { TableValue };
 
     ghost view = { λ t. record { skip = t.skip; den = t.den; surplus = t.surplus.items; lines = t.grid } };
-
-    ghost invariant = { λ t. IsEven t.grid };
 }
 
 impl ValueTable {
@@ -111,6 +108,7 @@ impl ValueTable {
         requires place { place < length (slice_index_or self.now.lines k []) }
         ensures { result ≡ entry_at self.now.lines k place }
     {
+        self.grid.kept();
         self.grid.entry(k, place)
     }
 

@@ -1,4 +1,4 @@
-use Rattle.std.proofs.Common.{◌≡◌, ◌∙◌, ◌-◌, ap, subst, arith, rules, get_or, [], pos}
+use Rattle.std.proofs.Common.{◌≡◌, ◌∙◌, ◌-◌, ap, subst, arith, rules, get_or, []}
 use Rattle.std.proofs.lemmas.Int.{to_z-of_z}
 use Rattle.choices.specs.auction_model.specs.Place.{states_of, left_at}
 use Rattle.choices.specs.auction_model.specs.Table.{IsEntry}

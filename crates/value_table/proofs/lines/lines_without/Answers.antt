@@ -1,22 +1,16 @@
 use Rattle.std.proofs.Common.{◌≡◌, ◌≤◌, ◌+◌, ◌-◌, ◌++◌, [], ◌∷◌, sym, subst, arith, get_or, suc}
 use Rattle.choices.specs.auction_model.specs.Book.{menu_of}
-use Rattle.choices.specs.auction_model.specs.Menu.{without}
 use Rattle.choices.specs.auction_model.specs.Table.{IsLine, AreLinesTo}
 use Rattle.choices.specs.auction_model.proofs.LinesLaws.{lines-more, table-from_lines}
 use Rattle.choices.specs.auction_model.proofs.SkipLaws.{line-past_skip}
 use Rattle.value_table.specs.Turned.{in_order}
 use Rattle.value_table.specs.Counted.{counted_bids, counted}
-use Rattle.value_table.proofs.TableLines.{line-left_out, table-width}
+use Rattle.value_table.proofs.TableLines.{line-left_out}
 use Rattle.value_table.proofs.lines.lines_without.Goals as goal
 
 pub lines_before-requires-clause-first : goal.lines_before-requires-clause-first
 lines_before-requires-clause-first c =
     line-left_out c.args.lowering.now c.args.whole.now c.requires.bidder.0 c.requires.bidder.1 c.requires.idle c.requires.whole
-
-pub lines_before-requires-clause-width : goal.lines_before-requires-clause-width
-lines_before-requires-clause-width c =
-    let l = c.args.lowering.now in
-    table-width (without (in_order l.turned (menu_of l.book.now)) 0) (counted l) l.book.now.supply c.args.whole.now c.requires.whole
 
 pub loop-k-init : goal.loop-k-init
 loop-k-init c =

@@ -1,4 +1,4 @@
-use Rattle.std.proofs.Common.{◌≡◌, ◌∙◌, List, Vec, Global, ℕ, sym, ap, subst, rules, map, take, suc, pos}
+use Rattle.std.proofs.Common.{◌∙◌, List, Vec, Global, ℕ, sym, ap, subst, rules, map, take, suc, pos}
 use Rattle.value_table.specs.Counted.{IsCountedLine, AreCountedLines}
 use Rattle.value_table.proofs.TableLines.{counted-front, counted-many, entries}
 use Rattle.value_table.proofs.short.short_before.Goals as goal

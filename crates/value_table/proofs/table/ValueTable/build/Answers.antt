@@ -1,8 +1,6 @@
 use Rattle.std.proofs.Common.{rules}
 use Rattle.std.proofs.lemmas.Int.{to_z-of_z}
-use Rattle.value_table.specs.Counted.{counted_bids, counted}
 use Rattle.value_table.proofs.LoweringLaws.{table-from}
-use Rattle.value_table.proofs.TableLines.{table-even}
 use mir.Val.{SFits}
 use mir.Syntax.{w128}
 use Rattle.value_table.proofs.table.ValueTable.build.Goals as goal
@@ -11,11 +9,6 @@ pub new-lowering-requires-clause-range : goal.new-lowering-requires-clause-range
 new-lowering-requires-clause-range c =
     let den_fits : SFits w128 c.args.den = search rules in
     rw (to_z-of_z w128 c.args.den den_fits) c.requires.range
-
-pub invariant_of-result : goal.invariant_of-result
-invariant_of-result c =
-    let l = c.new-lowering.result in
-    table-even (counted_bids l) (counted l) l.book.now.supply c.in_ok-grid.grid c.in_ok-grid.ensures
 
 pub returns-clause-exact : goal.returns-clause-exact
 returns-clause-exact c =

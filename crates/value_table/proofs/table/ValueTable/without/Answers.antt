@@ -1,10 +1,8 @@
 use Rattle.std.proofs.Common.{◌≡◌, ◌∙◌, sym, ap, subst, ℤ, ℕ, pos, List, length, get_or}
 use Rattle.value_table.specs.BookTable.{IsBookTable}
-use Rattle.value_table.specs.Counted.{counted_bids, counted}
 use Rattle.value_table.specs.TableValue.{TableValue}
 use Rattle.value_table.proofs.LoweringLaws.{idle-zero, table-from, whole-of}
 use Rattle.value_table.proofs.Plain.{plain-range}
-use Rattle.value_table.proofs.TableLines.{table-even}
 use Rattle.value_table.proofs.table.ValueTable.without.Goals as goal
 
 pub new-lowering-requires-clause-bidders : goal.new-lowering-requires-clause-bidders
@@ -39,11 +37,6 @@ lines_without-requires-clause-whole c =
     let plain : IsBookTable book 0 (pos 1) t.surplus t.lines = rw (c.requires.plain.skip, c.requires.plain.den) at c.requires.whole.exact in
     whole-of book c.args.j (pos 1) c.deref-2.result.now c.new-lowering.result c.new-lowering.ensures c.self.inside.grid
     (rw same (subst (λ (x : TableValue). IsBookTable book 0 (pos 1) x.surplus x.lines) (sym c.self.view_is) plain))
-
-pub invariant_of-result : goal.invariant_of-result
-invariant_of-result c =
-    let l = c.new-lowering.result in
-    table-even (counted_bids l) (counted l) l.book.now.supply c.in_ok-grid.grid c.in_ok-grid.ensures
 
 pub returns-clause-exact : goal.returns-clause-exact
 returns-clause-exact c =
