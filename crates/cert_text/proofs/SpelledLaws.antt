@@ -1,7 +1,7 @@
 -- The texts of a table's lines, and the fields of a line.
 use Rattle.std.proofs.Common.{◌≡◌, ℕ, zero, suc, ◌+◌, ◌-◌, ◌<◌, ◌≤◌, ◌^◌, ℤ, pos, List, [], ◌∷◌, ◌++◌, length, codes, get_or, drop, take, map, refl, sym, ap}
-use Rattle.std.proofs.Common.{◌∙◌, arith, append_assoc, length-drop}
-use Rattle.std.proofs.lemmas.List.{at_drop_more, get_or-map, map-append, take_all, take_more}
+use Rattle.std.proofs.Common.{◌∙◌, arith, append_assoc, length-append, length-drop}
+use Rattle.std.proofs.lemmas.List.{at_drop_more, get_or-map, length-take-le, map-append, take_all, take_more}
 use Rattle.std.specs.Fmt.{decimal}
 use Rattle.std.specs.List.{concat}
 use Rattle.cert_form.specs.CertText.{line, table_lines}
@@ -77,3 +77,19 @@ next-piece ns done end whole before behind on so_far step =
     let same : behind ≡ before ++ numbers_text (take (end - done) (take (length ns - done) (drop done ns))) =
     step ∙ ap (λ (l : List ℤ). before ++ numbers_text (take (end - done) l)) (sym all) in
     ap (λ (i : ℕ). behind ++ numbers_text (drop i ns)) (sym next) ∙ next_run ns done (end - done) whole before behind so_far same
+
+-- one piece more, of numbers that were copied
+pub copied-piece : (ns piece : List ℤ) (done count n : ℕ) (whole before behind : List ℕ) → before ++ numbers_text (drop done ns) ≡ whole
+    → n ≡ count → piece ≡ take n (drop done ns) → behind ≡ before ++ numbers_text piece
+    → behind ++ numbers_text (drop (done + count) ns) ≡ whole
+copied-piece ns piece done count n whole before behind so_far same copied step =
+    let back : n ≡ done + count - done = omega (arith, same) in
+    next-piece ns done (done + count) whole before behind (omega arith) so_far
+    (step ∙ ap (λ (l : List ℤ). before ++ numbers_text l) copied ∙ ap (λ (k : ℕ). before ++ numbers_text (take k (drop done ns))) back)
+
+-- a room keeps its size where its first numbers are written
+pub room-kept : (room piece : List ℤ) (count size : ℕ) → count ≤ size → length room ≡ size → length piece ≡ length (take count room)
+    → length (piece ++ drop count room) ≡ size
+room-kept room piece count size within whole front =
+    let part : length (take count room) ≡ count = length-take-le count room (omega (arith, within, whole)) in
+    omega (arith, length-append piece (drop count room), length-drop count room, whole, front, part)

@@ -1,12 +1,13 @@
 // Numbers of a line, added to a text piece by piece: the digits of a piece are put into a room from its last number to
 // its first, each before what stands there already.
-ghost use Rattle.std.specs.Prelude.{◌≡◌, ◌≤◌, ◌<◌, ◌+◌, ◌*◌, ◌∷◌, ◌++◌, length, drop, pos, IfSome, OnOk};
+ghost use Rattle.std.specs.Prelude.{◌≡◌, ◌≤◌, ◌<◌, ◌+◌, ◌*◌, ◌∷◌, ◌++◌, [], length, drop, pos, slice_index_or, IfSome, OnOk};
 ghost use Rattle.std.specs.Fmt.{decimal};
 ghost use Rattle.cert_form.specs.line_text.specs.Numeral.{numbers_text};
 ghost use Rattle.cert_form.specs.line_text.specs.Range.{AllInRange};
 
 use cert_form::line_text::add_signed_numbers;
 use cert_form::line_text::wide_num::Text;
+use choices::Grid;
 use itoa::write_digits;
 use std::alloc::AllocError;
 
@@ -26,6 +27,26 @@ pub(crate) fn add_fields(text: &mut Text, numbers: &[i128]) -> Result<(), AllocE
         let end = numbers.len().min(done + PIECE);
         add_piece(text, &numbers[done..end])?;
         done = end;
+    }
+    Ok(())
+}
+
+/// The same of the numbers of a line of a table.
+pub(crate) fn add_table_fields(text: &mut Text, table: &Grid, line: usize) -> Result<(), AllocError>
+    requires line { line < length table.now }
+    requires range { AllInRange (slice_index_or table.now line []) }
+    ensures { OnOk result (text.new ≡ text.old ++ numbers_text (slice_index_or table.now line [])) }
+{
+    table.kept();
+    let width = table.width();
+    let mut room = [0i128; PIECE];
+    let mut done = 0;
+    while done < width {
+        let count = PIECE.min(width - done);
+        let piece = &mut room[..count];
+        table.put_part(line, done, piece);
+        add_piece(text, piece)?;
+        done += count;
     }
     Ok(())
 }

@@ -1,12 +1,11 @@
 // The texts of a table's lines, which are added again where another table has the same line.
-ghost use Rattle.std.specs.Prelude.{◌≡◌, ◌<◌, ◌∷◌, ◌++◌, [], codes, length, map, slice_index_or, IfOk, IsTrue, OnOk};
+ghost use Rattle.std.specs.Prelude.{◌≡◌, ◌<◌, ◌++◌, [], codes, length, map, slice_index_or, IfOk, IsTrue, OnOk};
 ghost use Rattle.std.specs.List.{concat};
-ghost use Rattle.cert_form.specs.CertText.{line};
 ghost use Rattle.cert_form.specs.line_text.specs.Range.{AllInRange};
 ghost use Rattle.cert_text.specs.Written.{line_bytes, lines_of_part, lines_of_parts, lines_of_table, Adds, ArePartsInRange, IsTableInRange};
 
 use crate::WithoutPart;
-use crate::write::{add_choice, add_number_line, add_signed_line, line_room};
+use crate::write::{add_choice, add_number_line, add_signed_line, add_table_line, line_room};
 use cert_form::line_text::wide_num::Text;
 use choices::Grid;
 use std::alloc::{AllocError, Global};
@@ -18,17 +17,18 @@ pub(crate) fn spelled_lines(alloc: Global, table: &Grid) -> Result<Vec<Text>, Al
 {
     let mut lines = Vec::new(alloc);
     for i in 0..table.lines() {
-        lines.push(spelled(alloc, table.line(i))?)?;
+        lines.push(spelled(alloc, table, i)?)?;
     }
     Ok(lines)
 }
 
-fn spelled(alloc: Global, numbers: &[i128]) -> Result<Text, AllocError>
-    requires { AllInRange numbers.now }
-    ensures { IfOk result (λ text. text ≡ line_bytes numbers.now) }
+fn spelled(alloc: Global, table: &Grid, line: usize) -> Result<Text, AllocError>
+    requires line { line < length table.now }
+    requires range { AllInRange (slice_index_or table.now line []) }
+    ensures { IfOk result (λ text. text ≡ line_bytes (slice_index_or table.now line [])) }
 {
-    let mut text = Text::with_capacity(alloc, line_room(numbers))?;
-    add_signed_line(&mut text, b"t", numbers)?;
+    let mut text = Text::with_capacity(alloc, line_room(table, line))?;
+    add_table_line(&mut text, table, line)?;
     Ok(text)
 }
 
@@ -88,7 +88,7 @@ fn add_known_table(
     add_signed_line(text, b"table", &[])?;
     for i in 0..part.table.lines() {
         let same = same_place(part.winner as usize, i);
-        add_known_line(text, part.table.line(i), whole, spelled, same)?;
+        add_known_line(text, &part.table, i, whole, spelled, same)?;
     }
     Ok(())
 }
@@ -108,30 +108,33 @@ fn same_place(winner: usize, line: usize) -> usize {
 /// Adds a line of a table, by its text where it is this line of the other table.
 fn add_known_line(
     text: &mut Text,
-    numbers: &[i128],
+    table: &Grid,
+    line: usize,
     whole: &Grid,
     spelled: &[Text],
     same: usize,
 ) -> Result<(), AllocError>
-    requires range { AllInRange numbers.now }
+    requires line { line < length table.now }
+    requires range { AllInRange (slice_index_or table.now line []) }
     requires spelled { spelled.now ≡ map line_bytes whole.now }
-    ensures { OnOk result (Adds text.old text.new (line (codes "t") numbers.now ∷ [])) }
+    ensures { OnOk result (text.new ≡ text.old ++ line_bytes (slice_index_or table.now line [])) }
 {
-    if is_line(whole, same, numbers) {
+    if is_line(whole, same, table, line) {
         text.add(spelled[same].items())?;
         return Ok(());
     }
-    add_signed_line(text, b"t", numbers)?;
+    add_table_line(text, table, line)?;
     Ok(())
 }
 
-/// Whether the table has this line with these numbers.
-fn is_line(table: &Grid, line: usize, numbers: &[i128]) -> bool
-    ensures inside { IsTrue result → line < length table.now }
-    ensures same { IsTrue result → slice_index_or table.now line [] ≡ numbers.now }
+/// Whether the whole table is seen to have, as its line `same`, a line of another one.
+fn is_line(whole: &Grid, same: usize, table: &Grid, line: usize) -> bool
+    requires { line < length table.now }
+    ensures inside { IsTrue result → same < length whole.now }
+    ensures numbers { IsTrue result → slice_index_or whole.now same [] ≡ slice_index_or table.now line [] }
 {
-    if line >= table.lines() {
+    if same >= whole.lines() {
         return false;
     }
-    table.line(line) == numbers
+    whole.is_line_of(same, table, line)
 }

@@ -1,5 +1,5 @@
 // From a certificate to its text.
-ghost use Rattle.std.specs.Prelude.{◌≡◌, ◌≤◌, ◌<◌, ◌∷◌, ◌++◌, [], codes, length, take, IfOk, OnOk};
+ghost use Rattle.std.specs.Prelude.{◌≡◌, ◌≤◌, ◌<◌, ◌∷◌, ◌++◌, [], codes, length, slice_index_or, take, IfOk, OnOk};
 ghost use Rattle.std.specs.List.{AllByRecursion};
 ghost use Rattle.cert_form.specs.CertText.{as_numbers, choice_line, line};
 ghost use Rattle.cert_form.specs.line_text.specs.Range.{AllInRange};
@@ -8,9 +8,9 @@ ghost use Rattle.cert_form.specs.Lines.{version_lines};
 ghost use Rattle.cert_form.specs.line_text.specs.Numeral.{numbers_text};
 ghost use Rattle.cert_form.specs.Says.{cert_text};
 ghost use Rattle.cert_text.specs.CertValues.{cert_value};
-ghost use Rattle.cert_text.specs.Written.{lines_of_head, lines_of_part, lines_of_parts, lines_of_row, lines_of_rows, lines_of_table, Adds, ArePartsInRange, IsRowInRange, IsTableInRange};
+ghost use Rattle.cert_text.specs.Written.{line_bytes, lines_of_head, lines_of_part, lines_of_parts, lines_of_row, lines_of_rows, lines_of_table, Adds, ArePartsInRange, IsRowInRange, IsTableInRange};
 
-use crate::fields::add_fields;
+use crate::fields::{add_fields, add_table_fields};
 use crate::spelled::{add_parts, add_spelled, spelled_lines};
 use crate::version::has_first_version;
 use crate::{CertRow, Certificate};
@@ -52,19 +52,22 @@ fn room_for(cert: &Certificate) -> usize {
 fn table_room(table: &Grid) -> usize {
     let mut room: usize = 0;
     for i in 0..table.lines() {
-        room = room.saturating_add(line_room(table.line(i)));
+        room = room.saturating_add(line_room(table, i));
     }
     room
 }
 
 // The room of a line whose longest number is the first or the last one.
-pub(crate) fn line_room(line: &[i128]) -> usize {
-    let longest = match line {
-        [] => 0,
-        [only] => number_room(*only),
-        [first, .., last] => number_room(*first).max(number_room(*last)),
-    };
-    line.len().saturating_mul(longest).saturating_add(2)
+pub(crate) fn line_room(table: &Grid, line: usize) -> usize
+    requires { line < length table.now }
+{
+    let width = table.width();
+    if width == 0 {
+        return 2;
+    }
+    let first = number_room(table.entry(line, 0));
+    let last = number_room(table.entry(line, width - 1));
+    width.saturating_mul(first.max(last)).saturating_add(2)
 }
 
 // The room of a number behind a space.
@@ -149,8 +152,20 @@ pub fn add_table(text: &mut Text, word: &[u8], table: &Grid) -> Result<(), Alloc
 {
     add_signed_line(text, word, &[])?;
     for i in 0..table.lines() {
-        add_signed_line(text, b"t", table.line(i))?;
+        add_table_line(text, table, i)?;
     }
+    Ok(())
+}
+
+/// Adds a line of a table. The only error is want of memory.
+pub(crate) fn add_table_line(text: &mut Text, table: &Grid, line: usize) -> Result<(), AllocError>
+    requires line { line < length table.now }
+    requires range { AllInRange (slice_index_or table.now line []) }
+    ensures { OnOk result (text.new ≡ text.old ++ line_bytes (slice_index_or table.now line [])) }
+{
+    text.add(b"t")?;
+    add_table_fields(text, table, line)?;
+    text.push(b'\n')?;
     Ok(())
 }
 

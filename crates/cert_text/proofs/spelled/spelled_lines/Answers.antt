@@ -7,7 +7,7 @@ use Rattle.cert_text.proofs.spelled.spelled_lines.Goals as goal
 pub loop-i-preserved : goal.loop-i-preserved
 loop-i-preserved c =
     spelled-more c.args.table.now c.loop-i.i c.loop-i.lines.items c.push.new.self.items _ (omega (arith, c.lines-i-end.ensures)) c.loop-i.invariant
-    (c.in_ok-spelled.ensures ∙ ap line_bytes c.line.ensures.line) (search rules)
+    c.in_ok-spelled.ensures (search rules)
 
 pub returns : goal.returns
 returns c = c.loop-i.invariant ∙ ap (map line_bytes) (take_all c.loop-i.i c.args.table.now (omega (arith, c.lines-i-end.ensures)))
