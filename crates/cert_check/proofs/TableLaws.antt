@@ -1,9 +1,10 @@
 -- The rules of a table, from those of its lines.
 use Rattle.std.specs.Prelude.{◌≡◌, ℕ, zero, suc, ◌+◌, ◌*◌, ◌^◌, ◌<◌, ◌≤◌, List, [], ◌∷◌, length, slice_index_or, ℤ, pos, ◌≤ℤ◌, ◌<ℤ◌, unsigned_abs, refl, Some}
-use Rattle.std.specs.Prelude.{None}
+use Rattle.std.specs.Prelude.{None, replicate, take}
 use Rattle.std.proofs.Common.{inl, inr, sym, ◌∙◌, ap, subst, arith}
 use Rattle.std.proofs.lemmas.Bool.{cases_lt}
 use Rattle.std.proofs.lemmas.Int.{ints}
+use Rattle.std.proofs.lemmas.List.{length-replicate, length-take-le}
 use Rattle.std.proofs.Math.Nat.{mul-le-mul_left}
 use Rattle.cert_laws.specs.auction_model.specs.Table.{entry_at}
 use Rattle.cert_laws.specs.cert_form.specs.CertText.{IsTable, AreTableLines, AllInRange}
@@ -11,6 +12,7 @@ use Rattle.cert_laws.specs.Tests.{bidders_of, states, full}
 use Rattle.cert_laws.proofs.Places.{first_rule}
 use Rattle.cert_check.specs.Faults.{FirstFault}
 use Rattle.cert_laws.specs.wide_num.specs.Sums.{nth}
+use Rattle.cert_text.specs.choices.specs.Lines.{width_of}
 use Rattle.cert_check.specs.Places.{IsFirstFailing}
 use Rattle.cert_check.specs.LineTests.{offered, worth_of, KeepsZero, KeepsSome, ObeysIn, RulesAt, TestsTable}
 use Rattle.cert_check.specs.declared.tables.offers.Offers.{Offers}
@@ -24,6 +26,13 @@ lines-width s (t ∷ table) are (suc k) lt = lines-width s table are.2 k (omega 
 -- each line has a number for each state
 pub table-width : (b s : ℕ) (table : List (List ℤ)) → IsTable b s table → (k : ℕ) → k ≤ b → length (slice_index_or table k []) ≡ s
 table-width b s table is k le = lines-width s table is.1 k (omega (arith, is.0, le))
+
+-- the first numbers of a room, one for each state, are as many as those of a line
+pub room-front : (b s : ℕ) (table : List (List ℤ)) → IsTable b s table → (places size : ℕ) → places ≡ s → places ≤ size
+    → length (take places (replicate size (pos 0))) ≡ width_of table
+room-front b s table is places size same within =
+    length-take-le places (replicate size (pos 0)) (omega (arith, within, length-replicate size (pos 0)))
+    ∙ same ∙ sym (table-width b s table is 0 (omega arith))
 
 -- each entry of a line is in the range
 pub in-range : (t : List ℤ) → AllInRange t → (s : ℕ) → unsigned_abs (nth t s) < 2 ^ 120

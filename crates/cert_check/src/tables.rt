@@ -26,12 +26,15 @@ use crate::tables::earlier::earlier_fault;
 use crate::tables::gains::put_gains;
 use crate::tables::grids::table_test;
 use crate::tables::offers::Offers;
-use cert_text::cert_form::limits::MOST_BIDDERS;
+use cert_text::cert_form::limits::{MOST_BIDDERS, MOST_STATES};
 use cert_text::choices::Grid;
 use cert_text::choices::bid_book::BidBook;
 
 /// Room for a number of each bidder.
 pub const BIDDER_ROOM: usize = MOST_BIDDERS as usize;
+
+/// Room for a number of each state.
+pub(crate) const STATE_ROOM: usize = MOST_STATES as usize;
 
 /// The first place at which the table of net amounts doesn't show the choice to be the winning one, once it is known, fits and
 /// has the value. With `S` states and `B` bidders, `k * S + s` is the place of line `k` at place `s` of the supply, `(B + 1) * S`

@@ -12,6 +12,8 @@ ghost use Rattle.cert_check.specs.Places.{IsFirstFailing};
 ghost use Rattle.cert_check.specs.EarlierBids.{StaysBelow, AllStayBelow, NoneEarlier, IsLeft};
 
 use crate::judging::number;
+use crate::tables::STATE_ROOM;
+use crate::tables::grids::put_line;
 use cert_text::choices::bid_book::BidBook;
 use cert_text::choices::{Grid, place_after, worth};
 
@@ -139,6 +141,21 @@ pub fn none_earlier(book: &BidBook, choice: &[u16], value: i128, line: &[i128], 
     all_stay_below(book, choice, j, line, left.rest, left.bound)
 }
 
+/// The same of a line of a whole table.
+fn none_earlier_in(book: &BidBook, choice: &[u16], value: i128, table: &Grid, j: u16) -> bool
+    requires allowed { IsTrue ((market_of book.now).allowed choice.now) }
+    requires table { IsTable (bidders_of book.now) (states book.now) table.now }
+    requires value { unsigned_abs value < 2 ^ 120 }
+    requires bidder { (0 < j) × (j ≤ bidders_of book.now) }
+    ensures { IsTrue result ↔ NoneEarlier book.now (cert_headed value choice.now table.now) j }
+{
+    let states = book.supply().states();
+    let mut room = [0i128; STATE_ROOM];
+    let line = &mut room[..states];
+    put_line(table, j as usize, line);
+    none_earlier(book, choice, value, line, j)
+}
+
 /// The first bidder that has a bid, before its number in the choice, that reaches the value with the bids of the choice before
 /// it and the table's entry for what is left then.
 pub fn earlier_fault(book: &BidBook, choice: &[u16], value: i128, table: &Grid) -> Option<u64>
@@ -149,7 +166,7 @@ pub fn earlier_fault(book: &BidBook, choice: &[u16], value: i128, table: &Grid) 
 {
     for k in 0..book.bidders() {
         let j = k as u16 + 1;
-        if !none_earlier(book, choice, value, table.line(k + 1), j) {
+        if !none_earlier_in(book, choice, value, table, j) {
             return Some(j as u64);
         }
     }

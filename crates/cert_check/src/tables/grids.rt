@@ -5,18 +5,20 @@ ghost use Rattle.cert_laws.specs.Tests.{bidders_of, states};
 ghost use Rattle.cert_check.specs.Faults.{FirstFault};
 ghost use Rattle.cert_check.specs.Places.{IsFirstFailing};
 ghost use Rattle.cert_check.specs.LineTests.{IsWhole, ObeysIn, RulesAt, TestsTable};
+ghost use Rattle.cert_text.specs.choices.specs.Lines.{width_of};
 
+use crate::tables::STATE_ROOM;
 use crate::tables::lines::{last_line_fault, two_lines_fault};
 use crate::tables::offers::Offers;
 use cert_text::choices::Grid;
 
-/// Whether two tables have the same line.
+/// Whether two tables are seen to have the same line.
 fn share_line(table: &Grid, other: &Grid, k: usize) -> bool
     requires line { k < length table.now }
     requires other { k < length other.now }
     ensures { IsTrue result → slice_index_or table.now k [] ≡ slice_index_or other.now k [] }
 {
-    table.line(k) == other.line(k)
+    table.is_line_of(k, other, k)
 }
 
 /// Whether line `k` of a table without a bidder and the line below it are those of the table of all bids, and their bids are the
@@ -49,9 +51,47 @@ fn rule_fault(offers: &Offers, whole: &Grid, table: &Grid, k: usize) -> usize
         return offers.book.supply().states();
     }
     if k == offers.book.bidders() {
-        return last_line_fault(offers, table.line(k));
+        return bottom_fault(offers, table);
     }
-    two_lines_fault(offers, k as u16, table.line(k), table.line(k + 1))
+    inner_fault(offers, table, k as u16)
+}
+
+/// The first place at which a line that isn't the last breaks a rule, and the number of states where there is none.
+fn inner_fault(offers: &Offers, table: &Grid, k: u16) -> usize
+    requires table { IsTable (bidders_of offers.now.book.now) (states offers.now.book.now) table.now }
+    requires line { k < bidders_of offers.now.book.now }
+    ensures { FirstFault (ObeysIn offers.now table.now k) (states offers.now.book.now) result }
+{
+    let states = offers.book.supply().states();
+    let mut room = [0i128; STATE_ROOM];
+    let mut room_below = [0i128; STATE_ROOM];
+    let line = &mut room[..states];
+    let below = &mut room_below[..states];
+    put_line(table, k as usize, line);
+    put_line(table, k as usize + 1, below);
+    two_lines_fault(offers, k, line, below)
+}
+
+/// The same of the last line.
+fn bottom_fault(offers: &Offers, table: &Grid) -> usize
+    requires { IsTable (bidders_of offers.now.book.now) (states offers.now.book.now) table.now }
+    ensures { FirstFault (ObeysIn offers.now table.now (bidders_of offers.now.book.now)) (states offers.now.book.now) result }
+{
+    let states = offers.book.supply().states();
+    let mut room = [0i128; STATE_ROOM];
+    let line = &mut room[..states];
+    put_line(table, offers.book.bidders(), line);
+    last_line_fault(offers, line)
+}
+
+/// Copies a whole line of a table.
+pub(crate) fn put_line(table: &Grid, k: usize, line: &mut [i128])
+    requires line { k < length table.now }
+    requires places { length line.old ≡ width_of table.now }
+    ensures { line.new ≡ slice_index_or table.now k [] }
+{
+    table.kept();
+    table.put_part(k, 0, line);
 }
 
 /// The first number of a line and a place in it at which a table breaks a rule.

@@ -1,11 +1,9 @@
-use Rattle.std.proofs.Common.{◌≡◌, ◌+◌, true, false, arith, rules, refl, sym}
+use Rattle.std.proofs.Common.{◌≡◌, ◌+◌, true, false, arith, rules}
 use Rattle.std.proofs.lemmas.Int.{to_z-of_z}
-use Rattle.cert_laws.specs.Tests.{bidders_of, states}
 use Rattle.cert_check.specs.EarlierBids.{NoneEarlier}
 use Rattle.cert_check.specs.Fields.{cert_headed}
 use Rattle.cert_check.proofs.EarlierLaws.{none-outside}
 use Rattle.cert_check.proofs.PlaceTests.{before-next, fails-here, holds-everywhere}
-use Rattle.cert_check.proofs.TableLaws.{table-small}
 use mir.Val.{SFits}
 use mir.Syntax.{w128}
 use Rattle.cert_check.proofs.tables.earlier.earlier_fault.Goals as goal
@@ -16,27 +14,20 @@ loop-k-init c =
     rw (to_z-of_z w128 c.args.value value_fits) (λ place low. none-outside c.args.book.now (cert_headed c.args.value c.args.choice.now c.args.table.now) place
     (λ some le. omega (arith, low, some)))
 
-pub none_earlier-requires-clause-sizes : goal.none_earlier-requires-clause-sizes
-none_earlier-requires-clause-sizes c = λ s.
-    let small = table-small (bidders_of c.args.book.now) (states c.args.book.now) c.args.table.now c.requires.table (c.loop-k.k + 1) s in
-    rw c.line.ensures.line small
-
 pub loop-k-preserved : goal.loop-k-preserved
 loop-k-preserved c =
     let value_fits : SFits w128 c.args.value = search rules in
-    let passed : c.none_earlier.result ≡ true = search rules in
+    let passed : c.none_earlier_in.result ≡ true = search rules in
     rw (to_z-of_z w128 c.args.value value_fits) (before-next (NoneEarlier c.args.book.now (cert_headed c.args.value c.args.choice.now c.args.table.now))
-    (c.loop-k.k + 1) c.none_earlier.result (rw (to_z-of_z w128 c.args.value value_fits) at c.loop-k.invariant)
-    (c.none_earlier.ensures (cert_headed c.args.value c.args.choice.now c.args.table.now) refl (sym (to_z-of_z w128 c.args.value value_fits))
-    (sym c.line.ensures.line)) passed)
+    (c.loop-k.k + 1) c.none_earlier_in.result (rw (to_z-of_z w128 c.args.value value_fits) at c.loop-k.invariant)
+    (rw (to_z-of_z w128 c.args.value value_fits) at c.none_earlier_in.ensures) passed)
 
-pub returns-then-not-none_earlier : goal.returns-then-not-none_earlier
-returns-then-not-none_earlier c =
+pub returns-then-not-none_earlier_in : goal.returns-then-not-none_earlier_in
+returns-then-not-none_earlier_in c =
     let value_fits : SFits w128 c.args.value = search rules in
-    let failed : c.none_earlier.result ≡ false = search rules in
-    fails-here (NoneEarlier c.args.book.now (cert_headed c.args.value c.args.choice.now c.args.table.now)) (c.loop-k.k + 1) c.none_earlier.result
-    (rw (to_z-of_z w128 c.args.value value_fits) at c.loop-k.invariant) (c.none_earlier.ensures
-    (cert_headed c.args.value c.args.choice.now c.args.table.now) refl (sym (to_z-of_z w128 c.args.value value_fits)) (sym c.line.ensures.line)) failed
+    let failed : c.none_earlier_in.result ≡ false = search rules in
+    fails-here (NoneEarlier c.args.book.now (cert_headed c.args.value c.args.choice.now c.args.table.now)) (c.loop-k.k + 1) c.none_earlier_in.result
+    (rw (to_z-of_z w128 c.args.value value_fits) at c.loop-k.invariant) (rw (to_z-of_z w128 c.args.value value_fits) at c.none_earlier_in.ensures) failed
 
 pub returns : goal.returns
 returns c =
