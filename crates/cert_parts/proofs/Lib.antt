@@ -1,0 +1,5 @@
+mod Joined
+mod Waiting
+mod FieldSteps
+mod LinePieces
+mod WholeCert

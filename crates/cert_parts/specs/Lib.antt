@@ -1,0 +1,3 @@
+pub mod TextParts
+pub mod Writes
+pub mod CertLines
