@@ -1,10 +1,10 @@
 // Texts that are appended.
 use crate::FileKind;
-use log_file::award_file::bid_book::line_text::wide_num::Text;
+use cert_parts::LongText;
 
 /// A text that is appended to the command's file of a kind.
 #[derive(Drop)]
 pub struct FileText {
     pub kind: FileKind,
-    pub text: Text,
+    pub text: LongText,
 }

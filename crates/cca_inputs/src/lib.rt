@@ -13,6 +13,7 @@ mod stops;
 mod words;
 
 pub use cca_base;
+pub use cert_parts;
 pub use edits_file;
 pub use file_text::FileText;
 pub use input::{Input, read_input};

@@ -7,8 +7,8 @@ ghost use Rattle.cca_run.specs.Ends.{AppendEnds, OnlyAppends};
 ghost use Rattle.std.specs.Prelude.{[], ◌∷◌};
 
 use crate::FileKind;
-use cca_work::cca_base::{Files, write_file};
-use cca_work::{Command, FileText};
+use cca_work::cca_base::Files;
+use cca_work::{Command, FileText, write_long};
 
 // Appends one text to the command's file of its kind, which the error names.
 fn append_text<F: Files>(
@@ -24,7 +24,7 @@ fn append_text<F: Files>(
     ensures known { KnowsFiles (F.folder files.new) (command_value command.entry) }
 {
     let name = command.output(text.kind).unwrap();
-    match write_file(files, name, text.text.items()) {
+    match write_long(files, name, &text.text) {
         Ok(()) => Ok(()),
         Err(_) => Err(text.kind),
     }

@@ -9,6 +9,7 @@ ghost use Rattle.cca_work.specs.Works.{HasBook, IsWork};
 use crate::work::{Stop, Work};
 use big_auction::clock_stage::award_file::Award;
 use big_auction::log_file::Events;
+use cca_inputs::cert_parts::LongText;
 use cca_inputs::place_cert::cert_text::cert_form::limits::LimitKind;
 use cca_inputs::weights_file::bid_book::{BidBook, write_book};
 use cca_inputs::{FileKind, FileText, Status};
@@ -46,7 +47,8 @@ pub fn logged_book(alloc: Global, award: Award, log: &Events) -> Result<BidBook,
 fn with_book(alloc: Global, records: u64, replies: Text, book: &BidBook) -> Result<Work, Stop>
     ensures { IsWork (RepliesGive records replies (Ok book.now)) (FileKind.Book ∷ []) result }
 {
-    let text = write_book(alloc, book)?;
+    let bytes = write_book(alloc, book)?;
+    let text = LongText::from_text(alloc, bytes)?;
     let mut appended = Vec::new(alloc);
     appended.push(FileText {
         kind: FileKind::Book,

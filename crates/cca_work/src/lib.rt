@@ -16,6 +16,7 @@ mod work;
 pub use big_auction::clock_stage::award_file::auction_rules::{bidders_of_book, bids_of_book};
 pub use big_auction::clock_stage::award_file::book_of_award;
 pub use big_auction::log_file::{one_reading, packages_of_log};
+pub use cca_inputs::cert_parts::write_long;
 pub use cca_inputs::edits_file::one_edits;
 pub use cca_inputs::place_cert::cert_text::cert_form::{one_cert, text_of_cert};
 pub use cca_inputs::place_cert::{one_place_cert, short_place_text, text_of_place_cert};

@@ -7,6 +7,7 @@ ghost use Rattle.cca_work.specs.Works.{IsWork};
 
 use crate::work::{Stop, Work};
 use big_auction::{Made, make};
+use cca_inputs::cert_parts::LongText;
 use cca_inputs::weights_file::bid_book::line_text::add_decimal;
 use cca_inputs::{FileKind, FileText};
 use outcome::print_form::line_text::wide_num::Text;
@@ -34,14 +35,16 @@ fn summary(alloc: Global, number: u32, lines: u64) -> Result<Text, AllocError>
 fn texts_of(alloc: Global, award: Text, log: Text) -> Result<Vec<FileText>, AllocError>
     ensures { IfOk result (λ texts. texts.items ≡ award_file award ∷ log_file log ∷ []) }
 {
+    let award_text = LongText::from_text(alloc, award)?;
+    let log_text = LongText::from_text(alloc, log)?;
     let mut texts = Vec::new(alloc);
     texts.push(FileText {
         kind: FileKind::Award,
-        text: award,
+        text: award_text,
     })?;
     texts.push(FileText {
         kind: FileKind::Log,
-        text: log,
+        text: log_text,
     })?;
     Ok(texts)
 }

@@ -14,6 +14,7 @@ ghost use Rattle.cca_work.specs.Works.{IsWork};
 use crate::price_text::rounds_part;
 use crate::pricing::{PriceTexts, with_cert};
 use crate::work::{Stop, Work};
+use cca_inputs::cert_parts::LongText;
 use cca_inputs::place_cert::{PlaceCertificate, write_places};
 use cca_inputs::slot_places::Slots;
 use cca_inputs::{CertKind, Status};
@@ -62,7 +63,8 @@ fn slot_texts(
 {
     let cert = &priced.cert;
     let printed = placed_lines(alloc, slots, cert, priced.turns.items(), rounds)?;
-    let cert = write_places(alloc, cert)?;
+    let text = write_places(alloc, cert)?;
+    let cert = LongText::from_text(alloc, text)?;
     Ok(PriceTexts { printed, cert })
 }
 

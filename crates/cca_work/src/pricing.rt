@@ -17,8 +17,8 @@ ghost use Rattle.cca_work.specs.Works.{IsWork};
 
 use crate::price_text::price_text;
 use crate::work::{Stop, Work};
+use cca_inputs::cert_parts::{LongText, cert_parts};
 use cca_inputs::place_cert::cert_text::cert_form::limits::LimitKind;
-use cca_inputs::place_cert::cert_text::write_cert;
 use cca_inputs::weights_file::bid_book::BidBook;
 use cca_inputs::{FileKind, FileText, PriceForm};
 use outcome::core_price::PriceStop;
@@ -30,7 +30,7 @@ use std::alloc::{AllocError, Global};
 #[derive(Drop)]
 pub struct PriceTexts {
     pub printed: Text,
-    pub cert: Text,
+    pub cert: LongText,
 }
 
 /// A weight of 1 for each bidder.
@@ -56,7 +56,7 @@ fn priced_texts(
 {
     let cert = &priced.cert;
     let printed = price_text(alloc, book, cert, priced.turns.items(), form)?;
-    let cert = write_cert(alloc, cert)?;
+    let cert = cert_parts(alloc, cert)?;
     Ok(PriceTexts { printed, cert })
 }
 
