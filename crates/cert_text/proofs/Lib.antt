@@ -8,4 +8,4 @@ mod StageSteps
 mod WholeText
 pub mod Written
 mod PartsFound
-mod SpelledLaws
+pub mod SpelledLaws

@@ -33,4 +33,6 @@ pub use read::parts::take_winner;
 pub use read::rows::{PairRead, take_pair};
 pub use read::stages::{Opening, take_closing, take_opening};
 pub use read::tables::{TableRead, take_named};
-pub use write::{add_choice, add_number_line, add_signed_line, add_table};
+pub use write::{
+    add_choice, add_head, add_number_line, add_rows, add_signed_line, add_table, add_version,
+};

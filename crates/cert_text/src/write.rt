@@ -80,8 +80,8 @@ fn number_room(number: i128) -> usize {
     1 + sign + digits
 }
 
-// The version, and in the second one the most bidders and states.
-fn add_version(text: &mut Text, bidders: usize, states: usize) -> Result<(), AllocError>
+/// Adds the version, and in the second one the most bidders and states. The only error is want of memory.
+pub fn add_version(text: &mut Text, bidders: usize, states: usize) -> Result<(), AllocError>
     ensures { OnOk result (Adds text.old text.new (version_lines bidders states)) }
 {
     if has_first_version(bidders, states) {
@@ -97,8 +97,8 @@ fn add_version(text: &mut Text, bidders: usize, states: usize) -> Result<(), All
     Ok(())
 }
 
-// The denominator, the value and the winning choice.
-fn add_head(text: &mut Text, cert: &Certificate) -> Result<(), AllocError>
+/// Adds the denominator, the value and the winning choice. The only error is want of memory.
+pub fn add_head(text: &mut Text, cert: &Certificate) -> Result<(), AllocError>
     requires { InRange cert.now.den × InRange cert.now.value }
     ensures { OnOk result (Adds text.old text.new (lines_of_head cert.now)) }
 {
@@ -122,8 +122,8 @@ fn add_tables(alloc: Global, text: &mut Text, cert: &Certificate) -> Result<(), 
     Ok(())
 }
 
-// How many rows there are, and the rows.
-fn add_rows(text: &mut Text, rows: &[CertRow]) -> Result<(), AllocError>
+/// Adds how many rows there are, and the rows. The only error is want of memory.
+pub fn add_rows(text: &mut Text, rows: &[CertRow]) -> Result<(), AllocError>
     requires few { length rows.now ≤ 10 }
     requires range { AllByRecursion IsRowInRange rows.now }
     ensures { OnOk result (Adds text.old text.new (lines_of_rows rows.now)) }
