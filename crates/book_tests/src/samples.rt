@@ -1,5 +1,7 @@
 // What several tests share.
 
+use slot_places::choices::LineNumbers;
+
 /// The example of Day and Cramton (2012): one lot of each of two categories, and five bidders; b1 and b2 win.
 pub(crate) const DAY_CRAMTON: &str =
     "book 1\nsupply 1 1\nreserve 0 0\nbidder b1\nbid 1 0 28\nbidder b2\nbid 0 1 20\n\
@@ -8,3 +10,23 @@ pub(crate) const DAY_CRAMTON: &str =
 /// Edits of this book; the last is of a bidder that it doesn't have.
 pub(crate) const EDITS: &str =
     "edits 1\nraise b3 1 1 50\nadd b4 0 1 23\ndrop b1 1 0\nraise b3 1 1 50\nadd north 1 0 5\nend\n";
+
+/// Whether a line of a grid has these numbers.
+pub fn is_line(line: LineNumbers<'_>, numbers: &[i128]) -> bool {
+    match line {
+        LineNumbers::Short(short) => are_same(short, numbers),
+        LineNumbers::Wide(wide) => wide == numbers,
+    }
+}
+
+fn are_same(short: &[u32], numbers: &[i128]) -> bool {
+    if short.len() != numbers.len() {
+        return false;
+    }
+    for i in 0..short.len() {
+        if short[i] as i128 != numbers[i] {
+            return false;
+        }
+    }
+    true
+}

@@ -2,6 +2,7 @@ ghost use Rattle.std.specs.Prelude.{IsTrue, pos};
 ghost use Rattle.slot_places.specs.choices.specs.Lowering.{CanLower};
 ghost use Rattle.slot_places.specs.Board.{market_of};
 
+use crate::samples::is_line;
 use slot_places::choices::{Choice, Chooser, Numbers};
 use slot_places::{LimitKind, SlotChooser, SlotStop, Slots, place_win, read_slots};
 use std::alloc::{AllocError, Global};
@@ -89,7 +90,7 @@ fn without_is(
     let found = chooser.best_without(alloc, j)?;
     assert!(rt; found.choice.numbers() == numbers);
     assert_eq!(rt; found.sum, sum);
-    assert!(rt; found.table.line(0) == table);
+    assert!(rt; is_line(found.table.line(0), table));
     Ok(())
 }
 
@@ -255,7 +256,7 @@ fn lowered_is(
     let found = chooser.best_lowered(alloc, 1, surplus)?;
     assert!(rt; found.choice.numbers() == numbers);
     assert_eq!(rt; found.sum, sum);
-    assert!(rt; found.table.line(0) == table);
+    assert!(rt; is_line(found.table.line(0), table));
     Ok(())
 }
 

@@ -3,3 +3,4 @@ mod Waiting
 mod FieldSteps
 mod LinePieces
 mod WholeCert
+mod OnlyPart

@@ -65,7 +65,7 @@ pub(crate) fn append_front<F: Files>(
 }
 
 /// Appends bytes.
-fn append<F: Files>(files: &mut F, name: &str, bytes: &[u8]) -> Result<(), CutShort>
+pub(crate) fn append<F: Files>(files: &mut F, name: &str, bytes: &[u8]) -> Result<(), CutShort>
     requires { IsTrue ((F.folder files.old).knows name.now) }
     ensures whole { OnOk result (AddsAll name.now (F.folder files.old) (F.folder files.new) bytes.now) }
     ensures part { OnErr result (AddsSome name.now (F.folder files.old) (F.folder files.new) bytes.now) }

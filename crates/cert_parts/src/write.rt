@@ -1,5 +1,5 @@
 // Texts in parts, to a file.
-ghost use Rattle.std.specs.Prelude.{◌≡◌, ◌≤◌, ◌<◌, ℕ, [], length, take, IsOk, IsTrue, OnErr, OnOk};
+ghost use Rattle.std.specs.Prelude.{◌≡◌, ◌≤◌, ◌<◌, ℕ, [], length, take, IfSome, IsOk, IsTrue, OnErr, OnOk};
 ghost use Rattle.cca_base.specs.Faults.{Rose};
 ghost use Rattle.cca_base.specs.Files.{Adds, AddsPrefix, CountsOnly};
 ghost use Rattle.cca_base.specs.Sink.{HasRoom};
@@ -8,9 +8,10 @@ ghost use Rattle.cert_parts.specs.Writes.{AddsAll, AddsSome, TakesText};
 
 use crate::LongText;
 use crate::lines::add_table;
-use crate::outbox::{add_bytes, append_front};
+use crate::outbox::{add_bytes, append, append_front};
 use crate::part::Part;
 use cca_base::Files;
+use cert_text::cert_form::line_text::wide_num::Text;
 
 /// A text isn't written whole, since an append failed.
 #[derive(Clone, Copy, Debug, PartialEq, Eq)]
@@ -49,8 +50,34 @@ fn write_whole<F: Files>(files: &mut F, name: &str, text: &LongText) -> Result<(
     ensures whole { OnOk result (AddsAll name.now (F.folder files.old) (F.folder files.new) text.now) }
     ensures part { OnErr result (AddsSome name.now (F.folder files.old) (F.folder files.new) text.now) }
 {
+    // A room costs a short text more than all else.
+    match only_bytes(text.parts()) {
+        Some(bytes) => append(files, name, bytes.items()),
+        None => write_with_room(files, name, text.parts()),
+    }
+}
+
+/// The bytes where these are all parts.
+fn only_bytes(parts: &[Part]) -> Option<&Text>
+    ensures { IfSome result (λ bytes. bytes.now ≡ all_bytes parts.now) }
+{
+    if parts.len() != 1 {
+        return None;
+    }
+    match &parts[0] {
+        Part::Bytes(text) => Some(text),
+        Part::Lines(_) => None,
+    }
+}
+
+fn write_with_room<F: Files>(files: &mut F, name: &str, parts: &[Part]) -> Result<(), CutShort>
+    requires known { IsTrue ((F.folder files.old).knows name.now) }
+    requires writable { AreWritable parts.now }
+    ensures whole { OnOk result (AddsAll name.now (F.folder files.old) (F.folder files.new) (all_bytes parts.now)) }
+    ensures part { OnErr result (AddsSome name.now (F.folder files.old) (F.folder files.new) (all_bytes parts.now)) }
+{
     let mut room = [0u8; ROOM];
-    write_through(files, name, &mut room, text.parts())
+    write_through(files, name, &mut room, parts)
 }
 
 /// The same of the parts of a text, with a room.

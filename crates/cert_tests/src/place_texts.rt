@@ -1,4 +1,4 @@
-use crate::samples::{PLACE_CERT, edited};
+use crate::samples::{PLACE_CERT, edited, is_line};
 use place_price::place_check::place_cert::{
     CertStop, PlaceCertificate, PlaceRow, PlaceWithout, read_places, write_places,
 };
@@ -38,7 +38,7 @@ fn part_is(rt: &impl Abort, part: &PlaceWithout, winner: u16, entries: &[i128]) 
     assert!(rt; part.order.items() == [2, 3, 1].as_slice());
     assert_eq!(rt; part.table.lines(), 1);
     if part.table.lines() > 0 {
-        assert!(rt; part.table.line(0) == entries);
+        assert!(rt; is_line(part.table.line(0), entries));
     }
 }
 
