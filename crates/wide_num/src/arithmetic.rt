@@ -4,6 +4,12 @@ ghost use Rattle.wide_num.specs.Range.{Divides, InRange, IsExact};
 
 use crate::{EDGE, Op, Wide};
 
+// The least size that doesn't fit 64 bits without a sign.
+const SHORT: u128 = 1 << 64;
+
+// The least size that doesn't fit 64 bits with a sign.
+const SIGNED_SHORT: u128 = 1 << 63;
+
 // The exact result where it is in the range.
 fn in_range(op: Op, left: i128, right: i128, exact: i128) -> Result<i128, Wide>
     ensures { IsExact op left right exact result }
@@ -71,6 +77,23 @@ fn euclid(a: u128, b: u128) -> u128
     let mut x = a;
     let mut y = b;
     while y != 0 {
+        if x < SHORT && y < SHORT {
+            return short_euclid(x as u64, y as u64) as u128;
+        }
+        let rest = x % y;
+        x = y;
+        y = rest;
+    }
+    x
+}
+
+// Euclid's algorithm on numbers of 64 bits, whose division takes far fewer cycles.
+fn short_euclid(a: u64, b: u64) -> u64
+    ensures { IsGcd a b result }
+{
+    let mut x = a;
+    let mut y = b;
+    while y != 0 {
         let rest = x % y;
         x = y;
         y = rest;
@@ -81,6 +104,20 @@ fn euclid(a: u128, b: u128) -> u128
 /// The quotient `a / b` of a number and one of its divisors.
 pub fn div_exact(a: i128, b: i128) -> i128
     requires range { InRange a }
+    requires nonzero { b ≢ pos 0 }
+    requires divides { Divides b a }
+    ensures { b *ℤ result ≡ a }
+{
+    if a.unsigned_abs() < SIGNED_SHORT && b.unsigned_abs() < SIGNED_SHORT {
+        short_quotient(a as i64, b as i64) as i128
+    } else {
+        a / b
+    }
+}
+
+// The quotient of a number of 64 bits and one of its divisors.
+fn short_quotient(a: i64, b: i64) -> i64
+    requires range { unsigned_abs a < 2 ^ 63 }
     requires nonzero { b ≢ pos 0 }
     requires divides { Divides b a }
     ensures { b *ℤ result ≡ a }
