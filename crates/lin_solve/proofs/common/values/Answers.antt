@@ -55,3 +55,15 @@ loop-pivot-preserved c =
           (record { far = c.quotient-far.result; near = c.quotient-near.result }) pushed c.loop-pivot.invariant.long
           (simp to_z-of_z at c.loop-pivot.invariant.values) (simp to_z-of_z at c.quotient-far.ensures) (simp to_z-of_z at c.quotient-near.ensures);
     })
+
+pub quotient-far-requires-clause-apart : goal.quotient-far-requires-clause-apart
+quotient-far-requires-clause-apart c = search rules
+
+pub quotient-near-requires-clause-apart : goal.quotient-near-requires-clause-apart
+quotient-near-requires-clause-apart c = search rules
+
+pub returns-clause-long : goal.returns-clause-long
+returns-clause-long c = search rules
+
+pub returns-clause-values : goal.returns-clause-values
+returns-clause-values c = search rules

@@ -20,3 +20,6 @@ loop-i-preserved c =
       is = grown (λ (k : ℕ) (y : ℤ). y ≡ c.args.s *ℤ nth c.args.v.now k -ℤ c.args.t *ℤ nth c.args.w.now k) c.loop-i.out c.push.new.self
           c.minus_products.result c.loop-i.i pushed c.loop-i.invariant.long (simp to_z-of_z at c.loop-i.invariant.is) here;
     })
+
+pub minus_products-requires : goal.minus_products-requires
+minus_products-requires c = search rules

@@ -37,3 +37,12 @@ returns-clause-small c = λ limit edge w.
     (small_answer c.args.lines.now c.args.fars.now c.args.nears.now c.in_ok-pivots.pivots.items c.requires.system c.requires.only c.in_ok-pivots.ensures.long
     c.in_ok-pivots.ensures.pivots
     c.common_den-den.result c.in_ok-values.values cd lv av limit edge w)
+
+pub all_pivots-requires-clause-system : goal.all_pivots-requires-clause-system
+all_pivots-requires-clause-system c = search rules
+
+pub all_pivots-requires-clause-only : goal.all_pivots-requires-clause-only
+all_pivots-requires-clause-only c = search rules
+
+pub values-requires-clause-den : goal.values-requires-clause-den
+values-requires-clause-den c = search rules
