@@ -1,6 +1,6 @@
 -- The fields of a line, from the last to the first.
-use Rattle.std.proofs.Common.{◌≡◌, ℕ, zero, suc, ◌+◌, ◌<◌, ◌^◌, ℤ, pos, List, [], ◌∷◌, ◌++◌, length, get_or, drop, take, map, sym, ap, ◌∙◌, arith}
-use Rattle.std.proofs.lemmas.List.{at_drop_more, drop-map, take-map}
+use Rattle.std.proofs.Common.{◌≡◌, ℕ, zero, suc, ◌+◌, ◌<◌, ◌^◌, ℤ, pos, List, [], ◌∷◌, ◌++◌, length, get_or, drop, map, sym, ap, ◌∙◌, arith}
+use Rattle.std.proofs.lemmas.List.{at_drop_more}
 use Rattle.std.specs.Fmt.{decimal}
 use Rattle.cert_text.specs.cert_form.specs.wide_num.specs.Range.{InRange}
 use Rattle.cert_text.specs.line_text.specs.Numeral.{numeral, numbers_text, signed_numeral}
@@ -30,7 +30,3 @@ pub range-at : (ns : List ℤ) (i : ℕ) → AllInRange ns → i < length ns →
 range-at [] i all inside = absurd (omega arith)
 range-at (n ∷ ns) zero all inside = all.0
 range-at (n ∷ ns) (suc i) all inside = range-at ns i all.1 (omega arith)
-
--- a part of natural numbers is that part of the whole numbers
-pub naturals-part : (n from : ℕ) (ns : List ℕ) → map (λ x. pos x) (take n (drop from ns)) ≡ take n (drop from (map (λ x. pos x) ns))
-naturals-part n from ns = sym (take-map (λ x. pos x) n (drop from ns)) ∙ ap (λ (l : List ℤ). take n l) (sym (drop-map (λ x. pos x) from ns))

@@ -2,15 +2,13 @@
 use Rattle.std.proofs.Common.{◌≡◌, ℕ, suc, ◌+◌, ◌-◌, ◌≤◌, ◌<◌, Option, Some, None, List, [], ◌∷◌, ◌++◌, length, take, refl, sym, ap, subst, ◌∙◌, arith}
 use Rattle.std.proofs.Common.{IsTrue, append_assoc, length-append}
 use Rattle.std.proofs.lemmas.List.{take_all, take-append-le}
-use Rattle.std.specs.Prelude.{Result, Ok, Err, IfSome, IsOk, OnOk, OnErr}
+use Rattle.std.specs.Prelude.{Result, Ok, Err, IsOk, OnOk, OnErr}
 use Rattle.std.specs.Option.{option_map}
 use Rattle.cca_base.specs.Faults.{Rose}
 use Rattle.cca_base.specs.Files.{Adds, AddsPrefix, Becomes, CountsOnly, Folder, added}
 use Rattle.cca_base.specs.Sink.{HasRoom}
-use Rattle.cca_base.specs.declared.write.WriteStop.{WriteStop}
-use Rattle.cca_base.specs.declared.write.WriteStop.TheVariants.{Fault}
 use Rattle.cca_base.proofs.Reading.{known_after}
-use Rattle.cca_base.proofs.Writing.{adds_none, room_more}
+use Rattle.cca_base.proofs.Writing.{adds_none, option_map-twice, room_both, room_less, room_more}
 use Rattle.cert_parts.specs.Writes.{AddsAll, AddsSome}
 use Rattle.cert_parts.specs.declared.write.CutShort.{CutShort}
 
@@ -29,23 +27,6 @@ added-both None [] ys = refl
 added-both None (x ∷ xs) ys = refl
 added-both (Some file) xs ys = ap Some (append_assoc file xs ys)
 
-option_map-both : {A : Type 0} (f g h : A → A) → ((x : A) → g (f x) ≡ h x) → (o : Option A) → option_map g (option_map f o) ≡ option_map h o
-option_map-both f g h same None = refl
-option_map-both f g h same (Some x) = ap Some (same x)
-
--- the room before had place for both
-fits-both : (before now : Option ℕ) (m n : ℕ) → IfSome before (λ r. m ≤ r) → now ≡ option_map (λ r. r - m) before → IfSome now (λ r. n ≤ r)
-    → IfSome before (λ r. m + n ≤ r)
-fits-both None now m n first is next = cc
-fits-both (Some r) now m n first is next =
-    let left : n ≤ r - m = subst (λ (o : Option ℕ). IfSome o (λ s. n ≤ s)) is next in
-    omega arith
-
--- a smaller text fits too
-has-less : (o : Option ℕ) (m n : ℕ) → m ≤ n → HasRoom o n → HasRoom o m
-has-less None m n less has = has
-has-less (Some r) m n less has = omega arith
-
 module _ (name : List ℕ) (a b c : Folder) (xs ys : List ℕ) where
   -- all of a text, and then the front of another
   adds-both : (n : ℕ) → Adds name a b xs (length xs) → Adds name b c ys n → Adds name a c (xs ++ ys) (length xs + n)
@@ -63,8 +44,8 @@ module _ (name : List ℕ) (a b c : Folder) (xs ys : List ℕ) where
         took = next.took ∙ ap (λ (l : List ℕ). l ++ take n ys) first.took ∙ append_assoc (a.took name) (take (length xs) xs) (take n ys)
             ∙ ap (λ (l : List ℕ). a.took name ++ l) (sym front);
         other_took = λ other ne. next.other_took other ne ∙ first.other_took other ne;
-        fits = fits-both (a.room name) (b.room name) (length xs) n first.fits first.room next.fits;
-        room = next.room ∙ ap (option_map (λ r. r - n)) first.room ∙ option_map-both _ _ _ (λ x. omega arith) (a.room name);
+        fits = room_both (a.room name) (b.room name) (length xs) n first.fits first.room next.fits;
+        room = next.room ∙ ap (option_map (λ r. r - n)) first.room ∙ option_map-twice _ _ _ (λ x. omega arith) (a.room name);
         other_rooms = λ other ne. next.other_rooms other ne ∙ first.other_rooms other ne;
       }
 
@@ -105,7 +86,7 @@ module _ (name : List ℕ) (a b : Folder) where
         gave = some.gave;
         loads = some.loads;
         cause = some.cause;
-        no_room = λ has. some.no_room (has-less (a.room name) (length xs) (length (xs ++ ys)) longer has);
+        no_room = λ has. some.no_room (room_less (a.room name) (length xs) (length (xs ++ ys)) longer has);
       }
 
   -- a name that was known is known yet
@@ -115,10 +96,6 @@ module _ (name : List ℕ) (a b : Folder) where
 -- nothing was added
 pub all-none : (name : List ℕ) (a : Folder) → AddsAll name a a []
 all-none name a = record { adds = adds_none name a []; quiet = refl; gave = refl; loads = refl }
-
--- a stop of writing is always a fault after so many bytes
-pub as-fault : (e : WriteStop) → (n : ℕ) × (e ≡ Fault n)
-as-fault (Fault n) = (n, refl)
 
 -- what the end of a write says
 module _ (name : List ℕ) (a b : Folder) (text : List ℕ) where

@@ -1,5 +1,5 @@
 -- The text of a certificate, from the lines between its tables and those of its tables.
-use Rattle.std.proofs.Common.{◌≡◌, ℕ, zero, suc, ◌<◌, ℤ, List, [], ◌∷◌, ◌++◌, codes, length, take, refl, sym, ap, ◌∙◌, append_assoc, arith}
+use Rattle.std.proofs.Common.{◌≡◌, ℕ, List, [], ◌∷◌, ◌++◌, codes, length, refl, sym, ap, ◌∙◌, append_assoc}
 use Rattle.cert_text.specs.CertValues.{cert_value}
 use Rattle.cert_text.specs.cert_form.specs.CertText.{line, table_lines}
 use Rattle.cert_text.specs.cert_form.specs.Lines.{Line, version_lines}
@@ -8,7 +8,7 @@ use Rattle.cert_text.specs.choices.specs.Lines.{width_of}
 use Rattle.cert_text.specs.Written.{bytes_of, lines_of_head, lines_of_parts, lines_of_rows, Adds}
 use Rattle.cert_text.specs.declared.certificate.Certificate.{Certificate}
 use Rattle.cert_text.proofs.Written.{adds_both, bytes_append, whole_cert}
-use Rattle.cert_parts.specs.CertLines.{last_lines, lines_to_lowered, lines_to_table}
+use Rattle.cert_parts.specs.CertLines.{lines_to_lowered, lines_to_table}
 
 -- lines that were added together were added one behind the other
 adds-behind : (a c : List ℕ) (xs ys : List Line) → Adds a c (xs ++ ys) → Adds (a ++ bytes_of xs) c ys
@@ -17,7 +17,7 @@ adds-behind a c xs ys both =
 
 -- the parts of the text, one behind the other
 pub whole-parts : (cert : Certificate) (a b c d e f : List ℕ) → Adds [] a (lines_to_table cert) → Adds a b (table_lines cert.table)
-    → Adds b c (lines_of_parts cert.withouts) → Adds c d (lines_to_lowered cert) → Adds d e (table_lines cert.lowered) → Adds e f last_lines
+    → Adds b c (lines_of_parts cert.withouts) → Adds c d (lines_to_lowered cert) → Adds d e (table_lines cert.lowered) → Adds e f (line (codes "end") [] ∷ [])
     → f ≡ cert_text (cert_value cert)
 whole-parts cert a b c d e f opening table parts between lowered last =
     let version = version_lines (length cert.choice) (width_of cert.table) in
@@ -40,10 +40,3 @@ whole-parts cert a b c d e f opening table parts between lowered last =
     refl
     (adds_both to_rows d e lowered_word (table_lines cert.lowered) at_lowered lowered)
     last
-
--- the first lines of a table are as long as all
-pub width-taken : (k : ℕ) (table : List (List ℤ)) → 0 < length (take k table) → width_of table ≡ width_of (take k table)
-width-taken zero [] some = absurd (omega arith)
-width-taken (suc k) [] some = absurd (omega arith)
-width-taken zero (x ∷ table) some = absurd (omega arith)
-width-taken (suc k) (x ∷ table) some = refl

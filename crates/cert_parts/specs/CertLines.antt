@@ -18,7 +18,3 @@ lines_to_part_table w = line (codes "without") (pos w.winner ∷ []) ∷ choice_
 -- behind the parts, up to the word of the lowered table
 abbrev pub lines_to_lowered : Certificate → List Line
 lines_to_lowered c = line (codes "pay") c.pay ∷ (lines_of_rows c.rows ++ line (codes "lowered") [] ∷ [])
-
--- behind the lowered table
-abbrev pub last_lines : List Line
-last_lines = line (codes "end") [] ∷ []

@@ -1,10 +1,10 @@
 // From a certificate to its text in parts.
-ghost use Rattle.std.specs.Prelude.{◌≡◌, [], IfOk, OnOk};
+ghost use Rattle.std.specs.Prelude.{◌≡◌, ◌∷◌, [], codes, IfOk, OnOk};
 ghost use Rattle.cert_text.specs.CertValues.{cert_value};
-ghost use Rattle.cert_text.specs.cert_form.specs.CertText.{table_lines};
+ghost use Rattle.cert_text.specs.cert_form.specs.CertText.{line, table_lines};
 ghost use Rattle.cert_text.specs.cert_form.specs.Says.{cert_text};
 ghost use Rattle.cert_text.specs.Written.{bytes_of, lines_of_part, lines_of_parts, Adds, ArePartsInRange, IsTableInRange};
-ghost use Rattle.cert_parts.specs.CertLines.{last_lines, lines_to_lowered, lines_to_part_table, lines_to_table};
+ghost use Rattle.cert_parts.specs.CertLines.{lines_to_lowered, lines_to_part_table, lines_to_table};
 
 use crate::LongText;
 use cert_text::cert_form::line_text::wide_num::Text;
@@ -159,7 +159,7 @@ fn between_text(alloc: Global, cert: &Certificate) -> Result<Text, AllocError>
 
 // The line behind the tables.
 fn add_closing(alloc: Global, long: &mut LongText) -> Result<(), AllocError>
-    ensures { OnOk result (Adds long.old long.new last_lines) }
+    ensures { OnOk result (Adds long.old long.new (line (codes "end") [] ∷ [])) }
 {
     let mut text = Text::new(alloc);
     add_signed_line(&mut text, b"end", &[])?;

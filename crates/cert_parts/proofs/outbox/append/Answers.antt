@@ -1,7 +1,7 @@
 use Rattle.std.proofs.Common.{ap, sym}
 use Rattle.std.specs.Prelude.{Err}
 use Rattle.std.proofs.lemmas.Bool.{true≢false}
-use Rattle.cert_parts.proofs.Joined.{as-fault}
+use Rattle.cca_base.proofs.Writing.{as-fault}
 use Rattle.cert_parts.proofs.outbox.append.Goals as goal
 
 pub returns-in-Ok-clause-whole : goal.returns-in-Ok-clause-whole
