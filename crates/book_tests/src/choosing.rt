@@ -33,7 +33,7 @@ fn grids_tell_their_numbers(rt: HostRuntime) -> Result<(), AllocError> {
     assert_eq!(rt; grid.lines(), 2);
     assert_eq!(rt; grid.width(), 2);
     assert_eq!(rt; grid.entry(0, 1), -7);
-    assert!(rt; is_line(grid.line(1), &[0, 9]));
+    assert!(rt; is_line(&grid, 1, &[0, 9]));
     Ok(())
 }
 
@@ -45,7 +45,7 @@ fn grids_share_lines(rt: HostRuntime) -> Result<(), AllocError> {
     let mut other = Grid::new(rt.alloc());
     other.push_shared(&grid, 1)?;
     assert_eq!(rt; other.lines(), 1);
-    assert!(rt; is_line(other.line(0), &[0, 9]));
+    assert!(rt; is_line(&other, 0, &[0, 9]));
     Ok(())
 }
 

@@ -1,6 +1,6 @@
 // What several tests share.
 
-use slot_places::choices::LineNumbers;
+use slot_places::choices::Grid;
 
 /// The example of Day and Cramton (2012): one lot of each of two categories, and five bidders; b1 and b2 win.
 pub(crate) const DAY_CRAMTON: &str =
@@ -11,20 +11,13 @@ pub(crate) const DAY_CRAMTON: &str =
 pub(crate) const EDITS: &str =
     "edits 1\nraise b3 1 1 50\nadd b4 0 1 23\ndrop b1 1 0\nraise b3 1 1 50\nadd north 1 0 5\nend\n";
 
-/// Whether a line of a grid has these numbers.
-pub fn is_line(line: LineNumbers<'_>, numbers: &[i128]) -> bool {
-    match line {
-        LineNumbers::Short(short) => are_same(short, numbers),
-        LineNumbers::Wide(wide) => wide == numbers,
-    }
-}
-
-fn are_same(short: &[u32], numbers: &[i128]) -> bool {
-    if short.len() != numbers.len() {
+/// Whether a grid has such a line, and with these numbers.
+pub(crate) fn is_line(grid: &Grid, line: usize, numbers: &[i128]) -> bool {
+    if line >= grid.lines() || numbers.len() != grid.width() {
         return false;
     }
-    for i in 0..short.len() {
-        if short[i] as i128 != numbers[i] {
+    for place in 0..numbers.len() {
+        if grid.entry(line, place) != numbers[place] {
             return false;
         }
     }

@@ -90,7 +90,7 @@ fn without_is(
     let found = chooser.best_without(alloc, j)?;
     assert!(rt; found.choice.numbers() == numbers);
     assert_eq!(rt; found.sum, sum);
-    assert!(rt; is_line(found.table.line(0), table));
+    assert!(rt; is_line(&found.table, 0, table));
     Ok(())
 }
 
@@ -256,7 +256,7 @@ fn lowered_is(
     let found = chooser.best_lowered(alloc, 1, surplus)?;
     assert!(rt; found.choice.numbers() == numbers);
     assert_eq!(rt; found.sum, sum);
-    assert!(rt; is_line(found.table.line(0), table));
+    assert!(rt; is_line(&found.table, 0, table));
     Ok(())
 }
 

@@ -78,11 +78,8 @@ fn a_bidder_that_pays_more_than_its_bid_counts_where_it_is_not_used(
     };
     assert_eq!(rt; found.sum, 17);
     assert!(rt; found.choice.numbers() == [0, 0, 1].as_slice());
-    if grid.lines() < 2 {
-        panic!(rt; "a table has a line for each bidder");
-    }
-    assert!(rt; is_line(grid.line(0), &[5, 6, 15, 17]));
-    assert!(rt; is_line(grid.line(1), &[0, 1, 0, 12]));
+    assert!(rt; is_line(&grid, 0, &[5, 6, 15, 17]));
+    assert!(rt; is_line(&grid, 1, &[0, 1, 0, 12]));
     Ok(())
 }
 

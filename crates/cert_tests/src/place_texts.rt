@@ -1,4 +1,4 @@
-use crate::samples::{PLACE_CERT, edited, is_line};
+use crate::samples::{PLACE_CERT, edited};
 use place_price::place_check::place_cert::{
     CertStop, PlaceCertificate, PlaceRow, PlaceWithout, read_places, write_places,
 };
@@ -32,14 +32,15 @@ fn sample(rt: &impl Abort, alloc: Global) -> PlaceCertificate {
 }
 
 // Asserts what a part without a winner holds.
-fn part_is(rt: &impl Abort, part: &PlaceWithout, winner: u16, entries: &[i128]) {
+fn part_is(rt: &impl Abort, part: &PlaceWithout, winner: u16, entries: &[i128; 8]) {
     assert_eq!(rt; part.winner, winner);
     assert!(rt; part.choice.numbers() == [0, 0, 1].as_slice());
     assert!(rt; part.order.items() == [2, 3, 1].as_slice());
     assert_eq!(rt; part.table.lines(), 1);
-    if part.table.lines() > 0 {
-        assert!(rt; is_line(part.table.line(0), entries));
-    }
+    assert_eq!(rt; part.table.width(), 8);
+    let mut line = [0i128; 8];
+    part.table.put_part(0, 0, &mut line);
+    assert!(rt; line == *entries);
 }
 
 // Asserts what the row of the sample holds.

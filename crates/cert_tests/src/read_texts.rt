@@ -1,4 +1,4 @@
-use crate::samples::{DAY_CRAMTON_CERT, DAY_CRAMTON_SHAPE, is_line};
+use crate::samples::{DAY_CRAMTON_CERT, DAY_CRAMTON_SHAPE};
 use place_price::book_price::cert_text::{
     CertRow, CertStop, Certificate, Shape, read_cert, write_cert,
 };
@@ -115,7 +115,10 @@ fn tells_what_a_certificate_holds(rt: HostRuntime) {
     assert_eq!(rt; cert.withouts.items().len(), 2);
     assert!(rt; cert.pay.items() == [17i128, 15, 0, 0, 0].as_slice());
     assert_eq!(rt; cert.lowered.lines(), 6);
-    assert!(rt; is_line(cert.lowered.line(0), &[0, 15, 17, 32]));
+    assert_eq!(rt; cert.lowered.width(), 4);
+    let mut line = [0i128; 4];
+    cert.lowered.put_part(0, 0, &mut line);
+    assert!(rt; line == [0, 15, 17, 32]);
     let [row] = cert.rows.items() else {
         panic!(rt; "there is one row");
     };

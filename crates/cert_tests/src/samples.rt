@@ -1,6 +1,5 @@
 // What several tests share: a book, slots, certificates of both, and texts with other lines.
 use place_price::book_price::cert_text::Shape;
-use place_price::book_price::cert_text::choices::LineNumbers;
 use std::alloc::{AllocError, Global};
 
 /// The example of Day and Cramton (2012): one lot of each of two categories, and five bidders; b1 and b2 win.
@@ -52,24 +51,4 @@ pub(crate) fn edited(
         text.extend_from_slice(&bytes[to..])?;
     }
     Ok(text)
-}
-
-/// Whether a line of a grid has these numbers.
-pub fn is_line(line: LineNumbers<'_>, numbers: &[i128]) -> bool {
-    match line {
-        LineNumbers::Short(short) => are_same(short, numbers),
-        LineNumbers::Wide(wide) => wide == numbers,
-    }
-}
-
-fn are_same(short: &[u32], numbers: &[i128]) -> bool {
-    if short.len() != numbers.len() {
-        return false;
-    }
-    for i in 0..short.len() {
-        if short[i] as i128 != numbers[i] {
-            return false;
-        }
-    }
-    true
 }
