@@ -9,8 +9,6 @@ use Rattle.std.proofs.lemmas.List.{take_all}
 use Rattle.cca_work.specs.cca_inputs.specs.cca_base.specs.Files.{Adds, Folder, KeepsFiles}
 use Rattle.cca_work.specs.cca_inputs.specs.cca_base.specs.Sink.{HasRoom}
 use Rattle.cca_work.specs.cca_inputs.specs.cca_base.proofs.Given.{keeps_still}
-use Rattle.cca_work.specs.cca_inputs.specs.cca_base.specs.declared.write.WriteStop.{WriteStop}
-use Rattle.cca_work.specs.cca_inputs.specs.cca_base.specs.declared.write.WriteStop.TheVariants.{Fault}
 use Rattle.cca_run.proofs.Moved.{all-on}
 use Rattle.cca_work.specs.cca_inputs.specs.Command.{CommandValue, files_of, output_as}
 use Rattle.cca_work.specs.cca_inputs.specs.Words.{KnowsFiles}
@@ -26,10 +24,6 @@ keeps folder = keeps_still folder
 -- the names are known after an append as before
 pub known-on : (command : CommandValue) (old new : Folder) → new.knows ≡ old.knows → KnowsFiles old command → KnowsFiles new command
 known-on command old new same all = subst (λ (k : List ℕ → _). AllByRecursion (λ f. IsTrue (k f.name)) (files_of command)) (sym same) all
-
--- a stop of writing is always a fault after so many bytes
-pub as-fault : (e : WriteStop) → (n : ℕ) × (e ≡ Fault n)
-as-fault (Fault n) = (n, refl)
 
 -- of one text a front was appended
 pub part-one : (command : CommandValue) (text : FileText) (name : List ℕ) (old new : Folder) (n : ℕ) → output_as command text.kind ≡ Some name

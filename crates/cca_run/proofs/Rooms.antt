@@ -8,6 +8,7 @@ use Rattle.std.proofs.lemmas.Bool.{true≢false, cases_Bool}
 use Rattle.std.proofs.lemmas.Slice.Eq.{bytes_eq-Decides}
 use Rattle.cca_work.specs.cca_inputs.specs.cca_base.specs.Files.{Agrees, Folder}
 use Rattle.cca_work.specs.cca_inputs.specs.cca_base.specs.Sink.{HasRoom, Output}
+use Rattle.cca_work.specs.cca_inputs.specs.cca_base.proofs.Writing.{room_less}
 use Rattle.cca_work.specs.cca_inputs.specs.Command.{CommandValue, command_of, output_as}
 use Rattle.cca_work.specs.cca_inputs.specs.StatusLine.{status_line}
 use Rattle.cca_work.specs.cca_inputs.specs.Statuses.{IsDecided}
@@ -21,11 +22,6 @@ use Rattle.cca_run.specs.Rooms.{HasRooms, appended_to, goes_to, told_to}
 use Rattle.cca_run.specs.Run.{AppendsAll, AppendsUpTo, FailsToWrite, IsFileFault, IsHindrance, IsReadFault, inputs, outputs}
 use Rattle.cca_run.specs.Ends.{RunEnds}
 use Rattle.cca_run.proofs.Named.{input-among, output-among}
-
--- room for more is room for less
-less-room : (room : Option ℕ) (m n : ℕ) → m ≤ n → HasRoom room n → HasRoom room m
-less-room None m n le has = has
-less-room (Some r) m n le has = omega (arith, le, has)
 
 -- behind so many bytes there is room for the rest
 room-left : (x y : Option ℕ) (m n : ℕ) → y ≡ option_map (λ r. r - m) x → HasRoom x (m + n) → HasRoom y n
@@ -46,13 +42,13 @@ counted command name t b m is m_is rest = ap (λ (x : Bool). (if x then length t
 behind-texts : (command : CommandValue) (name : List ℕ) (texts : List FileText) (old new : Folder) → AppendsAll command texts old new → (n : ℕ)
     → HasRoom (old.room name) (appended_to command name texts + n) → HasRoom (new.room name) n
 behind-texts command name [] old new kept n has = subst (λ (r : List ℕ → Option ℕ). HasRoom (r name) n) (sym kept.room)
-    (less-room (old.room name) n (0 + n) (omega arith) has)
+    (room_less (old.room name) n (0 + n) (omega arith) has)
 behind-texts command name (t ∷ texts) old new (between, one, rest) n has = behind-texts command name texts between new rest n
     (here (cases_Bool (bytes_eq name one.name)))
   where
     is_room : (m : ℕ) → (if goes_to command name t then length t.text else 0) + appended_to command name texts ≡ m + appended_to command name texts
         → HasRoom (old.room name) (m + (appended_to command name texts + n))
-    is_room m is = less-room (old.room name) (m + (appended_to command name texts + n))
+    is_room m is = room_less (old.room name) (m + (appended_to command name texts + n))
         (((if goes_to command name t then length t.text else 0) + appended_to command name texts) + n)
         (omega (arith, is)) has
 
@@ -66,7 +62,7 @@ behind-texts command name (t ∷ texts) old new (between, one, rest) n has = beh
     here (inr apart) =
         let other : name ≡ one.name → ⊥ = λ is. true≢false (sym ((bytes_eq-Decides name one.name).1 is) ∙ apart) in
         subst (λ (r : Option ℕ). HasRoom r (appended_to command name texts + n)) (sym (one.whole.other_rooms name other))
-        (less-room (old.room name) (appended_to command name texts + n) (0 + (appended_to command name texts + n)) (omega arith)
+        (room_less (old.room name) (appended_to command name texts + n) (0 + (appended_to command name texts + n)) (omega arith)
         (is_room 0 (counted command name t false 0 (goes-to command name one.name t one.output ∙ apart) refl (appended_to command name texts))))
 
 -- a text among others that goes to a file counts there behind those before it
@@ -88,7 +84,7 @@ module _ (command : CommandValue) (old new : Folder) (kind : FileKind) (fault : 
   -- its file had no room for all that goes to it
   had-no_room : HasRoom (old.room part.name) (appended_to command part.name fault.appended) → ⊥
   had-no_room has = part.no_room (behind-texts command part.name part.before old part.between part.whole (length part.text)
-      (less-room (old.room part.name) (appended_to command part.name part.before + length part.text)
+      (room_less (old.room part.name) (appended_to command part.name part.before + length part.text)
       (appended_to command part.name (part.before ++ text ∷ part.behind))
       (among-texts command part.name part.before text part.behind (goes-to command part.name part.name text part.output
       ∙ (bytes_eq-Decides part.name part.name).1 refl))
