@@ -1,7 +1,7 @@
 // Lines of tables in 16 bits: two lines are counted in one unit, the line rounded down, and the line below and the worth of a bid
 // rounded up. Then a block of the last few categories is tested in one run, with a mask of the places at which the package fits. A
 // yes is a yes of the exact numbers; where units are too coarse to tell, whoever asks tells by these.
-ghost use Rattle.std.specs.Prelude.{◌≡◌, ℕ, ◌+◌, ◌-◌, ◌*◌, ◌^◌, ◌≤◌, ◌<◌, IsTrue, length, slice_index_or, pos, ◌≤ℤ◌};
+ghost use Rattle.std.specs.Prelude.{◌≡◌, ℕ, ◌+◌, ◌-◌, ◌*◌, ◌%◌, ◌^◌, ◌≤◌, ◌<◌, IsTrue, length, slice_index_or, pos, ◌≤ℤ◌};
 ghost use Rattle.bid_book.specs.auction_model.specs.Place.{states_of, widths_of};
 ghost use Rattle.bid_book.specs.limits.specs.declared.TheConstants.{MOST_STATES};
 ghost use Rattle.choices.specs.Coarse.{HasMask, IsCeiling, IsFloor, Marks};
@@ -14,6 +14,12 @@ const ALL: u16 = 65535;
 
 /// The most units of a number, whose bits are the last 15.
 const MOST_UNITS: u64 = 32767;
+
+/// The last 16 bits.
+const LAST_BITS: u64 = 65535;
+
+/// The first bit of 64, which a number below 0 has.
+const SIGN: u64 = 1 << 63;
 
 /// What a bid is worth in units of `2^shift`, rounded up. The mask names the places where it fits in a block of the last `level`
 /// categories of its package.
@@ -37,17 +43,6 @@ fn units(number: i64, shift: u32) -> u64
     number as u64 >> shift
 }
 
-/// The same in the last 15 bits, which are all where the unit is large enough, and 0 for a number below 0.
-fn low_units(number: i64, shift: u32) -> u16
-    requires { shift < 64 }
-    ensures { 0 < result → pos (result * 2 ^ shift) ≤ℤ number }
-{
-    if number < 0 {
-        return 0;
-    }
-    (units(number, shift) & MOST_UNITS) as u16
-}
-
 /// A worth in units of `2^shift`, rounded up, or 0 where it is below 0 or has too many.
 pub fn worth_units(worth: i64, shift: u32) -> u16
     requires { shift < 64 }
@@ -64,36 +59,66 @@ pub fn worth_units(worth: i64, shift: u32) -> u16
     part as u16 + 1
 }
 
-/// The numbers of a line in units of `2^shift`, rounded down.
+/// Units of a line, none at each place.
+fn put_none(low: &mut [u16])
+    ensures none { (s : ℕ) → s < length low.old → slice_index_or low.new s 0 ≡ 0 }
+    ensures places { length low.new ≡ length low.old }
+{
+    for i in 0..low.len() {
+        low[i] = 0;
+    }
+}
+
+/// The last 16 bits of a number.
+fn last_bits(bits: u64) -> u16
+    ensures { result ≡ bits % 2 ^ 16 }
+{
+    (bits & LAST_BITS) as u16
+}
+
+/// The last 16 bits of the numbers of a line in units of `2^shift`, and whether no number is below 0. It goes on where one is, and
+/// looks at the bits of all at the end, so that no number costs a test.
+fn put_units(low: &mut [u16], line: &[i64], shift: u32) -> bool
+    requires places { length low.old ≡ length line.now }
+    requires shift { shift < 64 }
+    ensures floor { IsTrue result → IsFloor (2 ^ shift) line.now low.new }
+    ensures places { length low.new ≡ length line.now }
+{
+    let mut seen = 0;
+    for i in 0..line.len() {
+        let bits = line[i].cast_unsigned();
+        seen |= bits;
+        low[i] = last_bits(bits >> shift);
+    }
+    seen < SIGN
+}
+
+/// The numbers of a line in units of `2^shift`, rounded down, and none of these where a number is below 0.
 pub fn put_low(low: &mut [u16], line: &[i64], shift: u32)
     requires places { length low.old ≡ length line.now }
     requires shift { shift < 64 }
     ensures floor { IsFloor (2 ^ shift) line.now low.new }
     ensures places { length low.new ≡ length line.now }
 {
-    for i in 0..line.len() {
-        low[i] = low_units(line[i], shift);
+    if !put_units(low, line, shift) {
+        put_none(low);
     }
 }
 
-/// The same rounded up, and whether all are so small and no number is below 0.
+/// The same rounded up, and whether all are so small. It goes on where one isn't, as above.
 pub fn put_high(high: &mut [u16], line: &[i64], shift: u32) -> bool
     requires places { length high.old ≡ length line.now }
     requires shift { shift < 64 }
     ensures ceiling { IsTrue result → IsCeiling (2 ^ shift) line.now high.new }
     ensures places { length high.new ≡ length line.now }
 {
+    let mut seen = 0;
     for i in 0..line.len() {
-        if line[i] < 0 {
-            return false;
-        }
-        let part = units(line[i], shift);
-        if part > MOST_UNITS {
-            return false;
-        }
-        high[i] = part as u16 + 1;
+        let part = line[i].cast_unsigned() >> shift;
+        seen |= part;
+        high[i] = last_bits(part).wrapping_add(1);
     }
-    true
+    seen <= MOST_UNITS
 }
 
 /// A shift with which numbers up to this one have at most 15 bits.

@@ -78,8 +78,7 @@ pub fn coarse_holds(
     true
 }
 
-/// Both lines in units of `2^shift`, the first rounded down and the second up, and whether all numbers of the second are so small
-/// and none is below 0.
+/// Both lines in units of `2^shift`, the first rounded down and the second up, and whether all numbers of the second are so small.
 pub fn put_coarse(
     low: &mut [u16],
     high: &mut [u16],

@@ -1,10 +1,6 @@
-use Rattle.std.proofs.Common.{◌≡◌, ◌≤◌, ◌<◌, ◌*◌, ◌^◌, ℕ, get_or, length, pos, ◌≤ℤ◌}
-use Rattle.bid_book.specs.wide_num.specs.Sums.{nth}
+use Rattle.std.proofs.Common.{◌≤◌, ◌^◌}
+use Rattle.choices.proofs.UnitLaws.{IsCeilingSoFar}
 use Rattle.choices.proofs.coarse.put_high.Given as goal
 
 abbrev pub invariant-loop-i : goal.invariant-loop-i
-invariant-loop-i l = record {
-  places : length l.high ≡ length l.line;
-  above : (s : ℕ) → s < l.i → nth l.line s ≤ℤ pos (get_or l.high s 0 * 2 ^ l.shift);
-  short : (s : ℕ) → s < l.i → get_or l.high s 0 ≤ 2 ^ 15;
-}
+invariant-loop-i l = l.seen ≤ 32767 → IsCeilingSoFar (2 ^ l.shift) l.line l.high l.i
