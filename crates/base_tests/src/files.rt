@@ -1,16 +1,34 @@
 // Calls with ample memory, with answers found by hand.
+ghost use Rattle.std.specs.Prelude.{IfOk, IsTrue, ◌<◌};
+ghost use Rattle.cca_base.specs.MemFiles.{mem_folder};
+
+use crate::edge::{new_name, real_files};
 use cca_base::{
-    CleanFiles, CleanSink, Files, MemFiles, MemSink, ReadStop, RealFiles, RealSink, Sink,
-    WriteStop, read_all, write_file, write_sink,
+    CleanFiles, CleanSink, Files, MemFiles, MemSink, ReadStop, RealSink, Sink, WriteStop, read_all,
+    write_file, write_sink,
 };
+use std::alloc::{AllocError, Global};
+use std::fs;
 use std::test::Fail;
-use std::{env, fs, process};
+
+// Files in memory of these two names.
+fn mem_files(alloc: Global, first: &str, second: &str, bite: usize) -> Result<MemFiles, AllocError>
+    requires { 0 < bite }
+    ensures first { IfOk result (λ files. IsTrue ((mem_folder files.files.items).knows first.now)) }
+    ensures second { IfOk result (λ files. IsTrue ((mem_folder files.files.items).knows second.now)) }
+{
+    let names = [
+        String::from_str(alloc, first)?,
+        String::from_str(alloc, second)?,
+    ];
+    let files = MemFiles::new(alloc, &names, bite)?;
+    Ok(files)
+}
 
 #[test]
 fn reads_a_file_piece_by_piece(rt: HostRuntime) -> Result<(), Fail> {
     let alloc = rt.alloc();
-    let names = [String::from_str(alloc, "book")?];
-    let mut files = MemFiles::new(alloc, &names, 3)?;
+    let mut files = mem_files(alloc, "book", "book", 3)?;
     files.set("book", b"abcdefgh")?;
     let bytes = read_all(alloc, &mut files, "book", 8)?;
     assert_eq!(rt; bytes.as_slice(), b"abcdefgh".as_slice());
@@ -28,11 +46,7 @@ fn reads_a_file_piece_by_piece(rt: HostRuntime) -> Result<(), Fail> {
 #[test]
 fn stops_at_a_load_that_fails(rt: HostRuntime) -> Result<(), Fail> {
     let alloc = rt.alloc();
-    let names = [
-        String::from_str(alloc, "book")?,
-        String::from_str(alloc, "log")?,
-    ];
-    let mut files = MemFiles::new(alloc, &names, 3)?;
+    let mut files = mem_files(alloc, "book", "log", 3)?;
     assert!(rt; matches!(read_all(alloc, &mut files, "log", 8), Err(ReadStop::Fault)));
     files.set("book", b"abcdefgh")?;
     files.fail_loads.push(3)?;
@@ -47,11 +61,7 @@ fn stops_at_a_load_that_fails(rt: HostRuntime) -> Result<(), Fail> {
 #[test]
 fn makes_a_missing_file(rt: HostRuntime) -> Result<(), Fail> {
     let alloc = rt.alloc();
-    let names = [
-        String::from_str(alloc, "cert")?,
-        String::from_str(alloc, "cert")?,
-    ];
-    let mut files = MemFiles::new(alloc, &names, 3)?;
+    let mut files = mem_files(alloc, "cert", "cert", 3)?;
     assert_eq!(rt; files.files.len(), 1);
     assert!(rt; files.bytes("cert").is_none());
     files.fail_appends.push(2)?;
@@ -84,11 +94,7 @@ fn writes_a_prefix(rt: HostRuntime) -> Result<(), Fail> {
 #[test]
 fn writes_a_prefix_to_a_file(rt: HostRuntime) -> Result<(), Fail> {
     let alloc = rt.alloc();
-    let names = [
-        String::from_str(alloc, "cert")?,
-        String::from_str(alloc, "log")?,
-    ];
-    let mut files = MemFiles::new(alloc, &names, 100)?;
+    let mut files = mem_files(alloc, "cert", "log", 100)?;
     files.fail_appends.push(3)?;
     let text = vec![in alloc; b'x'; 350]?;
     assert_eq!(rt;
@@ -104,9 +110,7 @@ fn writes_a_prefix_to_a_file(rt: HostRuntime) -> Result<(), Fail> {
 
 #[test]
 fn writes_behind_what_a_file_holds(rt: HostRuntime) -> Result<(), Fail> {
-    let alloc = rt.alloc();
-    let names = [String::from_str(alloc, "cert")?];
-    let mut files = MemFiles::new(alloc, &names, 3)?;
+    let mut files = mem_files(rt.alloc(), "cert", "cert", 3)?;
     write_file(&mut files, "cert", b"")?;
     assert!(rt; files.bytes("cert").is_none());
     write_file(&mut files, "cert", b"abcdefgh")?;
@@ -128,12 +132,9 @@ fn prints(rt: HostRuntime) -> Result<(), Fail> {
 #[test]
 fn reads_and_appends_real_files(rt: HostRuntime) -> Result<(), Fail> {
     let alloc = rt.alloc();
-    let folder = env::temp_dir(&rt)?;
-    let number = process::id(rt.process());
-    let text = format!(in alloc; "{}/cca_base_{number}", folder.to_string_lossy())?;
+    let text = new_name(rt, "real")?;
     let name = text.as_str();
-    let names = [String::from_str(alloc, name)?];
-    let mut files = RealFiles::new(alloc, &rt, &names)?;
+    let mut files = real_files(alloc, &rt, name, name)?;
     assert!(rt; matches!(read_all(alloc, &mut files, name, 8), Err(ReadStop::Fault)));
     assert_eq!(rt; files.load_faults(name), 1);
     assert_eq!(rt; files.append(name, b"ab")?, 2);
@@ -147,41 +148,38 @@ fn reads_and_appends_real_files(rt: HostRuntime) -> Result<(), Fail> {
 
 #[test]
 fn loads_from_two_real_files_in_turn(rt: HostRuntime) -> Result<(), Fail> {
-    let alloc = rt.alloc();
-    let folder = env::temp_dir(&rt)?;
-    let number = process::id(rt.process());
-    let one = format!(in alloc; "{}/cca_base_one_{number}", folder.to_string_lossy())?;
-    let two = format!(in alloc; "{}/cca_base_two_{number}", folder.to_string_lossy())?;
-    fs::write(&rt, one.as_str(), b"abc")?;
-    fs::write(&rt, two.as_str(), b"xyz")?;
-    let names = [
-        String::from_str(alloc, one.as_str())?,
-        String::from_str(alloc, two.as_str())?,
-    ];
-    let mut files = RealFiles::new(alloc, &rt, &names)?;
+    let one = new_name(rt, "one")?;
+    let two = new_name(rt, "two")?;
+    let (one, two) = (one.as_str(), two.as_str());
+    fs::write(&rt, one, b"abc")?;
+    fs::write(&rt, two, b"xyz")?;
+    let mut files = real_files(rt.alloc(), &rt, one, two)?;
     let mut piece = [0u8; 2];
-    assert_eq!(rt; files.load(one.as_str(), 0, &mut piece)?, 2);
-    assert_eq!(rt; files.load(two.as_str(), 1, &mut piece)?, 2);
+    assert_eq!(rt; files.load(one, 0, &mut piece)?, 2);
+    assert_eq!(rt; files.load(two, 1, &mut piece)?, 2);
     assert_eq!(rt; piece, *b"yz");
-    assert_eq!(rt; files.load(one.as_str(), 2, &mut piece)?, 1);
+    assert_eq!(rt; files.load(one, 2, &mut piece)?, 1);
     assert_eq!(rt; piece[0], b'c');
-    fs::remove_file(&rt, one.as_str())?;
-    fs::remove_file(&rt, two.as_str())?;
+    fs::remove_file(&rt, one)?;
+    fs::remove_file(&rt, two)?;
     Ok(())
+}
+
+// Two whole pieces and a part of one.
+fn three_pieces(alloc: Global) -> Result<Vec<u8>, AllocError> {
+    let mut whole = vec![in alloc; b'a'; 65_536]?;
+    whole.extend_from_slice(&vec![in alloc; b'b'; 65_536]?)?;
+    whole.extend_from_slice(b"the last piece")?;
+    Ok(whole)
 }
 
 #[test]
 fn reads_a_real_file_of_several_pieces(rt: HostRuntime) -> Result<(), Fail> {
     let alloc = rt.alloc();
-    let folder = env::temp_dir(&rt)?;
-    let number = process::id(rt.process());
-    let text = format!(in alloc; "{}/cca_base_pieces_{number}", folder.to_string_lossy())?;
+    let text = new_name(rt, "pieces")?;
     let name = text.as_str();
-    let names = [String::from_str(alloc, name)?];
-    let mut files = RealFiles::new(alloc, &rt, &names)?;
-    let mut whole = vec![in alloc; b'a'; 65_536]?;
-    whole.extend_from_slice(&vec![in alloc; b'b'; 65_536]?)?;
-    whole.extend_from_slice(b"the last piece")?;
+    let mut files = real_files(alloc, &rt, name, name)?;
+    let whole = three_pieces(alloc)?;
     write_file(&mut files, name, &whole)?;
     let bytes = read_all(alloc, &mut files, name, 200_000)?;
     assert_eq!(rt; bytes.as_slice(), whole.as_slice());
