@@ -5,7 +5,6 @@ pub mod Rows
 pub mod Multipliers
 pub mod Shapes
 mod Certified
-mod Copies
 mod First
 pub mod LastTurn
 mod Lowered

@@ -1,10 +1,11 @@
-use Rattle.std.proofs.Common.{◌<◌, ap, sym, ◌∙◌, arith, length, List, ℤ, [], ◌∷◌, ◌++◌, get_or}
-use Rattle.std.proofs.lemmas.List.{take_all, take_more}
-use Rattle.book_price.proofs.Copies.{width-taken}
+use Rattle.std.proofs.Common.{◌<◌, ap, sym, ◌∙◌, arith, length, length-take, List, ℤ, [], ◌∷◌, ◌++◌, get_or}
+use Rattle.std.proofs.lemmas.List.{get_or-take, take_all, take_more}
 use Rattle.book_price.proofs.lines.shared.Goals as goal
 
 pub push_shared-requires-clause-width : goal.push_shared-requires-clause-width
-push_shared-requires-clause-width c = rw c.loop-k.invariant (λ some. width-taken c.loop-k.k c.args.table.now some)
+push_shared-requires-clause-width c = rw c.loop-k.invariant (λ some.
+    let first : 0 < c.loop-k.k = omega (arith, some, length-take c.loop-k.k c.args.table.now) in
+    ap length (sym (get_or-take c.loop-k.k c.args.table.now 0 [] first)))
 
 pub loop-k-preserved : goal.loop-k-preserved
 loop-k-preserved c =
