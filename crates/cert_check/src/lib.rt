@@ -44,7 +44,7 @@ pub use rows::row_holds;
 pub use sizes::{is_small, sizes_test};
 pub use tables::earlier::none_earlier;
 pub use tables::gains::put_gains;
-pub use tables::lines::{last_line_fault, two_lines_fault};
+pub use tables::lines::{LineFault, last_line_fault, two_lines_found};
 pub use tables::offers::Offers;
 pub use tables::{BIDDER_ROOM, sum_paid};
 pub use verdict::Verdict;

@@ -1,6 +1,6 @@
 -- A checker and its reader.
 use Rattle.std.proofs.Common.{◌≡◌, ℕ, ◌≤◌, List, [], ◌∷◌, ◌++◌, take, drop, refl, sym, ap, subst, ◌∙◌}
-use Rattle.std.specs.Prelude.{ℤ, pos, get_or, false, Option, Some, None}
+use Rattle.std.specs.Prelude.{ℤ, pos, get_or, false, Bool, Option, Some, None}
 use Rattle.cert_check.specs.cert_text.specs.declared.certificate.Shape.{Shape}
 use Rattle.cert_facts.specs.cert_form.specs.Certificate.{CertValue}
 use Rattle.cert_check.specs.declared.failure.Failure.{Failure}
@@ -8,6 +8,7 @@ use Rattle.cert_pieces.specs.Dues.{line_with}
 use Rattle.cert_pieces.specs.LinesLeft.{LeadsInRoom}
 use Rattle.cert_pieces.specs.Order.{ComesBehind}
 use Rattle.piece_check.specs.declared.row_totals.RowTotals.{RowTotals}
+use Rattle.piece_check.specs.Grown.{IsGrown}
 use Rattle.piece_check.specs.InRoom.{HasMembers}
 use Rattle.piece_check.specs.Tests.{IsFound}
 use Rattle.piece_check.specs.Totals.{AreTotals, HasTotals}
@@ -30,7 +31,7 @@ use Rattle.piece_check.proofs.StandLaws.{IsStep, known-failed, known-first, know
 
 -- the same checker with another reader
 abbrev pub with-reader : StreamCheck → Reader → StreamCheck
-with-reader k r = record { book = k.book; weights = k.weights; reader = r; failed = k.failed; late = k.late; members = k.members; totals = k.totals }
+with-reader k r = record { book = k.book; weights = k.weights; reader = r; failed = k.failed; late = k.late; members = k.members; grows = k.grows; totals = k.totals }
 
 module _ (k : StreamCheck) (set : IsSetUp k) where
   -- a reader of the same shape
@@ -67,8 +68,8 @@ module _ (k : StreamCheck) (set : IsSetUp k) where
     -- what is known stays while the reader reads on
     stays : IsKnownBy (with-reader k r) new items
     stays =
-        subst (λ (d : Due). IsKnown k.book.now (weight_of k.weights.now) d k.failed k.late k.members k.totals new items) (sym due)
-        (known-stays k.book.now (weight_of k.weights.now) k.reader.due k.failed k.late k.members k.totals old new items (reads-book old text items is).named
+        subst (λ (d : Due). IsKnown k.book.now (weight_of k.weights.now) d k.failed k.late k.members k.grows k.totals new items) (sym due)
+        (known-stays k.book.now (weight_of k.weights.now) k.reader.due k.failed k.late k.members k.grows k.totals old new items (reads-book old text items is).named
         (keeps-book k.reader.due old new others) known)
 
     -- it reads on, or stops
@@ -133,35 +134,35 @@ module _ (k : StreamCheck) (set : IsSetUp k) (r : Reader) (room : List ℤ) (tex
       (items ++ line_with k.reader.due ends.whole.numbers ∷ []) r.stop on stands)
 
   -- some certificate has the line there, and what the tests show of each that has is known behind it
-  pub the-step : IsStep k.book.now (weight_of k.weights.now) k.reader.due r.due count k.late k.members k.totals room
+  pub the-step : IsStep k.book.now (weight_of k.weights.now) k.reader.due r.due count k.late k.members k.grows k.totals room
       (items ++ line_with k.reader.due ends.whole.numbers ∷ [])
   the-step =
-      subst (λ (n : ℕ). IsStep k.book.now (weight_of k.weights.now) k.reader.due r.due n k.late k.members k.totals room
+      subst (λ (n : ℕ). IsStep k.book.now (weight_of k.weights.now) k.reader.due r.due n k.late k.members k.grows k.totals room
       (items ++ line_with k.reader.due ends.whole.numbers ∷ [])) (sym count_is)
       (step k.book.now (weight_of k.weights.now) k.reader.due r.due k.reader.part r.part k.reader.place k.reader.read r.place r.read room text
-      (text ++ 10 ∷ []) items k.late k.members k.totals few within
-      (subst (λ (o : Option Failure). IsKnown k.book.now (weight_of k.weights.now) k.reader.due o k.late k.members k.totals room items) none known)
+      (text ++ 10 ∷ []) items k.late k.members k.grows k.totals few within
+      (subst (λ (o : Option Failure). IsKnown k.book.now (weight_of k.weights.now) k.reader.due o k.late k.members k.grows k.totals room items) none known)
       k.reader.shape.bidders k.reader.shape.states (sym set.bidders) (sym set.states_are) ends leads behind reading)
 
   -- so the checker stands for the text behind it
-  pub stands-next : (failed2 : Option Failure) (late2 : Option ℕ) (members2 : ℕ) (totals2 : RowTotals)
-      → ((c : CertValue) → IsAtLine k.book.now (weight_of k.weights.now) c k.reader.due count k.late k.members k.totals room
+  pub stands-next : (failed2 : Option Failure) (late2 : Option ℕ) (members2 : ℕ) (grows2 : Bool) (totals2 : RowTotals)
+      → ((c : CertValue) → IsAtLine k.book.now (weight_of k.weights.now) c k.reader.due count k.late k.members k.grows k.totals room
       → IsNext k.book.now c k.reader.due r.due
       → IsFound k.book.now (weight_of k.weights.now) c r.due failed2 late2 × HasMembers (bidders_of k.book.now) (states k.book.now) c r.due members2 room
-      × HasTotals c r.due totals2)
-      → StandsFor (record { book = k.book; weights = k.weights; reader = r; failed = failed2; late = late2; members = members2; totals = totals2 }) room
+      × HasTotals c r.due totals2 × IsGrown k.book.now c r.due grows2)
+      → StandsFor (record { book = k.book; weights = k.weights; reader = r; failed = failed2; late = late2; members = members2; grows = grows2; totals = totals2 }) room
       (text ++ 10 ∷ [])
-  stands-next failed2 late2 members2 totals2 each = (
+  stands-next failed2 late2 members2 grows2 totals2 each = (
     record { bidders = ap (λ x. x.bidders) same ∙ set.bidders; states_are = ap (λ x. x.states) same ∙ set.states_are; weights = set.weights },
     (items ++ line_with k.reader.due ends.whole.numbers ∷ [], by r.stop on stands),
   )
     where
       by : (o : Option TextStop) → o ≡ None → ReadsBehind r.shape.bidders r.shape.states r.due r.part r.place r.read room (text ++ 10 ∷ [])
           (items ++ line_with k.reader.due ends.whole.numbers ∷ []) o
-          → StandsWith (record { book = k.book; weights = k.weights; reader = r; failed = failed2; late = late2; members = members2; totals = totals2 }) room
+          → StandsWith (record { book = k.book; weights = k.weights; reader = r; failed = failed2; late = late2; members = members2; grows = grows2; totals = totals2 }) room
           (text ++ 10 ∷ []) (items ++ line_with k.reader.due ends.whole.numbers ∷ []) o
       by (Some stop) on is = cc
-      by None on is = (is, the-step.known failed2 late2 members2 totals2 each)
+      by None on is = (is, the-step.known failed2 late2 members2 grows2 totals2 each)
 
 -- what had failed before goes on failing
 pub stands-failed : (k : StreamCheck) (set : IsSetUp k) (r : Reader) (room : List ℤ) (text : List ℕ) (items : List Line) (own : Line) → (k.failed ≡ None → ⊥)
@@ -171,7 +172,7 @@ stands-failed k set r room text items own some same known behind = (set-up k set
   where
     later : (o : Option Failure) → k.failed ≡ o → (o ≡ None → ⊥) → IsKnownBy (with-reader k r) room (items ++ own ∷ [])
     later None is some = absurd (some refl)
-    later (Some f) is some = known-failed k.book.now (weight_of k.weights.now) k.reader.due r.due k.failed f k.late k.late k.members k.members k.totals
+    later (Some f) is some = known-failed k.book.now (weight_of k.weights.now) k.reader.due r.due k.failed f k.late k.late k.members k.members k.grows k.grows k.totals
         k.totals room items own is known
 
     by : (o : Option TextStop) → ReadsBehind r.shape.bidders r.shape.states r.due r.part r.place r.read room (text ++ 10 ∷ []) (items ++ own ∷ []) o
@@ -181,15 +182,16 @@ stands-failed k set r room text items own some same known behind = (set-up k set
 
 -- a checker to which nothing was fed
 pub stands-first : (k : StreamCheck) (room : List ℤ) → IsSetUp k → k.reader.due ≡ Version → k.reader.stop ≡ None → k.failed ≡ None → k.late ≡ None
-    → k.members ≡ 0 → ((c : CertValue) → AreTotals c 0 k.totals) → StandsBehind k.reader room [] [] → StandsFor k room []
-stands-first k room set first on none no_late nobody totals behind = (set, ([], by k.reader.stop on behind))
+    → k.members ≡ 0 → k.grows ≡ false → ((c : CertValue) → AreTotals c 0 k.totals) → StandsBehind k.reader room [] [] → StandsFor k room []
+stands-first k room set first on none no_late nobody falls totals behind = (set, ([], by k.reader.stop on behind))
   where
     known : IsKnownBy k room []
     known =
-        subst (λ (o : Option Failure). IsKnown k.book.now (weight_of k.weights.now) k.reader.due o k.late k.members k.totals room []) (sym none)
-        (subst (λ (o : Option ℕ). IsKnown k.book.now (weight_of k.weights.now) k.reader.due None o k.members k.totals room []) (sym no_late)
-        (subst (λ (n : ℕ). IsKnown k.book.now (weight_of k.weights.now) k.reader.due None None n k.totals room []) (sym nobody)
-        (known-first k.book.now (weight_of k.weights.now) k.reader.due k.totals room first totals)))
+        subst (λ (o : Option Failure). IsKnown k.book.now (weight_of k.weights.now) k.reader.due o k.late k.members k.grows k.totals room []) (sym none)
+        (subst (λ (o : Option ℕ). IsKnown k.book.now (weight_of k.weights.now) k.reader.due None o k.members k.grows k.totals room []) (sym no_late)
+        (subst (λ (n : ℕ). IsKnown k.book.now (weight_of k.weights.now) k.reader.due None None n k.grows k.totals room []) (sym nobody)
+        (subst (λ (g : Bool). IsKnown k.book.now (weight_of k.weights.now) k.reader.due None None 0 g k.totals room []) (sym falls)
+        (known-first k.book.now (weight_of k.weights.now) k.reader.due k.totals room first totals))))
 
     by : (o : Option TextStop) → o ≡ None → ReadsBehind k.reader.shape.bidders k.reader.shape.states k.reader.due k.reader.part k.reader.place k.reader.read
         room [] [] o → StandsWith k room [] [] o

@@ -39,7 +39,7 @@ keeps-none book w c (suc k) b some inside test =
     )
 
 module _ (at : Moment) (c : CertValue) (is : IsAt at c) (k : ℕ) (due : at.due ≡ Entries Head k) where
-  here : IsAtLine at.book.now (weight_of at.weights.now) c (Entries Head k) at.count at.late at.members at.totals.now at.room.now
+  here : IsAtLine at.book.now (weight_of at.weights.now) c (Entries Head k) at.count at.late at.members at.grows at.totals.now at.room.now
   here = at-due at c (Entries Head k) due is
 
   -- the room has the value

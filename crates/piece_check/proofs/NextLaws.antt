@@ -26,8 +26,8 @@ use Rattle.piece_check.specs.Tests.{IsFound, IsTestedTo, IsPlain}
 
 -- at the line that it is
 pub at-due : (at : Moment) (c : CertValue) (due : Due) → at.due ≡ due → IsAt at c → IsAtLine at.book.now
-    (weight_of at.weights.now) c due at.count at.late at.members at.totals.now at.room.now
-at-due at c due is a = subst (λ (d : Due). IsAtLine at.book.now (weight_of at.weights.now) c d at.count at.late at.members at.totals.now at.room.now) is a
+    (weight_of at.weights.now) c due at.count at.late at.members at.grows at.totals.now at.room.now
+at-due at c due is a = subst (λ (d : Due). IsAtLine at.book.now (weight_of at.weights.now) c d at.count at.late at.members at.grows at.totals.now at.room.now) is a
 
 -- what comes next comes next behind that line
 pub next-due : (at : Moment) (c : CertValue) (due next : Due) → at.due ≡ due → IsNext at.book.now c at.due next → IsNext at.book.now c due next

@@ -41,7 +41,7 @@ part-failed book w c j next failed late f is test place some inside wins before 
     (record { fails = λ asks. fails ((asks.3 refl).part some inside wins); before = before })))
 
 module _ (at : Moment) (c : CertValue) (is : IsAt at c) (j : ℕ) (due : at.due ≡ PartChoice j) where
-  own : IsAtLine at.book.now (weight_of at.weights.now) c (PartChoice j) at.count at.late at.members at.totals.now at.room.now
+  own : IsAtLine at.book.now (weight_of at.weights.now) c (PartChoice j) at.count at.late at.members at.grows at.totals.now at.room.now
   own = at-due at c (PartChoice j) due is
 
   -- the room has the choice without the winner
@@ -86,7 +86,7 @@ module _ (at : Moment) (c : CertValue) (is : IsAt at c) (j : ℕ) (due : at.due 
       own.known.tested.holds (λ part. false≢true (test.1 (part.allowed, part.unused)))
 
 module _ (at : Moment) (c : CertValue) (is : IsAt at c) (j k : ℕ) (due : at.due ≡ Entries (Part j) k) where
-  line : IsAtLine at.book.now (weight_of at.weights.now) c (Entries (Part j) k) at.count at.late at.members at.totals.now at.room.now
+  line : IsAtLine at.book.now (weight_of at.weights.now) c (Entries (Part j) k) at.count at.late at.members at.grows at.totals.now at.room.now
   line = at-due at c (Entries (Part j) k) due is
 
   -- the room has line k of the part's table, and the one before it

@@ -80,7 +80,7 @@ pub none-of : (n : ℕ) → pos n ≡ pos 0 → n ≡ 0
 none-of n e = cc
 
 module _ (at : Moment) (c : CertValue) (is : IsAt at c) (due : at.due ≡ Rows) where
-  own : IsAtLine at.book.now (weight_of at.weights.now) c Rows at.count at.late at.members at.totals.now at.room.now
+  own : IsAtLine at.book.now (weight_of at.weights.now) c Rows at.count at.late at.members at.grows at.totals.now at.room.now
   own = at-due at c Rows due is
 
   -- the room has the count of rows
@@ -112,7 +112,7 @@ module _ (at : Moment) (c : CertValue) (is : IsAt at c) (due : at.due ≡ Rows) 
       (no-row at.book.now (weight_of at.weights.now) c own.known.tested.holds)
 
 module _ (at : Moment) (c : CertValue) (is : IsAt at c) (r : ℕ) (due : at.due ≡ RowChoice r) where
-  row-line : IsAtLine at.book.now (weight_of at.weights.now) c (RowChoice r) at.count at.late at.members at.totals.now at.room.now
+  row-line : IsAtLine at.book.now (weight_of at.weights.now) c (RowChoice r) at.count at.late at.members at.grows at.totals.now at.room.now
   row-line = at-due at c (RowChoice r) due is
 
   -- the row is to come

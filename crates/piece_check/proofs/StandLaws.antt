@@ -1,8 +1,9 @@
 -- A checker that stands for a text, and one more line.
 use Rattle.std.proofs.Common.{◌≡◌, ℕ, zero, suc, ◌≤◌, false, List, [], ◌∷◌, ◌++◌, length, take, drop, get_or, append_assoc, inl, inr, refl, sym, ap, subst}
 use Rattle.std.proofs.Common.{◌∙◌, arith}
+use Rattle.std.proofs.lemmas.Bool.{false≢true}
 use Rattle.std.proofs.lemmas.List.{append-nil}
-use Rattle.std.specs.Prelude.{ℤ, pos, Option, Some, None, codes}
+use Rattle.std.specs.Prelude.{ℤ, pos, Bool, Option, Some, None, codes}
 use Rattle.cert_check.specs.cert_text.specs.line_text.specs.LineText.{IsTextOf, stated}
 use Rattle.cert_check.specs.auction_model.specs.Book.{Book}
 use Rattle.cert_facts.specs.cert_form.specs.Certificate.{CertValue}
@@ -29,6 +30,7 @@ use Rattle.cert_pieces.proofs.RoomParts.{IsFixed, came_whole}
 use Rattle.cert_pieces.proofs.Standing.{whole_text}
 use Rattle.cert_pieces.proofs.Stated.{none_out}
 use Rattle.piece_check.specs.declared.row_totals.RowTotals.{RowTotals}
+use Rattle.piece_check.specs.Grown.{IsGrown}
 use Rattle.piece_check.specs.InRoom.{HasRoom, HasMembers}
 use Rattle.piece_check.specs.Lines.{IsAtLine, IsNext, IsLeft, HasCome, IsKnown}
 use Rattle.piece_check.specs.Tests.{IsFound}
@@ -54,9 +56,9 @@ module _ (book : Book) (w : ℕ → ℕ) where
 
   -- a checker to which nothing was fed
   pub known-first : (due : Due) (totals : RowTotals) (room : List ℤ) → due ≡ Version → ((c : CertValue) → AreTotals c 0 totals)
-      → IsKnown book w due None None 0 totals room []
+      → IsKnown book w due None None 0 false totals room []
   known-first due totals room first none c kept rest e =
-      subst (λ (d : Due). IsLeft book w c rest d None 0 totals room) (sym first) (record {
+      subst (λ (d : Due). IsLeft book w c rest d None 0 false totals room) (sym first) (record {
         left = sym e ∙ all_left (bidders_of book) (states book) c kept;
         known = record {
           has = tt;
@@ -71,17 +73,18 @@ module _ (book : Book) (w : ℕ → ℕ) where
             before = tt;
             members_are = tt;
           };
+          grown = λ t. absurd (false≢true t);
           in_totals = none c;
         };
       })
 
   -- the room has other numbers only in the line that is read
-  pub known-stays : (due : Due) (failed : Option Failure) (late : Option ℕ) (members : ℕ) (totals : RowTotals) (old new : List ℤ) (items : List Line)
+  pub known-stays : (due : Due) (failed : Option Failure) (late : Option ℕ) (members : ℕ) (grows : Bool) (totals : RowTotals) (old new : List ℤ) (items : List Line)
       → IsDue (bidders_of book) due → KeepsOthers (bidders_of book) (states book) due old new
-      → IsKnown book w due failed late members totals old items → IsKnown book w due failed late members totals new items
-  known-stays due failed late members totals old new items named others known c kept rest e = by failed (known c kept rest e)
+      → IsKnown book w due failed late members grows totals old items → IsKnown book w due failed late members grows totals new items
+  known-stays due failed late members grows totals old new items named others known c kept rest e = by failed (known c kept rest e)
     where
-      by : (failed : Option Failure) → HasCome book w c rest due failed late members totals old → HasCome book w c rest due failed late members totals new
+      by : (failed : Option Failure) → HasCome book w c rest due failed late members grows totals old → HasCome book w c rest due failed late members grows totals new
       by (Some f) has = has
       by None has = record {
         left = has.left;
@@ -90,18 +93,19 @@ module _ (book : Book) (w : ℕ → ℕ) where
           named = has.known.named;
           tested = has.known.tested;
           in_room = room_stays (bidders_of book) (states book) c due named members old new others has.known.in_room;
+          grown = has.known.grown;
           in_totals = has.known.in_totals;
         };
       }
 
   -- what is known of the certificate at the end
-  judged-last : (c : CertValue) (failed : Option Failure) (late : Option ℕ) (members : ℕ) (totals : RowTotals) (room : List ℤ)
-      → HasCome book w c [] Nothing failed late members totals room → IsJudged book w c 10 0 failed
-  judged-last c (Some f) late members totals room has = has
-  judged-last c None late members totals room has = has.known.tested.holds
+  judged-last : (c : CertValue) (failed : Option Failure) (late : Option ℕ) (members : ℕ) (grows : Bool) (totals : RowTotals) (room : List ℤ)
+      → HasCome book w c [] Nothing failed late members grows totals room → IsJudged book w c 10 0 failed
+  judged-last c (Some f) late members grows totals room has = has
+  judged-last c None late members grows totals room has = has.known.tested.holds
 
   -- a certificate whose text it is, with all that is known of it
-  pub record IsDone (text : List ℕ) (failed : Option Failure) (late : Option ℕ) (members : ℕ) (totals : RowTotals) (room : List ℤ) : Type 0 where
+  pub record IsDone (text : List ℕ) (failed : Option Failure) (late : Option ℕ) (members : ℕ) (grows : Bool) (totals : RowTotals) (room : List ℤ) : Type 0 where
     -- a certificate of the book
     pub cert : CertValue
     -- it has the shape that a certificate keeps
@@ -109,36 +113,36 @@ module _ (book : Book) (w : ℕ → ℕ) where
     -- the text states it
     pub says : CertSays (bidders_of book) (states book) text (stated cert)
     -- no line of it is to come, and this is known of it
-    pub come : HasCome book w cert [] Nothing failed late members totals room
+    pub come : HasCome book w cert [] Nothing failed late members grows totals room
     -- either all nine tests hold, or what fails first is known
     pub judged : IsJudged book w cert 10 0 failed
 
   -- where no line is due, the text states such a certificate
   pub at-end : (due : Due) (part : LinePart) (place read : ℕ) (room : List ℤ) (text : List ℕ) (items : List Line) (failed : Option Failure) (late : Option ℕ)
-      (members : ℕ) (totals : RowTotals) → due ≡ Nothing
-      → IsReading (bidders_of book) (states book) due part place read room text items → IsKnown book w due failed late members totals room items
-      → IsDone text failed late members totals room
-  at-end due part place read room text items failed late members totals done reading known =
+      (members : ℕ) (grows : Bool) (totals : RowTotals) → due ≡ Nothing
+      → IsReading (bidders_of book) (states book) due part place read room text items → IsKnown book w due failed late members grows totals room items
+      → IsDone text failed late members grows totals room
+  at-end due part place read room text items failed late members grows totals done reading known =
       let own : IsTextOf (IsCertText (bidders_of book) (states book)) lines text items = whole_text (bidders_of book)
       (states book) due part place read room text items reading done in
       let c = cert_of (bidders_of book) (states book) items own.valid (none_out 0 items own.within) in
-      let last : HasCome book w c.cert [] Nothing failed late members totals room =
-      subst (λ (d : Due). HasCome book w c.cert [] d failed late members totals room) done (known c.cert c.kept [] (c.whole ∙ sym (append-nil items))) in
+      let last : HasCome book w c.cert [] Nothing failed late members grows totals room =
+      subst (λ (d : Due). HasCome book w c.cert [] d failed late members grows totals room) done (known c.cert c.kept [] (c.whole ∙ sym (append-nil items))) in
       record {
         cert = c.cert;
         kept = c.kept;
         says = (c.kept, subst (λ (l : List Line). IsTextOf (IsCertText (bidders_of book) (states book)) lines text l) (sym c.whole) own);
         come = last;
-        judged = judged-last c.cert failed late members totals room last;
+        judged = judged-last c.cert failed late members grows totals room last;
       }
 
   -- what had failed goes on failing
-  pub known-failed : (due next : Due) (failed : Option Failure) (f : Failure) (late late2 : Option ℕ) (members members2 : ℕ) (totals totals2 : RowTotals)
+  pub known-failed : (due next : Due) (failed : Option Failure) (f : Failure) (late late2 : Option ℕ) (members members2 : ℕ) (grows grows2 : Bool) (totals totals2 : RowTotals)
       (room : List ℤ) (items : List Line) (own : Line) → failed ≡ Some f
-      → IsKnown book w due failed late members totals room items → IsKnown book w next failed late2 members2 totals2 room (items ++ own ∷ [])
-  known-failed due next failed f late late2 members members2 totals totals2 room items own is known c kept rest e =
-      subst (λ (o : Option Failure). HasCome book w c rest next o late2 members2 totals2 room) (sym is)
-      (subst (λ (o : Option Failure). HasCome book w c (own ∷ rest) due o late members totals room) is
+      → IsKnown book w due failed late members grows totals room items → IsKnown book w next failed late2 members2 grows2 totals2 room (items ++ own ∷ [])
+  known-failed due next failed f late late2 members members2 grows grows2 totals totals2 room items own is known c kept rest e =
+      subst (λ (o : Option Failure). HasCome book w c rest next o late2 members2 grows2 totals2 room) (sym is)
+      (subst (λ (o : Option Failure). HasCome book w c (own ∷ rest) due o late members grows totals room) is
       (known c kept (own ∷ rest) (e ∙ append_assoc items (own ∷ []) rest)))
 
 -- two lists of a line and more
@@ -203,9 +207,9 @@ order b c choice first Nothing next tells is = is
 
 -- The line has come, and the certificate has it there.
 module _ (book : Book) (w : ℕ → ℕ) (c : CertValue) (kept : IsCertificate (bidders_of book) (states book) c) (due next : Due) (part : LinePart)
-    (place read : ℕ) (room : List ℤ) (text : List ℕ) (items rest : List Line) (late : Option ℕ) (members : ℕ) (totals : RowTotals)
+    (place read : ℕ) (room : List ℤ) (text : List ℕ) (items rest : List Line) (late : Option ℕ) (members : ℕ) (grows : Bool) (totals : RowTotals)
     (ends : IsEnding (bidders_of book) (states book) due part place read room text items) (within : part.beyond ≡ false)
-    (has : IsLeft book w c (line_with due ends.whole.numbers ∷ rest) due late members totals room)
+    (has : IsLeft book w c (line_with due ends.whole.numbers ∷ rest) due late members grows totals room)
     (leads : LeadsInRoom (bidders_of book) (states book) due room next)
     (behind : ComesBehind (bidders_of book) (take (bidders_of book) room) (get_or room (start_due (bidders_of book) (states book) due) (pos 0)) due next) where
   tells : Tells c due (take (bidders_of book) room) (get_or room (start_due (bidders_of book) (states book) due) (pos 0))
@@ -230,7 +234,7 @@ module _ (book : Book) (w : ℕ → ℕ) (c : CertValue) (kept : IsCertificate (
       (lines_left (bidders_of book) (states book) c next) both)
 
   -- the line that was due is that of the certificate
-  pub at-line : IsAtLine book w c due part.count late members totals room
+  pub at-line : IsAtLine book w c due part.count late members grows totals room
   at-line = record {
     kept = kept;
     known = has.known;
@@ -241,12 +245,12 @@ module _ (book : Book) (w : ℕ → ℕ) (c : CertValue) (kept : IsCertificate (
   }
 
   -- what is known behind it
-  pub come-next : (failed2 : Option Failure) (late2 : Option ℕ) (members2 : ℕ) (totals2 : RowTotals) → IsDue (bidders_of book) next
+  pub come-next : (failed2 : Option Failure) (late2 : Option ℕ) (members2 : ℕ) (grows2 : Bool) (totals2 : RowTotals) → IsDue (bidders_of book) next
       → IsFound book w c next failed2 late2
-      → HasMembers (bidders_of book) (states book) c next members2 room → HasTotals c next totals2 → HasCome book w c rest next failed2 late2 members2 totals2
+      → HasMembers (bidders_of book) (states book) c next members2 room → HasTotals c next totals2 → IsGrown book c next grows2 → HasCome book w c rest next failed2 late2 members2 grows2 totals2
       room
-  come-next (Some f) late2 members2 totals2 named found members_are totals_are = found
-  come-next None late2 members2 totals2 named found members_are totals_are = record {
+  come-next (Some f) late2 members2 grows2 totals2 named found members_are totals_are grown = found
+  come-next None late2 members2 grows2 totals2 named found members_are totals_are grown = record {
     left = rest-is (line_with due ends.whole.numbers) (line_due (bidders_of book) (states book) c due) rest
         (lines_left (bidders_of book) (states book) c next) both;
     known = record {
@@ -255,30 +259,31 @@ module _ (book : Book) (w : ℕ → ℕ) (c : CertValue) (kept : IsCertificate (
       tested = found;
       in_room = room-next (bidders_of book) (states book) c room due next part.count members members2 has.known.has is-next kept.few has.known.in_room
           at-line.own members_are;
+      grown = grown;
       in_totals = totals_are;
     };
   }
 
 -- The same for the numbers of bidders and states that the reader has, which are those of the book.
-pub record IsStep (book : Book) (w : ℕ → ℕ) (due next : Due) (count : ℕ) (late : Option ℕ) (members : ℕ) (totals : RowTotals) (room : List ℤ)
+pub record IsStep (book : Book) (w : ℕ → ℕ) (due next : Due) (count : ℕ) (late : Option ℕ) (members : ℕ) (grows : Bool) (totals : RowTotals) (room : List ℤ)
     (more : List Line) : Type 0 where
   -- some certificate has the line there
-  pub possible : (c : CertValue) × IsAtLine book w c due count late members totals room
+  pub possible : (c : CertValue) × IsAtLine book w c due count late members grows totals room
   -- what the tests show of each certificate that has it there is known behind it
-  pub known : (failed2 : Option Failure) (late2 : Option ℕ) (members2 : ℕ) (totals2 : RowTotals)
-      → ((c : CertValue) → IsAtLine book w c due count late members totals room → IsNext book c due next
-      → IsFound book w c next failed2 late2 × HasMembers (bidders_of book) (states book) c next members2 room × HasTotals c next totals2)
-      → IsKnown book w next failed2 late2 members2 totals2 room more
+  pub known : (failed2 : Option Failure) (late2 : Option ℕ) (members2 : ℕ) (grows2 : Bool) (totals2 : RowTotals)
+      → ((c : CertValue) → IsAtLine book w c due count late members grows totals room → IsNext book c due next
+      → IsFound book w c next failed2 late2 × HasMembers (bidders_of book) (states book) c next members2 room × HasTotals c next totals2 × IsGrown book c next grows2)
+      → IsKnown book w next failed2 late2 members2 grows2 totals2 room more
 
 module _ (book : Book) (w : ℕ → ℕ) (due next : Due) (part part2 : LinePart) (place read place2 read2 : ℕ) (room : List ℤ) (text text2 : List ℕ)
-    (items : List Line) (late : Option ℕ) (members : ℕ) (totals : RowTotals)
-    (few : bidders_of book ≤ 65535) (within : part.beyond ≡ false) (known : IsKnown book w due None late members totals room items) where
+    (items : List Line) (late : Option ℕ) (members : ℕ) (grows : Bool) (totals : RowTotals)
+    (few : bidders_of book ≤ 65535) (within : part.beyond ≡ false) (known : IsKnown book w due None late members grows totals room items) where
   -- what the reader says, for so many bidders and states
   abbrev Says : ℕ → ℕ → Type 0
   Says b s = (ends : IsEnding b s due part place read room text items) → LeadsInRoom b s due room next
       → ComesBehind b (take b room) (get_or room (start_due b s due) (pos 0)) due next
       → IsReading b s next part2 place2 read2 room text2 (items ++ line_with due ends.whole.numbers ∷ [])
-      → IsStep book w due next part.count late members totals room (items ++ line_with due ends.whole.numbers ∷ [])
+      → IsStep book w due next part.count late members grows totals room (items ++ line_with due ends.whole.numbers ∷ [])
 
   step-own : Says (bidders_of book) (states book)
   step-own ends leads behind reading =
@@ -287,20 +292,20 @@ module _ (book : Book) (w : ℕ → ℕ) (due next : Due) (part part2 : LinePart
       reading in
       let left : (c : CertValue) → IsCertificate (bidders_of book) (states book) c → (rest : List Line)
       → cert_lines c ≡ (items ++ line_with due ends.whole.numbers ∷ []) ++ rest → IsLeft book w c
-      (line_with due ends.whole.numbers ∷ rest) due late members totals room =
+      (line_with due ends.whole.numbers ∷ rest) due late members grows totals room =
       λ c kept rest e. known c kept (line_with due ends.whole.numbers ∷ rest) (e ∙ append_assoc items (line_with due ends.whole.numbers ∷ []) rest) in
       record {
         possible = (
           front.0,
-          at-line book w front.0 front.2 due next part place read room text items front.1 late members totals ends within
+          at-line book w front.0 front.2 due next part place read room text items front.1 late members grows totals ends within
               (left front.0 front.2 front.1 front.3) leads behind,
         );
-        known = λ failed2 late2 members2 totals2 each c kept rest e.
+        known = λ failed2 late2 members2 grows2 totals2 each c kept rest e.
             let has = left c kept rest e in
-            let here = at-line book w c kept due next part place read room text items rest late members totals ends within has leads behind in
-            let all = each c here (is-next book w c kept due next part place read room text items rest late members totals ends within has leads behind) in
-            come-next book w c kept due next part place read room text items rest late members totals ends within has leads behind failed2 late2 members2
-            totals2 reading.named all.0 all.1 all.2;
+            let here = at-line book w c kept due next part place read room text items rest late members grows totals ends within has leads behind in
+            let all = each c here (is-next book w c kept due next part place read room text items rest late members grows totals ends within has leads behind) in
+            come-next book w c kept due next part place read room text items rest late members grows totals ends within has leads behind failed2 late2 members2 grows2
+            totals2 reading.named all.0 all.1 all.2 all.3;
       }
 
   -- so the line makes a step, by the numbers of the reader

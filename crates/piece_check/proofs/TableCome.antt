@@ -1,15 +1,16 @@
 -- Lines of tables that have come.
-use Rattle.std.proofs.Common.{◌≡◌, ℕ, zero, suc, ◌+◌, ◌-◌, ◌*◌, ◌^◌, ◌<◌, ◌≤◌, [], inl, inr, refl, sym, subst, ◌∙◌, arith}
+use Rattle.std.proofs.Common.{◌≡◌, ℕ, zero, suc, ◌+◌, ◌-◌, ◌*◌, ◌^◌, ◌<◌, ◌≤◌, List, [], inl, inr, refl, sym, ap, subst, ◌∙◌, arith}
 use Rattle.std.proofs.Math.Nat.{mul-le-mul_left}
 use Rattle.std.proofs.lemmas.Bool.{cases_lt}
-use Rattle.std.specs.Prelude.{Option, Some, None, slice_index_or}
+use Rattle.std.specs.Prelude.{ℤ, Bool, IsTrue, Option, Some, None, slice_index_or}
 use Rattle.cert_check.specs.auction_model.specs.Book.{Book, net_of}
 use Rattle.cert_check.specs.auction_model.specs.Prices.{weight_of}
 use Rattle.cert_facts.specs.cert_form.specs.Certificate.{CertValue}
-use Rattle.cert_facts.specs.cert_form.specs.CertText.{IsTable}
+use Rattle.cert_facts.specs.cert_form.specs.CertText.{IsTable, as_numbers}
 use Rattle.cert_facts.specs.cert_laws.specs.Tests.{Asks, bidders_of, states, lowered_net}
 use Rattle.cert_check.specs.declared.failure.Failure.{Failure}
 use Rattle.cert_check.specs.declared.tables.offers.Offers.{Offers}
+use Rattle.cert_check.specs.Growth.{Grows}
 use Rattle.cert_check.specs.LineTests.{RulesAt, worth_of}
 use Rattle.cert_check.specs.Partway.{HoldsTo, IsJudged, IsLate, IsSmallPlace}
 use Rattle.cert_check.proofs.HeadLines.{rules-C3, C3-rules}
@@ -17,15 +18,17 @@ use Rattle.cert_check.proofs.LoweredLines.{rules-C9, C9-rules}
 use Rattle.cert_pieces.specs.declared.due.Due.{Due}
 use Rattle.cert_pieces.specs.declared.due.Due.TheVariants.{Entries, End}
 use Rattle.cert_pieces.specs.declared.due.Table.{Table}
-use Rattle.cert_pieces.specs.declared.due.Table.TheVariants.{Head, Lowered}
+use Rattle.cert_pieces.specs.declared.due.Table.TheVariants.{Head, Part, Lowered}
+use Rattle.cert_pieces.specs.Order.{IsPartNext, IsTableNext}
 use Rattle.cert_pieces.specs.LinesLeft.{table_in}
 use Rattle.cert_pieces.specs.Rooms.{segment}
 use Rattle.piece_check.specs.declared.moment.Moment.{Moment}
+use Rattle.piece_check.specs.Grown.{IsGrown}
 use Rattle.piece_check.specs.InRoom.{HasLineBefore}
 use Rattle.piece_check.specs.Lines.{IsAtLine, IsNext}
 use Rattle.piece_check.specs.Moments.{IsAt}
 use Rattle.piece_check.specs.Rules.{IsFirstBetween, HasTwoLines, lines_tested}
-use Rattle.piece_check.specs.Tests.{IsFound, one_of}
+use Rattle.piece_check.specs.Tests.{IsFound, IsPlain, one_of}
 use Rattle.piece_check.proofs.NextLaws.{at-due, next-due, found-by, found-next, asks-nobody, behind-part}
 use Rattle.piece_check.proofs.RuleLaws.{between-same, tested-inside, tested-all}
 
@@ -45,17 +48,28 @@ pub late-small : (book : Book) (w : ℕ → ℕ) (c : CertValue) (test base n : 
 late-small book w c test base n None few is = tt
 late-small book w c test base n (Some p) few is = omega (arith, few, is.0)
 
+-- lines of tables that are the same
+entries-same : (x y : Table) (m n : ℕ) → Entries x m ≡ Entries y n → (x ≡ y) × (m ≡ n)
+entries-same x y m n e = (cc, cc)
+
+-- behind a table no line of one comes
+no-entries : (b : ℕ) (choice : List ℤ) (table : Table) (next : Due) → IsTableNext b choice table next
+    → (other : Table) (j : ℕ) → next ≡ Entries other (suc j) → ⊥
+no-entries b choice Head next is other j e = subst (IsPartNext b choice 0) e is
+no-entries b choice (Part i) next is other j e = subst (IsPartNext b choice i) e is
+no-entries b choice Lowered next is other j e = subst IsPlain (sym is ∙ e) tt
+
 module _ (at : Moment) (c : CertValue) (is : IsAt at c) (table : Table) (k : ℕ) (due : at.due ≡ Entries table k) where
-  here : IsAtLine at.book.now (weight_of at.weights.now) c (Entries table k) at.count at.late at.members at.totals.now at.room.now
+  here : IsAtLine at.book.now (weight_of at.weights.now) c (Entries table k) at.count at.late at.members at.grows at.totals.now at.room.now
   here = at-due at c (Entries table k) due is
 
   -- the line's number is one of the table
   pub line-inside : k ≤ bidders_of at.book.now
   line-inside = here.known.named.1
 
-  -- the room has the line, and the one before it
-  pub two-lines : IsTable (bidders_of at.book.now) (states at.book.now) (table_in c table) → HasTwoLines at.book.now table k at.room.now (table_in c table)
-  two-lines whole = record { whole = whole; line = here.own.whole tt; before = before k here.known.in_room.before }
+  -- the room has the line before it
+  line-before : 0 < k → segment (bidders_of at.book.now) (states at.book.now) (Entries table (k - 1)) at.room.now ≡ slice_index_or (table_in c table) (k - 1) []
+  line-before = before k here.known.in_room.before
     where
       before : (k : ℕ) → HasLineBefore (bidders_of at.book.now) (states at.book.now) c (Entries table k) at.room.now → 0 < k
           → segment (bidders_of at.book.now) (states at.book.now) (Entries table (k - 1)) at.room.now ≡ slice_index_or (table_in c table) (k - 1) []
@@ -64,6 +78,34 @@ module _ (at : Moment) (c : CertValue) (is : IsAt at c) (table : Table) (k : ℕ
           let back : k ≡ suc k - 1 = omega arith in
           subst (λ (n : ℕ). segment (bidders_of at.book.now) (states at.book.now) (Entries table n) at.room.now ≡ slice_index_or (table_in c table) n []) back
           has
+
+  -- it never falls where this was seen
+  pub known-before : 0 < k → IsTrue at.grows
+      → Grows at.book.now.supply (segment (bidders_of at.book.now) (states at.book.now) (Entries table (k - 1)) at.room.now)
+  known-before some seen =
+      let up : k ≡ suc (k - 1) = omega (arith, some) in
+      subst (Grows at.book.now.supply) (sym (line-before some)) (here.known.grown seen table (k - 1) (ap (Entries table) up))
+
+  -- so does the line itself, for the line that comes next
+  pub grown-next : (next : Due) (grows : Bool) → IsNext at.book.now c at.due next
+      → (IsTrue grows → Grows at.book.now.supply (segment (bidders_of at.book.now) (states at.book.now) (Entries table k) at.room.now))
+      → IsGrown at.book.now c next grows
+  grown-next next grows follows own seen other j e =
+      let order = next-due at c (Entries table k) next due follows in
+      elim (cases_lt k (bidders_of at.book.now)) [
+        | inl lt ↦
+            let same : Entries table (k + 1) ≡ Entries other (suc j) = sym (order.0 lt) ∙ e in
+            let parts = entries-same table other (k + 1) (suc j) same in
+            let k_is : k ≡ j = omega (arith, parts.1) in
+            subst (λ (x : Table). Grows at.book.now.supply (slice_index_or (table_in c x) j [])) parts.0
+            (subst (λ (n : ℕ). Grows at.book.now.supply (slice_index_or (table_in c table) n [])) k_is
+            (subst (Grows at.book.now.supply) (here.own.whole tt) (own seen)))
+        | inr past ↦ absurd (no-entries (bidders_of at.book.now) (as_numbers c.choice) table next (order.1 past) other j e)
+      ]
+
+  -- the room has the line, and the one before it
+  pub two-lines : IsTable (bidders_of at.book.now) (states at.book.now) (table_in c table) → HasTwoLines at.book.now table k at.room.now (table_in c table)
+  two-lines whole = record { whole = whole; line = here.own.whole tt; before = line-before }
 
 module _ (at : Moment) (c : CertValue) (is : IsAt at c) (k : ℕ) (due : at.due ≡ Entries Head k) where
   -- the room has line k of the head's table, and the one before it

@@ -1,6 +1,6 @@
 -- A checker whose answer is yes, and the certificate whose text was fed.
 use Rattle.std.proofs.Common.{◌≡◌, ℕ, List, [], refl, subst, arith}
-use Rattle.std.specs.Prelude.{ℤ, Option, Some, None}
+use Rattle.std.specs.Prelude.{ℤ, Bool, Option, Some, None}
 use Rattle.cert_check.specs.auction_model.specs.Book.{Book}
 use Rattle.cert_check.specs.auction_model.specs.Prices.{weight_of}
 use Rattle.cert_check.specs.cert_text.specs.line_text.specs.LineText.{Said, stated, faulty, beyond}
@@ -56,11 +56,11 @@ all-come End not = absurd (not (λ e. cc e))
 all-come Nothing not = refl
 
 -- the room has what the facts are told from
-has-all : (book : Book) (w : ℕ → ℕ) (c : CertValue) (failed : Option Failure) (late : Option ℕ) (members : ℕ) (totals : RowTotals) (room : List ℤ)
-    → failed ≡ None → IsCertificate (bidders_of book) (states book) c → HasCome book w c [] Nothing failed late members totals room
+has-all : (book : Book) (w : ℕ → ℕ) (c : CertValue) (failed : Option Failure) (late : Option ℕ) (members : ℕ) (grows : Bool) (totals : RowTotals) (room : List ℤ)
+    → failed ≡ None → IsCertificate (bidders_of book) (states book) c → HasCome book w c [] Nothing failed late members grows totals room
     → HasAll book c room
-has-all book w c failed late members totals room none kept come =
-    let left : IsLeft book w c [] Nothing late members totals room = subst (λ (o : Option Failure). HasCome book w c [] Nothing o late members totals room)
+has-all book w c failed late members grows totals room none kept come =
+    let left : IsLeft book w c [] Nothing late members grows totals room = subst (λ (o : Option Failure). HasCome book w c [] Nothing o late members grows totals room)
     none come in
     let holds = all-hold book w c left.known.tested.holds in
     record {
@@ -84,10 +84,10 @@ pub record IsRead (k : StreamCheck) (room : List ℤ) (text : List ℕ) : Type 0
 module _ (k : StreamCheck) (room : List ℤ) (text : List ℕ) where
   -- what it has read, while it reads on and no line is to come
   ended : k.reader.stop ≡ None → k.reader.due ≡ Nothing → (set : IsSetUp k) (items : List Line) → StandsWith k room text items k.reader.stop
-      → IsDone k.book.now (weight_of k.weights.now) text k.failed k.late k.members k.totals room
+      → IsDone k.book.now (weight_of k.weights.now) text k.failed k.late k.members k.grows k.totals room
   ended on done set items is =
       let now = subst (StandsWith k room text items) on is in
-      at-end k.book.now (weight_of k.weights.now) k.reader.due k.reader.part k.reader.place k.reader.read room text items k.failed k.late k.members k.totals
+      at-end k.book.now (weight_of k.weights.now) k.reader.due k.reader.part k.reader.place k.reader.read room text items k.failed k.late k.members k.grows k.totals
       done (reads-book k set room text items now.0) now.1
 
   -- a checker that has ended has read a certificate, of which the room has what the facts are told from
@@ -97,7 +97,7 @@ module _ (k : StreamCheck) (room : List ℤ) (text : List ℕ) where
       record {
         cert = d.cert;
         says_it = d.says;
-        all = has-all k.book.now (weight_of k.weights.now) d.cert k.failed k.late k.members k.totals room has.none
+        all = has-all k.book.now (weight_of k.weights.now) d.cert k.failed k.late k.members k.grows k.totals room has.none
             d.kept d.come;
       }
 

@@ -11,22 +11,23 @@ use Rattle.cert_facts.specs.cert_form.specs.Certificate.{CertValue}
 use Rattle.piece_check.specs.declared.judging.finding.Finding.{Finding}
 use Rattle.piece_check.specs.declared.moment.Moment.{Moment}
 use Rattle.cert_pieces.specs.declared.due.Due.{Due}
+use Rattle.piece_check.specs.Grown.{IsGrown}
 use Rattle.piece_check.specs.Totals.{AreTotals}
 use Rattle.piece_check.specs.Lines.{IsAtLine, IsNext}
 use Rattle.piece_check.specs.Tests.{IsFound, IsRowsEnd}
 
 -- the certificate may be the one whose line it is
 abbrev pub IsAt : Moment → CertValue → Type 0
-IsAt at c = IsAtLine at.book.now (weight_of at.weights.now) c at.due at.count at.late at.members at.totals.now at.room.now
+IsAt at c = IsAtLine at.book.now (weight_of at.weights.now) c at.due at.count at.late at.members at.grows at.totals.now at.room.now
 
 -- there is such a certificate
 abbrev pub IsPossible : Moment → Type 0
 IsPossible at = (c : CertValue) × IsAt at c
 
--- this is what the tests have shown when the next line is due
+-- this is what the tests have shown when the next line is due, and how the line grows
 abbrev pub Shows : Moment → Finding → Type 0
 Shows at f = (c : CertValue) (next : Due) → IsAt at c → IsNext at.book.now c at.due next
-    → IsFound at.book.now (weight_of at.weights.now) c next f.failed f.late
+    → IsFound at.book.now (weight_of at.weights.now) c next f.failed f.late × IsGrown at.book.now c next f.grows
 
 -- the claim is that of each such certificate
 pub record IsClaimOf (at : Moment) (a : Claim) : Type 0 where

@@ -17,7 +17,7 @@ pub record IsSetUp (k : StreamCheck) : Type 0 where
 
 -- what the tests have shown of the lines that have come
 abbrev pub IsKnownBy : StreamCheck → List ℤ → List Line → Type 0
-IsKnownBy k room items = IsKnown k.book.now (weight_of k.weights.now) k.reader.due k.failed k.late k.members k.totals room items
+IsKnownBy k room items = IsKnown k.book.now (weight_of k.weights.now) k.reader.due k.failed k.late k.members k.grows k.totals room items
 
 -- The reader reads on behind these lines, and this is known of them; or the text is the front of no certificate.
 abbrev pub StandsWith : StreamCheck → List ℤ → List ℕ → List Line → Option TextStop → Type 0

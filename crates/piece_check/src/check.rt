@@ -39,6 +39,8 @@ pub struct StreamCheck<'a> {
     late: Option<u64>,
     /// How many members the row has that is read.
     members: usize,
+    /// Whether the last line of the table that is read is known never to fall.
+    grows: bool,
     /// The multipliers of the rows that have come.
     totals: RowTotals,
 }
@@ -72,6 +74,7 @@ impl<'a> StreamCheck<'a> {
             failed: None,
             late: None,
             members: 0,
+            grows: false,
             totals: no_totals(),
         }
     }
@@ -185,6 +188,7 @@ impl<'a> StreamCheck<'a> {
             room,
             late: self.late,
             members: self.members,
+            grows: self.grows,
             totals: &self.totals,
         };
         let found = judged(&at);
@@ -193,6 +197,7 @@ impl<'a> StreamCheck<'a> {
         self.failed = found.failed;
         self.late = found.late;
         self.members = members;
+        self.grows = found.grows;
         self.totals = totals;
     }
 }

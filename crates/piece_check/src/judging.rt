@@ -65,5 +65,6 @@ fn nothing_new(at: &Moment) -> Finding
     Finding {
         failed: None,
         late: None,
+        grows: false,
     }
 }

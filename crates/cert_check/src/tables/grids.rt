@@ -1,14 +1,15 @@
 // The rules of a whole table.
-ghost use Rattle.std.specs.Prelude.{◌≡◌, ℕ, ◌≤◌, ◌<◌, [], length, slice_index_or, IsTrue};
+ghost use Rattle.std.specs.Prelude.{◌≡◌, ℕ, ◌+◌, ◌≤◌, ◌<◌, [], length, slice_index_or, IsTrue};
 ghost use Rattle.cert_laws.specs.cert_form.specs.CertText.{IsTable};
 ghost use Rattle.cert_laws.specs.Tests.{bidders_of, states};
 ghost use Rattle.cert_check.specs.Faults.{FirstFault};
+ghost use Rattle.cert_check.specs.Growth.{Grows};
 ghost use Rattle.cert_check.specs.Places.{IsFirstFailing};
 ghost use Rattle.cert_check.specs.LineTests.{IsWhole, ObeysIn, RulesAt, TestsTable};
 ghost use Rattle.cert_text.specs.choices.specs.Lines.{width_of};
 
 use crate::tables::STATE_ROOM;
-use crate::tables::lines::{last_line_fault, two_lines_fault};
+use crate::tables::lines::{LineFault, last_line_fault, two_lines_found};
 use crate::tables::offers::Offers;
 use cert_text::choices::Grid;
 
@@ -39,28 +40,38 @@ fn is_tested(offers: &Offers, whole: &Grid, table: &Grid, k: usize) -> bool
     k == offers.book.bidders() || share_line(table, whole, k + 1)
 }
 
-/// The first place at which line `k` breaks a rule, and the number of states where there is none.
-fn rule_fault(offers: &Offers, whole: &Grid, table: &Grid, k: usize) -> usize
+/// What line `k` shows, which is known to grow where `known` says so.
+fn rule_fault(offers: &Offers, whole: &Grid, table: &Grid, k: usize, known: bool) -> LineFault
     requires shape { IsTable (bidders_of offers.now.book.now) (states offers.now.book.now) whole.now }
     requires whole { IsWhole offers.now whole.now }
     requires table { IsTable (bidders_of offers.now.book.now) (states offers.now.book.now) table.now }
     requires line { k ≤ bidders_of offers.now.book.now }
-    ensures { FirstFault (ObeysIn offers.now table.now k) (states offers.now.book.now) result }
+    requires known { IsTrue known → Grows offers.now.book.now.supply (slice_index_or table.now k []) }
+    ensures place { FirstFault (ObeysIn offers.now table.now k) (states offers.now.book.now) result.place }
+    ensures grows { IsTrue result.below_grows → Grows offers.now.book.now.supply (slice_index_or table.now (k + 1) []) }
 {
     if is_tested(offers, whole, table, k) {
-        return offers.book.supply().states();
+        return LineFault {
+            place: offers.book.supply().states(),
+            below_grows: false,
+        };
     }
     if k == offers.book.bidders() {
-        return bottom_fault(offers, table);
+        return LineFault {
+            place: bottom_fault(offers, table),
+            below_grows: false,
+        };
     }
-    inner_fault(offers, table, k as u16)
+    inner_fault(offers, table, k as u16, known)
 }
 
-/// The first place at which a line that isn't the last breaks a rule, and the number of states where there is none.
-fn inner_fault(offers: &Offers, table: &Grid, k: u16) -> usize
+/// The same of a line that isn't the last, and has to be tested.
+fn inner_fault(offers: &Offers, table: &Grid, k: u16, known: bool) -> LineFault
     requires table { IsTable (bidders_of offers.now.book.now) (states offers.now.book.now) table.now }
     requires line { k < bidders_of offers.now.book.now }
-    ensures { FirstFault (ObeysIn offers.now table.now k) (states offers.now.book.now) result }
+    requires known { IsTrue known → Grows offers.now.book.now.supply (slice_index_or table.now k []) }
+    ensures place { FirstFault (ObeysIn offers.now table.now k) (states offers.now.book.now) result.place }
+    ensures grows { IsTrue result.below_grows → Grows offers.now.book.now.supply (slice_index_or table.now (k + 1) []) }
 {
     let states = offers.book.supply().states();
     let mut room = [0i128; STATE_ROOM];
@@ -69,10 +80,10 @@ fn inner_fault(offers: &Offers, table: &Grid, k: u16) -> usize
     let below = &mut room_below[..states];
     put_line(table, k as usize, line);
     put_line(table, k as usize + 1, below);
-    two_lines_fault(offers, k, line, below)
+    two_lines_found(offers, k, line, below, known)
 }
 
-/// The same of the last line.
+/// The first place at which the last line breaks a rule, and the number of states where there is none.
 fn bottom_fault(offers: &Offers, table: &Grid) -> usize
     requires { IsTable (bidders_of offers.now.book.now) (states offers.now.book.now) table.now }
     ensures { FirstFault (ObeysIn offers.now table.now (bidders_of offers.now.book.now)) (states offers.now.book.now) result }
@@ -102,11 +113,13 @@ pub fn table_fault(offers: &Offers, whole: &Grid, table: &Grid) -> Option<u64>
     ensures { IsFirstFailing (RulesAt offers.now table.now) result }
 {
     let states = offers.book.supply().states();
+    let mut known = false;
     for k in 0..offers.book.bidders() + 1 {
-        let found = rule_fault(offers, whole, table, k);
-        if found < states {
-            return Some((k * states + found) as u64);
+        let found = rule_fault(offers, whole, table, k, known);
+        if found.place < states {
+            return Some((k * states + found.place) as u64);
         }
+        known = found.below_grows;
     }
     None
 }

@@ -32,6 +32,15 @@ const LAST_BITS: u128 = (1 << 64) - 1;
 /// Room for the longest line.
 const MOST_ROOM: usize = MOST_STATES as usize;
 
+/// What a line of a table shows.
+#[derive(Clone, Copy)]
+pub struct LineFault {
+    /// The first place at which it breaks a rule, and its length where there is none.
+    pub place: usize,
+    /// Whether it is seen that the line below it never falls where more is left.
+    pub below_grows: bool,
+}
+
 /// Whether a number is so small that no sum of four leaves 64 bits.
 fn is_narrow(number: i128) -> bool
     ensures { IsTrue result ↔ (unsigned_abs number ≤ 2 ^ 60) }
@@ -171,9 +180,11 @@ fn below_grows(supply: &Supply, lines: &LinePair) -> bool
 }
 
 /// Whether neither line falls where more is left, as far as the numbers stand in 64 bits, if it is known that the line below doesn't.
-fn both_grow(supply: &Supply, lines: &LinePair, grows: bool) -> bool
+/// Where `known` says so the line itself was seen before not to fall.
+fn both_grow(supply: &Supply, lines: &LinePair, grows: bool, known: bool) -> bool
     requires line { length lines.now.line.now ≡ states_of supply.now }
     requires grows { IsTrue grows → Grows supply.now lines.now.below.now }
+    requires known { IsTrue known → Grows supply.now lines.now.line.now }
     ensures { BothGrow supply.now result lines.now.line.now lines.now.below.now }
 {
     supply.kept();
@@ -183,19 +194,24 @@ fn both_grow(supply: &Supply, lines: &LinePair, grows: bool) -> bool
     if !lines.is_narrow {
         return false;
     }
+    if known {
+        return true;
+    }
     is_growing_narrow(supply.counts(), supply.widths(), lines.narrow_line)
 }
 
-/// The first place at which the line of bidder `j` breaks a rule, and its length where there is none.
-fn pair_fault(offers: &Offers, j: u16, lines: &LinePair) -> usize
+/// What the line of bidder `j` shows, which is known to grow where `known` says so.
+fn pair_fault(offers: &Offers, j: u16, lines: &LinePair, known: bool) -> LineFault
     requires bidder { (0 < j) × (j ≤ bidders_of offers.now.book.now) }
     requires line { length lines.now.line.now ≡ states offers.now.book.now }
-    ensures { FirstFault (KeepsSome offers.now j lines.now.line.now lines.now.below.now ((offered offers.now).bids j))
-        (length lines.now.line.now) result }
+    requires known { IsTrue known → Grows offers.now.book.now.supply lines.now.line.now }
+    ensures place { FirstFault (KeepsSome offers.now j lines.now.line.now lines.now.below.now ((offered offers.now).bids j))
+        (length lines.now.line.now) result.place }
+    ensures grows { IsTrue result.below_grows → Grows offers.now.book.now.supply lines.now.below.now }
 {
     let supply = offers.book.supply();
     let grows = below_grows(supply, lines);
-    let grow = both_grow(supply, lines, grows);
+    let grow = both_grow(supply, lines, grows, known);
     let mut found = none_fault(lines);
     for i in 0..offers.bids(j) {
         if grows && offers.is_needless(j, i + 1) {
@@ -203,7 +219,10 @@ fn pair_fault(offers: &Offers, j: u16, lines: &LinePair) -> usize
         }
         found = bid_fault(offers, j, i + 1, lines, grow, found);
     }
-    found
+    LineFault {
+        place: found,
+        below_grows: grows,
+    }
 }
 
 /// The last 64 bits of a number.
@@ -230,15 +249,23 @@ fn narrow_into(numbers: &mut [i64], line: &[i128]) -> bool
 }
 
 /// The same as `line_fault`, with room for `N` numbers of each line in 64 bits.
-fn roomy_fault<const N: usize>(offers: &Offers, j: u16, line: &[i128], below: &[i128]) -> usize
+fn roomy_fault<const N: usize>(
+    offers: &Offers,
+    j: u16,
+    line: &[i128],
+    below: &[i128],
+    known: bool,
+) -> LineFault
     requires room { states offers.now.book.now ≤ N }
     requires size { N ≤ 2 ^ 40 }
     requires bidder { (0 < j) × (j ≤ bidders_of offers.now.book.now) }
     requires line { length line.now ≡ states offers.now.book.now }
     requires below { length below.now ≡ states offers.now.book.now }
     requires sizes { (s : ℕ) → unsigned_abs (slice_index_or below.now s (pos 0)) < 2 ^ 122 }
-    ensures { FirstFault (KeepsSome offers.now j line.now below.now ((offered offers.now).bids j))
-        (length line.now) result }
+    requires known { IsTrue known → Grows offers.now.book.now.supply line.now }
+    ensures place { FirstFault (KeepsSome offers.now j line.now below.now ((offered offers.now).bids j))
+        (length line.now) result.place }
+    ensures grows { IsTrue result.below_grows → Grows offers.now.book.now.supply below.now }
 {
     let mut numbers = [0i64; N];
     let mut rests = [0i64; N];
@@ -261,45 +288,56 @@ fn roomy_fault<const N: usize>(offers: &Offers, j: u16, line: &[i128], below: &[
         low,
         high,
     };
-    pair_fault(offers, j, &lines)
+    pair_fault(offers, j, &lines, known)
 }
 
-/// The first place at which the line of bidder `j` breaks a rule, and its length where there is none. A short line gets little
-/// room, since all of it is set to 0 for each line.
-fn line_fault(offers: &Offers, j: u16, line: &[i128], below: &[i128]) -> usize
+/// What the line of bidder `j` shows, which is known to grow where `known` says so. A short line gets little room, since all of it is
+/// set to 0 for each line.
+fn line_fault(offers: &Offers, j: u16, line: &[i128], below: &[i128], known: bool) -> LineFault
     requires bidder { (0 < j) × (j ≤ bidders_of offers.now.book.now) }
     requires line { length line.now ≡ states offers.now.book.now }
     requires below { length below.now ≡ states offers.now.book.now }
     requires sizes { (s : ℕ) → unsigned_abs (slice_index_or below.now s (pos 0)) < 2 ^ 122 }
-    ensures { FirstFault (KeepsSome offers.now j line.now below.now ((offered offers.now).bids j))
-        (length line.now) result }
+    requires known { IsTrue known → Grows offers.now.book.now.supply line.now }
+    ensures place { FirstFault (KeepsSome offers.now j line.now below.now ((offered offers.now).bids j))
+        (length line.now) result.place }
+    ensures grows { IsTrue result.below_grows → Grows offers.now.book.now.supply below.now }
 {
     offers.book.kept();
     if line.len() <= 256 {
-        roomy_fault::<256>(offers, j, line, below)
+        roomy_fault::<256>(offers, j, line, below, known)
     } else if line.len() <= 1024 {
-        roomy_fault::<1024>(offers, j, line, below)
+        roomy_fault::<1024>(offers, j, line, below, known)
     } else if line.len() <= 2048 {
-        roomy_fault::<2048>(offers, j, line, below)
+        roomy_fault::<2048>(offers, j, line, below, known)
     } else if line.len() <= 4096 {
-        roomy_fault::<4096>(offers, j, line, below)
+        roomy_fault::<4096>(offers, j, line, below, known)
     } else {
-        roomy_fault::<MOST_ROOM>(offers, j, line, below)
+        roomy_fault::<MOST_ROOM>(offers, j, line, below, known)
     }
 }
 
-/// The first place at which line `k` of a table breaks a rule, where `below` is the next line, and its length where there is none.
-pub fn two_lines_fault(offers: &Offers, k: u16, line: &[i128], below: &[i128]) -> usize
+/// What line `k` of a table shows, where `below` is the next line. Of lines that are tested one after the other each is then tested
+/// once for whether it falls anywhere: `known` is what the line before it showed of it.
+pub fn two_lines_found(
+    offers: &Offers,
+    k: u16,
+    line: &[i128],
+    below: &[i128],
+    known: bool,
+) -> LineFault
     requires number { k < bidders_of offers.now.book.now }
     requires line { length line.now ≡ states offers.now.book.now }
     requires below { length below.now ≡ states offers.now.book.now }
     requires sizes { (s : ℕ) → unsigned_abs (slice_index_or below.now s (pos 0)) < 2 ^ 120 }
-    ensures { (table : List (List ℤ)) → IsTable (bidders_of offers.now.book.now) (states offers.now.book.now) table
+    requires known { IsTrue known → Grows offers.now.book.now.supply line.now }
+    ensures place { (table : List (List ℤ)) → IsTable (bidders_of offers.now.book.now) (states offers.now.book.now) table
         → slice_index_or table k [] ≡ line.now → slice_index_or table (suc k) [] ≡ below.now
-        → FirstFault (ObeysIn offers.now table k) (states offers.now.book.now) result }
+        → FirstFault (ObeysIn offers.now table k) (states offers.now.book.now) result.place }
+    ensures grows { IsTrue result.below_grows → Grows offers.now.book.now.supply below.now }
 {
     offers.book.kept();
-    line_fault(offers, k + 1, line, below)
+    line_fault(offers, k + 1, line, below, known)
 }
 
 /// The first place at which the last line of a table breaks a rule, and its length where there is none.

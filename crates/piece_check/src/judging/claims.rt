@@ -3,19 +3,21 @@ ghost use Rattle.std.specs.Prelude.{◌≡◌, ◌≤◌, ◌<◌, ◌+◌, ◌*
 ghost use Rattle.cert_check.specs.auction_model.specs.Prices.{weight_of};
 ghost use Rattle.cert_facts.specs.cert_form.specs.Certificate.{CertValue};
 ghost use Rattle.cert_facts.specs.cert_laws.specs.Tests.{Asks, bidders_of, states};
+ghost use Rattle.cert_check.specs.Growth.{Grows};
+ghost use Rattle.cert_pieces.specs.Rooms.{segment};
 ghost use Rattle.cert_check.specs.Partway.{IsJudged, IsLate};
 ghost use Rattle.piece_check.specs.Moments.{AreLowered, IsAt, IsPossible, IsClaimOf, Shows};
 ghost use Rattle.piece_check.specs.Rules.{lines_tested};
 ghost use Rattle.piece_check.specs.Tests.{IsClaimed};
 
-use crate::judging::finding::Finding;
+use crate::judging::finding::{Finding, RulesJudged};
 use crate::judging::rows::{row_line, rows_line};
-use crate::judging::rules::rules_fault;
+use crate::judging::rules::rules_found;
 use crate::judging::tables::{behind_entries, is_at_most};
 use crate::moment::Moment;
 use crate::room::{number_in, numbers_in, put_choice};
 use cert_check::{
-    BIDDER_ROOM, Claim, Failure, Offers, of_test, payments_test, put_gains, sum_paid, with_late,
+    BIDDER_ROOM, Claim, Offers, of_test, payments_test, put_gains, sum_paid, with_late,
 };
 use cert_pieces::{Due, Table};
 
@@ -53,6 +55,7 @@ fn shown(at: &Moment, claim: &Claim) -> Finding
         _ => Finding {
             failed: None,
             late: None,
+            grows: false,
         },
     }
 }
@@ -68,6 +71,7 @@ fn payments_line(at: &Moment, claim: &Claim) -> Finding
     Finding {
         failed: of_test(5, payments_test(claim, pay)),
         late: None,
+        grows: false,
     }
 }
 
@@ -91,20 +95,26 @@ fn lowered_line(at: &Moment, claim: &Claim, k: u16) -> Finding
         den: claim.den,
         gains: &gains,
     };
-    let failed = lowered_failure(at, &offers, k);
-    behind_entries(at.book, 9, k, failed, late_sum(at, k))
+    let rules = lowered_rules(at, &offers, k);
+    behind_entries(at.book, 9, k, &rules, late_sum(at, k))
 }
 
-/// What fails first of the rules that line `k` of the lowered table makes known.
-fn lowered_failure(at: &Moment, offers: &Offers, k: u16) -> Option<Failure>
+/// What line `k` of the lowered table shows of the rules.
+fn lowered_rules(at: &Moment, offers: &Offers, k: u16) -> RulesJudged
     requires due { at.now.due ≡ Due.Entries Table.Lowered k }
     requires some { IsPossible at.now }
     requires offers { AreLowered at.now offers.now }
-    ensures { (c : CertValue) → IsAt at.now c
+    ensures failed { (c : CertValue) → IsAt at.now c
         → IsJudged at.now.book.now (weight_of at.now.weights.now) c 9
-        (lines_tested (bidders_of at.now.book.now) k * states at.now.book.now) result }
+        (lines_tested (bidders_of at.now.book.now) k * states at.now.book.now) result.failed }
+    ensures grows { IsTrue result.grows → Grows at.now.book.now.supply
+        (segment (bidders_of at.now.book.now) (states at.now.book.now) (Due.Entries Table.Lowered k) at.now.room.now) }
 {
-    of_test(9, rules_fault(offers, Table::Lowered, k, at.room))
+    let found = rules_found(offers, Table::Lowered, k, at.room, at.grows);
+    RulesJudged {
+        failed: of_test(9, found.fault),
+        grows: found.grows,
+    }
 }
 
 /// What is found early behind line `k` of the lowered table: line 0 has no more for the whole supply than the payments come to.

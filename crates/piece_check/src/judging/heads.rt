@@ -19,6 +19,7 @@ pub(crate) fn value_line(at: &Moment) -> Finding
     Finding {
         failed: of_test(1, sizes_test(den, value)),
         late: None,
+        grows: false,
     }
 }
 
@@ -36,5 +37,6 @@ pub(crate) fn choice_line(at: &Moment) -> Finding
     Finding {
         failed: of_test(2, choice_test(at.book, choice, value)),
         late: None,
+        grows: false,
     }
 }

@@ -9,7 +9,7 @@ ghost use Rattle.cert_facts.specs.cert_laws.specs.Tests.{full};
 ghost use Rattle.piece_check.specs.Moments.{ArePlain, IsAt, IsPossible, Shows};
 
 use crate::judging::finding::Finding;
-use crate::judging::rules::rules_fault;
+use crate::judging::rules::rules_found;
 use crate::judging::tables::is_at_most;
 use crate::moment::Moment;
 use crate::room::{numbers_in, put_choice};
@@ -27,18 +27,20 @@ pub(crate) fn part_choice(at: &Moment, j: u16) -> Finding
     let bidders = at.book.bidders();
     put_choice(at.book, Due::PartChoice(j), at.room, &mut numbers);
     let choice = &numbers[..bidders];
-    part_found(j, is_allowed_without(at.book, choice, j))
+    part_found(j, is_allowed_without(at.book, choice, j), false)
 }
 
-/// A part whose line keeps what is asked, or doesn't.
-fn part_found(j: u16, holds: bool) -> Finding
+/// A part whose line keeps what is asked, or doesn't, and of which it is said whether it is seen never to fall.
+fn part_found(j: u16, holds: bool, grows: bool) -> Finding
     ensures holds { IsTrue holds → (result.failed ≡ None) × (result.late ≡ None) }
     ensures fails { (IsTrue holds → ⊥) → (f : Failure) × (result.failed ≡ Some f) × (f.test ≡ 4) × (f.place ≡ j) }
+    ensures grows { result.grows ≡ grows }
 {
     if holds {
         return Finding {
             failed: None,
             late: None,
+            grows,
         };
     }
     Finding {
@@ -47,6 +49,7 @@ fn part_found(j: u16, holds: bool) -> Finding
             place: j as u64,
         }),
         late: None,
+        grows,
     }
 }
 
@@ -74,10 +77,11 @@ fn part_rules(at: &Moment, offers: &Offers, j: u16, k: u16) -> Finding
     requires offers { ArePlain at.now offers.now j }
     ensures { Shows at.now result }
 {
-    if rules_fault(offers, Table::Part(j), k, at.room).is_some() {
-        return part_found(j, false);
+    let found = rules_found(offers, Table::Part(j), k, at.room, at.grows);
+    if found.fault.is_some() {
+        return part_found(j, false, false);
     }
-    part_found(j, keeps_top(at, j, k))
+    part_found(j, keeps_top(at, j, k), found.grows)
 }
 
 /// Whether line 0 has no more than the value of the choice for the whole supply. No other line is asked.

@@ -31,11 +31,13 @@ pub(crate) fn rows_line(at: &Moment, claim: &Claim) -> Finding
         return Finding {
             failed: None,
             late: None,
+            grows: false,
         };
     }
     Finding {
         failed: last_tests(at, claim),
         late: None,
+        grows: false,
     }
 }
 
@@ -54,17 +56,20 @@ pub(crate) fn row_line(at: &Moment, claim: &Claim, left: u16) -> Finding
                 place: at.totals.count as u64,
             }),
             late: None,
+            grows: false,
         };
     }
     if left != 1 {
         return Finding {
             failed: None,
             late: None,
+            grows: false,
         };
     }
     Finding {
         failed: last_tests(at, claim),
         late: None,
+        grows: false,
     }
 }
 

@@ -1,50 +1,87 @@
 // The rules of a table, two lines at a time.
-ghost use Rattle.std.specs.Prelude.{◌≡◌, ◌≤◌, ◌<◌, ◌+◌, ◌-◌, ◌*◌, ◌^◌, ℕ, suc, Some, None, List, [], length, slice_index_or, ℤ};
+ghost use Rattle.std.specs.Prelude.{◌≡◌, ◌≤◌, ◌<◌, ◌+◌, ◌-◌, ◌*◌, ◌^◌, ℕ, suc, Some, None, List, [], length, slice_index_or, IsTrue, ℤ};
 ghost use Rattle.cert_facts.specs.cert_form.specs.CertText.{IsTable};
 ghost use Rattle.cert_facts.specs.cert_laws.specs.Tests.{bidders_of, states};
+ghost use Rattle.cert_check.specs.Growth.{Grows};
 ghost use Rattle.cert_check.specs.LineTests.{RulesAt};
 ghost use Rattle.cert_pieces.specs.Dues.{IsTableOf};
 ghost use Rattle.cert_pieces.specs.Rooms.{room_size, segment};
 ghost use Rattle.piece_check.specs.Rules.{IsFirstBetween, HasTwoLines, lines_tested};
 
 use crate::room::numbers_in;
-use cert_check::{Offers, last_line_fault, two_lines_fault};
+use cert_check::{Offers, last_line_fault, two_lines_found};
 use cert_pieces::{Due, Table};
 
-/// The first number of a line and a place in it at which a rule is broken, of those that line `k` makes known: the line before it is
-/// tested with it, and it is tested alone where it is the last.
-pub(crate) fn rules_fault(offers: &Offers, table: Table, k: u16, room: &[i128]) -> Option<u64>
+/// What a line of a table shows of the rules.
+#[derive(Clone, Copy)]
+pub(crate) struct RulesFound {
+    /// The first number of a line and a place in it at which a rule is broken, of those that the line makes known.
+    pub(crate) fault: Option<u64>,
+    /// Whether it is seen that the line never falls where more is left.
+    pub(crate) grows: bool,
+}
+
+/// What line `k` shows: the line before it is tested with it, and it is tested alone where it is the last. Where `known` says so, the
+/// line before it was seen never to fall when it came.
+pub(crate) fn rules_found(
+    offers: &Offers,
+    table: Table,
+    k: u16,
+    room: &[i128],
+    known: bool,
+) -> RulesFound
     requires table { IsTableOf (bidders_of offers.now.book.now) table }
     requires line { k ≤ bidders_of offers.now.book.now }
     requires room { length room.now ≡ room_size (bidders_of offers.now.book.now) (states offers.now.book.now) }
     requires lines { (t : List (List ℤ)) × HasTwoLines offers.now.book.now table k room.now t }
-    ensures { (t : List (List ℤ)) → HasTwoLines offers.now.book.now table k room.now t
+    requires known { 0 < k → IsTrue known → Grows offers.now.book.now.supply
+        (segment (bidders_of offers.now.book.now) (states offers.now.book.now) (Due.Entries table (k - 1)) room.now) }
+    ensures fault { (t : List (List ℤ)) → HasTwoLines offers.now.book.now table k room.now t
         → IsFirstBetween (RulesAt offers.now t) ((k - 1) * states offers.now.book.now)
-        (lines_tested (bidders_of offers.now.book.now) k * states offers.now.book.now) result }
+        (lines_tested (bidders_of offers.now.book.now) k * states offers.now.book.now) result.fault }
+    ensures grows { IsTrue result.grows → Grows offers.now.book.now.supply
+        (segment (bidders_of offers.now.book.now) (states offers.now.book.now) (Due.Entries table k) room.now) }
 {
-    match before_fault(offers, table, k, room) {
-        Some(place) => Some(place),
-        None => own_fault(offers, table, k, room),
+    let before = before_found(offers, table, k, room, known);
+    match before.fault {
+        Some(place) => RulesFound {
+            fault: Some(place),
+            grows: before.grows,
+        },
+        None => RulesFound {
+            fault: own_fault(offers, table, k, room),
+            grows: before.grows,
+        },
     }
 }
 
-/// The first of the line before line `k`.
-fn before_fault(offers: &Offers, table: Table, k: u16, room: &[i128]) -> Option<u64>
+/// The same of the rules of the line before line `k` alone.
+fn before_found(offers: &Offers, table: Table, k: u16, room: &[i128], known: bool) -> RulesFound
     requires table { IsTableOf (bidders_of offers.now.book.now) table }
     requires line { k ≤ bidders_of offers.now.book.now }
     requires room { length room.now ≡ room_size (bidders_of offers.now.book.now) (states offers.now.book.now) }
     requires lines { (t : List (List ℤ)) × HasTwoLines offers.now.book.now table k room.now t }
-    ensures { (t : List (List ℤ)) → HasTwoLines offers.now.book.now table k room.now t
+    requires known { 0 < k → IsTrue known → Grows offers.now.book.now.supply
+        (segment (bidders_of offers.now.book.now) (states offers.now.book.now) (Due.Entries table (k - 1)) room.now) }
+    ensures fault { (t : List (List ℤ)) → HasTwoLines offers.now.book.now table k room.now t
         → IsFirstBetween (RulesAt offers.now t) ((k - 1) * states offers.now.book.now)
-        (k * states offers.now.book.now) result }
+        (k * states offers.now.book.now) result.fault }
+    ensures grows { IsTrue result.grows → Grows offers.now.book.now.supply
+        (segment (bidders_of offers.now.book.now) (states offers.now.book.now) (Due.Entries table k) room.now) }
 {
     if k == 0 {
-        return None;
+        return RulesFound {
+            fault: None,
+            grows: false,
+        };
     }
     let before = numbers_in(offers.book, Due::Entries(table, k - 1), room);
     let line = numbers_in(offers.book, Due::Entries(table, k), room);
-    let fault = two_lines_fault(offers, k - 1, before, line);
-    place_of(k - 1, fault, offers.book.supply().states())
+    let found = two_lines_found(offers, k - 1, before, line, known);
+    RulesFound {
+        fault: place_of(k - 1, found.place, offers.book.supply().states()),
+        grows: found.below_grows,
+    }
 }
 
 /// The first of line `k` itself, where it is the last.

@@ -3,15 +3,17 @@ ghost use Rattle.std.specs.Prelude.{◌≡◌, ◌≤◌, ◌<◌, ◌+◌, ◌*
 ghost use Rattle.cert_check.specs.auction_model.specs.Prices.{weight_of};
 ghost use Rattle.cert_facts.specs.cert_form.specs.Certificate.{CertValue};
 ghost use Rattle.cert_facts.specs.cert_laws.specs.Tests.{Asks, bidders_of, states};
+ghost use Rattle.cert_check.specs.Growth.{Grows};
+ghost use Rattle.cert_pieces.specs.Rooms.{segment};
 ghost use Rattle.cert_check.specs.Partway.{IsJudged, IsLate, IsSmallPlace};
 ghost use Rattle.piece_check.specs.Moments.{ArePlain, IsAt, IsPossible, Shows};
 ghost use Rattle.piece_check.specs.Rules.{lines_tested};
 
-use crate::judging::finding::Finding;
-use crate::judging::rules::rules_fault;
+use crate::judging::finding::{Finding, RulesJudged};
+use crate::judging::rules::rules_found;
 use crate::moment::Moment;
 use crate::room::{number_in, numbers_in, put_choice};
-use cert_check::{BIDDER_ROOM, Failure, Offers, behind_table, none_earlier, of_test, with_late};
+use cert_check::{BIDDER_ROOM, Offers, behind_table, none_earlier, of_test, with_late};
 use cert_facts::bid_book::BidBook;
 use cert_pieces::{Due, Table};
 
@@ -29,21 +31,27 @@ pub(crate) fn head_line(at: &Moment, k: u16) -> Finding
         den: 1,
         gains: &gains,
     };
-    let failed = head_failure(at, &offers, k);
+    let rules = head_rules(at, &offers, k);
     let late = with_late(at.late, k as u64, keeps_value(at, k));
-    behind_entries(at.book, 3, k, failed, late)
+    behind_entries(at.book, 3, k, &rules, late)
 }
 
-/// What fails first of the rules that line `k` of the head's table makes known.
-fn head_failure(at: &Moment, offers: &Offers, k: u16) -> Option<Failure>
+/// What line `k` of the head's table shows of the rules.
+fn head_rules(at: &Moment, offers: &Offers, k: u16) -> RulesJudged
     requires due { at.now.due ≡ Due.Entries Table.Head k }
     requires some { IsPossible at.now }
     requires offers { ArePlain at.now offers.now 0 }
-    ensures { (c : CertValue) → IsAt at.now c
+    ensures failed { (c : CertValue) → IsAt at.now c
         → IsJudged at.now.book.now (weight_of at.now.weights.now) c 3
-        (lines_tested (bidders_of at.now.book.now) k * states at.now.book.now) result }
+        (lines_tested (bidders_of at.now.book.now) k * states at.now.book.now) result.failed }
+    ensures grows { IsTrue result.grows → Grows at.now.book.now.supply
+        (segment (bidders_of at.now.book.now) (states at.now.book.now) (Due.Entries Table.Head k) at.now.room.now) }
 {
-    of_test(3, rules_fault(offers, Table::Head, k, at.room))
+    let found = rules_found(offers, Table::Head, k, at.room, at.grows);
+    RulesJudged {
+        failed: of_test(3, found.fault),
+        grows: found.grows,
+    }
 }
 
 /// Whether a line of the head's table keeps what is asked behind the rules: line 0 that it has no more than the value for the whole
@@ -79,26 +87,32 @@ pub(crate) fn behind_entries(
     book: &BidBook,
     test: u8,
     k: u16,
-    failed: Option<Failure>,
+    rules: &RulesJudged,
     late: Option<u64>,
 ) -> Finding
     requires late { IsSmallPlace late }
     requires test { test < 10 }
-    ensures inside { k < bidders_of book.now → (result.failed ≡ failed) × (result.late ≡ late) }
+    ensures inside { k < bidders_of book.now → (result.failed ≡ rules.now.failed) × (result.late ≡ late) }
     ensures whole { k ≡ bidders_of book.now → (w : ℕ → ℕ) (c : CertValue) (n : ℕ)
-        → IsJudged book.now w c test ((bidders_of book.now + 1) * states book.now) failed
+        → IsJudged book.now w c test ((bidders_of book.now + 1) * states book.now) rules.now.failed
         → IsLate book.now w c test ((bidders_of book.now + 1) * states book.now) n late
         → ((q : ℕ) → (bidders_of book.now + 1) * states book.now + n ≤ q → Asks book.now w c test q)
         → IsJudged book.now w c (test + 1) 0 result.failed }
     ensures none { k ≡ bidders_of book.now → result.late ≡ None }
+    ensures grows { result.grows ≡ rules.now.grows }
 {
     let bidders = book.bidders();
     if (k as usize) < bidders {
-        return Finding { failed, late };
+        return Finding {
+            failed: rules.failed,
+            late,
+            grows: rules.grows,
+        };
     }
     let base = (bidders + 1) * book.supply().states();
     Finding {
-        failed: behind_table(failed, test, base as u64, late),
+        failed: behind_table(rules.failed, test, base as u64, late),
         late: None,
+        grows: rules.grows,
     }
 }

@@ -16,14 +16,22 @@ put_line-requires-2-clause-places c =
     room-front (bidders_of book) (states book) c.args.table.now c.requires.table c.states-states.result 16384
     (c.states-states.ensures.states ∙ ap states_of c.supply.ensures.supply) c.states-states.ensures.most
 
-pub two_lines_fault-requires-clause-sizes : goal.two_lines_fault-requires-clause-sizes
-two_lines_fault-requires-clause-sizes c = λ s.
+pub two_lines_found-requires-clause-sizes : goal.two_lines_found-requires-clause-sizes
+two_lines_found-requires-clause-sizes c = λ s.
     let book = c.args.offers.now.book.now in
     let small = table-small (bidders_of book) (states book) c.args.table.now c.requires.table (c.args.k + 1) s in
     rw c.put_line-2.ensures small
 
-pub returns : goal.returns
-returns c =
+pub returns-clause-place : goal.returns-clause-place
+returns-clause-place c =
     let next : suc c.args.k ≡ c.args.k + 1 = omega arith in
-    c.two_lines_fault.ensures c.args.table.now c.requires.table (sym c.put_line.ensures)
+    c.two_lines_found.ensures.place c.args.table.now c.requires.table (sym c.put_line.ensures)
     (ap (λ (n : ℕ). get_or c.args.table.now n []) next ∙ sym c.put_line-2.ensures)
+
+pub two_lines_found-requires-clause-known : goal.two_lines_found-requires-clause-known
+two_lines_found-requires-clause-known c = λ yes.
+    rw c.put_line.ensures (c.requires.known yes)
+
+pub returns-clause-grows : goal.returns-clause-grows
+returns-clause-grows c = λ yes.
+    rw c.put_line-2.ensures at (c.two_lines_found.ensures.grows yes)

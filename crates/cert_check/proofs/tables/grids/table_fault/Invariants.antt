@@ -1,6 +1,10 @@
-use Rattle.std.proofs.Common.{ℕ, ◌<◌}
+use Rattle.std.proofs.Common.{ℕ, ◌<◌, IsTrue, [], get_or}
+use Rattle.cert_check.specs.Growth.{Grows}
 use Rattle.cert_check.specs.LineTests.{ObeysIn}
 use Rattle.cert_check.proofs.tables.grids.table_fault.Given as goal
 
 abbrev pub invariant-loop-k : goal.invariant-loop-k
-invariant-loop-k l = (k s : ℕ) → k < l.k → ObeysIn l.offers l.table k s
+invariant-loop-k l = record {
+  obeys : (k s : ℕ) → k < l.k → ObeysIn l.offers l.table k s;
+  grows : IsTrue l.known → Grows l.offers.book.now.supply (get_or l.table l.k []);
+}

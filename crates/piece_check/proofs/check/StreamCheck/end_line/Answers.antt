@@ -46,9 +46,10 @@ returns-clause-stands c = λ text items (set, ends, known).
     stands-next c.args.self.now set c.end_line.new.self c.args.room.now text items c.count-count.result
     (omega (arith, c.kept.ensures.bidders)) c.count-count.ensures none on c.end_line.ensures.shape ends known
     (c.end_line.ensures.beyond on) (c.end_line.ensures.next on) (c.end_line.ensures.order on) (c.end_line.ensures.stands text items ends)
-    c.judged-found.result.failed c.judged-found.result.late c.members_behind-members.result c.totals_behind-totals.result
+    c.judged-found.result.failed c.judged-found.result.late c.members_behind-members.result c.judged-found.result.grows c.totals_behind-totals.result
     (λ cert at next. (
-      c.judged-found.ensures cert c.end_line.new.self.due at next,
+      (c.judged-found.ensures cert c.end_line.new.self.due at next).0,
       c.members_behind-members.ensures cert c.end_line.new.self.due at next,
       c.totals_behind-totals.ensures cert c.end_line.new.self.due at next,
+      (c.judged-found.ensures cert c.end_line.new.self.due at next).1,
     ))

@@ -16,7 +16,7 @@ returns-in-Ok-clause-verdict c = λ text (set, (items, is)).
     let k = c.args.self.now in
     let now = subst (StandsWith c.args.self.now c.args.room.now text items) c.in-Ok.ensures.done.0 is in
     let d = at-end k.book.now (weight_of k.weights.now) k.reader.due k.reader.part k.reader.place k.reader.read c.args.room.now text items k.failed k.late
-    k.members k.totals c.in-Ok.ensures.done.1 (reads-book c.args.self.now set c.args.room.now text items now.0) now.1 in
+    k.members k.grows k.totals c.in-Ok.ensures.done.1 (reads-book c.args.self.now set c.args.room.now text items now.0) now.1 in
     let v = c.verdict_of.ensures k.book.now (weight_of k.weights.now) d.cert d.judged in (
       d.cert,
       d.says,

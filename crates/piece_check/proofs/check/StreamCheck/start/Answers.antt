@@ -8,4 +8,4 @@ returns-clause-stands c =
       bidders = ap (λ x. x.bidders) c.start.ensures.shape ∙ c.of.ensures.bidders;
       states_are = ap (λ x. x.states) c.start.ensures.shape ∙ c.of.ensures.states;
       weights = c.requires.weights;
-    }) c.start.ensures.first.0 c.start.ensures.first.1 refl refl refl c.no_totals.ensures (c.start.ensures.fresh c.loop-k.room)
+    }) c.start.ensures.first.0 c.start.ensures.first.1 refl refl refl refl c.no_totals.ensures (c.start.ensures.fresh c.loop-k.room)

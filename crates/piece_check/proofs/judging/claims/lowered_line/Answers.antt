@@ -10,7 +10,9 @@ use Rattle.cert_facts.specs.cert_laws.specs.Tests.{bidders_of, states}
 use Rattle.cert_check.specs.Worths.{HasSmallWorths}
 use Rattle.cert_check.proofs.LoweredLines.{past-C9}
 use Rattle.piece_check.proofs.LoweredCome.{pay-there, worths-are}
-use Rattle.piece_check.proofs.TableCome.{late-small, lowered-shows}
+use Rattle.piece_check.proofs.TableCome.{grown-next, late-small, lowered-shows}
+use Rattle.std.specs.Prelude.{IsTrue}
+use Rattle.cert_pieces.specs.declared.due.Table.TheVariants.{Lowered}
 use Rattle.piece_check.proofs.judging.claims.lowered_line.Goals as goal
 
 pub put_gains-requires-clause-pay : goal.put_gains-requires-clause-pay
@@ -33,8 +35,8 @@ invariant_of-offers c =
           c.requires.claim.book c.put_gains.ensures.small);
     }
 
-pub lowered_failure-failed-requires-clause-offers : goal.lowered_failure-failed-requires-clause-offers
-lowered_failure-failed-requires-clause-offers c =
+pub lowered_rules-rules-requires-clause-offers : goal.lowered_rules-rules-requires-clause-offers
+lowered_rules-rules-requires-clause-offers c =
     let den_fits : SFits w128 c.args.claim.now.den = search rules in
     record {
       book = refl;
@@ -52,12 +54,15 @@ behind_entries-requires-clause-late c =
     (c.late_sum.ensures cert c.requires.some.1)
 
 pub returns : goal.returns
-returns c = λ cert next is follows.
-    let at = c.args.at.now in
-    let early = c.late_sum.ensures cert is in
-    lowered-shows c.args.at.now cert is c.args.k c.requires.due next c.lowered_failure-failed.result c.behind_entries.result.failed c.late_sum.result
-    c.behind_entries.result.late follows (c.lowered_failure-failed.ensures cert is) early
-    c.behind_entries.ensures.inside
-    (λ last j. c.behind_entries.ensures.whole last (weight_of at.weights.now) cert 1 j early
-    (λ q past. past-C9 at.book.now (weight_of at.weights.now) cert q past))
-    c.behind_entries.ensures.none
+returns c = λ cert next is follows. (
+  let at = c.args.at.now in
+      let early = c.late_sum.ensures cert is in
+      lowered-shows c.args.at.now cert is c.args.k c.requires.due next c.lowered_rules-rules.result.failed c.behind_entries.result.failed c.late_sum.result
+      c.behind_entries.result.late follows (c.lowered_rules-rules.ensures.failed cert is) early
+      c.behind_entries.ensures.inside
+      (λ last j. c.behind_entries.ensures.whole last (weight_of at.weights.now) cert 1 j early
+      (λ q past. past-C9 at.book.now (weight_of at.weights.now) cert q past))
+      c.behind_entries.ensures.none,
+  grown-next c.args.at.now cert is Lowered c.args.k c.requires.due next c.behind_entries.result.grows follows
+      (λ seen. c.lowered_rules-rules.ensures.grows (subst IsTrue c.behind_entries.ensures.grows seen)),
+)

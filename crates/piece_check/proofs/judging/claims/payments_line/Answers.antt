@@ -5,6 +5,7 @@ use Rattle.cert_check.specs.auction_model.specs.Prices.{weight_of}
 use Rattle.cert_facts.specs.cert_laws.specs.Tests.{C5, bidders_of}
 use Rattle.cert_check.specs.Places.{IsFirstFailing}
 use Rattle.cert_check.proofs.VerdictLaws.{asks-C5}
+use Rattle.std.proofs.lemmas.Bool.{false≢true}
 use Rattle.piece_check.proofs.ClaimCome.{pay-own, pay-holds, pay-shows}
 use Rattle.piece_check.proofs.judging.claims.payments_line.Goals as goal
 
@@ -15,10 +16,12 @@ payments_test-requires c = record {
 }
 
 pub returns : goal.returns
-returns c = λ cert next is follows.
-    let at = c.args.at.now in
-    let first = subst (λ (b : Book). IsFirstFailing (C5 b cert) c.payments_test.result) c.requires.claim.book
-    (c.payments_test.ensures cert (c.requires.claim.each cert is) (sym (c.numbers_in-pay.ensures ∙ pay-own c.args.at.now cert is c.requires.due))) in
-    pay-shows c.args.at.now cert is c.requires.due next c.of_test.result follows
-    (c.of_test.ensures.judged at.book.now (weight_of at.weights.now) cert (pay-holds c.args.at.now cert is c.requires.due)
-    (asks-C5 at.book.now (weight_of at.weights.now) cert 5 c.payments_test.result refl first))
+returns c = λ cert next is follows. (
+  let at = c.args.at.now in
+      let first = subst (λ (b : Book). IsFirstFailing (C5 b cert) c.payments_test.result) c.requires.claim.book
+      (c.payments_test.ensures cert (c.requires.claim.each cert is) (sym (c.numbers_in-pay.ensures ∙ pay-own c.args.at.now cert is c.requires.due))) in
+      pay-shows c.args.at.now cert is c.requires.due next c.of_test.result follows
+      (c.of_test.ensures.judged at.book.now (weight_of at.weights.now) cert (pay-holds c.args.at.now cert is c.requires.due)
+      (asks-C5 at.book.now (weight_of at.weights.now) cert 5 c.payments_test.result refl first)),
+  λ seen. absurd (false≢true seen),
+)

@@ -12,6 +12,6 @@ returns-clause-whole c = λ last w cert n judged late past.
     let same : (bidders_of book + 1) * states book ≡ (c.bidders-bidders.result + 1) * c.states.result =
     sym (ap (λ (x : ℕ). x * c.states.result) many ∙ ap (λ (x : ℕ). (bidders_of book + 1) * x) size) in
     c.behind_table.ensures c.args.book.now w cert n
-    (subst (λ (x : ℕ). IsJudged c.args.book.now w cert c.args.test x c.args.failed) same judged)
+    (subst (λ (x : ℕ). IsJudged c.args.book.now w cert c.args.test x c.args.rules.now.failed) same judged)
     (subst (λ (x : ℕ). IsLate c.args.book.now w cert c.args.test x n c.args.late) same late)
     (subst (λ (x : ℕ). (q : ℕ) → x + n ≤ q → Asks c.args.book.now w cert c.args.test q) same past)

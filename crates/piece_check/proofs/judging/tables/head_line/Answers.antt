@@ -1,10 +1,12 @@
-use Rattle.std.proofs.Common.{◌+◌, ◌*◌, pos, replicate, refl, arith}
+use Rattle.std.proofs.Common.{◌+◌, ◌*◌, pos, replicate, refl, arith, subst}
 use Rattle.cert_check.specs.auction_model.specs.Prices.{weight_of}
 use Rattle.cert_facts.specs.cert_laws.specs.Tests.{bidders_of, states}
 use Rattle.cert_check.proofs.Worths.{plain-small, plain-worth}
 use Rattle.cert_check.proofs.HeadLines.{past-C3}
 use Rattle.cert_pieces.specs.declared.due.Table.TheVariants.{Head}
-use Rattle.piece_check.proofs.TableCome.{line-inside, late-small, head-late, head-shows}
+use Rattle.piece_check.proofs.TableCome.{grown-next, line-inside, late-small, head-late, head-shows}
+use Rattle.std.specs.Prelude.{IsTrue}
+use Rattle.cert_pieces.specs.declared.due.Table.TheVariants.{Head}
 use Rattle.piece_check.proofs.judging.tables.head_line.Goals as goal
 
 pub invariant_of-offers : goal.invariant_of-offers
@@ -14,19 +16,22 @@ invariant_of-offers c = record {
 }
 
 pub returns : goal.returns
-returns c = λ cert next is follows.
-    let at = c.args.at.now in
-    let early = c.with_late-late.ensures at.book.now (weight_of at.weights.now) cert 3 ((bidders_of at.book.now + 1) * states at.book.now)
-    (head-late c.args.at.now cert is c.args.k c.requires.due) (λ none. c.keeps_value.ensures cert is) in
-    head-shows c.args.at.now cert is c.args.k c.requires.due next c.head_failure-failed.result c.behind_entries.result.failed c.with_late-late.result
-    c.behind_entries.result.late follows (c.head_failure-failed.ensures cert is) early
-    c.behind_entries.ensures.inside
-    (λ last j. c.behind_entries.ensures.whole last (weight_of at.weights.now) cert (c.args.k + 1) j early
-    (λ q past. past-C3 at.book.now (weight_of at.weights.now) cert q (omega (arith, past, last))))
-    c.behind_entries.ensures.none
+returns c = λ cert next is follows. (
+  let at = c.args.at.now in
+      let early = c.with_late-late.ensures at.book.now (weight_of at.weights.now) cert 3 ((bidders_of at.book.now + 1) * states at.book.now)
+      (head-late c.args.at.now cert is c.args.k c.requires.due) (λ none. c.keeps_value.ensures cert is) in
+      head-shows c.args.at.now cert is c.args.k c.requires.due next c.head_rules-rules.result.failed c.behind_entries.result.failed c.with_late-late.result
+      c.behind_entries.result.late follows (c.head_rules-rules.ensures.failed cert is) early
+      c.behind_entries.ensures.inside
+      (λ last j. c.behind_entries.ensures.whole last (weight_of at.weights.now) cert (c.args.k + 1) j early
+      (λ q past. past-C3 at.book.now (weight_of at.weights.now) cert q (omega (arith, past, last))))
+      c.behind_entries.ensures.none,
+  grown-next c.args.at.now cert is Head c.args.k c.requires.due next c.behind_entries.result.grows follows
+      (λ seen. c.head_rules-rules.ensures.grows (subst IsTrue c.behind_entries.ensures.grows seen)),
+)
 
-pub head_failure-failed-requires-clause-offers : goal.head_failure-failed-requires-clause-offers
-head_failure-failed-requires-clause-offers c = record {
+pub head_rules-rules-requires-clause-offers : goal.head_rules-rules-requires-clause-offers
+head_rules-rules-requires-clause-offers c = record {
   book = refl;
   skip_is = refl;
   net = λ j i some le. plain-worth c.args.at.now.book.now

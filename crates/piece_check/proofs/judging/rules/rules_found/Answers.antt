@@ -3,23 +3,23 @@ use Rattle.cert_facts.specs.cert_laws.specs.Tests.{bidders_of, states}
 use Rattle.cert_check.specs.LineTests.{RulesAt}
 use Rattle.piece_check.specs.Rules.{IsFirstBetween, lines_tested}
 use Rattle.piece_check.proofs.RuleLaws.{between-first, between-both, lines-rise}
-use Rattle.piece_check.proofs.judging.rules.rules_fault.Goals as goal
+use Rattle.piece_check.proofs.judging.rules.rules_found.Goals as goal
 
-pub returns-in-Some : goal.returns-in-Some
-returns-in-Some c = λ t has.
+pub returns-in-Some-clause-fault : goal.returns-in-Some-clause-fault
+returns-in-Some-clause-fault c = λ t has.
     let o = c.args.offers.now in
     let b = bidders_of o.book.now in
     let s = states o.book.now in
     let up = lines-rise (bidders_of o.book.now) c.args.k (states o.book.now) c.requires.line in
     between-first (RulesAt o t) ((c.args.k - 1) * states o.book.now) (c.args.k * states o.book.now)
     (lines_tested (bidders_of o.book.now) c.args.k * states o.book.now) c.in-Some.place up.1
-    (subst (IsFirstBetween (RulesAt o t) ((c.args.k - 1) * states o.book.now) (c.args.k * states o.book.now)) c.in-Some.is (c.before_fault.ensures t has))
+    (subst (IsFirstBetween (RulesAt o t) ((c.args.k - 1) * states o.book.now) (c.args.k * states o.book.now)) c.in-Some.is (c.before_found-before.ensures.fault t has))
 
-pub returns-in-None : goal.returns-in-None
-returns-in-None c = λ t has.
+pub returns-in-None-clause-fault : goal.returns-in-None-clause-fault
+returns-in-None-clause-fault c = λ t has.
     let o = c.args.offers.now in
     let up = lines-rise (bidders_of o.book.now) c.args.k (states o.book.now) c.requires.line in
     between-both (RulesAt o t) ((c.args.k - 1) * states o.book.now) (c.args.k * states o.book.now)
     (lines_tested (bidders_of o.book.now) c.args.k * states o.book.now) c.own_fault.result up.0 up.1
-    (subst (IsFirstBetween (RulesAt o t) ((c.args.k - 1) * states o.book.now) (c.args.k * states o.book.now)) c.in-None.is (c.before_fault.ensures t has))
+    (subst (IsFirstBetween (RulesAt o t) ((c.args.k - 1) * states o.book.now) (c.args.k * states o.book.now)) c.in-None.is (c.before_found-before.ensures.fault t has))
     (c.own_fault.ensures t has)
