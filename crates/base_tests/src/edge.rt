@@ -10,14 +10,14 @@ use std::os::unix::fs::symlink;
 use std::test::Fail;
 use std::{env, fs, io, process, rt};
 
-// A name of no file yet, in the folder for such files.
+/// A name of no file yet, in the folder for such files.
 pub(crate) fn new_name(rt: HostRuntime, kind: &str) -> Result<String, Fail> {
     let folder = env::temp_dir(&rt)?;
     let number = process::id(rt.process());
     Ok(format!(in rt.alloc(); "{}/cca_base_{kind}_{number}", folder.to_string_lossy())?)
 }
 
-// Files of the system of these two names.
+/// Files of the system of these two names.
 pub(crate) fn real_files<R: rt::Files<File = File> + Drop>(
     alloc: Global,
     rt: R,
