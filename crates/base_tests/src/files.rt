@@ -146,6 +146,17 @@ fn reads_and_appends_real_files(rt: HostRuntime) -> Result<(), Fail> {
     Ok(())
 }
 
+// How many bytes three loads from two files in turn give, and the bytes of the last two loads.
+fn loads_in_turn(rt: HostRuntime, one: &str, two: &str) -> Result<([usize; 3], [u8; 3]), Fail> {
+    let mut files = real_files(rt.alloc(), &rt, one, two)?;
+    let mut piece = [0u8; 2];
+    let first = files.load(one, 0, &mut piece)?;
+    let second = files.load(two, 1, &mut piece)?;
+    let [y, z] = piece;
+    let third = files.load(one, 2, &mut piece)?;
+    Ok(([first, second, third], [y, z, piece[0]]))
+}
+
 #[test]
 fn loads_from_two_real_files_in_turn(rt: HostRuntime) -> Result<(), Fail> {
     let one = new_name(rt, "one")?;
@@ -153,13 +164,9 @@ fn loads_from_two_real_files_in_turn(rt: HostRuntime) -> Result<(), Fail> {
     let (one, two) = (one.as_str(), two.as_str());
     fs::write(&rt, one, b"abc")?;
     fs::write(&rt, two, b"xyz")?;
-    let mut files = real_files(rt.alloc(), &rt, one, two)?;
-    let mut piece = [0u8; 2];
-    assert_eq!(rt; files.load(one, 0, &mut piece)?, 2);
-    assert_eq!(rt; files.load(two, 1, &mut piece)?, 2);
-    assert_eq!(rt; piece, *b"yz");
-    assert_eq!(rt; files.load(one, 2, &mut piece)?, 1);
-    assert_eq!(rt; piece[0], b'c');
+    let (counts, bytes) = loads_in_turn(rt, one, two)?;
+    assert!(rt; counts == [2, 2, 1]);
+    assert!(rt; bytes == *b"yzc");
     fs::remove_file(&rt, one)?;
     fs::remove_file(&rt, two)?;
     Ok(())
