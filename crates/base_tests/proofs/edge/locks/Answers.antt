@@ -7,4 +7,5 @@ write_file-requires-2 c =
 
 pub write_file-requires-3 : goal.write_file-requires-3
 write_file-requires-3 c =
-    known_after _ _ _ _ _ _ c.args.second.now c.write_file-2.ensures.prefix.2 (known_after _ _ _ _ _ _ c.args.second.now c.write_file.ensures.prefix.2 c.in_ok-files.ensures.second)
+    known_after _ _ _ _ _ _ c.args.second.now c.write_file-2.ensures.prefix.2
+    (known_after _ _ _ _ _ _ c.args.second.now c.write_file.ensures.prefix.2 c.in_ok-files.ensures.second)

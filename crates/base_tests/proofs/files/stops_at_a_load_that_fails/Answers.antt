@@ -14,4 +14,5 @@ set-requires g c =
 
 pub load_faults-requires : goal.load_faults-requires
 load_faults-requires g c =
-    known_then _ _ log c.read_all-2.ensures.kept (known_after _ _ _ _ _ _ log c.in_ok-set.ensures.file (known_then _ _ log c.read_all.ensures.kept c.in_ok-files.ensures.second))
+    known_then _ _ log c.read_all-2.ensures.kept
+    (known_after _ _ _ _ _ _ log c.in_ok-set.ensures.file (known_then _ _ log c.read_all.ensures.kept c.in_ok-files.ensures.second))
