@@ -1,0 +1,273 @@
+"""The script `cca`, over a stand-in for the kit's tool and five small crates: what it builds, by which calls, and what it tells."""
+import os, pathlib, re, shutil, signal, stat, subprocess, sys, tempfile, time, unittest
+
+SCRIPT = pathlib.Path(__file__).resolve().parents[2] / "cca"
+USES = {"low": "", "left": "low", "right": "low", "top": "left right", "cca": "top", "more_tests": "top"}
+PROGRAM = ["low", "left", "right", "top", "cca"]
+
+# `rt` with no words, `rt ci`, `rt all check` and `rt run`, over crates of one file. A file that says `fault` is not proved, one that
+# says `slow` takes a minute, one that says `while` two seconds, and `dies` makes a program that a signal ends. What is proved is kept in the folder `kept`, as the kit does.
+TOOL = '''#!%s
+import hashlib, os, pathlib, sys, time
+kit = pathlib.Path(__file__).resolve().parents[1]
+words, keeps = sys.argv[1:], (kit / "keeps").exists()
+root = pathlib.Path.cwd() if words[:1] == ["ci"] else pathlib.Path.cwd().parents[1]
+if not words:
+    sys.exit("What a run passed is kept" + " beside the\\nkit" * keeps)
+with open(kit / "calls", "a") as calls:
+    print(*words, file=calls)
+uses = dict(line.split("#")[0].split(":") for line in (root / "crates.txt").read_text().splitlines() if ":" in line.split("#")[0])
+if words == ["ci"]:
+    found = sorted(str(it.relative_to(root)) for it in root.rglob("*") if not it.is_dir())
+    (kit / "tree").write_text("\\n".join(found) + "\\n" + str(root))
+text = {name: (root / "crates" / name / "src" / "lib.rt").read_text() for name in uses}
+below = lambda name: {name}.union(*map(below, uses[name].split()))
+def prove(name):
+    out, sum = root / "crates" / name / "out", hashlib.sha256(repr(sorted((it, text[it]) for it in below(name))).encode()).hexdigest()
+    kept = kit / "kept" / sum if words == ["ci"] else out / "rlib" / "stamp"
+    if kept.exists() and kept.read_text() == sum:
+        return print(f"rt: {name} is kept: by an earlier run", flush=True)
+    print(f"== {name}", flush=True)
+    if "fault" in text[name]:
+        print(f"fn {name}::one: proved\\n{root}/crates/{name}/src/lib.rt: error: it is wrong\\nrt: {name} NOT PROVED\\nrt: more", flush=True)
+        return failed.append(name)
+    with open(kit / "proved", "a") as proved:
+        print(name, file=proved)
+    time.sleep(60 if "slow" in text[name] else 2 if "while" in text[name] else 0.1)
+    kept.parent.mkdir(parents=True, exist_ok=True)
+    kept.write_text(sum)
+    print(f"rt: {name} proved", flush=True)
+failed = []
+for name in uses if words != ["run"] else ["cca"]:
+    if words[:1] != ["all"] or name not in ("cca", "more_tests"):
+        prove(name) if not failed or "slow" in text[name] else print(f"rt: {name} NOT PROVED: its library {failed[0]} failed", flush=True)
+if words[:1] != ["all"] and not failed:
+    made = root / "crates" / "cca" / "out" / "cca"
+    made.parent.mkdir(exist_ok=True)
+    end = "kill -9 $$" if "dies" in text["cca"] else "exit 3"
+    made.write_text("#!/bin/sh\\necho made of " + " ".join(text[it] for it in sorted(below("cca"))) + ', with "$@"\\n' + end + "\\n")
+    made.chmod(0o755)
+sys.exit(bool(failed))
+''' % sys.executable
+
+
+class Case(unittest.TestCase):
+    keeps = True
+
+    def setUp(self):
+        room = tempfile.TemporaryDirectory()
+        self.addCleanup(room.cleanup)
+        self.root, self.kit = pathlib.Path(room.name) / "root", pathlib.Path(room.name) / "opt" / "kit"
+        self.temporary = pathlib.Path(room.name) / "temporary"
+        for folder in (self.root, self.temporary, self.kit / "bin"):
+            folder.mkdir(parents=True)
+        shutil.copy2(SCRIPT, self.root)
+        (self.root / "HANDLES").write_text("Handles allowed: none.\n")
+        (self.root / "crates.txt").write_text("# Crates.\n" + "".join(f"{name}: {low} # .\n" for name, low in USES.items()))
+        for name in USES:
+            for part in ("src", "must-fail", "data", "out"):
+                (self.root / "crates" / name / part).mkdir(parents=True)
+            self.write(name, name)
+            (self.root / "crates" / name / "must-fail" / "one.edit").write_text("file: src/lib.rt\n")
+        tool = self.kit / "bin" / "rt"
+        tool.write_text(TOOL)
+        tool.chmod(0o755)
+        if self.keeps:
+            (self.kit / "keeps").touch()
+
+    def write(self, name, text):
+        (self.root / "crates" / name / "src" / "lib.rt").write_text(text)
+
+    def begin(self, *words, path=None, **more):
+        variables = {"PATH": path or f"{self.kit / 'bin'}:/usr/bin:/bin", "TMPDIR": str(self.temporary), **more}
+        how = {"stdin": subprocess.DEVNULL, "stdout": subprocess.PIPE, "stderr": subprocess.PIPE, "text": True}
+        return subprocess.Popen([sys.executable, self.root / "cca", *words], env=variables, **how)
+
+    def call(self, *words, **more):
+        """The status, the printed lines and what is told beside them."""
+        process = self.begin(*words, **more)
+        out, told = process.communicate(timeout=40)
+        return process.returncode, out, told
+
+    def noted(self, name):
+        """The lines that the tool noted of its calls, or of its proofs, since this was last asked."""
+        file = self.kit / name
+        lines = file.read_text().splitlines() if file.exists() else []
+        file.unlink(missing_ok=True)
+        return lines
+
+    def until(self, name, line):
+        """Waits until the tool has noted the line."""
+        end = time.monotonic() + 20
+        while not (self.kit / name).exists() or line not in (self.kit / name).read_text().splitlines():
+            self.assertLess(time.monotonic(), end, f"no {line} in {name}")
+            time.sleep(0.05)
+
+    def named(self, told):
+        """The crates that were told, each as often as it was."""
+        return re.findall(r"^cca: .* crates, .* s: (\w+)$", told, re.M)
+
+    def built(self, **other):
+        """What the program says, where each crate's text is its name or another."""
+        return "made of " + " ".join(other.get(it, it) for it in sorted(PROGRAM)) + ", with a b\n"
+
+
+class Both:
+    """What holds whatever the kit keeps."""
+
+    def test_builds_once(self):
+        status, out, told = self.call("a", "b")
+        self.assertEqual((status, out), (3, self.built()))
+        self.assertRegex(told, r"\Acca isn't built yet: 5 of its 5 crates are now proved and built, which takes .*\n")
+        self.assertEqual(sorted(self.named(told)), sorted(PROGRAM))
+        self.assertIn(", 5 of 5 crates, ", told)
+        self.assertTrue(told.endswith("cca is built.\n"))
+        self.assertEqual(self.noted("calls"), self.calls)
+        self.assertEqual(self.call("a", "b"), (3, self.built(), ""))
+        self.assertEqual(self.noted("calls"), [])
+
+    def test_builds_what_changed(self):
+        self.call()
+        self.noted("proved")
+        self.write("left", "other")
+        status, out, told = self.call("a", "b")
+        self.assertEqual((status, out), (3, self.built(left="other")))
+        self.assertRegex(told, r"\AThe sources of cca have changed: 3 of its 5 crates are now ")
+        self.assertEqual(sorted(self.named(told)), ["cca", "left", "top"])
+        self.assertEqual(sorted(set(self.noted("proved"))), ["cca", "left", "top"])
+
+    def test_a_fault_leaves_the_old_program(self):
+        self.call()
+        self.write("right", "fault")
+        status, out, told = self.call("a", "b")
+        self.assertEqual((status, out), (70, ""))
+        self.assertRegex(told, r"(?m)^== right\n.*crates/right/src/lib\.rt: error: it is wrong$")
+        self.assertNotIn("low::one", told)
+        self.assertTrue(told.endswith("\ncca was not built; the old program stays as it was.\n"))
+        built = self.root / "crates" / "cca" / "out" / "cca.built"
+        self.assertEqual(subprocess.run([built, "a", "b"], stdout=subprocess.PIPE, text=True).stdout, self.built())
+        self.write("right", "right")
+        self.assertEqual(self.call("a", "b")[:2], (3, self.built()))
+
+    def test_a_first_build_with_a_fault_leaves_none(self):
+        self.write("low", "fault")
+        status, out, told = self.call()
+        self.assertEqual((status, out), (70, ""))
+        self.assertTrue(told.endswith("\ncca was not built.\n"))
+        self.assertFalse((self.root / "crates" / "cca" / "out" / "cca.built").exists())
+
+    def test_a_program_that_does_not_run_is_not_taken(self):
+        self.call()
+        self.write("cca", "dies")
+        status, out, told = self.call("a", "b")
+        self.assertEqual((status, out), (70, ""))
+        self.assertTrue(told.endswith("the new program doesn't run\ncca was not built; the old program stays as it was.\n"))
+
+    def test_a_stopped_build_keeps_what_was_proved(self):
+        self.write("top", "slow")
+        process = self.begin()
+        self.until("proved", "top")
+        process.send_signal(signal.SIGTERM)
+        out, told = process.communicate(timeout=20)
+        self.assertEqual((process.returncode, out), (143, ""))
+        self.assertTrue(told.endswith("stopped: what is proved so far is kept\ncca was not built.\n"))
+        self.noted("proved")
+        self.write("top", "top")
+        self.assertEqual(self.call("a", "b")[:2], (3, self.built()))
+        self.assertEqual(sorted(set(self.noted("proved"))), ["cca", "top"])
+
+    def test_a_second_call_waits(self):
+        self.write("right", "while")
+        first = self.begin("a", "b")
+        self.until("proved", "low")
+        status, out, told = self.call("a", "b")
+        self.assertEqual((status, out), (3, self.built(right="while")))
+        self.assertRegex(told, r"\AAnother call is building cca, and this one waits for it, which takes .*\ncca: waiting, ")
+        self.assertIn("top", self.named(told))
+        self.assertEqual(first.communicate(timeout=20)[0], self.built(right="while"))
+        self.assertEqual(self.noted("calls"), self.calls)
+
+    def test_a_source_that_changes_meanwhile(self):
+        self.write("right", "while")
+        process = self.begin("a", "b")
+        self.until("proved", "right")
+        self.write("right", "later")
+        self.assertEqual(process.communicate(timeout=20)[0], self.built(right="while" if self.keeps else "later"))
+        self.assertEqual(self.call("a", "b")[:2], (3, self.built(right="later")))
+        self.assertEqual(self.call("a", "b"), (3, self.built(right="later"), ""))
+
+    def test_no_tool(self):
+        status, out, told = self.call(path="/usr/bin:/bin")
+        self.assertEqual((status, out), (70, ""))
+        self.assertEqual(told, "cca can't be built, since rt, the tool of the Rattle kit, is not on the PATH.\n")
+
+    def test_another_program(self):
+        other = self.root / "other"
+        other.write_text('#!/bin/sh\necho other "$@"\nexit 5\n')
+        other.chmod(0o755)
+        self.assertEqual(self.call("a", "b", CCA_PROGRAM=str(other)), (5, "other a b\n", ""))
+        status, out, told = self.call(CCA_PROGRAM="/nowhere/cca")
+        self.assertEqual((status, out, told), (70, "", "The program /nowhere/cca can't be run: No such file or directory.\n"))
+        self.assertEqual(self.noted("calls"), [])
+
+
+class ByTheGate(Both, Case):
+    """A kit whose gate keeps what passed."""
+
+    calls = ["ci"]
+
+    def test_the_copy(self):
+        self.call()
+        *files, root = self.noted("tree")
+        self.assertEqual(files, sorted(["HANDLES", "crates.txt", *[f"crates/{name}/src/lib.rt" for name in PROGRAM]]))
+        self.assertFalse(os.path.exists(root))
+        self.assertEqual(os.listdir(self.temporary), [])
+        self.assertEqual([it for it in PROGRAM if os.listdir(self.root / "crates" / it / "out") and it != "cca"], [])
+
+    def test_a_fault_is_told_at_once(self):
+        self.write("low", "fault")
+        self.write("right", "slow")
+        status, out, told = self.call()
+        self.assertEqual((status, out), (70, ""))
+        self.assertRegex(told, r"(?m)^== low\ncrates/low/src/lib\.rt: error: it is wrong\ncca was not built\.\n\Z")
+        self.assertEqual(os.listdir(self.temporary), [])
+
+    def test_what_a_gate_has_proved_is_not_proved_again(self):
+        self.call()
+        shutil.rmtree(self.root / "crates" / "cca" / "out")
+        self.noted("proved")
+        status, out, told = self.call("a", "b")
+        self.assertEqual((status, out), (3, self.built()))
+        self.assertEqual(sorted(self.named(told)), sorted(PROGRAM))
+        self.assertEqual(self.noted("proved"), [])
+
+    def test_a_store_that_cannot_be_written(self):
+        if os.geteuid() == 0:
+            self.skipTest("root may write everywhere")
+        beside = self.kit.parent
+        beside.chmod(stat.S_IRUSR | stat.S_IXUSR)
+        self.addCleanup(beside.chmod, 0o755)
+        self.call()
+        self.assertEqual(self.noted("calls")[-1], "run")
+
+
+class ByLibraries(Both, Case):
+    """A kit whose gate keeps nothing."""
+
+    keeps = False
+
+    @property
+    def calls(self):
+        memory = os.sysconf("SC_PAGE_SIZE") * os.sysconf("SC_PHYS_PAGES")
+        return [f"all check --jobs {max(1, min(os.cpu_count() + 2, memory // (3 * 10**9)))}", "run"]
+
+    def test_the_sources_are_read_first(self):
+        told = self.call()[2]
+        self.assertRegex(told, r"(?m)^cca: reading all sources, 0 of 5 crates, 0 min 0 s$")
+        self.assertRegex(told, r"(?m)^cca: proving, 1 of 5 crates, 0 min \d s: \w+$")
+        self.assertRegex(told, r"(?m)^cca: compiling, 4 of 5 crates, 0 min \d s: top$")
+        self.assertRegex(told, r"(?m)^cca: compiling, 5 of 5 crates, 0 min \d s: cca$")
+
+
+if __name__ == "__main__":
+    unittest.main()
