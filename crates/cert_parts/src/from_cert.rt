@@ -16,7 +16,7 @@ use cert_text::{
 use std::alloc::{AllocError, Global};
 
 // The bytes of a text with fewer numbers in its tables are put together at once.
-const FEW_NUMBERS: usize = 1 << 18;
+const FEW_NUMBERS: usize = 1 << 13;
 
 /// The one text of a certificate. The only error is want of memory.
 pub fn cert_parts(alloc: Global, cert: &Certificate) -> Result<LongText, AllocError>
