@@ -5,8 +5,9 @@ SCRIPT = pathlib.Path(__file__).resolve().parents[2] / "cca"
 USES = {"low": "", "left": "low", "right": "low", "top": "left right", "cca": "top", "more_tests": "top"}
 PROGRAM = ["low", "left", "right", "top", "cca"]
 
-# `rt` with no words, `rt ci`, `rt all check` and `rt run`, over crates of one file. A file that says `fault` is not proved, one that
-# says `slow` takes a minute, one that says `while` two seconds, and `dies` makes a program that a signal ends. What is proved is kept in the folder `kept`, as the kit does.
+# `rt` with no words, `rt ci`, `rt all check` and `rt run`, over crates of one file. One that says `fault` is not proved, one that says
+# `slow` takes a minute, and one that says `waits` as long unless there is a file `go`; `dies` makes a program that a signal ends, and
+# `odd` one that prints something else than it should. What is proved is kept in the folder `kept`, as the kit does.
 TOOL = '''#!%s
 import hashlib, os, pathlib, sys, time
 kit = pathlib.Path(__file__).resolve().parents[1]
@@ -33,7 +34,9 @@ def prove(name):
         return failed.append(name)
     with open(kit / "proved", "a") as proved:
         print(name, file=proved)
-    time.sleep(60 if "slow" in text[name] else 2 if "while" in text[name] else 0.1)
+    for _ in range(600 if text[name] in ("slow", "waits") else 1):
+        if text[name] != "waits" or not (kit / "go").exists():
+            time.sleep(0.1)
     kept.parent.mkdir(parents=True, exist_ok=True)
     kept.write_text(sum)
     print(f"rt: {name} proved", flush=True)
@@ -47,6 +50,8 @@ if words[:1] != ["all"] and not failed:
     end = "kill -9 $$" if "dies" in text["cca"] else "exit 3"
     made.write_text("#!/bin/sh\\necho made of " + " ".join(text[it] for it in sorted(below("cca"))) + ', with "$@"\\n' + end + "\\n")
     made.chmod(0o755)
+if "odd" in text["cca"] and words == ["ci"]:
+    failed.append(print("rt: FAILED: cca (run)"))
 sys.exit(bool(failed))
 ''' % sys.executable
 
@@ -146,8 +151,8 @@ class Both:
         self.assertTrue(told.endswith("\ncca was not built; the old program stays as it was.\n"))
         built = self.root / "crates" / "cca" / "out" / "cca.built"
         self.assertEqual(subprocess.run([built, "a", "b"], stdout=subprocess.PIPE, text=True).stdout, self.built())
-        self.write("right", "right")
-        self.assertEqual(self.call("a", "b")[:2], (3, self.built()))
+        self.write("right", "mended")
+        self.assertEqual(self.call("a", "b")[:2], (3, self.built(right="mended")))
 
     def test_a_first_build_with_a_fault_leaves_none(self):
         self.write("low", "fault")
@@ -168,7 +173,7 @@ class Both:
         process = self.begin()
         self.until("proved", "top")
         process.send_signal(signal.SIGTERM)
-        out, told = process.communicate(timeout=20)
+        out, told = process.communicate(timeout=40)
         self.assertEqual((process.returncode, out), (143, ""))
         self.assertTrue(told.endswith("stopped: what is proved so far is kept\ncca was not built.\n"))
         self.noted("proved")
@@ -177,24 +182,37 @@ class Both:
         self.assertEqual(sorted(set(self.noted("proved"))), ["cca", "top"])
 
     def test_a_second_call_waits(self):
-        self.write("right", "while")
+        self.write("right", "waits")
         first = self.begin("a", "b")
-        self.until("proved", "low")
-        status, out, told = self.call("a", "b")
-        self.assertEqual((status, out), (3, self.built(right="while")))
+        self.until("proved", "right")
+        second = self.begin("a", "b")
+        told = second.stderr.readline() + second.stderr.readline()
         self.assertRegex(told, r"\AAnother call is building cca, and this one waits for it, which takes .*\ncca: waiting, ")
-        self.assertIn("top", self.named(told))
-        self.assertEqual(first.communicate(timeout=20)[0], self.built(right="while"))
+        while self.keeps and "left" not in self.named(told):
+            told += second.stderr.readline()
+        self.assertNotIn("top", told)
+        (self.kit / "go").touch()
+        for process in (first, second):
+            self.assertEqual(process.communicate(timeout=40)[0], self.built(right="waits"))
         self.assertEqual(self.noted("calls"), self.calls)
 
-    def test_a_source_that_changes_meanwhile(self):
-        self.write("right", "while")
+    def change_meanwhile(self):
+        """A build during which a source changes."""
+        self.write("right", "waits")
         process = self.begin("a", "b")
         self.until("proved", "right")
         self.write("right", "later")
-        self.assertEqual(process.communicate(timeout=20)[0], self.built(right="while" if self.keeps else "later"))
+        (self.kit / "go").touch()
+        self.assertEqual(process.communicate(timeout=40)[0], self.built(right="waits" if self.keeps else "later"))
+
+    def test_a_source_that_changes_meanwhile(self):
+        self.change_meanwhile()
         self.assertEqual(self.call("a", "b")[:2], (3, self.built(right="later")))
-        self.assertEqual(self.call("a", "b"), (3, self.built(right="later"), ""))
+
+    def test_a_source_that_changes_and_changes_back(self):
+        self.change_meanwhile()
+        self.write("right", "waits")
+        self.assertEqual(self.call("a", "b")[:2], (3, self.built(right="waits")))
 
     def test_no_tool(self):
         status, out, told = self.call(path="/usr/bin:/bin")
@@ -231,6 +249,12 @@ class ByTheGate(Both, Case):
         self.assertEqual((status, out), (70, ""))
         self.assertRegex(told, r"(?m)^== low\ncrates/low/src/lib\.rt: error: it is wrong\ncca was not built\.\n\Z")
         self.assertEqual(os.listdir(self.temporary), [])
+
+    def test_a_gate_that_fails_gives_no_program(self):
+        self.write("cca", "odd")
+        status, out, told = self.call()
+        self.assertEqual((status, out), (70, ""))
+        self.assertTrue(told.endswith("rt: FAILED: cca (run)\ncca was not built.\n"))
 
     def test_what_a_gate_has_proved_is_not_proved_again(self):
         self.call()
