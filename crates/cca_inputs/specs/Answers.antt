@@ -13,7 +13,7 @@ use Rattle.log_file.specs.award_file.specs.Reading as award
 use Rattle.log_file.specs.LogReading.{AreLog, AreTooMany, IsFirstFault, log_records}
 use Rattle.place_cert.specs.cert_form.specs.Certificate.{CertValue}
 use Rattle.place_cert.specs.cert_form.specs.Says.{CertSays}
-use Rattle.piece_check.specs.cert_facts.specs.cert_laws.specs.Tests.{bidders_of, states}
+use Rattle.cert_facts.specs.cert_laws.specs.Tests.{bidders_of, states}
 use Rattle.weights_file.specs.WeightsForm.{WeightsSay}
 use Rattle.slot_places.specs.SlotForm.{IsSlotText, slot_lines}
 use Rattle.slot_places.specs.Slots.{SlotList}

@@ -11,8 +11,7 @@ pub use Rattle.log_file.specs.bid_book
 pub use Rattle.weights_file.specs.bid_book.specs.book_form
 pub use Rattle.cca_base
 pub use Rattle.cert_parts
-pub use Rattle.piece_check
-pub use Rattle.piece_check.specs.cert_facts
+pub use Rattle.cert_facts
 pub use Rattle.place_cert.specs.cert_form
 pub use Rattle.place_cert.specs.cert_text
 pub use Rattle.edits_file

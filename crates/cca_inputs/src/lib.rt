@@ -25,7 +25,6 @@ pub use inputs::place_cert_input::PlaceCertInput;
 pub use inputs::slots_input::SlotsInput;
 pub use inputs::weights_input::WeightsInput;
 pub use line::{Line, line_of};
-pub use piece_check;
 pub use place_cert;
 pub use price_form::PriceForm;
 pub use shape::{OnePriced, Shape, ThreeFiles, TwoFiles, TwoPriced};

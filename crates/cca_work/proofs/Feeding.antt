@@ -4,24 +4,24 @@ use Rattle.std.proofs.Common.{length-take}
 use Rattle.std.specs.Prelude.{IfErr, IfOk, Result, Ok, Err}
 use Rattle.cca_inputs.specs.limits.specs.declared.TheConstants.{CERT_BYTES}
 use Rattle.cca_inputs.specs.line_text.specs.LineText.{Said, stated, faulty, beyond}
-use Rattle.outcome.specs.auction_model.specs.Book.{Book as BookValue}
-use Rattle.outcome.specs.auction_model.specs.Prices.{weight_of}
+use Rattle.place_outcome.specs.outcome.specs.auction_model.specs.Book.{Book as BookValue}
+use Rattle.place_outcome.specs.outcome.specs.auction_model.specs.Prices.{weight_of}
 use Rattle.cca_inputs.specs.cca_base.specs.Files.{Folder, GaveMore, GaveSome, KeepsFiles}
 use Rattle.cca_inputs.specs.cca_base.proofs.Given.{GaveFront, front_all, front_more, front_next, front_none, front_over, next_load}
 use Rattle.cca_inputs.specs.cert_form.specs.Certificate.{CertValue}
 use Rattle.cca_inputs.specs.cert_form.specs.Says.{CertSays}
 use Rattle.place_price.specs.cert_laws.specs.Sound.{IsSound}
 use Rattle.place_price.specs.cert_laws.specs.Tests.{FailsFirst, Holds, bidders_of, states}
-use Rattle.cca_inputs.specs.piece_check.specs.cert_check.specs.Verdicts.{IsVerdict}
-use Rattle.cca_inputs.specs.piece_check.specs.cert_check.specs.declared.verdict.Verdict.{Verdict}
-use Rattle.cca_inputs.specs.piece_check.specs.cert_check.specs.declared.verdict.Verdict.TheVariants as verdict
+use Rattle.piece_check.specs.cert_check.specs.Verdicts.{IsVerdict}
+use Rattle.piece_check.specs.cert_check.specs.declared.verdict.Verdict.{Verdict}
+use Rattle.piece_check.specs.cert_check.specs.declared.verdict.Verdict.TheVariants as verdict
 use Rattle.cca_inputs.specs.cert_facts.specs.Facts.{AreFacts}
 use Rattle.cca_inputs.specs.cert_facts.specs.declared.shown.CertFacts.{CertFacts}
-use Rattle.cca_inputs.specs.piece_check.specs.cert_pieces.specs.Stops.{SaysStop}
-use Rattle.cca_inputs.specs.piece_check.specs.cert_pieces.specs.declared.stop.TextStop.{TextStop}
-use Rattle.cca_inputs.specs.piece_check.specs.cert_pieces.specs.declared.stop.TextStop.TheVariants as text
-use Rattle.cca_inputs.specs.piece_check.specs.Standing.{StandsFor}
-use Rattle.cca_inputs.specs.piece_check.specs.declared.check.StreamCheck.{StreamCheck}
+use Rattle.piece_check.specs.cert_pieces.specs.Stops.{SaysStop}
+use Rattle.piece_check.specs.cert_pieces.specs.declared.stop.TextStop.{TextStop}
+use Rattle.piece_check.specs.cert_pieces.specs.declared.stop.TextStop.TheVariants as text
+use Rattle.piece_check.specs.Standing.{StandsFor}
+use Rattle.piece_check.specs.declared.check.StreamCheck.{StreamCheck}
 use Rattle.cca_inputs.specs.Answers.{CertAnswers}
 use Rattle.cca_work.specs.Checked.{IsFed, IsJudged, ShowsFacts, StopsCheck, text_status}
 use Rattle.cca_inputs.specs.Outcome.{stops}

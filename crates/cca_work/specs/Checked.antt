@@ -1,18 +1,18 @@
 -- A certificate that is checked from pieces of its file.
 use Rattle.std.specs.Prelude.{◌≡◌, ◌⊎◌, ◌≤◌, ℕ, ℤ, Result, Ok, Err, List, length}
 use Rattle.cca_inputs.specs.limits.specs.declared.TheConstants.{CERT_BYTES}
-use Rattle.outcome.specs.auction_model.specs.Book.{Book as BookValue}
-use Rattle.outcome.specs.auction_model.specs.Prices.{weight_of}
+use Rattle.place_outcome.specs.outcome.specs.auction_model.specs.Book.{Book as BookValue}
+use Rattle.place_outcome.specs.outcome.specs.auction_model.specs.Prices.{weight_of}
 use Rattle.cca_inputs.specs.cca_base.specs.Files.{Folder, GaveAll}
 use Rattle.cca_inputs.specs.cert_form.specs.Certificate.{CertValue}
 use Rattle.place_price.specs.cert_laws.specs.Sound.{IsSound}
 use Rattle.place_price.specs.cert_laws.specs.Tests.{FailsFirst, Holds}
 use Rattle.cca_inputs.specs.cert_facts.specs.Facts.{AreFacts}
 use Rattle.cca_inputs.specs.cert_facts.specs.declared.shown.CertFacts.{CertFacts}
-use Rattle.cca_inputs.specs.piece_check.specs.cert_pieces.specs.declared.stop.TextStop.{TextStop}
-use Rattle.cca_inputs.specs.piece_check.specs.cert_pieces.specs.declared.stop.TextStop.TheVariants as text
-use Rattle.cca_inputs.specs.piece_check.specs.Standing.{StandsFor}
-use Rattle.cca_inputs.specs.piece_check.specs.declared.check.StreamCheck.{StreamCheck}
+use Rattle.piece_check.specs.cert_pieces.specs.declared.stop.TextStop.{TextStop}
+use Rattle.piece_check.specs.cert_pieces.specs.declared.stop.TextStop.TheVariants as text
+use Rattle.piece_check.specs.Standing.{StandsFor}
+use Rattle.piece_check.specs.declared.check.StreamCheck.{StreamCheck}
 use Rattle.cca_inputs.specs.Answers.{CertAnswers}
 use Rattle.cca_inputs.specs.Outcome.{value, stops}
 use Rattle.cca_inputs.specs.Statuses.{IsStop}

@@ -1,25 +1,25 @@
 // A certificate that is checked from pieces of its file.
 ghost use Rattle.std.specs.Prelude.{◌≡◌, ◌≢◌, ◌≤◌, ◌<◌, ℕ, List, Err, length, IfOk, IfErr, IsTrue, IsSome};
 ghost use Rattle.cca_inputs.specs.limits.specs.declared.TheConstants.{CERT_BYTES};
-ghost use Rattle.outcome.specs.auction_model.specs.Prices.{AreWeights};
+ghost use Rattle.place_outcome.specs.outcome.specs.auction_model.specs.Prices.{AreWeights};
 ghost use Rattle.cca_inputs.specs.cca_base.specs.Faults.{Rose};
 ghost use Rattle.cca_inputs.specs.cca_base.specs.Files.{CountsOnly, GaveMore, GaveSome, KeepsFiles};
 ghost use Rattle.place_price.specs.cert_laws.specs.Tests.{bidders_of, states};
-ghost use Rattle.cca_inputs.specs.piece_check.specs.cert_pieces.specs.Rooms.{room_size};
-ghost use Rattle.cca_inputs.specs.piece_check.specs.Standing.{StandsFor};
+ghost use Rattle.piece_check.specs.cert_pieces.specs.Rooms.{room_size};
+ghost use Rattle.piece_check.specs.Standing.{StandsFor};
 ghost use Rattle.cca_work.specs.Checked.{IsFed, IsJudged, ShowsFacts, StopsCheck, text_status};
 ghost use Rattle.cca_inputs.specs.Reading.{InputStops, IsRead, OnlyLoads};
 ghost use Rattle.cca_inputs.specs.declared.status.FileKind.TheVariants.{Cert};
 
 use cca_inputs::cca_base::{Files, ReadStop};
-use cca_inputs::piece_check::StreamCheck;
-use cca_inputs::piece_check::cert_check::Verdict;
-use cca_inputs::piece_check::cert_facts::CertFacts;
-use cca_inputs::piece_check::cert_pieces::TextStop;
 use cca_inputs::place_cert::cert_text::cert_form::limits::CERT_BYTES;
 use cca_inputs::place_cert::cert_text::cert_form::one_cert;
 use cca_inputs::weights_file::bid_book::BidBook;
 use cca_inputs::{CertKind, FileKind, Status, status_of_read};
+use piece_check::StreamCheck;
+use piece_check::cert_check::Verdict;
+use piece_check::cert_facts::CertFacts;
+use piece_check::cert_pieces::TextStop;
 use std::alloc::{AllocError, Global};
 
 // Bytes that one load asks for.

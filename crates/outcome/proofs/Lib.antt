@@ -10,7 +10,5 @@ mod WinLines
 mod JsonLists
 mod PlainTexts
 mod Reserves
-mod OnePlaceText
-mod PlacePrinting
 mod ReviewLines
 mod ReviewTexts

@@ -2,8 +2,6 @@ pub mod Fractions
 pub mod Json
 pub mod Payments
 pub mod Prices
-pub mod PlacePrintable
-pub mod PlaceText
 pub mod Printable
 pub mod ReviewText
 pub mod Turns
@@ -14,7 +12,5 @@ pub use Rattle.cert_facts.specs.cert_laws
 pub use Rattle.core_price
 pub use Rattle.print_form
 pub use Rattle.print_form.specs.row_laws
-pub use Rattle.place_check
-pub use Rattle.place_check.specs.place_laws
 pub use Rattle.review
 pub use Rattle.review.specs.value_table

@@ -1,5 +1,5 @@
-//! The printed texts: the winners of an auction, and where it is priced their prices and the turns that led to them, in lines or as JSON; a
-//! placement with its prices; and a review of a book.
+//! The printed texts: the winners of an auction, and where it is priced their prices and the turns that led to them, in lines or as JSON; and
+//! a review of a book.
 //!
 //! Prices are kept net of reserve and are printed gross: the reserve of a winner's package is added.
 #![tactic(auto)]
@@ -10,7 +10,6 @@ mod json;
 mod json_values;
 mod lines;
 mod numbers;
-mod placing;
 mod prices;
 mod reviewing;
 mod turns;
@@ -21,8 +20,6 @@ pub use core_price;
 pub use fraction::{Fraction, add_fraction};
 pub use json::outcome_json;
 pub use numbers::{add_net, add_numbers};
-pub use place_check;
-pub use placing::{one_place_text, place_text};
 pub use print_form;
 pub use review;
 pub use reviewing::{one_review_text, review_text};

@@ -15,7 +15,7 @@ pub struct WeightsInput<'a> {
 impl<'a> Input for WeightsInput<'a> {
     ghost use Rattle.log_file.specs.limits.specs.declared.TheConstants.{WEIGHTS_BYTES};
     ghost use Rattle.log_file.specs.award_file.specs.auction_model.specs.Prices.{AreWeights};
-    ghost use Rattle.piece_check.specs.cert_facts.specs.cert_laws.specs.Tests.{bidders_of};
+    ghost use Rattle.cert_facts.specs.cert_laws.specs.Tests.{bidders_of};
     ghost use Rattle.cca_inputs.specs.Answers.{WeightsAnswers};
     ghost use Rattle.cca_inputs.specs.Outcome.{value, stops};
     ghost use Rattle.cca_inputs.specs.declared.status.FileKind.TheVariants as kinds;

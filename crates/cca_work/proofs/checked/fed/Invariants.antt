@@ -1,7 +1,7 @@
 use Rattle.std.proofs.Common.{length, ◌-◌, ◌≡◌, ◌≤◌}
 use Rattle.cca_inputs.specs.limits.specs.declared.TheConstants.{CERT_BYTES}
 use Rattle.place_price.specs.cert_laws.specs.Tests.{bidders_of, states}
-use Rattle.cca_inputs.specs.piece_check.specs.cert_pieces.specs.Rooms.{room_size}
+use Rattle.piece_check.specs.cert_pieces.specs.Rooms.{room_size}
 use Rattle.cca_inputs.specs.cca_base.specs.Files.{KeepsFiles}
 use Rattle.cca_work.proofs.Feeding.{IsFedSoFar}
 use Rattle.cca_work.proofs.checked.fed.Given as goal

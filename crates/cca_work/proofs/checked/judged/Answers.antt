@@ -1,7 +1,7 @@
 use Rattle.std.proofs.Common.{inl, inr, ◌≡◌, ◌⊎◌, sym, subst, rules}
-use Rattle.outcome.specs.auction_model.specs.Prices.{weight_of}
-use Rattle.cca_inputs.specs.piece_check.specs.cert_check.specs.Verdicts.{IsVerdict}
-use Rattle.cca_inputs.specs.piece_check.specs.cert_check.specs.declared.verdict.Verdict.TheVariants as verdict
+use Rattle.place_outcome.specs.outcome.specs.auction_model.specs.Prices.{weight_of}
+use Rattle.piece_check.specs.cert_check.specs.Verdicts.{IsVerdict}
+use Rattle.piece_check.specs.cert_check.specs.declared.verdict.Verdict.TheVariants as verdict
 use Rattle.cca_work.specs.Checked.{StopsCheck}
 use Rattle.cca_inputs.specs.Statuses.{IsStop}
 use Rattle.cca_inputs.specs.declared.status.Status.{Status}

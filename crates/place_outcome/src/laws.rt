@@ -3,9 +3,9 @@ ghost use Rattle.std.specs.Prelude.{◌≡◌, ℕ, ◌<◌, ◌≤◌, ◌≤�
 ghost use Rattle.outcome.specs.auction_model.specs.Prices.{Point, SamePoint};
 ghost use Rattle.place_check.specs.slot_places.specs.Board.{market_of};
 ghost use Rattle.place_check.specs.slot_places.specs.Slots.{SlotList};
-ghost use Rattle.outcome.specs.PlaceText.{IsPlaceText};
+ghost use Rattle.place_outcome.specs.PlaceText.{IsPlaceText};
 
-use print_form::one_fraction;
+use outcome::print_form::one_fraction;
 
 /// The text of a placement depends on the order, the choice, the points and the Vickrey prices alone. The choice has a number for each
 /// bidder.

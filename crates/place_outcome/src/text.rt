@@ -7,16 +7,16 @@ ghost use Rattle.place_check.specs.place_laws.specs.PlaceSound.{prices_in};
 ghost use Rattle.place_check.specs.place_laws.specs.PlaceTests.{Holds};
 ghost use Rattle.outcome.specs.print_form.specs.Fractions.{IsFractionText};
 ghost use Rattle.place_check.specs.slot_places.specs.Board.{market_of};
-ghost use Rattle.outcome.specs.PlaceText.{IsPlaceText, value_line};
-ghost use Rattle.outcome.specs.PlacePrintable.{CanPrint};
+ghost use Rattle.place_outcome.specs.PlaceText.{IsPlaceText, value_line};
+ghost use Rattle.place_outcome.specs.PlacePrintable.{CanPrint};
 
-use crate::placing::lines::{add_placed, add_winners};
-use crate::{Fraction, add_fraction};
+use crate::lines::{add_placed, add_winners};
+use outcome::print_form::line_text::add_signed;
+use outcome::print_form::line_text::wide_num::Text;
+use outcome::{Fraction, add_fraction};
 use place_check::place_cert::PlaceCertificate;
 use place_check::place_laws::slot_places::Slots;
 use place_check::sum_paid;
-use print_form::line_text::add_signed;
-use print_form::line_text::wide_num::Text;
 use std::alloc::{AllocError, Global};
 
 /// The text of the placement and of the prices that a certificate shows for which all nine tests hold: a line for each bidder in the order

@@ -8,15 +8,15 @@ ghost use Rattle.outcome.specs.Fractions.{IsFractionOf};
 ghost use Rattle.place_check.specs.place_cert.specs.CertValues.{place_cert_value};
 ghost use Rattle.place_check.specs.place_laws.specs.PlaceSound.{prices_in};
 ghost use Rattle.place_check.specs.slot_places.specs.Board.{market_of};
-ghost use Rattle.outcome.specs.PlaceText.{ArePricedLines, placed_line, placed_lines};
-ghost use Rattle.outcome.specs.PlacePrintable.{CanPrint, IsBidder, IsLineOf, IsRestOf};
+ghost use Rattle.place_outcome.specs.PlaceText.{ArePricedLines, placed_line, placed_lines};
+ghost use Rattle.place_outcome.specs.PlacePrintable.{CanPrint, IsBidder, IsLineOf, IsRestOf};
 
-use crate::{Fraction, add_fraction};
+use outcome::print_form::line_text::wide_num::Text;
+use outcome::print_form::line_text::{add_decimal, add_number, add_signed};
+use outcome::{Fraction, add_fraction};
 use place_check::place_cert::PlaceCertificate;
 use place_check::place_laws::slot_places::Slots;
 use place_check::vickrey;
-use print_form::line_text::wide_num::Text;
-use print_form::line_text::{add_decimal, add_number, add_signed};
 use std::alloc::AllocError;
 
 /// Adds the lines of bidders that are laid side by side in this order, the first from this slot on.
