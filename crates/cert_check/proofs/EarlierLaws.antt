@@ -3,17 +3,17 @@ use Rattle.std.specs.Prelude.{◌≡◌, ℕ, zero, suc, ◌+◌, ◌-◌, ◌^�
 use Rattle.std.specs.Prelude.{◌-ℤ◌, ◌<ℤ◌, unsigned_abs, refl}
 use Rattle.std.proofs.Common.{sym, ◌∙◌, ap, subst, arith, drop-cons}
 use Rattle.std.proofs.lemmas.Int.{ints}
-use Rattle.cert_laws.specs.auction_model.specs.Package.{is_within, less}
-use Rattle.cert_laws.specs.auction_model.specs.Place.{place_of, left_at}
-use Rattle.cert_laws.specs.auction_model.specs.Market.{is_number_before, number_of}
-use Rattle.cert_laws.specs.auction_model.specs.Menu.{fits_after}
-use Rattle.cert_laws.specs.auction_model.specs.Book.{Book, bids_of, lots_of, net_of, menu_of, market_of}
-use Rattle.cert_laws.specs.auction_model.proofs.PlaceLaws.{states-positive, left_at-whole, left_at-less, place-less_below}
-use Rattle.cert_laws.specs.cert_form.specs.Certificate.{CertValue}
-use Rattle.cert_laws.specs.Tests.{NoEarlier, bidders_of, states, left_after}
-use Rattle.cert_laws.proofs.Bounds.{First, first_of_fitting}
+use Rattle.line_check.specs.cert_laws.specs.auction_model.specs.Package.{is_within, less}
+use Rattle.line_check.specs.cert_laws.specs.auction_model.specs.Place.{place_of, left_at}
+use Rattle.line_check.specs.cert_laws.specs.auction_model.specs.Market.{is_number_before, number_of}
+use Rattle.line_check.specs.cert_laws.specs.auction_model.specs.Menu.{fits_after}
+use Rattle.line_check.specs.cert_laws.specs.auction_model.specs.Book.{Book, bids_of, lots_of, net_of, menu_of, market_of}
+use Rattle.line_check.specs.cert_laws.specs.auction_model.proofs.PlaceLaws.{states-positive, left_at-whole, left_at-less, place-less_below}
+use Rattle.line_check.specs.cert_laws.specs.cert_form.specs.Certificate.{CertValue}
+use Rattle.line_check.specs.cert_laws.specs.Tests.{NoEarlier, bidders_of, states, left_after}
+use Rattle.line_check.specs.cert_laws.proofs.Bounds.{First, first_of_fitting}
 use Rattle.cert_check.specs.EarlierBids.{StaysBelow, AllStayBelow, NoneEarlier, IsLeft}
-use Rattle.cert_laws.specs.wide_num.specs.Sums.{nth}
+use Rattle.line_check.specs.cert_laws.specs.wide_num.specs.Sums.{nth}
 
 module _ (book : Book) (choice : List ℕ) (value : ℤ) (length_is : length choice ≡ bidders_of book) where
   -- before the first bidder the whole supply and the whole value are left

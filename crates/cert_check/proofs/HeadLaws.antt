@@ -4,21 +4,21 @@ use Rattle.std.specs.Prelude.{refl}
 use Rattle.std.proofs.Common.{inl, inr, sym, ◌∙◌, ap, subst, arith}
 use Rattle.std.proofs.lemmas.Bool.{cases_lt, cases_Bool, cond-true, cond-false}
 use Rattle.std.proofs.lemmas.Int.{ints}
-use Rattle.cert_laws.specs.auction_model.specs.Book.{Book, bids_of, net_of, menu_of, market_of}
-use Rattle.cert_laws.specs.auction_model.specs.Lawful.{IsMarket}
-use Rattle.cert_laws.specs.auction_model.specs.Lowered.{of_bidder}
-use Rattle.cert_laws.specs.auction_model.specs.Market.{number_of, value_of, uses, worth_in}
-use Rattle.cert_laws.specs.auction_model.specs.Menu.{is_known_after}
-use Rattle.cert_laws.specs.auction_model.specs.Prices.{sum_over, everyone}
-use Rattle.cert_laws.specs.auction_model.proofs.BookMarket.{market-of_book, fits-known}
+use Rattle.line_check.specs.cert_laws.specs.auction_model.specs.Book.{Book, bids_of, net_of, menu_of, market_of}
+use Rattle.line_check.specs.cert_laws.specs.auction_model.specs.Lawful.{IsMarket}
+use Rattle.line_check.specs.cert_laws.specs.auction_model.specs.Lowered.{of_bidder}
+use Rattle.line_check.specs.cert_laws.specs.auction_model.specs.Market.{number_of, value_of, uses, worth_in}
+use Rattle.line_check.specs.cert_laws.specs.auction_model.specs.Menu.{is_known_after}
+use Rattle.line_check.specs.cert_laws.specs.auction_model.specs.Prices.{sum_over, everyone}
+use Rattle.line_check.specs.cert_laws.specs.auction_model.proofs.BookMarket.{market-of_book, fits-known}
 use Rattle.cert_text.specs.choices.specs.bid_book.specs.Kept.{IsBidBook}
-use Rattle.cert_laws.specs.row_laws.proofs.Sizes.{worth-nonneg}
-use Rattle.cert_laws.specs.row_laws.proofs.Sums.{over-is, choice-is}
-use Rattle.cert_laws.specs.wide_num.specs.Sums.{total}
-use Rattle.cert_laws.specs.cert_form.specs.Certificate.{CertValue, WithoutValue, part_of}
-use Rattle.cert_laws.specs.Tests.{IsPart, bidders_of}
-use Rattle.cert_laws.proofs.Sizes.{net-most}
-use Rattle.cert_laws.proofs.Winning.{allowed, value_is, most}
+use Rattle.line_check.specs.cert_laws.specs.row_laws.proofs.Sizes.{worth-nonneg}
+use Rattle.line_check.specs.cert_laws.specs.row_laws.proofs.Sums.{over-is, choice-is}
+use Rattle.line_check.specs.cert_laws.specs.wide_num.specs.Sums.{total}
+use Rattle.line_check.specs.cert_laws.specs.cert_form.specs.Certificate.{CertValue, WithoutValue, part_of}
+use Rattle.line_check.specs.cert_laws.specs.Tests.{IsPart, bidders_of}
+use Rattle.line_check.specs.cert_laws.proofs.Sizes.{net-most}
+use Rattle.line_check.specs.cert_laws.proofs.Winning.{allowed, value_is, most}
 use Rattle.cert_check.specs.Fields.{AreValuesWithout}
 use Rattle.cert_check.specs.Head.{HeadHolds, IsHead}
 use Rattle.cert_check.specs.declared.claim.Claim.{Claim}

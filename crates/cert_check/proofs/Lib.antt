@@ -10,15 +10,10 @@ pub mod PartwayLaws
 pub mod HeadLines
 pub mod PartLines
 pub mod LoweredLines
-pub mod Blocks
-pub mod CornerLaws
 pub mod Gains
 pub mod Written
 pub mod FieldLaws
 pub mod Worths
-pub mod GrowthLaws
-pub mod LineLaws
-pub mod NarrowLines
 pub mod TestedLaws
 pub mod TableLaws
 pub mod EarlierLaws

@@ -1,15 +1,15 @@
 -- The lowered table, two lines at a time, and what is found early of the place behind its rules.
 use Rattle.std.specs.Prelude.{◌≡◌, ℕ, ◌+◌, ◌*◌, ◌<◌, ◌≤◌, ◌↔◌, ◌≤ℤ◌, refl}
 use Rattle.std.proofs.Common.{sym, subst, arith}
-use Rattle.cert_laws.specs.auction_model.specs.Book.{Book, menu_of}
-use Rattle.cert_laws.specs.auction_model.specs.Lowered.{of_bidder}
-use Rattle.cert_laws.specs.auction_model.specs.Menu.{without}
-use Rattle.cert_laws.specs.auction_model.specs.Prices.{sum_over, everyone}
-use Rattle.cert_laws.specs.auction_model.specs.Table.{entry_at}
-use Rattle.cert_laws.specs.cert_form.specs.Certificate.{CertValue}
-use Rattle.cert_laws.specs.Tests.{Asks, C9, ObeysAt, bidders_of, states, full, lowered_net}
-use Rattle.cert_check.specs.LineTests.{offered, worth_of, RulesAt}
-use Rattle.cert_check.specs.declared.tables.offers.Offers.{Offers}
+use Rattle.line_check.specs.cert_laws.specs.auction_model.specs.Book.{Book, menu_of}
+use Rattle.line_check.specs.cert_laws.specs.auction_model.specs.Lowered.{of_bidder}
+use Rattle.line_check.specs.cert_laws.specs.auction_model.specs.Menu.{without}
+use Rattle.line_check.specs.cert_laws.specs.auction_model.specs.Prices.{sum_over, everyone}
+use Rattle.line_check.specs.cert_laws.specs.auction_model.specs.Table.{entry_at}
+use Rattle.line_check.specs.cert_laws.specs.cert_form.specs.Certificate.{CertValue}
+use Rattle.line_check.specs.cert_laws.specs.Tests.{Asks, C9, ObeysAt, bidders_of, states, full, lowered_net}
+use Rattle.line_check.specs.LineTests.{offered, worth_of, RulesAt}
+use Rattle.line_check.specs.declared.offers.Offers.{Offers}
 use Rattle.cert_check.proofs.TableLaws.{number-below}
 use Rattle.cert_check.proofs.ValueLaws.{obeys-all, obeys-none_less}
 use Rattle.cert_check.proofs.Worths.{obeys-same}

@@ -3,16 +3,16 @@ use Rattle.std.specs.Prelude.{◌≡◌, ℕ, zero, suc, ◌+◌, ◌*◌, ◌<�
 use Rattle.std.specs.Prelude.{Some, None, is_some, ℤ}
 use Rattle.std.proofs.Common.{inl, inr, sym, ◌∙◌, ap, subst, arith, drop-cons}
 use Rattle.std.proofs.lemmas.Bool.{cases_lt, cond-true, cond-false, eq-eqb, ne_eqb, false≢true, not-true, not-false}
-use Rattle.cert_laws.specs.auction_model.specs.Menu.{without}
-use Rattle.cert_laws.specs.auction_model.specs.Market.{number_of, value_of, uses}
-use Rattle.cert_laws.specs.auction_model.specs.Book.{Book, net_of, menu_of, market_of}
-use Rattle.cert_laws.specs.cert_form.specs.Certificate.{CertValue, WithoutValue, part_of}
-use Rattle.cert_laws.specs.cert_form.specs.CertText.{IsTable, AreWithouts}
-use Rattle.cert_laws.specs.Tests.{bidders_of, states, IsPart, C4}
-use Rattle.cert_laws.proofs.Winning.{allowed-length}
+use Rattle.line_check.specs.cert_laws.specs.auction_model.specs.Menu.{without}
+use Rattle.line_check.specs.cert_laws.specs.auction_model.specs.Market.{number_of, value_of, uses}
+use Rattle.line_check.specs.cert_laws.specs.auction_model.specs.Book.{Book, net_of, menu_of, market_of}
+use Rattle.line_check.specs.cert_laws.specs.cert_form.specs.Certificate.{CertValue, WithoutValue, part_of}
+use Rattle.line_check.specs.cert_laws.specs.cert_form.specs.CertText.{IsTable, AreWithouts}
+use Rattle.line_check.specs.cert_laws.specs.Tests.{bidders_of, states, IsPart, C4}
+use Rattle.line_check.specs.cert_laws.proofs.Winning.{allowed-length}
 use Rattle.cert_text.specs.Parts.{without_value}
 use Rattle.cert_text.specs.declared.certificate.WithoutPart.{WithoutPart}
-use Rattle.cert_check.specs.LineTests.{TableAt}
+use Rattle.line_check.specs.LineTests.{TableAt}
 use Rattle.cert_check.specs.Places.{IsFirstFailing}
 
 -- each part has a choice and a table of the right form

@@ -1,14 +1,14 @@
 -- The table of a part, two lines at a time.
 use Rattle.std.specs.Prelude.{◌≡◌, ℕ, ◌+◌, ◌*◌, ◌<◌, ◌≤◌, List, ℤ, refl}
 use Rattle.std.proofs.Common.{sym, subst, arith}
-use Rattle.cert_laws.specs.auction_model.specs.Book.{net_of, menu_of}
-use Rattle.cert_laws.specs.auction_model.specs.Menu.{without}
-use Rattle.cert_laws.specs.cert_form.specs.Certificate.{WithoutValue}
-use Rattle.cert_laws.specs.Tests.{ObeysAt, IsPart, bidders_of, states}
-use Rattle.cert_laws.proofs.Places.{one_place}
-use Rattle.cert_check.specs.Faults.{FirstFault}
-use Rattle.cert_check.specs.LineTests.{offered, worth_of, ObeysIn, RulesAt}
-use Rattle.cert_check.specs.declared.tables.offers.Offers.{Offers}
+use Rattle.line_check.specs.cert_laws.specs.auction_model.specs.Book.{net_of, menu_of}
+use Rattle.line_check.specs.cert_laws.specs.auction_model.specs.Menu.{without}
+use Rattle.line_check.specs.cert_laws.specs.cert_form.specs.Certificate.{WithoutValue}
+use Rattle.line_check.specs.cert_laws.specs.Tests.{ObeysAt, IsPart, bidders_of, states}
+use Rattle.line_check.specs.cert_laws.proofs.Places.{one_place}
+use Rattle.line_check.specs.Faults.{FirstFault}
+use Rattle.line_check.specs.LineTests.{offered, worth_of, ObeysIn, RulesAt}
+use Rattle.line_check.specs.declared.offers.Offers.{Offers}
 use Rattle.cert_check.proofs.Worths.{obeys-same}
 
 -- the offers are the bids of all but one bidder, at their net amounts

@@ -2,9 +2,9 @@
 use Rattle.std.proofs.Common.{◌≡◌, ℕ, ◌+◌, ◌-◌, ◌<◌, ◌≤◌, inl, inr, refl, sym, subst, arith}
 use Rattle.std.proofs.lemmas.Bool.{cases_lt}
 use Rattle.std.specs.Prelude.{Some, None}
-use Rattle.cert_laws.specs.auction_model.specs.Book.{Book}
-use Rattle.cert_laws.specs.cert_form.specs.Certificate.{CertValue}
-use Rattle.cert_laws.specs.Tests.{Asks, FailsFirst, Holds}
+use Rattle.line_check.specs.cert_laws.specs.auction_model.specs.Book.{Book}
+use Rattle.line_check.specs.cert_laws.specs.cert_form.specs.Certificate.{CertValue}
+use Rattle.line_check.specs.cert_laws.specs.Tests.{Asks, FailsFirst, Holds}
 use Rattle.cert_check.specs.Partway.{HoldsTo, IsLate}
 use Rattle.cert_check.specs.Places.{IsFirstFailing}
 

@@ -2,13 +2,13 @@
 use Rattle.std.specs.Prelude.{◌≡◌, ℕ, suc, ◌+◌, ◌≤◌, ◌<◌, ◌↔◌, Bool, IsTrue, length, slice_index_or, ℤ, pos, ◌+ℤ◌, ◌-ℤ◌, ◌*ℤ◌, ◌≤ℤ◌, ◌<ℤ◌, ◌⊎◌}
 use Rattle.std.proofs.Common.{sym, ◌∙◌, ap, subst, arith}
 use Rattle.std.proofs.lemmas.Bool.{and_parts, and_from, both_ways}
-use Rattle.cert_laws.specs.auction_model.specs.Book.{Book, bids_of, menu_of}
-use Rattle.cert_laws.specs.auction_model.specs.Lowered.{of_bidder}
-use Rattle.cert_laws.specs.auction_model.specs.Market.{uses}
-use Rattle.cert_laws.specs.auction_model.specs.Menu.{is_known_after, fits_after}
-use Rattle.cert_laws.specs.cert_form.specs.Certificate.{CertValue, RowValue, row_of}
-use Rattle.cert_laws.specs.Tests.{C2, C5, C6, C7, C8, IsTightRow, bidders_of, won, vickrey_of, sum_holding}
-use Rattle.cert_laws.proofs.Winning.{known_from}
+use Rattle.line_check.specs.cert_laws.specs.auction_model.specs.Book.{Book, bids_of, menu_of}
+use Rattle.line_check.specs.cert_laws.specs.auction_model.specs.Lowered.{of_bidder}
+use Rattle.line_check.specs.cert_laws.specs.auction_model.specs.Market.{uses}
+use Rattle.line_check.specs.cert_laws.specs.auction_model.specs.Menu.{is_known_after, fits_after}
+use Rattle.line_check.specs.cert_laws.specs.cert_form.specs.Certificate.{CertValue, RowValue, row_of}
+use Rattle.line_check.specs.cert_laws.specs.Tests.{C2, C5, C6, C7, C8, IsTightRow, bidders_of, won, vickrey_of, sum_holding}
+use Rattle.line_check.specs.cert_laws.proofs.Winning.{known_from}
 use Rattle.cert_check.specs.Head.{HoldsBefore}
 
 module _ (book : Book) (c : CertValue) where

@@ -6,10 +6,10 @@ use Rattle.std.specs.Int.{w128}
 use Rattle.std.proofs.lemmas.Bool.{eqb-true, eq-eqb}
 use Rattle.std.proofs.lemmas.Int.{ints, to_z-of_z}
 use Rattle.std.proofs.lemmas.List.{get_or-map, length-map}
-use Rattle.cert_laws.specs.auction_model.specs.Prices.{sum_over}
-use Rattle.cert_laws.specs.cert_form.specs.CertText.{AllInRange, InRange, AreRows, IsRow}
-use Rattle.cert_laws.specs.cert_form.specs.Certificate.{RowValue, is_member, row_of}
-use Rattle.cert_laws.specs.Tests.{sum_holding}
+use Rattle.line_check.specs.cert_laws.specs.auction_model.specs.Prices.{sum_over}
+use Rattle.line_check.specs.cert_laws.specs.cert_form.specs.CertText.{AllInRange, InRange, AreRows, IsRow}
+use Rattle.line_check.specs.cert_laws.specs.cert_form.specs.Certificate.{RowValue, is_member, row_of}
+use Rattle.line_check.specs.cert_laws.specs.Tests.{sum_holding}
 use Rattle.cert_text.specs.declared.certificate.CertRow.{CertRow}
 use Rattle.cert_text.specs.Parts.{row_value}
 use Rattle.cert_check.specs.declared.sums.Multiplier.{Multiplier}

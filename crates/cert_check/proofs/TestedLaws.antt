@@ -3,15 +3,15 @@ use Rattle.std.specs.Prelude.{◌≡◌, ℕ, suc, ◌+◌, ◌<◌, ◌≤◌, 
 use Rattle.std.proofs.Common.{ap, subst, arith}
 use Rattle.std.proofs.lemmas.Bool.{cond-false, ne_eqb}
 use Rattle.std.proofs.lemmas.Int.{ints}
-use Rattle.cert_laws.specs.auction_model.specs.Book.{lots_of, menu_of}
-use Rattle.cert_laws.specs.auction_model.specs.Package.{less}
-use Rattle.cert_laws.specs.auction_model.specs.Place.{place_of, left_at}
-use Rattle.cert_laws.specs.auction_model.specs.Table.{entry_at}
-use Rattle.cert_laws.specs.Tests.{ObeysAt, Obeys, bidders_of}
-use Rattle.cert_check.specs.Faults.{FirstFault}
-use Rattle.cert_laws.specs.wide_num.specs.Sums.{nth}
-use Rattle.cert_check.specs.LineTests.{worth_of, ObeysIn}
-use Rattle.cert_check.specs.declared.tables.offers.Offers.{Offers}
+use Rattle.line_check.specs.cert_laws.specs.auction_model.specs.Book.{lots_of, menu_of}
+use Rattle.line_check.specs.cert_laws.specs.auction_model.specs.Package.{less}
+use Rattle.line_check.specs.cert_laws.specs.auction_model.specs.Place.{place_of, left_at}
+use Rattle.line_check.specs.cert_laws.specs.auction_model.specs.Table.{entry_at}
+use Rattle.line_check.specs.cert_laws.specs.Tests.{ObeysAt, Obeys, bidders_of}
+use Rattle.line_check.specs.Faults.{FirstFault}
+use Rattle.line_check.specs.cert_laws.specs.wide_num.specs.Sums.{nth}
+use Rattle.line_check.specs.LineTests.{worth_of, ObeysIn}
+use Rattle.line_check.specs.declared.offers.Offers.{Offers}
 
 -- a line that, with the one below it, is that of a table with the rules keeps them here
 pub tested-obeys : (o : Offers) (whole table : List (List ℤ)) (k : ℕ) → Obeys (menu_of o.book.now) (worth_of o) o.book.now.supply whole → o.skip ≤ k

@@ -3,19 +3,19 @@ use Rattle.std.specs.Prelude.{◌≡◌, ℕ, suc, ◌+◌, ◌*◌, ◌<◌, �
 use Rattle.std.specs.Prelude.{if◌then◌else◌}
 use Rattle.std.proofs.Common.{inl, inr, sym, ap, subst, arith}
 use Rattle.std.proofs.lemmas.Bool.{cases_lt, and_from, ne_eqb}
-use Rattle.cert_laws.specs.auction_model.specs.Package.{is_within}
-use Rattle.cert_laws.specs.auction_model.specs.Menu.{Menu, without, is_known_after, packages_after}
-use Rattle.cert_laws.specs.auction_model.specs.Book.{Book, bids_of, net_of, menu_of, market_of}
-use Rattle.cert_laws.specs.cert_form.specs.Certificate.{CertValue}
-use Rattle.cert_laws.specs.cert_form.specs.CertText.{IsCertificate}
-use Rattle.cert_laws.specs.Tests.{ObeysAt, bidders_of, states, C2, C3}
-use Rattle.cert_laws.proofs.Winning.{known_from}
+use Rattle.line_check.specs.cert_laws.specs.auction_model.specs.Package.{is_within}
+use Rattle.line_check.specs.cert_laws.specs.auction_model.specs.Menu.{Menu, without, is_known_after, packages_after}
+use Rattle.line_check.specs.cert_laws.specs.auction_model.specs.Book.{Book, bids_of, net_of, menu_of, market_of}
+use Rattle.line_check.specs.cert_laws.specs.cert_form.specs.Certificate.{CertValue}
+use Rattle.line_check.specs.cert_laws.specs.cert_form.specs.CertText.{IsCertificate}
+use Rattle.line_check.specs.cert_laws.specs.Tests.{ObeysAt, bidders_of, states, C2, C3}
+use Rattle.line_check.specs.cert_laws.proofs.Winning.{known_from}
 use Rattle.cert_text.specs.CertValues.{cert_value, IsFor}
 use Rattle.cert_text.specs.declared.certificate.Certificate.{Certificate}
 use Rattle.cert_check.specs.EarlierBids.{NoneEarlier}
-use Rattle.cert_check.specs.LineTests.{TableAt}
+use Rattle.line_check.specs.LineTests.{TableAt}
 use Rattle.cert_check.specs.Places.{IsFirstFailing}
-use Rattle.cert_check.specs.Worths.{worth_with}
+use Rattle.line_check.specs.Worths.{worth_with}
 use Rattle.cert_check.proofs.TableLaws.{number-below}
 use Rattle.cert_check.proofs.Worths.{plain-worth, table-same}
 

@@ -2,9 +2,9 @@
 use Rattle.std.specs.Prelude.{◌≡◌, ℕ, ◌+◌, ◌<◌, Option, Some, None, refl}
 use Rattle.std.proofs.Common.{inl, inr, sym, subst, arith}
 use Rattle.std.proofs.lemmas.Bool.{cases_lt}
-use Rattle.cert_laws.specs.auction_model.specs.Book.{Book}
-use Rattle.cert_laws.specs.cert_form.specs.Certificate.{CertValue}
-use Rattle.cert_laws.specs.Tests.{Asks, Holds, FailsFirst, C1, C2, C3, C4, C5, C6, C7, C8, C9}
+use Rattle.line_check.specs.cert_laws.specs.auction_model.specs.Book.{Book}
+use Rattle.line_check.specs.cert_laws.specs.cert_form.specs.Certificate.{CertValue}
+use Rattle.line_check.specs.cert_laws.specs.Tests.{Asks, Holds, FailsFirst, C1, C2, C3, C4, C5, C6, C7, C8, C9}
 use Rattle.cert_check.specs.Head.{HoldsUpTo, HeadHolds}
 use Rattle.cert_check.specs.Places.{IsFirstFailing}
 use Rattle.cert_check.proofs.PlaceTests.{failing-same}

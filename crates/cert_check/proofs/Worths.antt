@@ -3,16 +3,17 @@ use Rattle.std.specs.Prelude.{◌≡◌, ℕ, suc, ◌-◌, ◌^◌, ◌<◌, �
 use Rattle.std.proofs.Common.{sym, ap, subst, arith}
 use Rattle.std.proofs.lemmas.Int.{ints}
 use Rattle.std.proofs.lemmas.List.{length-replicate}
-use Rattle.cert_laws.specs.auction_model.specs.Book.{Book, net_of}
-use Rattle.cert_laws.specs.auction_model.specs.Lowered.{of_bidder}
-use Rattle.cert_laws.specs.auction_model.specs.Menu.{Menu}
-use Rattle.cert_laws.specs.auction_model.proofs.ListLaws.{zeros-at}
+use Rattle.line_check.specs.cert_laws.specs.auction_model.specs.Book.{Book, net_of}
+use Rattle.line_check.specs.cert_laws.specs.auction_model.specs.Lowered.{of_bidder}
+use Rattle.line_check.specs.cert_laws.specs.auction_model.specs.Menu.{Menu}
+use Rattle.line_check.specs.cert_laws.specs.auction_model.proofs.ListLaws.{zeros-at}
 use Rattle.cert_text.specs.choices.specs.bid_book.specs.Kept.{IsBidBook}
-use Rattle.cert_laws.specs.cert_form.specs.Certificate.{CertValue}
-use Rattle.cert_laws.specs.Tests.{ObeysAt, Obeys, bidders_of, lowered_net}
-use Rattle.cert_check.specs.LineTests.{TableAt}
+use Rattle.line_check.specs.cert_laws.specs.cert_form.specs.Certificate.{CertValue}
+use Rattle.line_check.specs.cert_laws.specs.Tests.{ObeysAt, Obeys, bidders_of, lowered_net}
+use Rattle.line_check.specs.LineTests.{TableAt}
 use Rattle.cert_check.specs.Places.{IsFirstFailing}
-use Rattle.cert_check.specs.Worths.{worth_with, HasSmallWorths, CanLower, gain_of}
+use Rattle.line_check.specs.Worths.{worth_with, HasSmallWorths}
+use Rattle.cert_check.specs.Gains.{CanLower, gain_of}
 use Rattle.cert_check.proofs.Gains.{gain-small}
 use Rattle.cert_check.proofs.PlaceTests.{failing-same}
 

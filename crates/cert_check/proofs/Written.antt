@@ -1,7 +1,7 @@
 -- Numbers that are written bidder by bidder.
 use Rattle.std.specs.Prelude.{◌≡◌, ℕ, ◌+◌, ◌-◌, ◌<◌, ◌≤◌, List, get_or, length, ℤ, pos, ◌+ℤ◌}
 use Rattle.std.proofs.Common.{◌≢◌, ◌∙◌, ap, subst, arith, set, get_or-set_other, get_or-set_same, below_more}
-use Rattle.cert_laws.specs.auction_model.specs.Lowered.{of_bidder}
+use Rattle.line_check.specs.cert_laws.specs.auction_model.specs.Lowered.{of_bidder}
 
 -- the numbers of the first n bidders are those of f
 abbrev pub AreWritten : (ℕ → ℤ) → List ℤ → ℕ → Type 0

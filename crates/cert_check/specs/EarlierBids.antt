@@ -1,13 +1,13 @@
 -- The bids that come before those of the choice in the order of ties.
 use Rattle.std.specs.Prelude.{◌≡◌, ℕ, suc, ◌+◌, ◌*◌, ◌^◌, ◌<◌, ◌≤◌, IsTrue, List, length, drop, ℤ, ◌+ℤ◌, ◌-ℤ◌, ◌<ℤ◌, unsigned_abs}
-use Rattle.cert_laws.specs.auction_model.specs.Package.{is_within, less}
-use Rattle.cert_laws.specs.auction_model.specs.Place.{place_of, left_at}
-use Rattle.cert_laws.specs.auction_model.specs.Market.{is_number_before, number_of}
-use Rattle.cert_laws.specs.auction_model.specs.Book.{Book, bids_of, lots_of, net_of, menu_of}
-use Rattle.cert_laws.specs.cert_form.specs.Certificate.{CertValue}
-use Rattle.cert_laws.specs.auction_model.specs.Menu.{fits_after}
-use Rattle.cert_laws.specs.Tests.{NoEarlier, bidders_of, states, left_after, worth_before}
-use Rattle.cert_laws.specs.wide_num.specs.Sums.{nth}
+use Rattle.line_check.specs.cert_laws.specs.auction_model.specs.Package.{is_within, less}
+use Rattle.line_check.specs.cert_laws.specs.auction_model.specs.Place.{place_of, left_at}
+use Rattle.line_check.specs.cert_laws.specs.auction_model.specs.Market.{is_number_before, number_of}
+use Rattle.line_check.specs.cert_laws.specs.auction_model.specs.Book.{Book, bids_of, lots_of, net_of, menu_of}
+use Rattle.line_check.specs.cert_laws.specs.cert_form.specs.Certificate.{CertValue}
+use Rattle.line_check.specs.cert_laws.specs.auction_model.specs.Menu.{fits_after}
+use Rattle.line_check.specs.cert_laws.specs.Tests.{NoEarlier, bidders_of, states, left_after, worth_before}
+use Rattle.line_check.specs.cert_laws.specs.wide_num.specs.Sums.{nth}
 
 -- where bid i of bidder j fits what a place leaves, its net amount with the line's entry for the rest is below a bound
 abbrev pub StaysBelow : Book → ℕ → List ℤ → ℕ → ℤ → ℕ → Type 0

@@ -1,8 +1,8 @@
 -- What is known of the tests when only a part of a certificate has come.
 use Rattle.std.specs.Prelude.{◌≡◌, ℕ, ◌+◌, ◌<◌, ◌⊎◌, ◌^◌, Option, Some, None}
-use Rattle.cert_laws.specs.auction_model.specs.Book.{Book}
-use Rattle.cert_laws.specs.cert_form.specs.Certificate.{CertValue}
-use Rattle.cert_laws.specs.Tests.{Asks, FailsFirst}
+use Rattle.line_check.specs.cert_laws.specs.auction_model.specs.Book.{Book}
+use Rattle.line_check.specs.cert_laws.specs.cert_form.specs.Certificate.{CertValue}
+use Rattle.line_check.specs.cert_laws.specs.Tests.{Asks, FailsFirst}
 use Rattle.cert_check.specs.declared.failure.Failure.{Failure}
 
 -- all that comes before this place of this test holds

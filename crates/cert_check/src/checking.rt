@@ -4,9 +4,9 @@ ghost use Rattle.cert_check.specs.Fields.{IsOf};
 ghost use Rattle.cert_check.specs.Head.{HoldsUpTo};
 ghost use Rattle.cert_check.specs.Places.{IsFirstFailing};
 ghost use Rattle.cert_check.specs.Verdicts.{IsVerdict};
-ghost use Rattle.cert_laws.specs.auction_model.specs.Prices.{AreWeights, weight_of};
-ghost use Rattle.cert_laws.specs.Sound.{IsSound};
-ghost use Rattle.cert_laws.specs.Tests.{Asks, C4, C7, C8, bidders_of, states};
+ghost use Rattle.line_check.specs.cert_laws.specs.auction_model.specs.Prices.{AreWeights, weight_of};
+ghost use Rattle.line_check.specs.cert_laws.specs.Sound.{IsSound};
+ghost use Rattle.line_check.specs.cert_laws.specs.Tests.{Asks, C4, C7, C8, bidders_of, states};
 ghost use Rattle.cert_text.specs.CertValues.{IsFor, cert_value};
 
 use crate::Verdict;
@@ -20,9 +20,9 @@ use crate::rows::rows_test;
 use crate::sizes::sizes_test;
 use crate::sums::Multiplier;
 use crate::tables::{BIDDER_ROOM, lowered_test, value_test};
-use cert_laws::sound_yes;
 use cert_text::Certificate;
 use cert_text::choices::bid_book::BidBook;
+use line_check::cert_laws::sound_yes;
 
 /// Tests a certificate of a book.
 ///

@@ -3,8 +3,8 @@ ghost use Rattle.std.specs.Prelude.{IsTrue, length, [], pos, ◌≡◌, ◌+◌,
 ghost use Rattle.cert_check.specs.Fields.{cert_of};
 ghost use Rattle.cert_check.specs.Head.{HoldsBefore};
 ghost use Rattle.cert_check.specs.Places.{IsFirstFailing};
-ghost use Rattle.cert_laws.specs.cert_form.specs.Certificate.{CertValue};
-ghost use Rattle.cert_laws.specs.Tests.{C2, bidders_of};
+ghost use Rattle.line_check.specs.cert_laws.specs.cert_form.specs.Certificate.{CertValue};
+ghost use Rattle.line_check.specs.cert_laws.specs.Tests.{C2, bidders_of};
 
 use crate::judging::number;
 use cert_text::choices::bid_book::BidBook;

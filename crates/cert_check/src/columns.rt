@@ -1,12 +1,12 @@
 // The multipliers of rows as numbers.
 ghost use Rattle.std.specs.Prelude.{ℕ, ◌≡◌, ◌≤◌, ◌<◌, ◌*◌, ◌^◌, length, map, pos, unsigned_abs, ◌+ℤ◌, if◌then◌else◌};
-ghost use Rattle.cert_laws.specs.auction_model.specs.Lowered.{of_bidder};
+ghost use Rattle.line_check.specs.cert_laws.specs.auction_model.specs.Lowered.{of_bidder};
 ghost use Rattle.cert_check.specs.Columns.{AreMultipliers, AreSums};
-ghost use Rattle.cert_laws.specs.cert_form.specs.CertText.{AreRows};
-ghost use Rattle.cert_laws.specs.cert_form.specs.Certificate.{is_member};
+ghost use Rattle.line_check.specs.cert_laws.specs.cert_form.specs.CertText.{AreRows};
+ghost use Rattle.line_check.specs.cert_laws.specs.cert_form.specs.Certificate.{is_member};
 ghost use Rattle.cert_text.specs.Parts.{row_value};
 ghost use Rattle.cert_text.specs.limits.specs.declared.TheConstants.{MOST_BIDDERS};
-ghost use Rattle.cert_laws.specs.wide_num.specs.Sums.{nth};
+ghost use Rattle.line_check.specs.cert_laws.specs.wide_num.specs.Sums.{nth};
 
 use crate::sums::amounts::counted;
 use crate::sums::members::is_among;

@@ -1,9 +1,9 @@
 // What fails first, as far as a certificate has come.
 ghost use Rattle.std.specs.Prelude.{◌≡◌, ◌≤◌, ◌<◌, ◌+◌, ◌^◌, ◌↔◌, ℕ, IsTrue, None};
-ghost use Rattle.cert_laws.specs.auction_model.specs.Book.{Book};
-ghost use Rattle.cert_laws.specs.cert_form.specs.Certificate.{CertValue};
+ghost use Rattle.line_check.specs.cert_laws.specs.auction_model.specs.Book.{Book};
+ghost use Rattle.line_check.specs.cert_laws.specs.cert_form.specs.Certificate.{CertValue};
 ghost use Rattle.cert_check.specs.Places.{IsFirstFailing};
-ghost use Rattle.cert_laws.specs.Tests.{Asks};
+ghost use Rattle.line_check.specs.cert_laws.specs.Tests.{Asks};
 ghost use Rattle.cert_check.specs.Partway.{failure_at, HoldsTo, IsJudged, IsLate, IsSmallPlace};
 ghost use Rattle.cert_check.specs.Verdicts.{IsVerdict};
 

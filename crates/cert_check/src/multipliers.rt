@@ -1,16 +1,16 @@
 // C7 and C8: the multipliers.
 ghost use Rattle.std.specs.Prelude.{IsTrue, List, length, map, [], pos, unsigned_abs, ℕ, ◌+◌, ◌^◌, ◌<◌, ◌≡◌, ◌+ℤ◌, ◌-ℤ◌, ◌*ℤ◌, ◌≤ℤ◌, ◌<ℤ◌, ◌⊎◌, ◌≤◌, ◌↔◌};
-ghost use Rattle.cert_laws.specs.auction_model.specs.Book.{market_of};
-ghost use Rattle.cert_laws.specs.auction_model.specs.Lowered.{of_bidder};
-ghost use Rattle.cert_laws.specs.auction_model.specs.Market.{uses, worth_in};
-ghost use Rattle.cert_laws.specs.auction_model.specs.Prices.{AreWeights, weight_of};
+ghost use Rattle.line_check.specs.cert_laws.specs.auction_model.specs.Book.{market_of};
+ghost use Rattle.line_check.specs.cert_laws.specs.auction_model.specs.Lowered.{of_bidder};
+ghost use Rattle.line_check.specs.cert_laws.specs.auction_model.specs.Market.{uses, worth_in};
+ghost use Rattle.line_check.specs.cert_laws.specs.auction_model.specs.Prices.{AreWeights, weight_of};
 ghost use Rattle.cert_text.specs.choices.specs.bid_book.specs.Kept.{IsBidBook};
 ghost use Rattle.cert_check.specs.Columns.{AreFirsts, AreFirstSums, AreSeconds, AreSecondSums};
 ghost use Rattle.cert_check.specs.Fields.{AreValuesWithout, IsOf, cert_with};
 ghost use Rattle.cert_check.specs.Places.{IsFirstFailing};
-ghost use Rattle.cert_laws.specs.cert_form.specs.CertText.{AllInRange};
-ghost use Rattle.cert_laws.specs.cert_form.specs.Certificate.{CertValue, RowValue, WithoutValue};
-ghost use Rattle.cert_laws.specs.Tests.{C7, C8, bidders_of};
+ghost use Rattle.line_check.specs.cert_laws.specs.cert_form.specs.CertText.{AllInRange};
+ghost use Rattle.line_check.specs.cert_laws.specs.cert_form.specs.Certificate.{CertValue, RowValue, WithoutValue};
+ghost use Rattle.line_check.specs.cert_laws.specs.Tests.{C7, C8, bidders_of};
 
 use crate::claim::Claim;
 use crate::columns::Column;

@@ -1,10 +1,10 @@
 // The parts of a certificate without a winner.
 ghost use Rattle.std.specs.Prelude.{◌≡◌, ◌↔◌, ℕ, List, ◌<◌, ◌≤◌, length, map, IsTrue};
-ghost use Rattle.cert_laws.specs.auction_model.specs.Book.{market_of, menu_of, net_of};
-ghost use Rattle.cert_laws.specs.auction_model.specs.Market.{uses, value_of};
-ghost use Rattle.cert_laws.specs.cert_form.specs.Certificate.{CertValue, part_of};
-ghost use Rattle.cert_laws.specs.cert_form.specs.CertText.{AreWithouts, IsTable};
-ghost use Rattle.cert_laws.specs.Tests.{bidders_of, states, IsPart, Obeys, C4};
+ghost use Rattle.line_check.specs.cert_laws.specs.auction_model.specs.Book.{market_of, menu_of, net_of};
+ghost use Rattle.line_check.specs.cert_laws.specs.auction_model.specs.Market.{uses, value_of};
+ghost use Rattle.line_check.specs.cert_laws.specs.cert_form.specs.Certificate.{CertValue, part_of};
+ghost use Rattle.line_check.specs.cert_laws.specs.cert_form.specs.CertText.{AreWithouts, IsTable};
+ghost use Rattle.line_check.specs.cert_laws.specs.Tests.{bidders_of, states, IsPart, Obeys, C4};
 ghost use Rattle.cert_text.specs.Parts.{without_value};
 ghost use Rattle.cert_check.specs.Fields.{AreValuesWithout, worth_without};
 ghost use Rattle.cert_check.specs.Places.{IsFirstFailing};
@@ -13,10 +13,10 @@ use crate::claim::Claim;
 use crate::judging::is_allowed_without;
 use crate::tables::BIDDER_ROOM;
 use crate::tables::grids::table_test;
-use crate::tables::offers::Offers;
 use cert_text::WithoutPart;
 use cert_text::choices::bid_book::BidBook;
 use cert_text::choices::{Grid, value_among};
+use line_check::Offers;
 
 /// Whether a part shows the best choice without bidder `j`. The lines that the table of all bids has too aren't tested again.
 fn shows_best(book: &BidBook, whole: &Grid, part: &WithoutPart, j: u16) -> bool

@@ -1,14 +1,14 @@
 // C6: the rows.
 ghost use Rattle.std.specs.Prelude.{IsTrue, length, map, not, [], ◌*ℤ◌, ◌-ℤ◌, ◌≡◌, ◌↔◌};
-ghost use Rattle.cert_laws.specs.auction_model.specs.Book.{market_of};
-ghost use Rattle.cert_laws.specs.auction_model.specs.Lowered.{of_bidder};
-ghost use Rattle.cert_laws.specs.auction_model.specs.Market.{value_of, worth_in};
-ghost use Rattle.cert_laws.specs.auction_model.specs.Prices.{sum_over};
+ghost use Rattle.line_check.specs.cert_laws.specs.auction_model.specs.Book.{market_of};
+ghost use Rattle.line_check.specs.cert_laws.specs.auction_model.specs.Lowered.{of_bidder};
+ghost use Rattle.line_check.specs.cert_laws.specs.auction_model.specs.Market.{value_of, worth_in};
+ghost use Rattle.line_check.specs.cert_laws.specs.auction_model.specs.Prices.{sum_over};
 ghost use Rattle.cert_check.specs.Fields.{IsOf, cert_with, row_with};
 ghost use Rattle.cert_check.specs.Places.{IsFirstFailing};
-ghost use Rattle.cert_laws.specs.cert_form.specs.CertText.{AllInRange, AreMembers, AreRows};
-ghost use Rattle.cert_laws.specs.cert_form.specs.Certificate.{CertValue, RowValue, is_member};
-ghost use Rattle.cert_laws.specs.Tests.{C6, IsTightRow, bidders_of};
+ghost use Rattle.line_check.specs.cert_laws.specs.cert_form.specs.CertText.{AllInRange, AreMembers, AreRows};
+ghost use Rattle.line_check.specs.cert_laws.specs.cert_form.specs.Certificate.{CertValue, RowValue, is_member};
+ghost use Rattle.line_check.specs.cert_laws.specs.Tests.{C6, IsTightRow, bidders_of};
 ghost use Rattle.cert_text.specs.Parts.{row_value};
 
 use crate::claim::Claim;

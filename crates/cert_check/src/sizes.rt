@@ -1,8 +1,8 @@
 // C1: the denominator and the value.
 ghost use Rattle.std.specs.Prelude.{IsTrue, [], pos, ◌≡◌, ◌*ℤ◌, ◌+ℤ◌, ◌<ℤ◌, ◌^◌, ◌≤ℤ◌, ◌↔◌};
 ghost use Rattle.cert_check.specs.Places.{IsFirstFailing};
-ghost use Rattle.cert_laws.specs.cert_form.specs.Certificate.{CertValue};
-ghost use Rattle.cert_laws.specs.Tests.{C1};
+ghost use Rattle.line_check.specs.cert_laws.specs.cert_form.specs.Certificate.{CertValue};
+ghost use Rattle.line_check.specs.cert_laws.specs.Tests.{C1};
 ghost use Rattle.cert_check.specs.Fields.{cert_of};
 
 /// The first place at which C1 fails of a certificate with this denominator and this value.

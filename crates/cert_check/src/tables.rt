@@ -1,34 +1,27 @@
 // The tests C3 and C9: the tables of the net amounts and of the lowered ones.
 ghost use Rattle.std.specs.Prelude.{◌≡◌, ℕ, ◌^◌, ◌<◌, ◌≤◌, IsTrue, length, unsigned_abs};
-ghost use Rattle.cert_laws.specs.auction_model.specs.Book.{market_of};
-ghost use Rattle.cert_laws.specs.auction_model.specs.Lowered.{of_bidder};
-ghost use Rattle.cert_laws.specs.auction_model.specs.Prices.{sum_over, everyone};
-ghost use Rattle.cert_laws.specs.cert_form.specs.CertText.{AllInRange, IsTable};
-ghost use Rattle.cert_laws.specs.cert_form.specs.Certificate.{CertValue};
-ghost use Rattle.cert_laws.specs.Tests.{bidders_of, states, C3, C9};
+ghost use Rattle.line_check.specs.cert_laws.specs.auction_model.specs.Book.{market_of};
+ghost use Rattle.line_check.specs.cert_laws.specs.auction_model.specs.Lowered.{of_bidder};
+ghost use Rattle.line_check.specs.cert_laws.specs.auction_model.specs.Prices.{sum_over, everyone};
+ghost use Rattle.line_check.specs.cert_laws.specs.cert_form.specs.CertText.{AllInRange, IsTable};
+ghost use Rattle.line_check.specs.cert_laws.specs.cert_form.specs.Certificate.{CertValue};
+ghost use Rattle.line_check.specs.cert_laws.specs.Tests.{bidders_of, states, C3, C9};
 ghost use Rattle.cert_check.specs.Fields.{IsOf, cert_headed};
 ghost use Rattle.cert_check.specs.Places.{IsFirstFailing};
 ghost use Rattle.cert_text.specs.limits.specs.declared.TheConstants.{MOST_BIDDERS};
 
-pub(crate) mod blocks;
-pub(crate) mod coarse;
 pub(crate) mod earlier;
 pub(crate) mod gains;
 pub(crate) mod grids;
-pub(crate) mod growth;
-pub(crate) mod lines;
-pub(crate) mod offers;
-pub(crate) mod rule;
-pub(crate) mod walk;
 
 use crate::claim::Claim;
 use crate::tables::earlier::earlier_fault;
 use crate::tables::gains::put_gains;
 use crate::tables::grids::table_test;
-use crate::tables::offers::Offers;
 use cert_text::cert_form::limits::{MOST_BIDDERS, MOST_STATES};
 use cert_text::choices::Grid;
 use cert_text::choices::bid_book::BidBook;
+use line_check::Offers;
 
 /// Room for a number of each bidder.
 pub const BIDDER_ROOM: usize = MOST_BIDDERS as usize;

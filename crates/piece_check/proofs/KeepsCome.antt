@@ -9,7 +9,7 @@ use Rattle.cert_facts.specs.cert_form.specs.CertText.{as_numbers}
 use Rattle.cert_facts.specs.cert_laws.specs.Tests.{Asks, bidders_of, states, full}
 use Rattle.cert_check.specs.EarlierBids.{NoneEarlier}
 use Rattle.cert_check.proofs.HeadLines.{top-C3, first-C3}
-use Rattle.cert_check.proofs.TableLaws.{table-small, table-width}
+use Rattle.cert_check.specs.line_check.proofs.TableLines.{table-small, table-width}
 use Rattle.cert_check.proofs.ValueLaws.{allowed-by}
 use Rattle.cert_pieces.specs.declared.due.Due.TheVariants.{Value, Choice, Entries}
 use Rattle.cert_pieces.specs.declared.due.Table.TheVariants.{Head}

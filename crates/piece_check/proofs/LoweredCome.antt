@@ -8,7 +8,8 @@ use Rattle.cert_check.specs.auction_model.specs.Table.{entry_at}
 use Rattle.cert_facts.specs.cert_form.specs.Certificate.{CertValue}
 use Rattle.cert_facts.specs.cert_laws.specs.Tests.{Asks, bidders_of, states, full, lowered_net}
 use Rattle.cert_check.specs.Partway.{IsLate}
-use Rattle.cert_check.specs.Worths.{gain_of, worth_with}
+use Rattle.cert_check.specs.line_check.specs.Worths.{worth_with}
+use Rattle.cert_check.specs.Gains.{gain_of}
 use Rattle.cert_check.specs.declared.claim.Claim.{Claim}
 use Rattle.cert_check.proofs.LoweredLines.{top-C9}
 use Rattle.cert_check.proofs.Worths.{lowered-worth}

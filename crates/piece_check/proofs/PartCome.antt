@@ -12,8 +12,8 @@ use Rattle.cert_facts.specs.cert_form.specs.Certificate.{CertValue, part_of}
 use Rattle.cert_facts.specs.cert_form.specs.CertText.{IsChoice, as_numbers}
 use Rattle.cert_facts.specs.cert_laws.specs.Tests.{Asks, FailsFirst, IsPart, ObeysAt, bidders_of, states, full}
 use Rattle.cert_check.specs.declared.failure.Failure.{Failure}
-use Rattle.cert_check.specs.declared.tables.offers.Offers.{Offers}
-use Rattle.cert_check.specs.LineTests.{RulesAt, worth_of}
+use Rattle.cert_check.specs.line_check.specs.declared.offers.Offers.{Offers}
+use Rattle.cert_check.specs.line_check.specs.LineTests.{RulesAt, worth_of}
 use Rattle.cert_check.specs.Partway.{HoldsTo}
 use Rattle.cert_check.proofs.PartLines.{rules-part, part-rules}
 use Rattle.cert_check.proofs.PartwayLaws.{holds-further}

@@ -7,7 +7,7 @@ use Rattle.std.specs.Prelude.{Option, Some, None, Bool, true, false, nat_lt, ifâ
 use Rattle.cert_check.specs.auction_model.specs.Book.{Book}
 use Rattle.cert_facts.specs.cert_form.specs.Certificate.{CertValue}
 use Rattle.cert_facts.specs.cert_laws.specs.Tests.{Asks, FailsFirst}
-use Rattle.cert_check.specs.Faults.{FirstFault}
+use Rattle.cert_check.specs.line_check.specs.Faults.{FirstFault}
 use Rattle.cert_check.specs.Partway.{failure_at, HoldsTo, IsJudged}
 use Rattle.piece_check.specs.Rules.{IsFirstBetween, lines_tested}
 

@@ -9,9 +9,9 @@ use Rattle.cert_facts.specs.cert_form.specs.Certificate.{CertValue}
 use Rattle.cert_facts.specs.cert_form.specs.CertText.{IsTable, as_numbers}
 use Rattle.cert_facts.specs.cert_laws.specs.Tests.{Asks, bidders_of, states, lowered_net}
 use Rattle.cert_check.specs.declared.failure.Failure.{Failure}
-use Rattle.cert_check.specs.declared.tables.offers.Offers.{Offers}
-use Rattle.cert_check.specs.Growth.{Grows}
-use Rattle.cert_check.specs.LineTests.{RulesAt, worth_of}
+use Rattle.cert_check.specs.line_check.specs.declared.offers.Offers.{Offers}
+use Rattle.cert_check.specs.line_check.specs.Growth.{Grows}
+use Rattle.cert_check.specs.line_check.specs.LineTests.{RulesAt, worth_of}
 use Rattle.cert_check.specs.Partway.{HoldsTo, IsJudged, IsLate, IsSmallPlace}
 use Rattle.cert_check.proofs.HeadLines.{rules-C3, C3-rules}
 use Rattle.cert_check.proofs.LoweredLines.{rules-C9, C9-rules}

@@ -1,7 +1,7 @@
 -- What is known of how the lines of a table grow.
 use Rattle.std.specs.Prelude.{◌≡◌, ℕ, suc, Bool, IsTrue, [], slice_index_or}
 use Rattle.cert_check.specs.auction_model.specs.Book.{Book}
-use Rattle.cert_check.specs.Growth.{Grows}
+use Rattle.cert_check.specs.line_check.specs.Growth.{Grows}
 use Rattle.cert_facts.specs.cert_form.specs.Certificate.{CertValue}
 use Rattle.cert_pieces.specs.declared.due.Due.{Due}
 use Rattle.cert_pieces.specs.declared.due.Due.TheVariants.{Entries}

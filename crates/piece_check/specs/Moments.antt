@@ -5,8 +5,8 @@ use Rattle.cert_check.specs.Fields.{IsOf}
 use Rattle.cert_check.specs.declared.claim.Claim.{Claim}
 use Rattle.cert_check.specs.auction_model.specs.Book.{net_of}
 use Rattle.cert_facts.specs.cert_laws.specs.Tests.{bidders_of, lowered_net}
-use Rattle.cert_check.specs.LineTests.{worth_of}
-use Rattle.cert_check.specs.declared.tables.offers.Offers.{Offers}
+use Rattle.cert_check.specs.line_check.specs.LineTests.{worth_of}
+use Rattle.cert_check.specs.line_check.specs.declared.offers.Offers.{Offers}
 use Rattle.cert_facts.specs.cert_form.specs.Certificate.{CertValue}
 use Rattle.piece_check.specs.declared.judging.finding.Finding.{Finding}
 use Rattle.piece_check.specs.declared.moment.Moment.{Moment}

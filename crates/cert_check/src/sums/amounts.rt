@@ -1,10 +1,10 @@
 //! Amounts that the tests compare.
 ghost use Rattle.std.specs.Prelude.{IsTrue, if◌then◌else◌, pos, unsigned_abs, ◌*ℤ◌, ◌<◌, ◌^◌, ◌≡◌, ◌≤ℤ◌, ◌≤◌, ◌↔◌};
-ghost use Rattle.cert_laws.specs.auction_model.specs.Book.{market_of, menu_of};
-ghost use Rattle.cert_laws.specs.auction_model.specs.Market.{worth_in};
-ghost use Rattle.cert_laws.specs.auction_model.specs.Menu.{is_known_after};
+ghost use Rattle.line_check.specs.cert_laws.specs.auction_model.specs.Book.{market_of, menu_of};
+ghost use Rattle.line_check.specs.cert_laws.specs.auction_model.specs.Market.{worth_in};
+ghost use Rattle.line_check.specs.cert_laws.specs.auction_model.specs.Menu.{is_known_after};
 ghost use Rattle.cert_text.specs.choices.specs.bid_book.specs.Kept.{IsBidBook};
-ghost use Rattle.cert_laws.specs.Tests.{bidders_of};
+ghost use Rattle.line_check.specs.cert_laws.specs.Tests.{bidders_of};
 ghost use Rattle.cert_text.specs.limits.specs.declared.TheConstants.{MOST_AMOUNT};
 
 use cert_text::choices::bid_book::BidBook;

@@ -1,12 +1,12 @@
 // The bids that come before those of the choice in the order of ties: none of them may reach the value.
 ghost use Rattle.std.specs.Prelude.{◌≡◌, ◌↔◌, ℕ, ◌-◌, ◌^◌, ◌<◌, ◌≤◌, [], length, slice_index_or, pos, ◌+ℤ◌, ◌<ℤ◌, IsTrue, unsigned_abs};
-ghost use Rattle.cert_laws.specs.auction_model.specs.Package.{is_within, less};
-ghost use Rattle.cert_laws.specs.auction_model.specs.Place.{left_at, place_of};
-ghost use Rattle.cert_laws.specs.auction_model.specs.Market.{is_number_before, number_of};
-ghost use Rattle.cert_laws.specs.auction_model.specs.Book.{bids_of, lots_of, net_of, market_of};
-ghost use Rattle.cert_laws.specs.cert_form.specs.CertText.{IsTable};
-ghost use Rattle.cert_laws.specs.Tests.{bidders_of, states};
-ghost use Rattle.cert_laws.specs.cert_form.specs.Certificate.{CertValue};
+ghost use Rattle.line_check.specs.cert_laws.specs.auction_model.specs.Package.{is_within, less};
+ghost use Rattle.line_check.specs.cert_laws.specs.auction_model.specs.Place.{left_at, place_of};
+ghost use Rattle.line_check.specs.cert_laws.specs.auction_model.specs.Market.{is_number_before, number_of};
+ghost use Rattle.line_check.specs.cert_laws.specs.auction_model.specs.Book.{bids_of, lots_of, net_of, market_of};
+ghost use Rattle.line_check.specs.cert_laws.specs.cert_form.specs.CertText.{IsTable};
+ghost use Rattle.line_check.specs.cert_laws.specs.Tests.{bidders_of, states};
+ghost use Rattle.line_check.specs.cert_laws.specs.cert_form.specs.Certificate.{CertValue};
 ghost use Rattle.cert_check.specs.Fields.{cert_headed};
 ghost use Rattle.cert_check.specs.Places.{IsFirstFailing};
 ghost use Rattle.cert_check.specs.EarlierBids.{StaysBelow, AllStayBelow, NoneEarlier, IsLeft};

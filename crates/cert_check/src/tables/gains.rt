@@ -1,13 +1,14 @@
 // What the bidders gain at the payments.
 ghost use Rattle.std.specs.Prelude.{◌≡◌, ℕ, ◌<◌, ◌≤◌, length};
-ghost use Rattle.cert_laws.specs.auction_model.specs.Lowered.{of_bidder};
-ghost use Rattle.cert_laws.specs.cert_form.specs.CertText.{AllInRange};
-ghost use Rattle.cert_laws.specs.Tests.{bidders_of};
-ghost use Rattle.cert_check.specs.Worths.{CanLower, HasSmallWorths, gain_of};
+ghost use Rattle.line_check.specs.cert_laws.specs.auction_model.specs.Lowered.{of_bidder};
+ghost use Rattle.line_check.specs.cert_laws.specs.cert_form.specs.CertText.{AllInRange};
+ghost use Rattle.line_check.specs.cert_laws.specs.Tests.{bidders_of};
+ghost use Rattle.line_check.specs.Worths.{HasSmallWorths};
+ghost use Rattle.cert_check.specs.Gains.{CanLower, gain_of};
 
 use crate::claim::Claim;
-use crate::tables::offers::scaled_less;
 use cert_text::choices::bid_book::BidBook;
+use line_check::scaled_less;
 
 /// What bidder `j` gains at the payments, times the denominator: what its bid in the choice is worth less what it pays, and
 /// nothing where it loses.

@@ -1,17 +1,16 @@
 // The rules of a whole table.
 ghost use Rattle.std.specs.Prelude.{◌≡◌, ℕ, ◌+◌, ◌≤◌, ◌<◌, [], length, slice_index_or, IsTrue};
-ghost use Rattle.cert_laws.specs.cert_form.specs.CertText.{IsTable};
-ghost use Rattle.cert_laws.specs.Tests.{bidders_of, states};
-ghost use Rattle.cert_check.specs.Faults.{FirstFault};
-ghost use Rattle.cert_check.specs.Growth.{Grows};
+ghost use Rattle.line_check.specs.cert_laws.specs.cert_form.specs.CertText.{IsTable};
+ghost use Rattle.line_check.specs.cert_laws.specs.Tests.{bidders_of, states};
+ghost use Rattle.line_check.specs.Faults.{FirstFault};
+ghost use Rattle.line_check.specs.Growth.{Grows};
 ghost use Rattle.cert_check.specs.Places.{IsFirstFailing};
-ghost use Rattle.cert_check.specs.LineTests.{IsWhole, ObeysIn, RulesAt, TestsTable};
+ghost use Rattle.line_check.specs.LineTests.{IsWhole, ObeysIn, RulesAt, TestsTable};
 ghost use Rattle.cert_text.specs.choices.specs.Lines.{width_of};
 
 use crate::tables::STATE_ROOM;
-use crate::tables::lines::{LineFault, last_line_fault, two_lines_found};
-use crate::tables::offers::Offers;
 use cert_text::choices::Grid;
+use line_check::{LineFault, Offers, last_line_fault, two_lines_found};
 
 /// Whether two tables are seen to have the same line.
 fn share_line(table: &Grid, other: &Grid, k: usize) -> bool

@@ -3,7 +3,7 @@ ghost use Rattle.std.specs.Prelude.{◌≡◌, ◌≤◌, ◌<◌, ◌+◌, ◌*
 ghost use Rattle.cert_check.specs.auction_model.specs.Prices.{weight_of};
 ghost use Rattle.cert_facts.specs.cert_form.specs.Certificate.{CertValue};
 ghost use Rattle.cert_facts.specs.cert_laws.specs.Tests.{Asks, bidders_of, states};
-ghost use Rattle.cert_check.specs.Growth.{Grows};
+ghost use Rattle.cert_check.specs.line_check.specs.Growth.{Grows};
 ghost use Rattle.cert_pieces.specs.Rooms.{segment};
 ghost use Rattle.cert_check.specs.Partway.{IsJudged, IsLate};
 ghost use Rattle.piece_check.specs.Moments.{AreLowered, IsAt, IsPossible, IsClaimOf, Shows};

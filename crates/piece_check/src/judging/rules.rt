@@ -2,8 +2,8 @@
 ghost use Rattle.std.specs.Prelude.{◌≡◌, ◌≤◌, ◌<◌, ◌+◌, ◌-◌, ◌*◌, ◌^◌, ℕ, suc, Some, None, List, [], length, slice_index_or, IsTrue, ℤ};
 ghost use Rattle.cert_facts.specs.cert_form.specs.CertText.{IsTable};
 ghost use Rattle.cert_facts.specs.cert_laws.specs.Tests.{bidders_of, states};
-ghost use Rattle.cert_check.specs.Growth.{Grows};
-ghost use Rattle.cert_check.specs.LineTests.{RulesAt};
+ghost use Rattle.cert_check.specs.line_check.specs.Growth.{Grows};
+ghost use Rattle.cert_check.specs.line_check.specs.LineTests.{RulesAt};
 ghost use Rattle.cert_pieces.specs.Dues.{IsTableOf};
 ghost use Rattle.cert_pieces.specs.Rooms.{room_size, segment};
 ghost use Rattle.piece_check.specs.Rules.{IsFirstBetween, HasTwoLines, lines_tested};

@@ -1,7 +1,7 @@
 use Rattle.std.proofs.Common.{◌+◌, ◌*◌, List, ap, map, refl, sym, subst, arith}
-use Rattle.cert_laws.specs.cert_form.specs.CertText.{AreWithouts}
-use Rattle.cert_laws.specs.Tests.{bidders_of, states}
-use Rattle.cert_laws.specs.auction_model.specs.Prices.{weight_of}
+use Rattle.line_check.specs.cert_laws.specs.cert_form.specs.CertText.{AreWithouts}
+use Rattle.line_check.specs.cert_laws.specs.Tests.{bidders_of, states}
+use Rattle.line_check.specs.cert_laws.specs.auction_model.specs.Prices.{weight_of}
 use Rattle.cert_text.specs.CertValues.{cert_value}
 use Rattle.cert_text.specs.Parts.{row_value, without_value}
 use Rattle.cert_text.specs.declared.certificate.WithoutPart.{WithoutPart}

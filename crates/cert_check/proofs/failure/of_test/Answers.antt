@@ -1,6 +1,6 @@
 use Rattle.std.proofs.Common.{subst}
 use Rattle.cert_check.specs.Places.{IsFirstFailing}
-use Rattle.cert_laws.specs.Tests.{Asks}
+use Rattle.line_check.specs.cert_laws.specs.Tests.{Asks}
 use Rattle.cert_check.proofs.PartwayLaws.{test-fails, test-holds}
 use Rattle.cert_check.proofs.failure.of_test.Goals as goal
 

@@ -1,12 +1,12 @@
 use Rattle.std.proofs.Common.{◌∙◌, sym, subst, ap, rules, arith, refl, replicate, pos, List, ℕ, IsTrue}
 use Rattle.std.proofs.lemmas.Bool.{false≢true}
 use Rattle.std.proofs.lemmas.Int.{to_z-of_z}
-use Rattle.cert_laws.specs.auction_model.specs.Book.{menu_of, market_of, net_of}
-use Rattle.cert_laws.specs.auction_model.specs.Market.{number_of, value_of}
-use Rattle.cert_laws.specs.auction_model.specs.Menu.{without}
-use Rattle.cert_laws.specs.auction_model.proofs.BookMarket.{fits-known}
+use Rattle.line_check.specs.cert_laws.specs.auction_model.specs.Book.{menu_of, market_of, net_of}
+use Rattle.line_check.specs.cert_laws.specs.auction_model.specs.Market.{number_of, value_of}
+use Rattle.line_check.specs.cert_laws.specs.auction_model.specs.Menu.{without}
+use Rattle.line_check.specs.cert_laws.specs.auction_model.proofs.BookMarket.{fits-known}
 use Rattle.cert_text.specs.Parts.{without_value}
-use Rattle.cert_check.specs.Worths.{worth_with}
+use Rattle.line_check.specs.Worths.{worth_with}
 use Rattle.cert_check.proofs.PartLaws.{part-answer}
 use Rattle.cert_check.proofs.Worths.{plain-worth, plain-small, table-same, all-obey}
 use mir.Val.{SFits, to_z, of_z}

@@ -1,4 +1,4 @@
-use Rattle.cert_check.specs.Worths.{gain_of}
+use Rattle.cert_check.specs.Gains.{gain_of}
 use Rattle.cert_check.proofs.Written.{AreWritten}
 use Rattle.cert_check.proofs.tables.gains.put_each.Given as goal
 

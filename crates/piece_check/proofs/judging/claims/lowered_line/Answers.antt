@@ -7,7 +7,7 @@ use Rattle.cert_check.specs.auction_model.specs.Book.{Book}
 use Rattle.cert_check.specs.auction_model.specs.Prices.{weight_of}
 use Rattle.cert_facts.specs.cert_form.specs.CertText.{AllInRange}
 use Rattle.cert_facts.specs.cert_laws.specs.Tests.{bidders_of, states}
-use Rattle.cert_check.specs.Worths.{HasSmallWorths}
+use Rattle.cert_check.specs.line_check.specs.Worths.{HasSmallWorths}
 use Rattle.cert_check.proofs.LoweredLines.{past-C9}
 use Rattle.piece_check.proofs.LoweredCome.{pay-there, worths-are}
 use Rattle.piece_check.proofs.TableCome.{grown-next, late-small, lowered-shows}

@@ -4,7 +4,7 @@ use Rattle.cert_check.specs.auction_model.specs.Prices.{weight_of}
 use Rattle.cert_facts.specs.cert_laws.specs.Tests.{bidders_of, states}
 use Rattle.cert_check.specs.Partway.{IsJudged}
 use Rattle.cert_pieces.specs.declared.due.Table.TheVariants.{Lowered}
-use Rattle.cert_check.specs.Growth.{Grows}
+use Rattle.cert_check.specs.line_check.specs.Growth.{Grows}
 use Rattle.cert_pieces.specs.declared.due.Due.TheVariants.{Entries}
 use Rattle.cert_pieces.specs.Rooms.{room_size, segment}
 use Rattle.std.specs.Prelude.{IsTrue, ◌<◌}

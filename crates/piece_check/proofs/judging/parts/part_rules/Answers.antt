@@ -1,12 +1,12 @@
 use Rattle.std.proofs.Common.{◌≡◌, ◌∙◌, ◌-◌, ◌*◌, ◌<◌, ◌≤◌, length, sym, subst}
 use Rattle.std.proofs.lemmas.Bool.{false≢true}
 use Rattle.cert_check.specs.auction_model.specs.Book.{Book}
-use Rattle.cert_check.specs.LineTests.{RulesAt}
+use Rattle.cert_check.specs.line_check.specs.LineTests.{RulesAt}
 use Rattle.cert_facts.specs.cert_form.specs.Certificate.{part_of}
 use Rattle.cert_facts.specs.cert_laws.specs.Tests.{bidders_of, states}
 use Rattle.cert_pieces.specs.declared.due.Table.TheVariants.{Part}
 use Rattle.std.specs.Prelude.{IsTrue}
-use Rattle.cert_check.specs.Growth.{Grows}
+use Rattle.cert_check.specs.line_check.specs.Growth.{Grows}
 use Rattle.cert_pieces.specs.declared.due.Due.TheVariants.{Entries}
 use Rattle.cert_pieces.specs.Rooms.{room_size, segment}
 use Rattle.piece_check.proofs.TableCome.{grown-next, known-before}

@@ -2,10 +2,10 @@ use Rattle.std.proofs.Common.{◌≡◌, ◌∙◌, ◌+◌, ◌-◌, ◌*◌, �
 use Rattle.std.specs.Prelude.{ℤ, slice_index_or, unsigned_abs, ◌^◌}
 use Rattle.cert_check.specs.auction_model.specs.Place.{states_of}
 use Rattle.cert_facts.specs.cert_laws.specs.Tests.{bidders_of, states}
-use Rattle.cert_check.specs.Growth.{Grows}
-use Rattle.cert_check.specs.LineTests.{RulesAt}
+use Rattle.cert_check.specs.line_check.specs.Growth.{Grows}
+use Rattle.cert_check.specs.line_check.specs.LineTests.{RulesAt}
 use Rattle.cert_check.proofs.PartLines.{fault-rules}
-use Rattle.cert_check.proofs.TableLaws.{table-small, table-width}
+use Rattle.cert_check.specs.line_check.proofs.TableLines.{table-small, table-width}
 use Rattle.piece_check.specs.Rules.{IsFirstBetween}
 use Rattle.piece_check.proofs.RuleLaws.{line-between, none-before}
 use Rattle.piece_check.proofs.judging.rules.before_found.Goals as goal

@@ -2,8 +2,8 @@ use Rattle.std.proofs.Common.{◌≡◌, ◌∙◌, ◌+◌, ◌*◌, suc, Some,
 use Rattle.std.specs.Prelude.{slice_index_or}
 use Rattle.cert_check.specs.auction_model.specs.Place.{states_of}
 use Rattle.cert_facts.specs.cert_laws.specs.Tests.{bidders_of, states}
-use Rattle.cert_check.specs.Faults.{FirstFault}
-use Rattle.cert_check.specs.LineTests.{RulesAt}
+use Rattle.cert_check.specs.line_check.specs.Faults.{FirstFault}
+use Rattle.cert_check.specs.line_check.specs.LineTests.{RulesAt}
 use Rattle.cert_check.proofs.PartLines.{fault-rules}
 use Rattle.piece_check.specs.Rules.{IsFirstBetween}
 use Rattle.piece_check.proofs.RuleLaws.{line-between, none-own, tested-all}

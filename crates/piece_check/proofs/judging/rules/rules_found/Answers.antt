@@ -1,6 +1,6 @@
 use Rattle.std.proofs.Common.{◌-◌, ◌*◌, subst}
 use Rattle.cert_facts.specs.cert_laws.specs.Tests.{bidders_of, states}
-use Rattle.cert_check.specs.LineTests.{RulesAt}
+use Rattle.cert_check.specs.line_check.specs.LineTests.{RulesAt}
 use Rattle.piece_check.specs.Rules.{IsFirstBetween, lines_tested}
 use Rattle.piece_check.proofs.RuleLaws.{between-first, between-both, lines-rise}
 use Rattle.piece_check.proofs.judging.rules.rules_found.Goals as goal

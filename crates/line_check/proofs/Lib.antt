@@ -1,0 +1,6 @@
+mod Blocks
+mod CornerLaws
+mod GrowthLaws
+mod LineLaws
+mod NarrowLines
+pub mod TableLines
