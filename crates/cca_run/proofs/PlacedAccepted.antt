@@ -10,9 +10,9 @@ use Rattle.cca_work.specs.cca_inputs.specs.limits.specs.declared.TheConstants.{C
 use Rattle.cca_work.specs.cca_inputs.specs.place_cert.specs.PlaceSays.{PlaceCertSays, place_text}
 use Rattle.cca_work.specs.cca_inputs.specs.place_cert.specs.PlaceText.{IsPlaceCertificate, place_lines}
 use Rattle.cca_work.specs.place_price.specs.cert_laws.specs.Sound.{cert_point}
-use Rattle.cca_work.specs.place_outcome.specs.place_laws.specs.PlaceSound.{prices_in}
-use Rattle.cca_work.specs.place_outcome.specs.place_laws.specs.PlaceTests as places
-use Rattle.cca_work.specs.place_outcome.specs.PlaceText.{IsPlaceText}
+use Rattle.cca_work.specs.place_price.specs.place_laws.specs.PlaceSound.{prices_in}
+use Rattle.cca_work.specs.place_price.specs.place_laws.specs.PlaceTests as places
+use Rattle.cca_work.specs.place_price.specs.PlaceText.{IsPlaceText}
 use Rattle.cca_work.specs.cca_inputs.specs.slot_places.specs.Board.{market_of}
 use Rattle.cca_work.specs.cca_inputs.specs.slot_places.specs.SlotForm.{IsSlotText, slot_lines}
 use Rattle.cca_work.specs.cca_inputs.specs.slot_places.specs.Slots.{SlotList}

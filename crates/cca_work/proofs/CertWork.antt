@@ -2,7 +2,7 @@
 use Rattle.std.proofs.Common.{inl, inr, ◌≡◌, ℕ, ◌≤◌, Option, List, [], length, refl, sym, ap, subst, arith}
 use Rattle.std.specs.Prelude.{Result, Ok, Err}
 use Rattle.std.proofs.lemmas.Bool.{cases_lt}
-use Rattle.place_outcome.specs.outcome.specs.auction_model.specs.Book.{Book}
+use Rattle.place_price.specs.outcome.specs.auction_model.specs.Book.{Book}
 use Rattle.cca_inputs.specs.limits.specs.declared.TheConstants.{CERT_BYTES}
 use Rattle.cca_inputs.specs.cca_base.specs.Files.{Agrees, Folder, GaveAll}
 use Rattle.cca_inputs.specs.cert_form.specs.Certificate.{CertValue}

@@ -4,8 +4,8 @@ use Rattle.std.proofs.Common.{length-take}
 use Rattle.std.specs.Prelude.{IfErr, IfOk, Result, Ok, Err}
 use Rattle.cca_inputs.specs.limits.specs.declared.TheConstants.{CERT_BYTES}
 use Rattle.cca_inputs.specs.line_text.specs.LineText.{Said, stated, faulty, beyond}
-use Rattle.place_outcome.specs.outcome.specs.auction_model.specs.Book.{Book as BookValue}
-use Rattle.place_outcome.specs.outcome.specs.auction_model.specs.Prices.{weight_of}
+use Rattle.place_price.specs.outcome.specs.auction_model.specs.Book.{Book as BookValue}
+use Rattle.place_price.specs.outcome.specs.auction_model.specs.Prices.{weight_of}
 use Rattle.cca_inputs.specs.cca_base.specs.Files.{Folder, GaveMore, GaveSome, KeepsFiles}
 use Rattle.cca_inputs.specs.cca_base.proofs.Given.{GaveFront, front_all, front_more, front_next, front_none, front_over, next_load}
 use Rattle.cca_inputs.specs.cert_form.specs.Certificate.{CertValue}

@@ -3,7 +3,7 @@ use Rattle.std.proofs.Common.{inl, ◌≡◌, ℕ, List, [], length, map, ap, su
 use Rattle.std.specs.Prelude.{◌^◌, ℤ, pos, negsuc, ◌∷◌, ◌≤ℤ◌}
 use Rattle.std.specs.List.{AllByRecursion}
 use Rattle.std.proofs.lemmas.Int.{ints}
-use Rattle.place_outcome.specs.outcome.specs.auction_model.specs.Book.{Book as BookValue}
+use Rattle.place_price.specs.outcome.specs.auction_model.specs.Book.{Book as BookValue}
 use Rattle.cca_inputs.specs.cert_facts.specs.Facts.{AreFacts, HasFacts}
 use Rattle.cca_inputs.specs.cert_facts.specs.declared.shown.CertFacts.{CertFacts}
 use Rattle.cca_inputs.specs.cert_form.specs.Certificate.{CertValue}
@@ -15,12 +15,12 @@ use Rattle.place_price.specs.cert_laws.specs.Sound.{IsSound}
 use Rattle.place_price.specs.cert_laws.specs.Tests.{Holds, bidders_of, states}
 use Rattle.cca_inputs.specs.cert_text.specs.CertValues.{cert_value, IsFor}
 use Rattle.cca_inputs.specs.cert_text.specs.declared.certificate.Certificate.{Certificate}
-use Rattle.place_outcome.specs.outcome.specs.auction_model.specs.Prices.{weight_of}
-use Rattle.place_outcome.specs.outcome.specs.core_price.specs.Turns.{IsPointOfTurn, turns_of}
-use Rattle.place_outcome.specs.outcome.specs.core_price.specs.declared.priced.Turn.{Turn}
-use Rattle.place_outcome.specs.outcome.specs.Payments.{ArePayments}
-use Rattle.place_outcome.specs.outcome.specs.Turns.{CanPrintTurn}
-use Rattle.place_outcome.specs.outcome.specs.row_laws.specs.wide_num.specs.Range.{InRange}
+use Rattle.place_price.specs.outcome.specs.auction_model.specs.Prices.{weight_of}
+use Rattle.place_price.specs.outcome.specs.core_price.specs.Turns.{IsPointOfTurn, turns_of}
+use Rattle.place_price.specs.outcome.specs.core_price.specs.declared.priced.Turn.{Turn}
+use Rattle.place_price.specs.outcome.specs.Payments.{ArePayments}
+use Rattle.place_price.specs.outcome.specs.Turns.{CanPrintTurn}
+use Rattle.place_price.specs.outcome.specs.row_laws.specs.wide_num.specs.Range.{InRange}
 use Rattle.cca_inputs.specs.Outcome.{done}
 use Rattle.cca_inputs.specs.declared.file_text.FileText.{FileText}
 use Rattle.cca_inputs.specs.declared.price_form.PriceForm.{PriceForm}

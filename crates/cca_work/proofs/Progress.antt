@@ -15,7 +15,7 @@ use Rattle.cca_inputs.specs.declared.status.FileKind.{FileKind}
 use Rattle.cca_inputs.specs.declared.status.FileKind.TheVariants as part
 use Rattle.cca_inputs.specs.declared.status.Status.{Status}
 use Rattle.cca_inputs.specs.declared.status.Status.TheVariants.{Memory, ReadFault}
-use Rattle.place_outcome.specs.outcome.specs.auction_model.specs.Book.{Book}
+use Rattle.place_price.specs.outcome.specs.auction_model.specs.Book.{Book}
 use Rattle.big_auction.specs.clock_stage.specs.auction_rules.specs.Terms.{Terms}
 use Rattle.big_auction.specs.clock_stage.specs.auction_rules.specs.declared.Event.{Event}
 use Rattle.log_replay.specs.ReplyLines.{end_of}

@@ -1,8 +1,8 @@
 -- A certificate that is checked from pieces of its file.
 use Rattle.std.specs.Prelude.{◌≡◌, ◌⊎◌, ◌≤◌, ℕ, ℤ, Result, Ok, Err, List, length}
 use Rattle.cca_inputs.specs.limits.specs.declared.TheConstants.{CERT_BYTES}
-use Rattle.place_outcome.specs.outcome.specs.auction_model.specs.Book.{Book as BookValue}
-use Rattle.place_outcome.specs.outcome.specs.auction_model.specs.Prices.{weight_of}
+use Rattle.place_price.specs.outcome.specs.auction_model.specs.Book.{Book as BookValue}
+use Rattle.place_price.specs.outcome.specs.auction_model.specs.Prices.{weight_of}
 use Rattle.cca_inputs.specs.cca_base.specs.Files.{Folder, GaveAll}
 use Rattle.cca_inputs.specs.cert_form.specs.Certificate.{CertValue}
 use Rattle.place_price.specs.cert_laws.specs.Sound.{IsSound}

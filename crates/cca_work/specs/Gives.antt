@@ -2,10 +2,10 @@
 use Rattle.std.specs.Fmt.{decimal}
 use Rattle.std.specs.Prelude.{◌≡◌, ◌⊎◌, ℕ, ℤ, suc, Bool, true, false, Option, Some, None, Result, Ok, Err, List, [], ◌∷◌, ◌++◌, codes, length, replicate, reverse}
 use Rattle.cca_inputs.specs.line_text.specs.LineText.{Says, stated}
-use Rattle.place_outcome.specs.outcome.specs.auction_model.specs.Greatest.{IsWinning}
-use Rattle.place_outcome.specs.outcome.specs.auction_model.specs.Book.{market_of, Book as BookValue}
-use Rattle.place_outcome.specs.outcome.specs.auction_model.specs.Prices.{Point, weight_of}
-use Rattle.place_outcome.specs.outcome.specs.auction_model.specs.PricingRun.{Turn, IsPricingRun}
+use Rattle.place_price.specs.outcome.specs.auction_model.specs.Greatest.{IsWinning}
+use Rattle.place_price.specs.outcome.specs.auction_model.specs.Book.{market_of, Book as BookValue}
+use Rattle.place_price.specs.outcome.specs.auction_model.specs.Prices.{Point, weight_of}
+use Rattle.place_price.specs.outcome.specs.auction_model.specs.PricingRun.{Turn, IsPricingRun}
 use Rattle.big_auction.specs.clock_stage.specs.auction_rules.specs.Terms.{Terms}
 use Rattle.big_auction.specs.clock_stage.specs.auction_rules.specs.declared.Event.{Event}
 use Rattle.cca_inputs.specs.book_form.specs.BookForm.{IsBook}
@@ -13,7 +13,7 @@ use Rattle.cca_inputs.specs.book_form.specs.BookLines.{lines}
 use Rattle.log_replay.specs.ReplyLines.{end_of, reply_lines}
 use Rattle.log_replay.specs.declared.results.ReplayStop.{ReplayStop}
 use Rattle.log_replay.specs.declared.results.ReplayStop.TheVariants as replay
-use Rattle.place_outcome.specs.outcome.specs.print_form.specs.WinText.{win_text}
+use Rattle.place_price.specs.outcome.specs.print_form.specs.WinText.{win_text}
 use Rattle.big_auction.specs.AwardText.{made_award_text}
 use Rattle.big_auction.specs.LogText.{log_text}
 use Rattle.big_auction.specs.MadeAward.{made_bidders}
@@ -27,20 +27,20 @@ use Rattle.place_price.specs.cert_laws.specs.Tests.{FailsFirst, Holds, bidders_o
 use Rattle.big_auction.specs.row_laws.specs.Weights.{FewWin, ManyWin}
 use Rattle.cca_inputs.specs.limits.specs.declared.LimitKind.TheVariants.{Rounds, Price, Winners}
 use Rattle.cca_inputs.specs.limits.specs.declared.TheConstants.{AWARD_BYTES, LOG_BYTES, BOOK_BYTES, CERT_BYTES, EDITS_BYTES, SLOTS_BYTES, WEIGHTS_BYTES}
-use Rattle.place_outcome.specs.outcome.specs.print_form.specs.Json.{IsOutcomeJson}
-use Rattle.place_outcome.specs.outcome.specs.print_form.specs.Prices.{IsPriceText}
-use Rattle.place_outcome.specs.outcome.specs.print_form.specs.Turns.{AreTurnLines}
+use Rattle.place_price.specs.outcome.specs.print_form.specs.Json.{IsOutcomeJson}
+use Rattle.place_price.specs.outcome.specs.print_form.specs.Prices.{IsPriceText}
+use Rattle.place_price.specs.outcome.specs.print_form.specs.Turns.{AreTurnLines}
 use Rattle.big_auction.specs.row_laws.specs.Turns.{IsLastPoint}
-use Rattle.place_outcome.specs.outcome.specs.auction_model.specs.Prices.{alike}
+use Rattle.place_price.specs.outcome.specs.auction_model.specs.Prices.{alike}
 use Rattle.cca_inputs.specs.cert_form.specs.PlaceCert.{PlaceCertValue}
 use Rattle.cca_inputs.specs.place_cert.specs.PlaceSays.{place_text}
 use Rattle.cca_inputs.specs.place_cert.specs.PlaceText.{IsPlaceCertificate}
-use Rattle.place_outcome.specs.place_laws.specs.PlacePriced.{IsPricedPlaceCert}
-use Rattle.place_outcome.specs.place_laws.specs.PlaceSound.{IsPlaceSound, prices_in}
-use Rattle.place_outcome.specs.place_laws.specs.PlaceTests as places
-use Rattle.place_outcome.specs.PlaceText.{IsPlaceText}
-use Rattle.place_outcome.specs.outcome.specs.review.specs.declared.edit.Edit.{Edit}
-use Rattle.place_outcome.specs.outcome.specs.ReviewText.{IsReviewText}
+use Rattle.place_price.specs.place_laws.specs.PlacePriced.{IsPricedPlaceCert}
+use Rattle.place_price.specs.place_laws.specs.PlaceSound.{IsPlaceSound, prices_in}
+use Rattle.place_price.specs.place_laws.specs.PlaceTests as places
+use Rattle.place_price.specs.PlaceText.{IsPlaceText}
+use Rattle.place_price.specs.outcome.specs.review.specs.declared.edit.Edit.{Edit}
+use Rattle.place_price.specs.outcome.specs.ReviewText.{IsReviewText}
 use Rattle.cca_inputs.specs.slot_places.specs.Board as board
 use Rattle.cca_inputs.specs.slot_places.specs.Slots.{SlotList}
 use Rattle.big_auction.specs.row_laws.specs.Winners.{winners_in}

@@ -5,6 +5,5 @@ pub mod Works
 pub use Rattle.big_auction
 pub use Rattle.cca_inputs
 pub use Rattle.log_replay
-pub use Rattle.place_outcome
-pub use Rattle.place_outcome.specs.outcome
 pub use Rattle.place_price
+pub use Rattle.place_price.specs.outcome

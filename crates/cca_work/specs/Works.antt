@@ -2,15 +2,15 @@
 use Rattle.std.specs.Prelude.{◌≡◌, ◌⊎◌, ℕ, IsSome, Option, None, Result, Ok, Err, List, []}
 use Rattle.std.specs.Prelude.{length, map, reverse, take, unwrap_or}
 use Rattle.std.specs.List.{AllByRecursion}
-use Rattle.place_outcome.specs.outcome.specs.auction_model.specs.Book.{Book}
+use Rattle.place_price.specs.outcome.specs.auction_model.specs.Book.{Book}
 use Rattle.big_auction.specs.clock_stage.specs.auction_rules.specs.Terms.{Terms}
 use Rattle.big_auction.specs.clock_stage.specs.auction_rules.specs.declared.Event.{Event}
 use Rattle.log_replay.specs.ReplyLines.{end_of}
 use Rattle.log_replay.specs.declared.results.ReplayStop.{ReplayStop}
 use Rattle.cca_inputs.specs.cca_base.specs.Faults.{Rose}
 use Rattle.cca_inputs.specs.cca_base.specs.Files.{Agrees, Content, Folder, GaveOf, KeepsFiles}
-use Rattle.place_outcome.specs.outcome.specs.core_price.specs.declared.priced.PriceStop.{PriceStop}
-use Rattle.place_outcome.specs.outcome.specs.core_price.specs.declared.priced.PriceStop.TheVariants as price
+use Rattle.place_price.specs.outcome.specs.core_price.specs.declared.priced.PriceStop.{PriceStop}
+use Rattle.place_price.specs.outcome.specs.core_price.specs.declared.priced.PriceStop.TheVariants as price
 use Rattle.cca_inputs.specs.limits.specs.declared.LimitKind.TheVariants.{Winners}
 use Rattle.cca_inputs.specs.limits.specs.declared.TheConstants.{AWARD_BYTES, LOG_BYTES}
 use Rattle.cca_inputs.specs.Answers.{AwardAnswers, LogAnswers}

@@ -14,7 +14,7 @@ use cca_inputs::place_cert::cert_text::cert_form::limits::LimitKind;
 use cca_inputs::weights_file::bid_book::{BidBook, write_book};
 use cca_inputs::{FileKind, FileText, Status};
 use log_replay::{Replay, ReplayStop, replay};
-use place_outcome::outcome::print_form::line_text::wide_num::Text;
+use place_price::outcome::print_form::line_text::wide_num::Text;
 use std::alloc::Global;
 
 /// The lines of the replies to a log and the text of its book, or those lines and why it has none.

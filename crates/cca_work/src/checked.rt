@@ -1,7 +1,7 @@
 // A certificate that is checked from pieces of its file.
 ghost use Rattle.std.specs.Prelude.{◌≡◌, ◌≢◌, ◌≤◌, ◌<◌, ℕ, List, Err, length, IfOk, IfErr, IsTrue, IsSome};
 ghost use Rattle.cca_inputs.specs.limits.specs.declared.TheConstants.{CERT_BYTES};
-ghost use Rattle.place_outcome.specs.outcome.specs.auction_model.specs.Prices.{AreWeights};
+ghost use Rattle.place_price.specs.outcome.specs.auction_model.specs.Prices.{AreWeights};
 ghost use Rattle.cca_inputs.specs.cca_base.specs.Faults.{Rose};
 ghost use Rattle.cca_inputs.specs.cca_base.specs.Files.{CountsOnly, GaveMore, GaveSome, KeepsFiles};
 ghost use Rattle.place_price.specs.cert_laws.specs.Tests.{bidders_of, states};

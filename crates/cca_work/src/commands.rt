@@ -1,6 +1,6 @@
 // The work of each command.
 ghost use Rattle.std.specs.Prelude.{ℕ, List, [], IsTrue};
-ghost use Rattle.place_outcome.specs.outcome.specs.auction_model.specs.Prices.{AreWeights};
+ghost use Rattle.place_price.specs.outcome.specs.auction_model.specs.Prices.{AreWeights};
 ghost use Rattle.place_price.specs.cert_laws.specs.Tests.{bidders_of};
 ghost use Rattle.cca_inputs.specs.Command.{win, weigh, weigh_check, auction, award, audit, check, place_check, price, review, one_priced, three_files, two_files, two_priced};
 ghost use Rattle.cca_inputs.specs.Words.{KnowsFiles, command_value};

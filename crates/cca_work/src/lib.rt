@@ -27,14 +27,14 @@ pub use cca_inputs::{
     CertKind, Command, FileKind, FileText, Status, cca_base, line_of, read_command,
 };
 pub use commands::work_out;
-pub use place_outcome::one_place_text;
-pub use place_outcome::outcome::one_review_text;
-pub use place_outcome::outcome::print_form::row_laws::auction_model::{
+pub use place_price::book_price::cert_laws::{one_verdict, short_text, sound_yes};
+pub use place_price::one_place_text;
+pub use place_price::outcome::one_review_text;
+pub use place_price::outcome::print_form::row_laws::auction_model::{
     book_market, core_outcome, vickrey_prices, winning_choice,
 };
-pub use place_outcome::outcome::print_form::row_laws::plain_outcome;
-pub use place_outcome::outcome::print_form::{one_outcome_json, one_price_text, one_run_text};
-pub use place_outcome::outcome::review::value_table;
-pub use place_price::book_price::cert_laws::{one_verdict, short_text, sound_yes};
+pub use place_price::outcome::print_form::row_laws::plain_outcome;
+pub use place_price::outcome::print_form::{one_outcome_json, one_price_text, one_run_text};
+pub use place_price::outcome::review::value_table;
 pub use place_price::place_check::place_laws::{one_place_verdict, one_pricing, sound_places};
 pub use work::{Stop, Work};

@@ -1,11 +1,11 @@
 // Placements in a band, with their prices and their certificates.
 ghost use Rattle.std.specs.Prelude.{◌≡◌, ◌<◌, ◌^◌, [], ◌∷◌, IfOk, List, ℕ, length};
 ghost use Rattle.std.specs.List.{AllByRecursion};
-ghost use Rattle.place_outcome.specs.outcome.specs.core_price.specs.Turns.{turns_of};
-ghost use Rattle.place_outcome.specs.outcome.specs.Turns.{CanPrintTurn};
+ghost use Rattle.place_price.specs.outcome.specs.core_price.specs.Turns.{turns_of};
+ghost use Rattle.place_price.specs.outcome.specs.Turns.{CanPrintTurn};
 ghost use Rattle.cca_inputs.specs.place_cert.specs.CertValues.{place_cert_value};
 ghost use Rattle.cca_inputs.specs.place_cert.specs.PlaceSays.{place_text};
-ghost use Rattle.place_outcome.specs.place_laws.specs.PlaceTests.{Holds};
+ghost use Rattle.place_price.specs.place_laws.specs.PlaceTests.{Holds};
 ghost use Rattle.cca_inputs.specs.Outcome.{done};
 ghost use Rattle.cca_inputs.specs.declared.status.FileKind.{FileKind};
 ghost use Rattle.cca_work.specs.Gives.{ArePlacedLines, IsPlaceYes, PlaceGives, PlaceVerdictGives, cert_file};
@@ -18,11 +18,10 @@ use cca_inputs::cert_parts::LongText;
 use cca_inputs::place_cert::{PlaceCertificate, write_places};
 use cca_inputs::slot_places::Slots;
 use cca_inputs::{CertKind, Status};
-use place_outcome::outcome::core_price::Turn;
-use place_outcome::outcome::print_form::line_text::wide_num::Text;
-use place_outcome::place_text;
+use place_price::outcome::core_price::Turn;
+use place_price::outcome::print_form::line_text::wide_num::Text;
 use place_price::place_check::{Verdict, check_places};
-use place_price::{PricedPlaces, priced_places};
+use place_price::{PricedPlaces, place_text, priced_places};
 use std::alloc::{AllocError, Global};
 
 // What is printed of a certificate and the turns that led to it, with the lines of the turns where they are asked for.

@@ -4,8 +4,8 @@ ghost use Rattle.std.specs.List.{AllByRecursion};
 ghost use Rattle.place_price.specs.cert_laws.specs.Sound.{cert_point, cert_prices};
 ghost use Rattle.place_price.specs.cert_laws.specs.Tests.{Holds, bidders_of, states};
 ghost use Rattle.cca_inputs.specs.cert_text.specs.CertValues.{cert_value, IsFor};
-ghost use Rattle.place_outcome.specs.outcome.specs.core_price.specs.Turns.{turns_of};
-ghost use Rattle.place_outcome.specs.outcome.specs.Turns.{CanPrintTurn};
+ghost use Rattle.place_price.specs.outcome.specs.core_price.specs.Turns.{turns_of};
+ghost use Rattle.place_price.specs.outcome.specs.Turns.{CanPrintTurn};
 ghost use Rattle.cca_work.specs.Gives.{ArePriceLines, ArePrinted, AreRounds, IsPriceJson};
 
 use cca_inputs::PriceForm;
@@ -13,9 +13,9 @@ use cca_inputs::place_cert::cert_text::Certificate;
 use cca_inputs::slot_places::choices::Choice;
 use cca_inputs::weights_file::bid_book::BidBook;
 use piece_check::cert_facts::facts;
-use place_outcome::outcome::core_price::Turn;
-use place_outcome::outcome::print_form::line_text::wide_num::Text;
-use place_outcome::outcome::{outcome_json, outcome_text, rounds_text};
+use place_price::outcome::core_price::Turn;
+use place_price::outcome::print_form::line_text::wide_num::Text;
+use place_price::outcome::{outcome_json, outcome_text, rounds_text};
 use std::alloc::{AllocError, Global};
 
 /// The lines of the turns, where they are asked for.

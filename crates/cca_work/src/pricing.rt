@@ -4,11 +4,11 @@ ghost use Rattle.std.specs.List.{AllByRecursion};
 ghost use Rattle.cca_inputs.specs.cert_form.specs.Says.{cert_text};
 ghost use Rattle.cca_inputs.specs.cert_text.specs.CertValues.{cert_value, IsFor};
 ghost use Rattle.cca_inputs.specs.limits.specs.declared.LimitKind.{LimitKind};
-ghost use Rattle.place_outcome.specs.outcome.specs.auction_model.specs.Prices.{AreWeights};
+ghost use Rattle.place_price.specs.outcome.specs.auction_model.specs.Prices.{AreWeights};
 ghost use Rattle.place_price.specs.cert_laws.specs.Tests.{Holds, bidders_of, states};
-ghost use Rattle.place_outcome.specs.outcome.specs.core_price.specs.Turns.{turns_of};
-ghost use Rattle.place_outcome.specs.outcome.specs.Turns.{CanPrintTurn};
-ghost use Rattle.place_outcome.specs.outcome.specs.core_price.specs.declared.priced.PriceStop.{PriceStop};
+ghost use Rattle.place_price.specs.outcome.specs.core_price.specs.Turns.{turns_of};
+ghost use Rattle.place_price.specs.outcome.specs.Turns.{CanPrintTurn};
+ghost use Rattle.place_price.specs.outcome.specs.core_price.specs.declared.priced.PriceStop.{PriceStop};
 ghost use Rattle.cca_inputs.specs.Outcome.{done, stopped};
 ghost use Rattle.cca_inputs.specs.declared.status.FileKind.{FileKind};
 ghost use Rattle.cca_inputs.specs.declared.status.Status.{Status};
@@ -21,9 +21,9 @@ use cca_inputs::cert_parts::{LongText, cert_parts};
 use cca_inputs::place_cert::cert_text::cert_form::limits::LimitKind;
 use cca_inputs::weights_file::bid_book::BidBook;
 use cca_inputs::{FileKind, FileText, PriceForm};
-use place_outcome::outcome::core_price::PriceStop;
-use place_outcome::outcome::print_form::line_text::wide_num::Text;
 use place_price::book_price::{PricedBook, price_book};
+use place_price::outcome::core_price::PriceStop;
+use place_price::outcome::print_form::line_text::wide_num::Text;
 use std::alloc::{AllocError, Global};
 
 /// The printed prices, and the text of their certificate.

@@ -1,14 +1,14 @@
 // What a book gives as it is edited.
 ghost use Rattle.std.specs.Prelude.{◌≡◌, [], length};
 ghost use Rattle.std.specs.List.{AllByRecursion};
-ghost use Rattle.place_outcome.specs.outcome.specs.review.specs.Edits.{edit_lots};
+ghost use Rattle.place_price.specs.outcome.specs.review.specs.Edits.{edit_lots};
 ghost use Rattle.cca_work.specs.Gives.{ReviewGives};
 ghost use Rattle.cca_work.specs.Works.{IsWork};
 
 use crate::work::{Stop, Work};
 use cca_inputs::weights_file::bid_book::BidBook;
-use place_outcome::outcome::review::Edit;
-use place_outcome::outcome::review_text;
+use place_price::outcome::review::Edit;
+use place_price::outcome::review_text;
 use std::alloc::Global;
 
 /// What is printed of the edits of a book.

@@ -1,6 +1,6 @@
 // What a certificate gives for which all tests hold.
 ghost use Rattle.std.specs.Prelude.{List, ℕ, [], IfOk};
-ghost use Rattle.place_outcome.specs.outcome.specs.auction_model.specs.Prices.{weight_of};
+ghost use Rattle.place_price.specs.outcome.specs.auction_model.specs.Prices.{weight_of};
 ghost use Rattle.cca_inputs.specs.cert_facts.specs.Facts.{AreFacts};
 ghost use Rattle.cca_inputs.specs.cert_form.specs.Certificate.{CertValue};
 ghost use Rattle.place_price.specs.cert_laws.specs.Sound.{IsSound};
@@ -11,8 +11,8 @@ ghost use Rattle.cca_work.specs.Works.{IsWork};
 use crate::work::{Stop, Work};
 use cca_inputs::weights_file::bid_book::BidBook;
 use piece_check::cert_facts::CertFacts;
-use place_outcome::outcome::outcome_text;
-use place_outcome::outcome::print_form::line_text::wide_num::Text;
+use place_price::outcome::outcome_text;
+use place_price::outcome::print_form::line_text::wide_num::Text;
 use std::alloc::{AllocError, Global};
 
 fn yes_text(alloc: Global, book: &BidBook, facts: &CertFacts) -> Result<Text, AllocError>

@@ -1,13 +1,13 @@
 // What `win` prints of a book.
 ghost use Rattle.std.specs.Prelude.{◌≡◌, ℕ, List, IfOk};
-ghost use Rattle.place_outcome.specs.outcome.specs.auction_model.specs.Greatest.{IsWinning};
-ghost use Rattle.place_outcome.specs.outcome.specs.auction_model.specs.Book.{market_of};
-ghost use Rattle.place_outcome.specs.outcome.specs.print_form.specs.WinText;
+ghost use Rattle.place_price.specs.outcome.specs.auction_model.specs.Greatest.{IsWinning};
+ghost use Rattle.place_price.specs.outcome.specs.auction_model.specs.Book.{market_of};
+ghost use Rattle.place_price.specs.outcome.specs.print_form.specs.WinText;
 
 use cca_inputs::weights_file::bid_book::BidBook;
-use place_outcome::outcome::print_form::line_text::wide_num::Text;
-use place_outcome::outcome::review::value_table::win;
-use place_outcome::outcome::win_text;
+use place_price::outcome::print_form::line_text::wide_num::Text;
+use place_price::outcome::review::value_table::win;
+use place_price::outcome::win_text;
 use std::alloc::{AllocError, Global};
 
 /// The lines of the winners of a book, in order, and the line of their net value.

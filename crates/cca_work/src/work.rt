@@ -5,8 +5,8 @@ ghost use Rattle.cca_inputs.specs.declared.status.Status.TheVariants.{Memory};
 
 use cca_inputs::place_cert::cert_text::cert_form::limits::LimitKind;
 use cca_inputs::{FileText, Status};
-use place_outcome::outcome::core_price::PriceStop;
-use place_outcome::outcome::print_form::line_text::wide_num::Text;
+use place_price::outcome::core_price::PriceStop;
+use place_price::outcome::print_form::line_text::wide_num::Text;
 use std::alloc::{AllocError, AllocFailed};
 
 /// What a command prints, and the texts that it appends to its files, in order.

@@ -6,3 +6,5 @@ mod Tables
 mod Passes
 mod Shape
 mod FoundLaws
+mod OnePlaceText
+mod PlacePrinting

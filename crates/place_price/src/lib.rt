@@ -1,4 +1,4 @@
-//! The prices of placements in a band with their certificate.
+//! The prices of placements in a band with their certificate, and their printed text.
 //!
 //! The winning choice, the best choices without each winner and the searches of pricing each leave an exact table over sets of
 //! bidders behind, which the certificate keeps, with the placement of each of its choices.
@@ -9,8 +9,10 @@ mod bidder_rows;
 mod certificate;
 mod placing;
 mod pricing;
+mod printing;
 
 pub use book_price;
+pub use outcome;
 pub use place_check;
 pub use place_check::place_cert::{
     CertStop, PlaceCertificate, PlaceRow, PlaceRows, PlaceWithout, PlaceWithouts, read_places,
@@ -18,3 +20,4 @@ pub use place_check::place_cert::{
 };
 pub use place_check::{Verdict, check_places};
 pub use pricing::{PricedPlaces, place_rounds, price_places, priced_places};
+pub use printing::{one_place_text, place_text};

@@ -1,5 +1,5 @@
 use Rattle.std.proofs.Common.{inl, inr, ◌≡◌, ◌⊎◌, sym, subst, rules}
-use Rattle.place_outcome.specs.outcome.specs.auction_model.specs.Prices.{weight_of}
+use Rattle.place_price.specs.outcome.specs.auction_model.specs.Prices.{weight_of}
 use Rattle.piece_check.specs.cert_check.specs.Verdicts.{IsVerdict}
 use Rattle.piece_check.specs.cert_check.specs.declared.verdict.Verdict.TheVariants as verdict
 use Rattle.cca_work.specs.Checked.{StopsCheck}

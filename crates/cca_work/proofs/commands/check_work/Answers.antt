@@ -1,6 +1,6 @@
 use Rattle.std.proofs.Common.{◌∙◌, refl, arith, [], ◌∷◌, sym, ap, subst, Err}
 use Rattle.std.proofs.lemmas.Result.{err_from_is_err_and}
-use Rattle.place_outcome.specs.outcome.specs.auction_model.specs.Prices.{AreWeights}
+use Rattle.place_price.specs.outcome.specs.auction_model.specs.Prices.{AreWeights}
 use Rattle.place_price.specs.book_price.proofs.Ones.{ones-weigh}
 use Rattle.place_price.specs.cert_laws.specs.Tests.{bidders_of}
 use Rattle.cca_inputs.specs.limits.specs.declared.TheConstants.{BOOK_BYTES}

@@ -1,8 +1,8 @@
 use Rattle.std.proofs.Common.{◌≡◌, List, length, refl, arith, [], sym, ap, subst, ◌∙◌, Err}
 use Rattle.std.specs.List.{AllByRecursion}
 use Rattle.std.proofs.lemmas.Result.{err_from_is_err_and}
-use Rattle.place_outcome.specs.outcome.specs.review.specs.Edits.{edit_lots}
-use Rattle.place_outcome.specs.outcome.specs.review.specs.declared.edit.Edit.{Edit}
+use Rattle.place_price.specs.outcome.specs.review.specs.Edits.{edit_lots}
+use Rattle.place_price.specs.outcome.specs.review.specs.declared.edit.Edit.{Edit}
 use Rattle.cca_inputs.specs.limits.specs.declared.TheConstants.{BOOK_BYTES, EDITS_BYTES}
 use Rattle.cca_inputs.specs.Answers.{BookAnswers, EditsAnswers}
 use Rattle.cca_inputs.specs.Command.{review}

@@ -1,6 +1,6 @@
 use Rattle.std.proofs.Common.{◌∙◌, subst, sym}
 use Rattle.std.specs.List.{AllByRecursion}
-use Rattle.place_outcome.specs.outcome.specs.Turns.{CanPrintTurn}
+use Rattle.place_price.specs.outcome.specs.Turns.{CanPrintTurn}
 use Rattle.cca_work.proofs.placing.slot_texts.Goals as goal
 
 pub placed_lines-requires-clause-turns : goal.placed_lines-requires-clause-turns

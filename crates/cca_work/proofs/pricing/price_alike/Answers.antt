@@ -1,5 +1,5 @@
 use Rattle.std.proofs.Common.{◌∙◌, subst, sym}
-use Rattle.place_outcome.specs.outcome.specs.auction_model.specs.Prices.{AreWeights}
+use Rattle.place_price.specs.outcome.specs.auction_model.specs.Prices.{AreWeights}
 use Rattle.place_price.specs.book_price.proofs.Ones.{ones-weigh}
 use Rattle.place_price.specs.cert_laws.specs.Tests.{bidders_of}
 use Rattle.cca_work.proofs.pricing.price_alike.Goals as goal

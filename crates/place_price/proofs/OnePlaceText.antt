@@ -8,7 +8,7 @@ use Rattle.outcome.specs.print_form.specs.Fractions.{IsFractionText}
 use Rattle.outcome.specs.print_form.proofs.Sums.{sums}
 use Rattle.place_check.specs.slot_places.specs.Board.{market_of}
 use Rattle.place_check.specs.slot_places.specs.Slots.{SlotList, bid_of, bidder_of}
-use Rattle.place_outcome.specs.PlaceText.{ArePricedLines, IsPlaceText, placed_lines, priced_line, value_line}
+use Rattle.place_price.specs.PlaceText.{ArePricedLines, IsPlaceText, placed_lines, priced_line, value_line}
 
 -- a fraction has one text
 abbrev pub OneFraction : Type 0

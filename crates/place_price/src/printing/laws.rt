@@ -3,7 +3,7 @@ ghost use Rattle.std.specs.Prelude.{◌≡◌, ℕ, ◌<◌, ◌≤◌, ◌≤�
 ghost use Rattle.outcome.specs.auction_model.specs.Prices.{Point, SamePoint};
 ghost use Rattle.place_check.specs.slot_places.specs.Board.{market_of};
 ghost use Rattle.place_check.specs.slot_places.specs.Slots.{SlotList};
-ghost use Rattle.place_outcome.specs.PlaceText.{IsPlaceText};
+ghost use Rattle.place_price.specs.PlaceText.{IsPlaceText};
 
 use outcome::print_form::one_fraction;
 

@@ -20,8 +20,8 @@ use Rattle.place_check.specs.slot_places.specs.Board.{board_of, is_known, joined
 use Rattle.place_check.specs.slot_places.specs.Orders.{are_new, gives, is_order}
 use Rattle.place_check.specs.slot_places.specs.Slots.{SlotList, bid_of, bidder_of}
 use Rattle.place_check.specs.slot_places.proofs.OrderLaws.{new-parts}
-use Rattle.place_outcome.specs.PlaceText.{ArePricedLines, priced_line}
-use Rattle.place_outcome.specs.PlacePrintable.{CanPrint, IsBidder, IsLineOf, IsRestOf}
+use Rattle.place_price.specs.PlaceText.{ArePricedLines, priced_line}
+use Rattle.place_price.specs.PlacePrintable.{CanPrint, IsBidder, IsLineOf, IsRestOf}
 
 -- entries of an order are bidders
 order-bidders : (n : ℕ) (s : ℕ → Bool) (order : List ℕ) → IsTrue (are_new n s order) → AllByRecursion (λ j. (0 < j) × (j ≤ n)) order

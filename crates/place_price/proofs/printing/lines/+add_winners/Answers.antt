@@ -4,8 +4,8 @@ use Rattle.outcome.specs.cert_laws.specs.Sound.{cert_point}
 use Rattle.place_check.specs.place_cert.specs.CertValues.{place_cert_value}
 use Rattle.place_check.specs.place_laws.specs.PlaceSound.{prices_in}
 use Rattle.place_check.specs.slot_places.specs.Board.{market_of}
-use Rattle.place_outcome.proofs.PlacePrinting.{slice-lines, slice-rest}
-use Rattle.place_outcome.proofs.lines.+add_winners.Goals as goal
+use Rattle.place_price.proofs.PlacePrinting.{slice-lines, slice-rest}
+use Rattle.place_price.proofs.printing.lines.+add_winners.Goals as goal
 
 pub add_winners-requires : goal.add_winners-requires
 add_winners-requires t c = (

@@ -7,10 +7,10 @@ ghost use Rattle.place_check.specs.place_laws.specs.PlaceSound.{prices_in};
 ghost use Rattle.place_check.specs.place_laws.specs.PlaceTests.{Holds};
 ghost use Rattle.outcome.specs.print_form.specs.Fractions.{IsFractionText};
 ghost use Rattle.place_check.specs.slot_places.specs.Board.{market_of};
-ghost use Rattle.place_outcome.specs.PlaceText.{IsPlaceText, value_line};
-ghost use Rattle.place_outcome.specs.PlacePrintable.{CanPrint};
+ghost use Rattle.place_price.specs.PlaceText.{IsPlaceText, value_line};
+ghost use Rattle.place_price.specs.PlacePrintable.{CanPrint};
 
-use crate::lines::{add_placed, add_winners};
+use crate::printing::lines::{add_placed, add_winners};
 use outcome::print_form::line_text::add_signed;
 use outcome::print_form::line_text::wide_num::Text;
 use outcome::{Fraction, add_fraction};

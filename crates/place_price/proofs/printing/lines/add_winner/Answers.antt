@@ -10,8 +10,8 @@ use Rattle.place_check.specs.place_cert.specs.CertValues.{place_cert_value}
 use Rattle.place_check.specs.place_laws.specs.PlaceSound.{prices_in}
 use Rattle.place_check.specs.slot_places.specs.Board.{market_of}
 use Rattle.place_check.specs.slot_places.specs.Slots.{bid_of, bidder_of}
-use Rattle.place_outcome.proofs.PlacePrinting.{price-of, winner-line}
-use Rattle.place_outcome.proofs.lines.add_winner.Goals as goal
+use Rattle.place_price.proofs.PlacePrinting.{price-of, winner-line}
+use Rattle.place_price.proofs.printing.lines.add_winner.Goals as goal
 
 pub returns : goal.returns
 returns c =

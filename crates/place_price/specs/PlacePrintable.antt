@@ -8,7 +8,7 @@ use Rattle.place_check.specs.place_cert.specs.declared.certificate.PlaceCertific
 use Rattle.place_check.specs.slot_places.specs.Board.{market_of}
 use Rattle.outcome.specs.print_form.specs.Fractions.{IsFractionText}
 use Rattle.place_check.specs.slot_places.specs.Slots.{SlotList, bid_of, bidder_of, bids_of}
-use Rattle.place_outcome.specs.PlaceText.{priced_line}
+use Rattle.place_price.specs.PlaceText.{priced_line}
 
 -- the number of a bidder
 abbrev pub IsBidder : SlotList → ℕ → Type 0

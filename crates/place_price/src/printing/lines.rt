@@ -8,8 +8,8 @@ ghost use Rattle.outcome.specs.Fractions.{IsFractionOf};
 ghost use Rattle.place_check.specs.place_cert.specs.CertValues.{place_cert_value};
 ghost use Rattle.place_check.specs.place_laws.specs.PlaceSound.{prices_in};
 ghost use Rattle.place_check.specs.slot_places.specs.Board.{market_of};
-ghost use Rattle.place_outcome.specs.PlaceText.{ArePricedLines, placed_line, placed_lines};
-ghost use Rattle.place_outcome.specs.PlacePrintable.{CanPrint, IsBidder, IsLineOf, IsRestOf};
+ghost use Rattle.place_price.specs.PlaceText.{ArePricedLines, placed_line, placed_lines};
+ghost use Rattle.place_price.specs.PlacePrintable.{CanPrint, IsBidder, IsLineOf, IsRestOf};
 
 use outcome::print_form::line_text::wide_num::Text;
 use outcome::print_form::line_text::{add_decimal, add_number, add_signed};

@@ -1,2 +1,0 @@
-mod OnePlaceText
-mod PlacePrinting
