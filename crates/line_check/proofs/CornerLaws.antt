@@ -19,7 +19,7 @@ use Rattle.choices.proofs.MoreLots.{less-more}
 use Rattle.line_check.specs.Corners.{KeepsBlock, BothGrow, HasCorners}
 use Rattle.line_check.specs.Growth.{Grows}
 use Rattle.line_check.specs.Narrow.{IsSmall, AreNarrow}
-use Rattle.line_check.proofs.Blocks.{place-none, tail-whole}
+use Rattle.line_check.proofs.BlockLaws.{place-none, tail-whole}
 
 module _ (supply p : List ℕ) (s : ℕ) (low : s < states_of supply) where
   -- the place of a package that fits at s has no more than s

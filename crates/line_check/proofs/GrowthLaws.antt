@@ -20,7 +20,7 @@ use Rattle.cert_laws.specs.wide_num.specs.Sums.{nth}
 use Rattle.line_check.specs.Growth.{Grows, RisesBy}
 use Rattle.line_check.specs.LineTests.{worth_of, KeepsBid, KeepsSome, IsNeedless}
 use Rattle.line_check.specs.declared.offers.Offers.{Offers}
-use Rattle.line_check.proofs.Blocks.{fault-same}
+use Rattle.line_check.proofs.BlockLaws.{fault-same}
 
 rises-many : (W : ℕ) (line : List ℤ) → RisesBy W line → (d s : ℕ) → s + d * W < length line → nth line s ≤ℤ nth line (s + d * W)
 rises-many W line rises zero s h = let same : s ≡ s + 0 * W = omega arith in subst (λ (n : ℕ). nth line s ≤ℤ nth line n) same (omega (arith, ints))

@@ -1,4 +1,4 @@
-mod Blocks
+mod BlockLaws
 mod CornerLaws
 mod GrowthLaws
 mod LineLaws

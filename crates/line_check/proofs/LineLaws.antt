@@ -14,7 +14,7 @@ use Rattle.line_check.specs.Faults.{FirstFault}
 use Rattle.cert_laws.specs.wide_num.specs.Sums.{nth}
 use Rattle.line_check.specs.LineTests.{worth_of, KeepsBid, KeepsSome}
 use Rattle.line_check.specs.declared.offers.Offers.{Offers}
-use Rattle.line_check.proofs.Blocks.{fault-same, fault-both}
+use Rattle.line_check.proofs.BlockLaws.{fault-same, fault-both}
 
 -- what a bid asks of a block, by the parts of its rule
 abbrev pub AsksOf : List ℤ → List ℤ → ℕ → ℤ → List ℕ → List ℕ → ℕ → Type 0

@@ -11,7 +11,7 @@ use Rattle.cert_laws.specs.wide_num.specs.Sums.{nth}
 use Rattle.choices.specs.Lines.{width_of}
 use Rattle.line_check.specs.LineTests.{offered, KeepsZero, KeepsSome, ObeysIn}
 use Rattle.line_check.specs.declared.offers.Offers.{Offers}
-use Rattle.line_check.proofs.Blocks.{fault-same}
+use Rattle.line_check.proofs.BlockLaws.{fault-same}
 
 lines-width : (s : ℕ) (table : List (List ℤ)) → AreTableLines s table → (k : ℕ) → k < length table → length (slice_index_or table k []) ≡ s
 lines-width s [] are k lt = absurd (omega arith)

@@ -4,7 +4,7 @@ use Rattle.cert_laws.specs.auction_model.specs.Place.{states_of, widths_of}
 use Rattle.cert_laws.specs.auction_model.proofs.PlaceLaws.{place-below}
 use Rattle.cert_laws.specs.auction_model.proofs.RunLaws.{width-first, widths-count, widths-rest, width-at_most}
 use Rattle.line_check.specs.Corners.{HasCorners}
-use Rattle.line_check.proofs.Blocks.{tail-whole, tail-length, digit-room}
+use Rattle.line_check.proofs.BlockLaws.{tail-whole, tail-length, digit-room}
 use Rattle.line_check.proofs.CornerLaws.{corner-keeps, corners-part, part-small, parts-more, parts-keep}
 use Rattle.choices.specs.Coarse.{AreCoarse, HasMask}
 use Rattle.choices.proofs.CoarseLaws.{coarse-part, coarse-keeps, mask-down, mask-here}

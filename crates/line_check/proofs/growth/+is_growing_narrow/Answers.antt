@@ -3,7 +3,7 @@ use Rattle.std.proofs.lemmas.Bool.{cases_lt}
 use Rattle.cert_laws.specs.auction_model.specs.Place.{states_of}
 use Rattle.cert_laws.specs.auction_model.proofs.RunLaws.{width-first, widths-count}
 use Rattle.line_check.specs.Growth.{Grows}
-use Rattle.line_check.proofs.Blocks.{tail-whole}
+use Rattle.line_check.proofs.BlockLaws.{tail-whole}
 use Rattle.line_check.proofs.GrowthLaws.{grows-last, grows-list}
 use Rattle.line_check.proofs.growth.+is_growing_narrow.Goals as goal
 

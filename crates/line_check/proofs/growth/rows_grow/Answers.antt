@@ -3,7 +3,7 @@ use Rattle.std.proofs.lemmas.Bool.{cases_lt}
 use Rattle.std.proofs.lemmas.List.{length-drop, length-take-le}
 use Rattle.cert_laws.specs.auction_model.specs.Place.{states_of}
 use Rattle.line_check.specs.Growth.{Grows, RisesBy}
-use Rattle.line_check.proofs.Blocks.{digit-room}
+use Rattle.line_check.proofs.BlockLaws.{digit-room}
 use Rattle.line_check.proofs.GrowthLaws.{grows-last, last-width}
 use Rattle.line_check.proofs.growth.rows_grow.Goals as goal
 

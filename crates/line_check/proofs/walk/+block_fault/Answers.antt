@@ -1,7 +1,7 @@
 use Rattle.std.proofs.Common.{◌≡◌, ℕ, ◌+◌, ◌*◌, ◌-◌, take, refl, ◌≤◌, ◌<◌, length, get_or, drop, ap, sym, ◌∙◌, subst, arith, List}
 use Rattle.cert_laws.specs.auction_model.specs.Place.{states_of, place_of, widths_of}
 use Rattle.cert_laws.specs.auction_model.proofs.RunLaws.{width-first, widths-rest}
-use Rattle.line_check.proofs.Blocks.{start-list, more-list, all-list, tail-whole, tail-length, digit-room, digit-shift}
+use Rattle.line_check.proofs.BlockLaws.{start-list, more-list, all-list, tail-whole, tail-length, digit-room, digit-shift}
 use Rattle.line_check.proofs.walk.+block_fault.Goals as goal
 
 pub loop-digit-init : goal.loop-digit-init

@@ -3,7 +3,7 @@ use Rattle.std.proofs.Common.{◌^◌, ◌≡◌, ℕ, ◌+◌, ◌*◌, ◌≤�
 use Rattle.cert_laws.specs.auction_model.specs.Place.{states_of}
 use Rattle.cert_laws.specs.auction_model.proofs.RunLaws.{width-first, widths-count, width-at_most, states-first}
 use Rattle.line_check.specs.Faults.{FirstFault, CoversRun}
-use Rattle.line_check.proofs.Blocks.{last-list, place-one}
+use Rattle.line_check.proofs.BlockLaws.{last-list, place-one}
 use Rattle.line_check.proofs.walk.one_fault.Goals as goal
 
 pub run_fault-requires-clause-shift : goal.run_fault-requires-clause-shift
