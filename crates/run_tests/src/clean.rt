@@ -2,11 +2,10 @@
 // and a put take a few bytes at a time; here they take the whole piece, or fail and take nothing.
 ghost use Rattle.std.specs.Prelude.{◌<◌, length, IfOk, OnOk, All, IsTrue, map, string_bytes};
 
-use crate::auction::run_three;
 use crate::samples::{
     AWARD, CHECK, DAY_CRAMTON, DAY_CRAMTON_CERT, LOWERED, LOWERED_OUTCOME, PRICE, SAMPLE,
 };
-use crate::settings::{joined, words_of};
+use crate::settings::{joined, run_plain, words_of};
 use cca_run::cca_base::{CleanFiles, CleanSink, Files, WriteStop, write_file};
 use cca_run::{FileKind, Status, run};
 use std::alloc::{AllocError, Global};
@@ -118,7 +117,7 @@ fn prints(
             width: printed.len() as u64,
         },
     )?;
-    let grown = run_three(alloc, words, first, second, Some(b""))?;
+    let grown = run_plain(alloc, words, first, second)?;
     assert_eq!(rt; clean.status, Status::Done);
     assert_eq!(rt; clean.printed.as_slice(), printed.as_bytes());
     assert_eq!(rt; grown.status, clean.status);
@@ -131,12 +130,12 @@ fn prints_as_over_files_that_grow(rt: HostRuntime) -> Result<(), Fail> {
     let alloc = rt.alloc();
     let book = DAY_CRAMTON.as_bytes();
     let cert = joined(alloc, DAY_CRAMTON_CERT)?;
-    let award = joined(alloc, SAMPLE)?;
-    let log = joined(alloc, LOWERED)?;
+    let award = SAMPLE.as_bytes();
+    let log = LOWERED.as_bytes();
     prints(&rt, alloc, WIN, book, b"", WINNERS)?;
     prints(&rt, alloc, PRICE, book, b"", PRICES)?;
     prints(&rt, alloc, CHECK, book, &cert, ACCEPTED)?;
-    prints(&rt, alloc, AWARD, &award, &log, LOWERED_OUTCOME)
+    prints(&rt, alloc, AWARD, award, log, LOWERED_OUTCOME)
 }
 
 // The book of a run that prices it, where each file has so much room and the output so much.

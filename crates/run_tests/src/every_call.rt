@@ -2,8 +2,8 @@
 ghost use Rattle.std.specs.Prelude.{◌<◌};
 
 use crate::samples::{
-    ALL_ALIKE, BACK, CHECK, DAY_CRAMTON, DAY_CRAMTON_CERT, EDITS, FRONT, LOWERED, MIDDLE, ORDER,
-    PAY, PLACE, PLACE_CHECK, PRICE, REVIEW, SAMPLE, SLOTS, WEIGH, WEIGH_CHECK,
+    ALL_ALIKE, CHECK, DAY_CRAMTON, DAY_CRAMTON_CERT, EDITS, LOWERED, PLACE, PLACE_CHECK, PRICE,
+    REVIEW, SAMPLE, SLOTS, SLOTS_CERT, WEIGH, WEIGH_CHECK,
 };
 use crate::settings::{fill, joined, left_at, no_files_in, words_of};
 use cca_run::cca_base::MemSink;
@@ -279,11 +279,9 @@ fn check_stands_each_fault(rt: HostRuntime) -> Result<(), Fail> {
 #[test]
 fn auction_stands_each_fault(rt: HostRuntime) -> Result<(), Fail> {
     let alloc = rt.alloc();
-    let award = joined(alloc, SAMPLE)?;
-    let log = joined(alloc, LOWERED)?;
     let held = Held {
-        first: Some(&award),
-        second: Some(&log),
+        first: Some(SAMPLE.as_bytes()),
+        second: Some(LOWERED.as_bytes()),
         third: None,
     };
     makes_loads(&rt, alloc, AUCTION, held, 7)?;
@@ -313,11 +311,9 @@ fn auction_stands_each_fault(rt: HostRuntime) -> Result<(), Fail> {
 #[test]
 fn award_and_audit_stand_each_fault(rt: HostRuntime) -> Result<(), Fail> {
     let alloc = rt.alloc();
-    let award = joined(alloc, SAMPLE)?;
-    let log = joined(alloc, LOWERED)?;
     let held = Held {
-        first: Some(&award),
-        second: Some(&log),
+        first: Some(SAMPLE.as_bytes()),
+        second: Some(LOWERED.as_bytes()),
         third: None,
     };
     let clean = run_failing(alloc, AWARD, held, CLEAN)?;
@@ -394,7 +390,7 @@ fn weigh_and_weigh_check_stand_each_fault(rt: HostRuntime) -> Result<(), Fail> {
 #[test]
 fn place_and_place_check_stand_each_fault(rt: HostRuntime) -> Result<(), Fail> {
     let alloc = rt.alloc();
-    let cert = joined(alloc, &[FRONT, ORDER, MIDDLE, PAY, BACK])?;
+    let cert = SLOTS_CERT.as_bytes();
     let held = Held {
         first: Some(SLOTS.as_bytes()),
         second: None,
@@ -403,10 +399,10 @@ fn place_and_place_check_stand_each_fault(rt: HostRuntime) -> Result<(), Fail> {
     let (slots, kind) = (FileKind::Slots, FileKind::Cert);
     makes_loads(&rt, alloc, PLACE, held, 2)?;
     loads_fail(&rt, alloc, PLACE, held, slots, SLOTS_FAULT, 1, 3)?;
-    appends_fail(&rt, alloc, PLACE, held, kind, CERT_WRITE_FAULT, &cert)?;
+    appends_fail(&rt, alloc, PLACE, held, kind, CERT_WRITE_FAULT, cert)?;
     puts_fail(&rt, alloc, PLACE, held, 26)?;
     let tested = Held {
-        second: Some(&cert),
+        second: Some(cert),
         ..held
     };
     let command = PLACE_CHECK;
@@ -465,11 +461,9 @@ fn makes_appends(
 #[test]
 fn a_book_holds_the_bites_before_a_fault(rt: HostRuntime) -> Result<(), Fail> {
     let alloc = rt.alloc();
-    let award = joined(alloc, SAMPLE)?;
-    let log = joined(alloc, LOWERED)?;
     let held = Held {
-        first: Some(&award),
-        second: Some(&log),
+        first: Some(SAMPLE.as_bytes()),
+        second: Some(LOWERED.as_bytes()),
         third: None,
     };
     makes_appends(&rt, alloc, held, 3, LOWERED_BOOK)?;

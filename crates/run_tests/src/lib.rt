@@ -1,14 +1,7 @@
-//! Tests of the top call: commands on samples, on faulty files, and on faults of files and of the output.
+//! Tests of the top call over files in memory: each fault of a file and of the output, and rooms that are taken beforehand; and the winning
+//! choice beside a listing of all choices.
 #![tactic(auto)]
 
-#[cfg(test)]
-mod auction;
-#[cfg(test)]
-mod award;
-#[cfg(test)]
-mod cert;
-#[cfg(test)]
-mod cert_edits;
 #[cfg(test)]
 mod clean;
 #[cfg(test)]
@@ -20,14 +13,6 @@ mod listing;
 #[cfg(test)]
 mod make;
 #[cfg(test)]
-mod places;
-#[cfg(test)]
-mod price;
-#[cfg(test)]
-mod reviews;
-#[cfg(test)]
 mod samples;
 #[cfg(test)]
 mod settings;
-#[cfg(test)]
-mod weigh;

@@ -1,10 +1,8 @@
-// Auctions that are made from numbers by the top call.
-use crate::auction::run_three;
+// An auction that is made from a number, where an append or a put fails.
 use crate::settings::{joined, left_at, no_files, words_of};
 use cca_run::cca_base::MemSink;
 use cca_run::{FileKind, Status, cca_base, run};
 use std::alloc::{AllocError, Global};
-use std::process::Abort;
 use std::test::Fail;
 
 /// What a run of `make` answers, prints and leaves in its two files.
@@ -35,8 +33,6 @@ const AWARD_REST: &str =
 /// The first 100 bytes of the log of 7.
 const LOG_START: &str =
     "bid,b1,1 0 4 4,\nbid,b2,2 1 2 0,\nbid,b3,2 1 5 3,\nbid,b4,1 0 5 2,\nbid,b5,2 0 6 0,\nbid,b6,1 1 7 3,\nbid,";
-
-const SUMMARY: &str = "made 7 bidders 12 lines 1339\n";
 
 /// The bytes of the file that the word at this place names; none where it is missing.
 fn bytes_at(
@@ -72,24 +68,6 @@ fn run_make(
 }
 
 const SEVEN: &[&str] = &["make", "7", "AWARD", "LOG"];
-
-#[test]
-fn makes_the_same_bytes_twice(rt: HostRuntime) -> Result<(), Fail> {
-    let alloc = rt.alloc();
-    let award = joined(alloc, &[AWARD_START, AWARD_MIDDLE, AWARD_REST])?;
-    let first = run_make(alloc, SEVEN, 0, 0)?;
-    let second = run_make(alloc, SEVEN, 0, 0)?;
-    assert_eq!(rt; first.status, Status::Done);
-    assert_eq!(rt; first.printed.as_slice(), SUMMARY.as_bytes());
-    assert_eq!(rt; first.award.as_slice(), award.as_slice());
-    assert_eq!(rt; first.log.len(), 28996);
-    assert!(rt; first.log.starts_with(LOG_START.as_bytes()));
-    assert_eq!(rt; second.status, Status::Done);
-    assert_eq!(rt; second.printed.as_slice(), SUMMARY.as_bytes());
-    assert_eq!(rt; second.award.as_slice(), award.as_slice());
-    assert_eq!(rt; second.log.as_slice(), first.log.as_slice());
-    Ok(())
-}
 
 // At most 100 bytes are appended at once, so that the award takes nine appends.
 #[test]
@@ -131,78 +109,5 @@ fn tells_a_fault_of_the_output_behind_both_files(rt: HostRuntime) -> Result<(), 
     assert_eq!(rt; ended.printed.as_slice(), b"made ".as_slice());
     assert_eq!(rt; ended.award.len(), 836);
     assert_eq!(rt; ended.log.len(), 28996);
-    Ok(())
-}
-
-#[test]
-fn takes_plain_numbers_alone(rt: HostRuntime) -> Result<(), Fail> {
-    let table: [&[&str]; 11] = [
-        &["make", "7", "AWARD"],
-        &["make", "7", "AWARD", "AWARD"],
-        &["make", "7", "AWARD", "LOG", "--json"],
-        &["make", "7", "-AWARD", "LOG"],
-        &["make", "07", "AWARD", "LOG"],
-        &["make", "+7", "AWARD", "LOG"],
-        &["make", "-7", "AWARD", "LOG"],
-        &["make", "", "AWARD", "LOG"],
-        &["make", "seven", "AWARD", "LOG"],
-        &["make", "4294967296", "AWARD", "LOG"],
-        &[
-            "make",
-            "9999999999999999999999999999999999999999999999",
-            "AWARD",
-            "LOG",
-        ],
-    ];
-    for words in table {
-        let ended = run_make(rt.alloc(), words, 0, 0)?;
-        assert_eq!(rt; ended.status, Status::Words);
-        assert_eq!(rt; ended.printed.as_slice(), b"cca: words\n".as_slice());
-    }
-    Ok(())
-}
-
-/// Prices the auction of a number and audits the certificate, which prints `yes` and the same prices.
-fn is_priced(rt: &impl Abort, alloc: Global, number: &str, summary: &str) -> Result<(), Fail> {
-    let made = run_make(alloc, &["make", number, "AWARD", "LOG"], 0, 0)?;
-    assert_eq!(rt; made.status, Status::Done);
-    assert_eq!(rt; made.printed.as_slice(), summary.as_bytes());
-    let words = ["award", "AWARD", "LOG", "CERT"];
-    let priced = run_three(alloc, &words, &made.award, &made.log, None)?;
-    assert_eq!(rt; priced.status, Status::Done);
-    let words = ["audit", "AWARD", "LOG", "CERT"];
-    let audited = run_three(
-        alloc,
-        &words,
-        &made.award,
-        &made.log,
-        priced.third.as_deref(),
-    )?;
-    assert_eq!(rt; audited.status, Status::Done);
-    assert!(rt; audited.printed.starts_with(b"yes\n"));
-    assert_eq!(rt; &audited.printed[4..], priced.printed.as_slice());
-    Ok(())
-}
-
-#[test]
-fn prices_the_auctions_of_the_least_and_the_greatest_number(rt: HostRuntime) -> Result<(), Fail> {
-    let alloc = rt.alloc();
-    is_priced(&rt, alloc, "0", "made 0 bidders 12 lines 1339\n")?;
-    is_priced(
-        &rt,
-        alloc,
-        "4294967295",
-        "made 4294967295 bidders 12 lines 1339\n",
-    )
-}
-
-#[test]
-fn a_number_is_no_file(rt: HostRuntime) -> Result<(), Fail> {
-    let words = words_of(rt.alloc(), &["make", "7", "7", "LOG"])?;
-    let mut files = no_files(rt.alloc(), &words)?;
-    let mut out = MemSink::new(rt.alloc(), 5);
-    let status = run(rt.alloc(), &words, &mut files, &mut out);
-    assert_eq!(rt; status, Status::Done);
-    assert_eq!(rt; out.bytes.as_slice(), SUMMARY.as_bytes());
     Ok(())
 }

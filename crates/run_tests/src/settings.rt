@@ -1,19 +1,11 @@
-// Runs over files in memory: the winners of books with known ones, faulty books and words, and the codes of the statuses.
+// Runs over files in memory, and the codes of the statuses.
 ghost use Rattle.std.specs.Prelude.{◌<◌, length, IfOk, OnOk, All, IsTrue, map, string_bytes};
 ghost use Rattle.cca_run.specs.cca_base.specs.MemFiles.{mem_folder};
 
-use crate::samples::{AT_RESERVE, DAY_CRAMTON, ELEVEN, EQUALS, LOCALS, NOBODY, SPECTRUM, TIE};
 use cca_run::bid_book::LimitKind;
 use cca_run::cca_base::{MemFiles, MemSink};
 use cca_run::{CertKind, FileKind, Status, run};
 use std::alloc::{AllocError, Global};
-use std::test::Fail;
-
-const GREATEST: &str = "book 1\nsupply 3 3 3 3 7 7\nreserve 0 0 0 0 0 0\nend\n";
-
-const TOO_MANY_STATES: &str = "book 1\nsupply 3 3 3 3 7 8\nreserve 0 0 0 0 0 0\nend\n";
-
-const LEADING_ZERO: &str = "book 1\nsupply 1 1\nreserve 0 0\nbidder east\nbid 1 0 028\nend\n";
 
 /// What the files hold before a run, and the load, the append and the put that fail; 0 for none.
 #[derive(Clone, Copy, Debug)]
@@ -145,16 +137,16 @@ pub(crate) fn run_on(
     })
 }
 
-/// The same where no call fails.
+/// The same where both files are there and no call fails.
 pub(crate) fn run_plain(
     alloc: Global,
     words: &[&str],
-    book: &str,
-    cert: Option<&[u8]>,
+    book: &[u8],
+    cert: &[u8],
 ) -> Result<Ended, AllocError> {
     let setting = Setting {
-        book: Some(book.as_bytes()),
-        cert,
+        book: Some(book),
+        cert: Some(cert),
         fail_load: 0,
         fail_append: 0,
         fail_put: 0,
@@ -172,108 +164,6 @@ pub(crate) fn joined(alloc: Global, pieces: &[&str]) -> Result<Vec<u8>, AllocErr
 }
 
 #[test]
-fn prints_the_winners(rt: HostRuntime) -> Result<(), Fail> {
-    let table: [(&str, &str); 9] = [
-        (DAY_CRAMTON, "winner b1 1 0 28\nwinner b2 0 1 20\nnet 48\n"),
-        (NOBODY, "net 0\n"),
-        (AT_RESERVE, "winner solo 1 50\nnet 0\n"),
-        (
-            LOCALS,
-            "winner l1 1 0 0 10\nwinner l2 0 1 0 10\nwinner l3 0 0 1 10\nnet 30\n",
-        ),
-        (
-            SPECTRUM,
-            "winner p1 2 0 0 0 550000\nwinner p2 0 1 0 0 350000\nwinner p3 2 0 4 5 710500\nwinner p4 0 0 7 0 225000\n\
-            winner p5 0 0 3 4 105400\nnet 680000\n",
-        ),
-        (TIE, "winner east 1 5\nwinner west 1 4\nnet 9\n"),
-        (
-            ELEVEN,
-            "winner c1 1 5\nwinner c2 1 5\nwinner c3 1 5\nwinner c4 1 5\nwinner c5 1 5\nwinner c6 1 5\nwinner c7 1 5\n\
-            winner c8 1 5\nwinner c9 1 5\nwinner c10 1 5\nwinner c11 1 5\nnet 55\n",
-        ),
-        (EQUALS, "winner n1 1 9\nnet 9\n"),
-        (GREATEST, "net 0\n"),
-    ];
-    for (book, printed) in table {
-        let ended = run_plain(rt.alloc(), &["win", "BOOK"], book, None)?;
-        assert_eq!(rt; ended.status, Status::Done);
-        assert_eq!(rt; ended.printed.as_slice(), printed.as_bytes());
-    }
-    Ok(())
-}
-
-fn refused(place: u64) -> Status {
-    Status::Refused {
-        file: FileKind::Book,
-        place,
-        entry: 0,
-    }
-}
-
-#[test]
-fn refuses_faulty_books(rt: HostRuntime) -> Result<(), Fail> {
-    let table: [(&str, Status, &str); 4] = [
-        (LEADING_ZERO, refused(42), "cca: refused book 42\n"),
-        ("", refused(0), "cca: refused book 0\n"),
-        (
-            "book 1\nsupply 1\nreserve 0\nend",
-            refused(26),
-            "cca: refused book 26\n",
-        ),
-        (
-            TOO_MANY_STATES,
-            Status::Limit {
-                which: LimitKind::States,
-                count: 18432,
-            },
-            "cca: limit states 18432\n",
-        ),
-    ];
-    for (book, expected, printed) in table {
-        let ended = run_plain(rt.alloc(), &["win", "BOOK"], book, None)?;
-        assert_eq!(rt; ended.status, expected);
-        assert_eq!(rt; ended.printed.as_slice(), printed.as_bytes());
-    }
-    Ok(())
-}
-
-#[test]
-fn refuses_other_words(rt: HostRuntime) -> Result<(), Fail> {
-    let table: [&[&str]; 23] = [
-        &[],
-        &["win"],
-        &["win", ""],
-        &["win", "-BOOK"],
-        &["win", "BOOK", "CERT"],
-        &["wins", "BOOK"],
-        &["price"],
-        &["price", "BOOK"],
-        &["price", "BOOK", "BOOK"],
-        &["price", "BOOK", "--rounds"],
-        &["price", "--rounds", "BOOK", "CERT"],
-        &["price", "BOOK", "--rounds", "CERT"],
-        &["price", "BOOK", "CERT", "--json", "--json"],
-        &["price", "BOOK", "CERT", "--rounds", "--rounds"],
-        &["check", "BOOK"],
-        &["check", "BOOK", "BOOK"],
-        &["check", "BOOK", ""],
-        &["check", "BOOK", "CERT", "--rounds"],
-        &["check", "--rounds", "BOOK", "CERT"],
-        &["auction", "AWARD", "LOG"],
-        &["auction", "AWARD", "LOG", "LOG"],
-        &["auction", "AWARD", "LOG", "-"],
-        &["auction", "AWARD", "LOG", "BOOK", "CERT"],
-    ];
-    for words in table {
-        let ended = run_plain(rt.alloc(), words, NOBODY, None)?;
-        assert_eq!(rt; ended.status, Status::Words);
-        assert_eq!(rt; ended.printed.as_slice(), b"cca: words\n".as_slice());
-    }
-    Ok(())
-}
-
-#[test]
 fn ends_with_codes(rt: HostRuntime) {
     let table: [(Status, u8); 8] = [
         (Status::Done, 0),
@@ -286,7 +176,14 @@ fn ends_with_codes(rt: HostRuntime) {
             1,
         ),
         (Status::Words, 2),
-        (refused(42), 3),
+        (
+            Status::Refused {
+                file: FileKind::Book,
+                place: 42,
+                entry: 0,
+            },
+            3,
+        ),
         (
             Status::ReadFault {
                 file: FileKind::Book,
