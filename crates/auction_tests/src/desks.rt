@@ -93,67 +93,14 @@ const LOTS: &str =
     bidder = [{ name = \"east\", eligibility = 3 }, { name = \"west\", eligibility = 2 }]\n\
     step = [{ excess = 1, permille = 200 }]\n";
 
-/// The same with a spectrum cap.
-const CAPPED: &str =
-    "version = 1\ntick = 1\ncategory = [{ name = \"lot\", supply = 3, points = 1, reserve = 10 }]\n\
-    bidder = [{ name = \"east\", eligibility = 3 }, { name = \"west\", eligibility = 2 }]\n\
-    step = [{ excess = 1, permille = 200 }]\ncap = [{ weight = [1], limit = 2 }]\n";
-
 /// Two categories for two bidders, with prices that double.
 const DOUBLING: &str = "version = 1\ntick = 1\n\
     category = [{ name = \"a\", supply = 2, points = 1, reserve = 10 }, { name = \"c\", supply = 3, points = 1, reserve = 10 }]\n\
     bidder = [{ name = \"east\", eligibility = 3 }, { name = \"west\", eligibility = 1 }]\n\
     step = [{ excess = 1, permille = 1000 }]\n";
 
-/// The same with a final cap.
-const FINAL: &str = "version = 2\ntick = 1\n\
-    category = [{ name = \"a\", supply = 2, points = 1, reserve = 10 }, { name = \"c\", supply = 3, points = 1, reserve = 10 }]\n\
-    bidder = [{ name = \"east\", eligibility = 3 }, { name = \"west\", eligibility = 1 }]\n\
-    step = [{ excess = 1, permille = 1000 }]\n";
-
 /// An award, a log and what is replayed of it.
 const REPLAYS: &[(&str, &str, &str)] = &[
-    // A list above its cap, and then at it.
-    (
-        LOTS,
-        "bid,east,3,\nbid,west,2,\nclose,,,\nbid,east,1,\nbid,west,2,\nclose,,,\ndraft,east,1,20\ndraft,east,3,45\n\
-        submit,east,,\ndraft,east,3,44\nsubmit,east,,\nclose,,,\nclose,,,\n",
-        "Ok\nOk\nOk Clock 2 [12]\nOk\nOk\nOk Sealed 2 [12]\nOk\nOk\nRelativeCap { entry: 2, limit: 44 }\nOk\nOk\n\
-        Ok Closed 2 [12]\nStage Closed 2 [12]\nbook 1\nsupply 3\nreserve 10\nbidder east\nbid 1 20\nbid 3 44\n\
-        bidder west\nbid 2 24\nend\n",
-    ),
-    // The list without the entry that is above.
-    (
-        LOTS,
-        "bid,east,3,\nbid,west,2,\nclose,,,\nbid,east,1,\nbid,west,2,\nclose,,,\ndraft,east,1,20\ndraft,east,3,45\n\
-        submit,east,,\ndrop,east,3,\nsubmit,east,,\nclose,,,\n",
-        "Ok\nOk\nOk Clock 2 [12]\nOk\nOk\nOk Sealed 2 [12]\nOk\nOk\nRelativeCap { entry: 2, limit: 44 }\nOk\nOk\n\
-        Ok Closed 2 [12]\nbook 1\nsupply 3\nreserve 10\nbidder east\nbid 1 20\nbid 3 30\nbidder west\nbid 2 24\nend\n",
-    ),
-    // Two bidders who draft first.
-    (
-        LOTS,
-        "bid,east,3,\nbid,west,2,\nclose,,,\nbid,east,1,\nbid,west,2,\nclose,,,\ndraft,east,1,20\ndraft,west,2,30\n\
-        submit,east,,\nsubmit,west,,\nclose,,,\n",
-        "Ok\nOk\nOk Clock 2 [12]\nOk\nOk\nOk Sealed 2 [12]\nOk\nOk\nOk\nOk\nOk Closed 2 [12]\nbook 1\nsupply 3\n\
-        reserve 10\nbidder east\nbid 1 20\nbid 3 30\nbidder west\nbid 2 30\nend\n",
-    ),
-    // Two bidders one after the other.
-    (
-        LOTS,
-        "bid,east,3,\nbid,west,2,\nclose,,,\nbid,east,1,\nbid,west,2,\nclose,,,\ndraft,east,1,20\nsubmit,east,,\n\
-        draft,west,2,30\nsubmit,west,,\nclose,,,\n",
-        "Ok\nOk\nOk Clock 2 [12]\nOk\nOk\nOk Sealed 2 [12]\nOk\nOk\nOk\nOk\nOk Closed 2 [12]\nbook 1\nsupply 3\n\
-        reserve 10\nbidder east\nbid 1 20\nbid 3 30\nbidder west\nbid 2 30\nend\n",
-    ),
-    // A bid that is replaced in its round.
-    (
-        LOTS,
-        "bid,east,2,\nbid,east,3,\nbid,west,2,\nclose,,,\nbid,east,1,\nbid,west,2,\nclose,,,\ndraft,east,1,20\n\
-        draft,east,3,45\nsubmit,east,,\ndraft,east,3,44\nsubmit,east,,\nclose,,,\n",
-        "Ok\nOk\nOk\nOk Clock 2 [12]\nOk\nOk\nOk Sealed 2 [12]\nOk\nOk\nRelativeCap { entry: 2, limit: 44 }\nOk\nOk\n\
-        Ok Closed 2 [12]\nbook 1\nsupply 3\nreserve 10\nbidder east\nbid 1 20\nbid 3 44\nbidder west\nbid 2 24\nend\n",
-    ),
     // Lists that differ in a few entries from the one that was tested last.
     (
         LOTS,
@@ -181,34 +128,6 @@ const REPLAYS: &[(&str, &str, &str)] = &[
         LOTS,
         "bid,north,1,\nbid,east,4,\nbid,west,3,\ndraft,east,1,20\ndrop,east,1,\nsubmit,east,,\n",
         "Unknown\nSupply(1)\nPoints(2)\nStage\nStage\nStage\nno book\n",
-    ),
-    (
-        CAPPED,
-        "bid,east,3,\n",
-        "SpectrumCap { number: 1, limit: 2 }\nno book\n",
-    ),
-    // Lines that are refused in the sealed round.
-    (
-        LOTS,
-        "bid,east,3,\nbid,west,2,\nclose,,,\nbid,east,1,\nbid,west,2,\nclose,,,\nbid,east,1,\ndraft,north,1,20\n\
-        drop,north,1,\nsubmit,north,,\ndraft,east,4,20\ndraft,west,3,20\ndraft,east,0,5\ndraft,east,1,9\n\
-        draft,east,1,11\ndrop,east,2,\ndraft,east,1,4398046511105\ndraft,east,1,4398046511104\n",
-        "Ok\nOk\nOk Clock 2 [12]\nOk\nOk\nOk Sealed 2 [12]\nStage\nUnknown\nUnknown\nUnknown\nSupply(1)\nPoints(2)\n\
-        Empty\nBelowReserve(10)\nBelowClock(12)\nNoDraft\nAmountTop(4398046511104)\nOk\nno book\n",
-    ),
-    // An entry below the cap of its constraining round and above the final cap.
-    (
-        DOUBLING,
-        "bid,east,2 0,\nbid,west,1 0,\nclose,,,\nbid,east,0 1,\nbid,west,1 0,\nclose,,,\ndraft,east,0 1,12\n\
-        draft,east,2 0,42\ndraft,east,0 3,33\nsubmit,east,,\n",
-        "Ok\nOk\nOk Clock 2 [20, 10]\nOk\nOk\nOk Sealed 2 [20, 10]\nOk\nOk\nOk\nOk\nno book\n",
-    ),
-    (
-        FINAL,
-        "bid,east,2 0,\nbid,west,1 0,\nclose,,,\nbid,east,0 1,\nbid,west,1 0,\nclose,,,\ndraft,east,0 1,12\n\
-        draft,east,2 0,42\ndraft,east,0 3,33\nsubmit,east,,\n",
-        "Ok\nOk\nOk Clock 2 [20, 10]\nOk\nOk\nOk Sealed 2 [20, 10]\nOk\nOk\nOk\nRelativeCap { entry: 2, limit: 32 }\n\
-        no book\n",
     ),
 ];
 

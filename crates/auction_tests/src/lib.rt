@@ -1,4 +1,4 @@
-//! Tests of awards, logs, the clock, the desk and its replay beside a plain program of the rules, and made auctions.
+//! Tests of what awards, logs, the clock and the desk tell through their own types.
 #![tactic(auto)]
 
 #[cfg(test)]
@@ -9,7 +9,3 @@ mod clocks;
 mod desks;
 #[cfg(test)]
 mod logs;
-#[cfg(test)]
-mod made;
-#[cfg(test)]
-mod oracle;
