@@ -1,4 +1,5 @@
-//! Tests of books, choices, tables of greatest value, values without a winner, blocking coalitions, slots, weights and edits.
+//! Tests of books, choices, tables of greatest value, values without a winner, blocking coalitions, slots, weights, edits and
+//! printed turns.
 #![tactic(auto)]
 
 #[cfg(test)]
@@ -10,7 +11,7 @@ mod coalitions;
 #[cfg(test)]
 mod edits;
 #[cfg(test)]
-mod printed_edits;
+mod printed_turns;
 #[cfg(test)]
 mod reviews;
 #[cfg(test)]

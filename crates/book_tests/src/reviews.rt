@@ -1,8 +1,7 @@
-// Reviews of small books: the values and choices after edits, and that they are those of the edited book.
+// A review of a small book: the values and choices after edits are those of the edited book.
 ghost use Rattle.std.specs.Prelude.{◌≡◌, length};
 ghost use Rattle.edits_file.specs.review.specs.Edits.{edit_lots};
 
-use crate::samples::DAY_CRAMTON;
 use edits_file::review::{Edit, EditReply, Review};
 use slot_places::choices::value;
 use std::alloc::{AllocError, Global};
@@ -29,11 +28,6 @@ fn answer(alloc: Global, review: &mut Review, edit: &Edit) -> Option<EditReply> 
     Some(review.edit(alloc, edit))
 }
 
-// Whether the review has this value and this choice.
-fn shows(review: &Review, net: i128, choice: &[u16]) -> bool {
-    review.net() == net && review.choice().numbers() == choice
-}
-
 fn added(alloc: Global, bidder: u16, counts: &[u16], amount: u64) -> Result<Edit, LotStop> {
     Ok(Edit::Add {
         bidder,
@@ -55,34 +49,6 @@ fn removed(alloc: Global, bidder: u16, counts: &[u16]) -> Result<Edit, LotStop> 
         bidder,
         package: Package::new(alloc, counts)?,
     })
-}
-
-#[test]
-fn edits_change_the_winning_choice(rt: HostRuntime) -> Result<(), LotStop> {
-    let alloc = rt.alloc();
-    let Ok(book) = read_book(alloc, DAY_CRAMTON.as_bytes()) else {
-        panic!(rt; "this is a book");
-    };
-    let mut review = Review::start(alloc, book)?;
-    assert!(rt; shows(&review, 48, &[1, 1, 0, 0, 0]));
-    let edit = raised(alloc, 3, &[1, 1], 50)?;
-    assert_eq!(rt; answer(alloc, &mut review, &edit), Some(EditReply::Ok));
-    assert!(rt; shows(&review, 50, &[0, 0, 1, 0, 0]));
-    let edit = added(alloc, 4, &[0, 1], 23)?;
-    assert_eq!(rt; answer(alloc, &mut review, &edit), Some(EditReply::Ok));
-    assert!(rt; shows(&review, 51, &[1, 0, 0, 1, 0]));
-    let edit = removed(alloc, 1, &[1, 0])?;
-    assert_eq!(rt; answer(alloc, &mut review, &edit), Some(EditReply::Ok));
-    assert!(rt; shows(&review, 50, &[0, 0, 1, 0, 0]));
-    let edit = raised(alloc, 3, &[1, 1], 50)?;
-    assert_eq!(rt;
-        answer(alloc, &mut review, &edit),
-        Some(EditReply::NotHigher(50))
-    );
-    let edit = added(alloc, 0, &[1, 0], 5)?;
-    assert_eq!(rt; answer(alloc, &mut review, &edit), Some(EditReply::Unknown));
-    assert!(rt; shows(&review, 50, &[0, 0, 1, 0, 0]));
-    Ok(())
 }
 
 /// Packages of two categories.

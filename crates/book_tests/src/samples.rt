@@ -7,10 +7,6 @@ pub(crate) const DAY_CRAMTON: &str =
     "book 1\nsupply 1 1\nreserve 0 0\nbidder b1\nbid 1 0 28\nbidder b2\nbid 0 1 20\n\
     bidder b3\nbid 1 1 32\nbidder b4\nbid 1 0 14\nbidder b5\nbid 0 1 12\nend\n";
 
-/// Edits of this book; the last is of a bidder that it doesn't have.
-pub(crate) const EDITS: &str =
-    "edits 1\nraise b3 1 1 50\nadd b4 0 1 23\ndrop b1 1 0\nraise b3 1 1 50\nadd north 1 0 5\nend\n";
-
 /// Whether a grid has such a line, and with these numbers.
 pub(crate) fn is_line(grid: &Grid, line: usize, numbers: &[i128]) -> bool {
     if line >= grid.lines() || numbers.len() != grid.width() {

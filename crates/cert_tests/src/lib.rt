@@ -1,12 +1,8 @@
-//! Tests of certificates, of books and of placements: their texts, their checkers, and the prices that they state.
+//! Tests of certificates: the texts of those of books and of placements, their check in pieces, and the prices that they state.
 #![tactic(auto)]
 
 #[cfg(test)]
 mod pieces;
-#[cfg(test)]
-mod place_checks;
-#[cfg(test)]
-mod place_prices;
 #[cfg(test)]
 mod place_texts;
 #[cfg(test)]

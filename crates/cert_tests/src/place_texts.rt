@@ -79,30 +79,6 @@ fn writes_back_what_was_read(rt: HostRuntime) -> Result<(), Fail> {
 }
 
 #[test]
-fn names_the_first_faulty_line(rt: HostRuntime) -> Result<(), Fail> {
-    let faulty = [
-        (0, 8, "cert 1\n", CertStop::Form(0)),
-        (0, 8, "pcert 2\n", CertStop::Form(0)),
-        (23, 35, "", CertStop::Form(23)),
-        (23, 35, "order 1 3\n", CertStop::Form(23)),
-        (23, 35, "order 1 3 2 4\n", CertStop::Form(23)),
-        (23, 35, "order 1 3 65536\n", CertStop::Form(23)),
-        (23, 35, "order 65535 0 0\nplace\n", CertStop::Form(39)),
-        (54, 74, "t 18 8 12 0 8 8 0\n", CertStop::Form(54)),
-        (74, 74, "t 18 8 12 0 8 8 0 0\n", CertStop::Form(74)),
-        (84, 96, "", CertStop::Form(84)),
-        (145, 157, "order 2 3\n", CertStop::Form(145)),
-        (206, 213, "rows 2\n", CertStop::Form(255)),
-        (230, 242, "", CertStop::Form(230)),
-        (283, 287, "t 0 0 0 0 0 0 0 0\nend\n", CertStop::Form(283)),
-        (287, 287, "end\n", CertStop::Form(287)),
-        (283, 287, "end", CertStop::Form(283)),
-    ];
-    stops_at(&rt, rt.alloc(), &faulty)?;
-    Ok(())
-}
-
-#[test]
 fn names_the_first_line_out_of_range(rt: HostRuntime) -> Result<(), Fail> {
     let faulty = [
         (

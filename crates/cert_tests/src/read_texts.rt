@@ -6,22 +6,13 @@ use std::alloc::{AllocError, Global};
 use std::process::Abort;
 use std::test::Fail;
 
-/// No bidder, one state.
-const NOBODY: Shape = Shape {
-    bidders: 0,
-    states: 1,
-};
-
 /// Two bidders, one state.
 const TWO: Shape = Shape {
     bidders: 2,
     states: 1,
 };
 
-/// The head of a certificate for two bidders and one state, of which the first wins: 50 bytes.
-const HEAD: &str = "cert 1\nden 1\nvalue 0\nchoice 1 0\ntable\nt 0\nt 0\nt 0\n";
-
-/// The same head, and the part without the first bidder: 89 bytes.
+/// A certificate for two bidders and one state, of whom the first wins, up to the part without it: 89 bytes.
 const PARTS: &str = "cert 1\nden 1\nvalue 0\nchoice 1 0\ntable\nt 0\nt 0\nt 0\n\
     without 1\nchoice 0 0\ntable\nt 0\nt 0\nt 0\n";
 
@@ -131,178 +122,68 @@ fn writes_back_what_was_read(rt: HostRuntime) -> Result<(), Fail> {
     Ok(())
 }
 
+// Signed numbers alone have a range, and a line of more fields than it should have is of no form.
 #[test]
-fn names_the_last_line_where_it_is_cut(rt: HostRuntime) {
-    let bytes = DAY_CRAMTON_CERT.as_bytes();
-    assert_eq!(rt; bytes.len(), 476);
-    let stop = read_cert(rt.alloc(), &bytes[..474], DAY_CRAMTON_SHAPE).err();
-    assert_eq!(rt; stop, Some(CertStop::Form(472)));
-}
-
-#[test]
-fn names_the_first_faulty_line_of_the_head(rt: HostRuntime) -> Result<(), Fail> {
+fn tells_a_range_from_a_form(rt: HostRuntime) -> Result<(), Fail> {
     let faulty = [
-        ("", CertStop::Form(0)),
-        ("cert 1", CertStop::Form(0)),
-        ("cert 2\nden 1\n", CertStop::Form(0)),
-        ("cert 1\nden 01\n", CertStop::Form(7)),
-        ("cert 1\nden -0\n", CertStop::Form(7)),
-        ("cert 1\nden  1\n", CertStop::Form(7)),
-        ("cert 1\nden 1 \n", CertStop::Form(7)),
         (
+            "",
             "cert 1\nden 1329227995784915872903807060280344576\n",
             CertStop::Range(7),
         ),
         (
+            "",
             "cert 1\nden -1329227995784915872903807060280344576\n",
             CertStop::Range(7),
         ),
         (
+            "",
             "cert 1\nden 1329227995784915872903807060280344576 1\n",
             CertStop::Form(7),
         ),
         (
-            "cert 1\nden -1329227995784915872903807060280344575\n",
-            CertStop::Form(50),
+            PARTS,
+            "pay 0 0\nrows 1329227995784915872903807060280344576\n",
+            CertStop::Form(97),
         ),
-        ("cert 1\nden 1\nvalue 0\nchoice 0\n", CertStop::Form(21)),
+        (
+            COUNT,
+            "row 1329227995784915872903807060280344576\n",
+            CertStop::Form(104),
+        ),
+        (
+            COUNT,
+            "row 1 2\nmult 1 1329227995784915872903807060280344576\n",
+            CertStop::Range(112),
+        ),
+        (
+            COUNT,
+            "row 1 2\nmult 1 3\nchoice 1329227995784915872903807060280344576 0\n",
+            CertStop::Form(121),
+        ),
     ];
-    for (text, stop) in faulty {
+    for (front, rest, stop) in faulty {
         assert_eq!(rt;
-            stop_at(rt.alloc(), NOBODY, text, "")?,
+            stop_at(rt.alloc(), TWO, front, rest)?,
             Some(stop),
-            "{text}"
-        );
-    }
-    Ok(())
-}
-
-#[test]
-fn reads_a_certificate_of_nobody(rt: HostRuntime) -> Result<(), Fail> {
-    let pay = "cert 1\nden 1\nvalue 0\nchoice\ntable\nt 0\npay\n";
-    let rest = "rows 0\nlowered\nt 0\nend\n";
-    assert_eq!(rt; stop_at(rt.alloc(), NOBODY, pay, rest)?, None);
-    let faulty = [
-        ("rows 1\n", 42),
-        ("rows 11\n", 42),
-        ("rows 0\nlowered\nt 0\nend", 61),
-        ("rows 0\nlowered\nt 0\nend\n\n", 65),
-        ("rows 0\nlowered\nt 0\nend\nx", 65),
-    ];
-    for (rest, place) in faulty {
-        assert_eq!(rt;
-            stop_at(rt.alloc(), NOBODY, pay, rest)?,
-            Some(CertStop::Form(place)),
             "{rest}"
         );
     }
     Ok(())
 }
 
-// Asserts that the reader stops so at each of these texts, in two parts, of a certificate for two bidders and one state.
-fn stops_at(
-    rt: &impl Abort,
-    alloc: Global,
-    faulty: &[(&str, &str, CertStop)],
-) -> Result<(), AllocError> {
-    for (front, rest, stop) in faulty {
-        assert_eq!(rt; stop_at(alloc, TWO, front, rest)?, Some(*stop), "{rest}");
-    }
-    Ok(())
-}
-
+// No book has just one state more than the first version is for.
 #[test]
-fn names_the_first_faulty_line_behind_the_head(rt: HostRuntime) -> Result<(), Fail> {
-    let faulty = [
-        (HEAD, "t 0\n", CertStop::Form(50)),
-        (HEAD, "without 2\n", CertStop::Form(50)),
-        (HEAD, "pay 0 0\n", CertStop::Form(50)),
-        (PARTS, "without 2\n", CertStop::Form(89)),
-        (PARTS, "pay 0\n", CertStop::Form(89)),
-        (PARTS, "pay 0 0\nrows 11\n", CertStop::Form(97)),
-        (PARTS, "pay 0 0\nrows 10\n", CertStop::Form(105)),
-        (
-            PARTS,
-            "pay 0 0\nrows 1329227995784915872903807060280344576\n",
-            CertStop::Form(97),
-        ),
-    ];
-    stops_at(&rt, rt.alloc(), &faulty)?;
-    Ok(())
-}
-
-#[test]
-fn names_the_faulty_line_of_a_row(rt: HostRuntime) -> Result<(), Fail> {
-    let faulty = [
-        (COUNT, "row\n", CertStop::Form(104)),
-        (COUNT, "row 0\n", CertStop::Form(104)),
-        (COUNT, "row 3\n", CertStop::Form(104)),
-        (COUNT, "row 1 1\n", CertStop::Form(104)),
-        (COUNT, "row 2 1\n", CertStop::Form(104)),
-        (
-            COUNT,
-            "row 1329227995784915872903807060280344576\n",
-            CertStop::Form(104),
-        ),
-        (COUNT, "row 1 2\nmult 1\n", CertStop::Form(112)),
-        (
-            COUNT,
-            "row 1 2\nmult 1 1329227995784915872903807060280344576\n",
-            CertStop::Range(112),
-        ),
-    ];
-    stops_at(&rt, rt.alloc(), &faulty)?;
-    Ok(())
-}
-
-#[test]
-fn names_the_faulty_choice_of_a_row(rt: HostRuntime) -> Result<(), Fail> {
-    let faulty = [
-        (
-            COUNT,
-            "row 1 2\nmult 1 3\nchoice 1329227995784915872903807060280344576 0\n",
-            CertStop::Form(121),
-        ),
-        (
-            COUNT,
-            "row 1 2\nmult 1 3\nchoice 65536 0\n",
-            CertStop::Form(121),
-        ),
-        (
-            COUNT,
-            "row 1 2\nmult 1 3\nchoice 65535 0\n",
-            CertStop::Form(136),
-        ),
-    ];
-    stops_at(&rt, rt.alloc(), &faulty)?;
-    Ok(())
-}
-
-#[test]
-fn tells_the_version_by_the_shape(rt: HostRuntime) -> Result<(), Fail> {
+fn tells_the_version_by_the_states(rt: HostRuntime) -> Result<(), Fail> {
+    let shape = Shape {
+        bidders: 12,
+        states: 4097,
+    };
     let front = "cert 2\nlimits 16 16384\nden 1\nvalue 0\n";
-    // Which texts are read as far as to a choice that is missing, and at which line the others are refused.
-    let cases = [
-        (12, 4096, "cert 1\nden 1\nvalue 0\n", 21),
-        (12, 4096, front, 0),
-        (13, 4096, front, 37),
-        (12, 4097, front, 37),
-        (16, 16384, front, 37),
-        (16, 16384, "cert 1\nden 1\nvalue 0\n", 0),
-        (16, 16384, "cert 2\nden 1\nvalue 0\n", 7),
-        (16, 16384, "cert 2\nlimits 16 16385\n", 7),
-        (16, 16384, "cert 2\nlimits 12 4096\n", 7),
-        (16, 16384, "cert 2\n", 7),
-        (16, 16384, "cert 3\nlimits 16 16384\n", 0),
-    ];
-    for (bidders, states, text, place) in cases {
-        let shape = Shape { bidders, states };
-        assert_eq!(rt;
-            stop_at(rt.alloc(), shape, text, "")?,
-            Some(CertStop::Form(place)),
-            "{bidders} bidders, {states} states: {text}"
-        );
-    }
+    assert_eq!(rt;
+        stop_at(rt.alloc(), shape, front, "")?,
+        Some(CertStop::Form(37))
+    );
     Ok(())
 }
 

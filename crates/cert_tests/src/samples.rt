@@ -1,4 +1,4 @@
-// What several tests share: a book, slots, certificates of both, and texts with other lines.
+// What several tests share: a book and its certificate, that of a placement, and texts with other lines.
 use place_price::book_price::cert_text::Shape;
 use std::alloc::{AllocError, Global};
 
@@ -23,11 +23,7 @@ pub(crate) const DAY_CRAMTON_SHAPE: Shape = Shape {
     states: 4,
 };
 
-/// The bids of x and y fit together, and that of z with neither.
-pub(crate) const SLOTS: &str =
-    "slots 1\nband 4\nbidder x 2\nplace 1 10\nbidder y 1\nplace 4 8\nbidder z 1\nplace 2 12\nend\n";
-
-/// A certificate for these slots: the first has two slots and 10 for slot 1, the second one slot and 8 for slot
+/// A certificate for three bidders in a band of four slots: the first has two slots and 10 for slot 1, the second one slot and 8 for slot
 /// 4, the third one slot and 12 for slot 2. The first two win, and pay together what the third bids. It has 287 bytes.
 pub(crate) const PLACE_CERT: &str =
     "pcert 1\nden 1\nvalue 18\norder 1 3 2\nchoice 1 1 0\ntable\nt 18 8 12 0 8 8 0 0\n\

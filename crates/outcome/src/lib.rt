@@ -25,8 +25,3 @@ pub use review;
 pub use reviewing::{one_review_text, review_text};
 pub use turns::rounds_text;
 pub use win::win_text;
-
-#[cfg(test)]
-mod json_tests;
-#[cfg(test)]
-mod tests;

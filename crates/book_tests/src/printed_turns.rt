@@ -1,20 +1,17 @@
-// Fractions, the lines of turns and the outcome of facts, worked by hand.
-ghost use Rattle.std.specs.Prelude.{◌≡◌, ◌≤ℤ◌, pos, IfOk, [], ◌∷◌};
-ghost use Rattle.core_price.specs.wide_num.specs.Range.{InRange};
+// Fractions and the lines of turns, worked by hand.
+ghost use Rattle.std.specs.Prelude.{◌≡◌, ◌≤ℤ◌, pos, IfOk};
+ghost use Rattle.outcome.specs.core_price.specs.wide_num.specs.Range.{InRange};
 
-use crate::certified::printed;
-use crate::{Fraction, add_fraction, rounds_text};
-use cert_facts::bid_book::read_book;
-use cert_facts::choices::{Choice, Numbers, Single, known, value};
-use cert_facts::{CertFacts, Singles};
-use core_price::Turn;
-use core_price::blocking::Block;
-use core_price::blocking::far_num::wide_num::{NumList, Text};
-use print_form::row_laws::far_num::Row;
+use outcome::core_price::Turn;
+use outcome::core_price::blocking::Block;
+use outcome::core_price::blocking::far_num::Row;
+use outcome::core_price::blocking::far_num::wide_num::{NumList, Text};
+use outcome::{Fraction, add_fraction, rounds_text};
+use slot_places::choices::{Choice, Numbers};
 use std::alloc::{AllocError, Global};
 use std::test::Fail;
 
-pub fn choice_of(alloc: Global, numbers: &[u16]) -> Result<Choice, AllocError>
+fn choice_of(alloc: Global, numbers: &[u16]) -> Result<Choice, AllocError>
     ensures { IfOk result (λ choice. choice ≡ numbers.now) }
 {
     let mut list = Numbers::new(alloc);
@@ -24,7 +21,7 @@ pub fn choice_of(alloc: Global, numbers: &[u16]) -> Result<Choice, AllocError>
     Ok(Choice::new(list))
 }
 
-pub fn list_of(alloc: Global, numbers: &[i128]) -> Result<NumList, AllocError>
+fn list_of(alloc: Global, numbers: &[i128]) -> Result<NumList, AllocError>
     ensures { IfOk result (λ list. list ≡ numbers.now) }
 {
     let numbers = Vec::from_slice(alloc, numbers)?;
@@ -125,43 +122,5 @@ fn prints_the_turn_of_nobody(rt: HostRuntime) -> Result<(), Fail> {
     };
     let text = rounds_text(alloc, &winners, &[turn])?;
     assert_eq!(rt; text.items(), "round 1 point end\n".as_bytes());
-    Ok(())
-}
-
-// Of one bidder that wins with its first bid, of net amount 15, and pays 21 over 2.
-pub fn one_winner(alloc: Global) -> Result<CertFacts, AllocError>
-    ensures numbers { IfOk result
-        (λ f. (f.den ≡ pos 2) × (f.value ≡ pos 15) × (f.choice ≡ 1 ∷ []) × (f.pay ≡ pos 21 ∷ [])) }
-    ensures singles { IfOk result (λ f. f.singles ≡ record { winner = 1; price = pos 0; choice = 0 ∷ [] } ∷ []) }
-{
-    let mut singles = Singles::new(alloc);
-    singles.push(Single {
-        winner: 1,
-        price: 0,
-        choice: choice_of(alloc, &[0])?,
-    })?;
-    Ok(CertFacts {
-        den: 2,
-        value: 15,
-        choice: choice_of(alloc, &[1])?,
-        singles,
-        pay: list_of(alloc, &[21])?,
-    })
-}
-
-#[test]
-fn prints_gross_amounts(rt: HostRuntime) -> Result<(), Fail> {
-    let alloc = rt.alloc();
-    let text = "book 1\nsupply 1\nreserve 10\nbidder a\nbid 1 25\nend\n";
-    let Ok(book) = read_book(alloc, text.as_bytes()) else {
-        panic!(rt; "this is a book");
-    };
-    let facts = one_winner(alloc)?;
-    if !known(&book, &facts.choice) || value(&book, &facts.choice) != facts.value {
-        panic!(rt; "this is a choice of the book, and its value");
-    }
-    let outcome = printed(alloc, &book, &facts)?;
-    let lines = "winner a 1 bid 25 vickrey 10 pays 20+1/2\nnet 15\nrevenue 20+1/2\n";
-    assert_eq!(rt; outcome.items(), lines.as_bytes());
     Ok(())
 }
