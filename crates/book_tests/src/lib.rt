@@ -1,15 +1,23 @@
-//! Tests of books, choices, tables of greatest value, values without a winner, blocking coalitions, slots, weights, edits and
-//! printed turns.
+//! Tests of what awards, logs, the clock and the desk tell through their own types; of books, choices, tables of greatest value, values
+//! without a winner, blocking coalitions, slots, weights, edits and printed turns.
 #![tactic(auto)]
 
+#[cfg(test)]
+mod awards;
 #[cfg(test)]
 mod books;
 #[cfg(test)]
 mod choosing;
 #[cfg(test)]
+mod clocks;
+#[cfg(test)]
 mod coalitions;
 #[cfg(test)]
+mod desks;
+#[cfg(test)]
 mod edits;
+#[cfg(test)]
+mod logs;
 #[cfg(test)]
 mod printed_turns;
 #[cfg(test)]
