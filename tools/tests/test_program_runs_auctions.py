@@ -121,8 +121,8 @@ class Make(Case):
                 self.assertEqual(run("audit", "AWARD", "LOG", "CERT", **priced.files), ("yes\n" + priced.printed, 0, priced.files))
 
     def test_number_is_no_file(self):
-        made = run("make", "7", "7", "LOG")
-        self.assertEqual((made.printed, made.status, made.files["7"], len(made.files["LOG"])), (MADE, 0, MADE_AWARD, 28996))
+        log = run("make", "7", "AWARD", "LOG").files["LOG"]
+        self.assertEqual(run("make", "7", "7", "LOG"), (MADE, 0, {"7": MADE_AWARD, "LOG": log}))
 
 
 if __name__ == "__main__":
