@@ -1,38 +1,10 @@
-"""The program over certificates of books: where it stops at their texts, which test fails first, and what it writes for a book."""
+"""The program over certificates of books: where it stops at their texts, and what it writes for a book."""
 import unittest
 from program import run, with_program
 from samples import sample
 
 BOOK, CERT = sample("day-cramton.book").decode(), sample("day-cramton.cert").decode()
 YES = "yes\nwinner b1 1 0 bid 28 vickrey 14 pays 17\nwinner b2 0 1 bid 20 vickrey 12 pays 15\nnet 48\nrevenue 32\n"
-
-# What is changed in the certificate of Day and Cramton, at its first place, and the test and place that fail first.
-FAILING = [
-    ("den 1", "den 0", "C1 1"),
-    ("choice 1 1 0 0 0", "choice 1 2 0 0 0", "C2 2"),
-    ("value 48", "value 47", "C2 7"),
-    ("t 0 20 14 34", "t 0 20 14 33", "C3 7"),
-    ("t 0 20 28 48", "t 0 20 28 49", "C3 24"),
-    ("choice 0 1 0 1 0", "choice 0 1 0 0 0", "C4 1"),
-    ("pay 17 15 0 0 0", "pay 17 15 0 0 1", "C5 5"),
-    ("choice 0 0 1 0 0", "choice 1 0 0 0 0", "C6 1"),
-    ("row 1 2", "row 1 3", "C6 1"),
-    ("mult 1 3", "mult 2 3", "C7 2"),
-    ("pay 17 15 0 0 0", "pay 16 16 0 0 0", "C8 2"),
-    ("mult 1 3", "mult 1 2", "C8 2"),
-    ("t 0 15 17 32", "t 0 15 17 33", "C9 24"),
-    ("pay 17 15 0 0 0\nrows 1\nrow 1 2\nmult 1 3\nchoice 0 0 1 0 0\n",
-     "pay 14 12 0 0 0\nrows 2\nrow 1\nmult 1 0\nchoice 0 1 0 1 0\nrow 2\nmult 1 0\nchoice 1 0 0 0 1\n", "C9 24"),
-]
-
-# Likewise the byte where the first faulty line begins.
-FAULTY = [
-    ("choice 1 1 0 0 0\n", "choice 0 1 0 0 0\n", 119),
-    ("rows 1\n", "rows 11\n", 349),
-    ("row 1 2\n", "row 2 1\n", 356),
-    ("mult 1 3\n", "mult 1 1329227995784915872903807060280344576\n", 364),
-    ("end\n", "en", 472),
-]
 
 # Faulty heads of a certificate for nobody.
 NOBODY = "book 1\nsupply 1\nreserve 0\nend\n"
@@ -132,29 +104,9 @@ class Checks(unittest.TestCase):
     def stops(self, cert, place, book=BOOK):
         self.assertEqual(self.check(cert, book), (f"cca: refused cert {place}\n", 3))
 
-    def edited(self, was, put):
-        self.assertIn(was, CERT)
-        return CERT.replace(was, put, 1)
-
     def test_right_certificate(self):
         self.assertEqual(len(CERT), 476)
         self.assertEqual(self.check(CERT), (YES, 0))
-
-    def test_first_test_that_fails(self):
-        for was, put, told in FAILING:
-            with self.subTest(was=was, put=put):
-                self.assertEqual(self.check(self.edited(was, put)), (f"no {told}\n", 1))
-
-    def test_faulty_lines(self):
-        for was, put, place in FAULTY:
-            with self.subTest(was=was, put=put):
-                self.stops(self.edited(was, put), place)
-
-    def test_each_front(self):
-        """A certificate that ends early is refused at the line that holds the first byte that is missing."""
-        for length in range(len(CERT)):
-            with self.subTest(length=length):
-                self.stops(CERT[:length], CERT.rfind("\n", 0, length) + 1)
 
     def test_faulty_heads(self):
         for cert, place in FAULTY_HEADS:
