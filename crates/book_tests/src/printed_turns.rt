@@ -2,24 +2,14 @@
 ghost use Rattle.std.specs.Prelude.{◌≡◌, ◌≤ℤ◌, pos, IfOk};
 ghost use Rattle.outcome.specs.core_price.specs.wide_num.specs.Range.{InRange};
 
+use crate::samples::choice_of;
 use outcome::core_price::Turn;
 use outcome::core_price::blocking::Block;
 use outcome::core_price::blocking::far_num::Row;
 use outcome::core_price::blocking::far_num::wide_num::{NumList, Text};
 use outcome::{Fraction, add_fraction, rounds_text};
-use slot_places::choices::{Choice, Numbers};
 use std::alloc::{AllocError, Global};
 use std::test::Fail;
-
-fn choice_of(alloc: Global, numbers: &[u16]) -> Result<Choice, AllocError>
-    ensures { IfOk result (λ choice. choice ≡ numbers.now) }
-{
-    let mut list = Numbers::new(alloc);
-    for number in numbers {
-        list.push(*number)?;
-    }
-    Ok(Choice::new(list))
-}
 
 fn list_of(alloc: Global, numbers: &[i128]) -> Result<NumList, AllocError>
     ensures { IfOk result (λ list. list ≡ numbers.now) }

@@ -1,6 +1,8 @@
 // What several tests share.
+ghost use Rattle.std.specs.Prelude.{◌≡◌, IfOk};
 
-use slot_places::choices::Grid;
+use slot_places::choices::{Choice, Grid, Numbers};
+use std::alloc::{AllocError, Global};
 
 /// The example of Day and Cramton (2012): one lot of each of two categories, and five bidders; b1 and b2 win.
 pub(crate) const DAY_CRAMTON: &str =
@@ -18,4 +20,15 @@ pub(crate) fn is_line(grid: &Grid, line: usize, numbers: &[i128]) -> bool {
         }
     }
     true
+}
+
+/// A choice of these numbers.
+pub(crate) fn choice_of(alloc: Global, numbers: &[u16]) -> Result<Choice, AllocError>
+    ensures { IfOk result (λ choice. choice ≡ numbers.now) }
+{
+    let mut list = Numbers::new(alloc);
+    for number in numbers {
+        list.push(*number)?;
+    }
+    Ok(Choice::new(list))
 }

@@ -2,8 +2,8 @@ ghost use Rattle.std.specs.Prelude.{IsTrue, pos};
 ghost use Rattle.slot_places.specs.choices.specs.Lowering.{CanLower};
 ghost use Rattle.slot_places.specs.Board.{market_of};
 
-use crate::samples::is_line;
-use slot_places::choices::{Choice, Chooser, Numbers};
+use crate::samples::{choice_of, is_line};
+use slot_places::choices::Chooser;
 use slot_places::{SlotChooser, Slots, place_win, read_slots};
 use std::alloc::{AllocError, Global};
 use std::process::Abort;
@@ -18,14 +18,6 @@ fn slots_of(rt: &impl Abort, alloc: Global, text: &str) -> Slots {
         panic!(rt; "these are slots");
     };
     slots
-}
-
-fn choice_of(alloc: Global, numbers: &[u16]) -> Result<Choice, AllocError> {
-    let mut list = Numbers::new(alloc);
-    for number in numbers {
-        list.push(*number)?;
-    }
-    Ok(Choice::new(list))
 }
 
 // Asserts which order allows the choice first, where one does.
