@@ -1,4 +1,5 @@
-use Rattle.std.proofs.Common.{◌≡◌, rules, subst, length, List}
+use Rattle.std.proofs.Common.{◌≡◌, rules, subst, length, List, arith}
+use Rattle.std.proofs.lemmas.Grind.{common_steps}
 use Rattle.cca_base.specs.Entries.{with_gave}
 use Rattle.cca_base.specs.Files.{KeepsFiles}
 use Rattle.cca_base.specs.MemFiles.{mem_folder}
@@ -27,3 +28,39 @@ returns-then-is_err-clause-kept c =
     let same = whole_slice c.args.self.now.files.len new old long (search rules) in
     subst (λ (files : List MemFile). KeepsFiles (with_gave (mem_folder old) gave) (with_gave (mem_folder files) gave)) same
     (keeps_with (mem_folder old) (mem_folder new) gave kept)
+
+pub returns-then-contains-clause-count : goal.returns-then-contains-clause-count
+returns-then-contains-clause-count c = grind (arith, common_steps)
+
+pub returns-then-contains-clause-loads : goal.returns-then-contains-clause-loads
+returns-then-contains-clause-loads c = grind (arith, common_steps)
+
+pub returns-then-contains-clause-cause : goal.returns-then-contains-clause-cause
+returns-then-contains-clause-cause c = grind (arith, common_steps)
+
+pub returns-then-contains-clause-counted : goal.returns-then-contains-clause-counted
+returns-then-contains-clause-counted c = grind (arith, common_steps)
+
+pub returns-then-is_err-clause-count : goal.returns-then-is_err-clause-count
+returns-then-is_err-clause-count c = grind (arith, common_steps)
+
+pub returns-then-is_err-clause-loads : goal.returns-then-is_err-clause-loads
+returns-then-is_err-clause-loads c = grind (arith, common_steps)
+
+pub returns-then-is_err-clause-cause : goal.returns-then-is_err-clause-cause
+returns-then-is_err-clause-cause c = grind (arith, common_steps)
+
+pub returns-then-is_err-clause-counted : goal.returns-then-is_err-clause-counted
+returns-then-is_err-clause-counted c = grind (arith, common_steps)
+
+pub returns-clause-bytes : goal.returns-clause-bytes
+returns-clause-bytes c = grind (arith, common_steps)
+
+pub returns-clause-count : goal.returns-clause-count
+returns-clause-count c = grind (arith, common_steps)
+
+pub returns-clause-loads : goal.returns-clause-loads
+returns-clause-loads c = grind (arith, common_steps)
+
+pub returns-clause-quiet : goal.returns-clause-quiet
+returns-clause-quiet c = grind (arith, common_steps)

@@ -1,4 +1,5 @@
-use Rattle.std.proofs.Common.{◌≡◌, ◌≤◌, length, Some, refl, rules, List, subst}
+use Rattle.std.proofs.Common.{◌≡◌, ◌≤◌, length, Some, refl, rules, List, subst, arith}
+use Rattle.std.proofs.lemmas.Grind.{common_steps}
 use Rattle.cca_base.specs.Files.{KeepsFiles, Stands}
 use Rattle.cca_base.specs.Entries.{with_gave}
 use Rattle.cca_base.specs.declared.memory.mem_file.MemFile.{MemFile}
@@ -37,3 +38,27 @@ returns-in-None-clause-kept c =
     let same = whole_slice c.args.self.now.files.len new old long (search rules) in
     subst (λ (files : List MemFile). KeepsFiles (with_gave (mem_folder old) gave) (with_gave (mem_folder files) gave)) same
     (keeps_with (mem_folder old) (mem_folder new) gave kept)
+
+pub returns-then-contains-clause-count : goal.returns-then-contains-clause-count
+returns-then-contains-clause-count c = grind (arith, common_steps)
+
+pub returns-then-contains-clause-appends : goal.returns-then-contains-clause-appends
+returns-then-contains-clause-appends c = grind (arith, common_steps)
+
+pub returns-then-contains-clause-cause : goal.returns-then-contains-clause-cause
+returns-then-contains-clause-cause c = grind (arith, common_steps)
+
+pub returns-then-contains-clause-counted : goal.returns-then-contains-clause-counted
+returns-then-contains-clause-counted c = grind (arith, common_steps)
+
+pub returns-in-None-clause-count : goal.returns-in-None-clause-count
+returns-in-None-clause-count c = grind (arith, common_steps)
+
+pub returns-in-None-clause-appends : goal.returns-in-None-clause-appends
+returns-in-None-clause-appends c = grind (arith, common_steps)
+
+pub returns-in-None-clause-cause : goal.returns-in-None-clause-cause
+returns-in-None-clause-cause c = grind (arith, common_steps)
+
+pub returns-in-None-clause-counted : goal.returns-in-None-clause-counted
+returns-in-None-clause-counted c = grind (arith, common_steps)
