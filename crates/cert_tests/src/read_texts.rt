@@ -122,47 +122,49 @@ fn writes_back_what_was_read(rt: HostRuntime) -> Result<(), Fail> {
     Ok(())
 }
 
-// Signed numbers alone have a range, and a line of more fields than it should have is of no form.
+/// The lines before a faulty one, it and those behind it, and where it stops the reader. Signed numbers alone have a range, and a line of
+/// more fields than it should have is of no form.
+const RANGES_AND_FORMS: [(&str, &str, CertStop); 7] = [
+    (
+        "",
+        "cert 1\nden 1329227995784915872903807060280344576\n",
+        CertStop::Range(7),
+    ),
+    (
+        "",
+        "cert 1\nden -1329227995784915872903807060280344576\n",
+        CertStop::Range(7),
+    ),
+    (
+        "",
+        "cert 1\nden 1329227995784915872903807060280344576 1\n",
+        CertStop::Form(7),
+    ),
+    (
+        PARTS,
+        "pay 0 0\nrows 1329227995784915872903807060280344576\n",
+        CertStop::Form(97),
+    ),
+    (
+        COUNT,
+        "row 1329227995784915872903807060280344576\n",
+        CertStop::Form(104),
+    ),
+    (
+        COUNT,
+        "row 1 2\nmult 1 1329227995784915872903807060280344576\n",
+        CertStop::Range(112),
+    ),
+    (
+        COUNT,
+        "row 1 2\nmult 1 3\nchoice 1329227995784915872903807060280344576 0\n",
+        CertStop::Form(121),
+    ),
+];
+
 #[test]
 fn tells_a_range_from_a_form(rt: HostRuntime) -> Result<(), Fail> {
-    let faulty = [
-        (
-            "",
-            "cert 1\nden 1329227995784915872903807060280344576\n",
-            CertStop::Range(7),
-        ),
-        (
-            "",
-            "cert 1\nden -1329227995784915872903807060280344576\n",
-            CertStop::Range(7),
-        ),
-        (
-            "",
-            "cert 1\nden 1329227995784915872903807060280344576 1\n",
-            CertStop::Form(7),
-        ),
-        (
-            PARTS,
-            "pay 0 0\nrows 1329227995784915872903807060280344576\n",
-            CertStop::Form(97),
-        ),
-        (
-            COUNT,
-            "row 1329227995784915872903807060280344576\n",
-            CertStop::Form(104),
-        ),
-        (
-            COUNT,
-            "row 1 2\nmult 1 1329227995784915872903807060280344576\n",
-            CertStop::Range(112),
-        ),
-        (
-            COUNT,
-            "row 1 2\nmult 1 3\nchoice 1329227995784915872903807060280344576 0\n",
-            CertStop::Form(121),
-        ),
-    ];
-    for (front, rest, stop) in faulty {
+    for (front, rest, stop) in RANGES_AND_FORMS {
         assert_eq!(rt;
             stop_at(rt.alloc(), TWO, front, rest)?,
             Some(stop),

@@ -1,4 +1,5 @@
-use Rattle.std.proofs.Common.{◌≡◌, ℕ, true, false, None, Option, sym, ap, subst, ◌∙◌}
+use Rattle.std.proofs.lemmas.Grind.{common_steps}
+use Rattle.std.proofs.Common.{◌≡◌, ℕ, true, false, None, Option, sym, ap, subst, ◌∙◌, arith}
 use Rattle.std.specs.Prelude.{is_some, not, unwrap_or}
 use Rattle.std.proofs.lemmas.Result.{err_from_is_err_and}
 use Rattle.toml.specs.View.{table_view}
@@ -83,3 +84,6 @@ returns-clause-ok c =
       terms-same _ _ _ _ _ _ _ _ _ _ _ _ version_is tick_is (sym c.in_ok-categories.ensures.ok.1) (sym c.in_ok-thresholds.ensures.ok.1) (sym caps_are)
           (sym bidders_are),
     )
+
+pub returns-in_err-bidders-clause-err : goal.returns-in_err-bidders-clause-err
+returns-in_err-bidders-clause-err c = grind (arith, common_steps)

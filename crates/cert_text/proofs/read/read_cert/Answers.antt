@@ -1,4 +1,5 @@
-use Rattle.std.proofs.Common.{sym, subst, rules}
+use Rattle.std.proofs.lemmas.Grind.{common_steps}
+use Rattle.std.proofs.Common.{sym, subst, rules, arith}
 use Rattle.cert_form.specs.line_text.specs.LineText.{stated}
 use Rattle.cert_form.specs.Certificate.{CertValue}
 use Rattle.cert_form.specs.Says.{CertSays}
@@ -82,3 +83,9 @@ returns-clause-says c =
           w.choice w.table w.withouts w.next c.in_ok-winning.ensures.leads p.pay p.rows p.next c.in_ok-payments.ensures.leads l.table l.next
           c.in_ok-closing.ensures.leads is c.in_ok-end_at.ensures.ok,
     )
+
+pub certificate-requires : goal.certificate-requires
+certificate-requires c = grind (arith, common_steps)
+
+pub returns-clause-shape : goal.returns-clause-shape
+returns-clause-shape c = grind (arith, common_steps)

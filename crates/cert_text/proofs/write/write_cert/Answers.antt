@@ -1,4 +1,5 @@
-use Rattle.std.proofs.Common.{◌∙◌, ap, subst, sym, ◌++◌, ◌∷◌, [], List, ℕ, ℤ, codes, length}
+use Rattle.std.proofs.lemmas.Grind.{common_steps}
+use Rattle.std.proofs.Common.{◌∙◌, ap, subst, sym, ◌++◌, ◌∷◌, [], List, ℕ, ℤ, codes, length, arith}
 use Rattle.std.specs.List.{AllByRecursion}
 use Rattle.cert_form.specs.CertText.{line}
 use Rattle.cert_form.specs.Lines.{version_lines}
@@ -35,3 +36,6 @@ returns c =
     (subst (λ (l : List CertRow). Adds c.add_signed_line.new.text c.add_rows.new.text (lines_of_rows l)) c.items-2.ensures c.in_ok-add_rows.ensures)
     c.in_ok-add_table.ensures
     c.in_ok-add_signed_line-2.ensures
+
+pub add_rows-requires-clause-few : goal.add_rows-requires-clause-few
+add_rows-requires-clause-few c = grind (arith, common_steps)

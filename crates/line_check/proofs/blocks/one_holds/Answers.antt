@@ -1,3 +1,4 @@
+use Rattle.std.proofs.lemmas.Grind.{common_steps}
 use Rattle.std.proofs.Common.{◌^◌, ◌≡◌, ℕ, ◌-◌, ◌*◌, ◌≤◌, ◌<◌, length, get_or, drop, take, ap, ◌∙◌, arith, rules, List}
 use Rattle.std.proofs.lemmas.Nat.{mul-le}
 use Rattle.std.proofs.lemmas.Int.{to_z-of_z, ints}
@@ -53,3 +54,9 @@ returns c = λ h.
     let rest : nth (take (length line - from) below) (n - from) ≡ nth below (n - from) = get_or-take (length line - from) below (n - from) _ (omega
     (arith, up, low, c.requires.places)) in
     omega (arith, ints, own, here, rest))
+
+pub covers_all-requires-clause-small : goal.covers_all-requires-clause-small
+covers_all-requires-clause-small c = grind (arith, common_steps)
+
+pub covers_all-requires-clause-small_below : goal.covers_all-requires-clause-small_below
+covers_all-requires-clause-small_below c = grind (arith, common_steps)

@@ -1,3 +1,4 @@
+use Rattle.std.proofs.lemmas.Grind.{common_steps}
 use Rattle.std.proofs.Common.{◌∙◌, ℕ, ◌+◌, ◌-◌, ◌*◌, ap, arith, refl, get_or, List}
 use Rattle.cert_laws.specs.auction_model.proofs.RunLaws.{width-first, widths-count}
 use Rattle.line_check.proofs.CornerLaws.{parts-more, parts-keep}
@@ -29,3 +30,24 @@ returns c = λ _.
     parts-keep c.args.supply.now c.args.lots.now (get_or c.args.widths.now 0 0) c.args.line.now c.args.below.now c.args.rule.now.worth (omega
     (arith, c.requires.two)) c.requires.categories c.loop-row.invariant.width
     (λ q low high. c.loop-row.invariant.parts q low (omega (arith, high, c.loop-row-test.false)))
+
+pub slice_bounds-one_holds-end-in-loop-row-3 : goal.slice_bounds-one_holds-end-in-loop-row-3
+slice_bounds-one_holds-end-in-loop-row-3 c = grind (arith, common_steps)
+
+pub one_holds-requires-clause-widths : goal.one_holds-requires-clause-widths
+one_holds-requires-clause-widths c = grind (arith, common_steps)
+
+pub one_holds-requires-clause-states : goal.one_holds-requires-clause-states
+one_holds-requires-clause-states c = grind (arith, common_steps)
+
+pub one_holds-requires-clause-places : goal.one_holds-requires-clause-places
+one_holds-requires-clause-places c = grind (arith, common_steps)
+
+pub one_holds-requires-clause-below : goal.one_holds-requires-clause-below
+one_holds-requires-clause-below c = grind (arith, common_steps)
+
+pub one_holds-requires-clause-small : goal.one_holds-requires-clause-small
+one_holds-requires-clause-small c = grind (arith, common_steps)
+
+pub one_holds-requires-clause-small_below : goal.one_holds-requires-clause-small_below
+one_holds-requires-clause-small_below c = grind (arith, common_steps)

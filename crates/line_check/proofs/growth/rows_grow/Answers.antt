@@ -1,3 +1,4 @@
+use Rattle.std.proofs.lemmas.Grind.{common_steps}
 use Rattle.std.proofs.Common.{◌≡◌, ◌∙◌, ℕ, ◌+◌, ◌-◌, ◌*◌, ◌≤◌, inl, inr, subst, arith, refl, length, drop, take}
 use Rattle.std.proofs.lemmas.Bool.{cases_lt}
 use Rattle.std.proofs.lemmas.List.{length-drop, length-take-le}
@@ -29,3 +30,9 @@ loop-row-preserved c = λ q low.
           let is : d ≡ q = omega (arith, low, here) in
           subst (λ (n : ℕ). Grows (drop 1 supply) (take W (drop (n * W) line))) is own)
     ]
+
+pub slice_bounds-rises_narrow-end : goal.slice_bounds-rises_narrow-end
+slice_bounds-rises_narrow-end c = grind (arith, common_steps)
+
+pub rises_narrow-requires : goal.rises_narrow-requires
+rises_narrow-requires c = grind (arith, common_steps)

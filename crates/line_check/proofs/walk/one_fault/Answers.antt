@@ -1,3 +1,4 @@
+use Rattle.std.proofs.lemmas.Grind.{common_steps}
 use Rattle.std.proofs.lemmas.Nat.{mul-le}
 use Rattle.std.proofs.Common.{◌^◌, ◌≡◌, ℕ, ◌+◌, ◌*◌, ◌≤◌, ◌<◌, length, get_or, drop, ap, sym, ◌∙◌, subst, arith, List}
 use Rattle.cert_laws.specs.auction_model.specs.Place.{states_of}
@@ -49,3 +50,12 @@ overflow_add-start c =
       mul-le (get_or c.args.lots.now 0 0) (get_or c.args.widths.now 0 0) 65536 (2 ^ 40)
           (omega (arith, c.type_inv.lots 0)) most,
     )
+
+pub overflow_mul-stop : goal.overflow_mul-stop
+overflow_mul-stop c = grind (arith, common_steps)
+
+pub overflow_add-stop-2 : goal.overflow_add-stop-2
+overflow_add-stop-2 c = grind (arith, common_steps)
+
+pub run_fault-requires-clause-stop : goal.run_fault-requires-clause-stop
+run_fault-requires-clause-stop c = grind (arith, common_steps)

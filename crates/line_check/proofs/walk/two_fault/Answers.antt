@@ -1,3 +1,4 @@
+use Rattle.std.proofs.lemmas.Grind.{common_steps}
 use Rattle.std.proofs.Common.{◌≡◌, ℕ, ◌+◌, ◌*◌, ◌-◌, take, refl, ◌≤◌, ◌<◌, length, get_or, drop, ap, sym, ◌∙◌, subst, arith, List}
 use Rattle.cert_laws.specs.auction_model.specs.Place.{states_of, place_of, widths_of}
 use Rattle.cert_laws.specs.auction_model.proofs.RunLaws.{width-first, widths-rest}
@@ -64,3 +65,6 @@ returns c =
     let some : 0 < length c.args.supply.now = omega (arith, lots, c.requires.categories) in
     all-list c.args.rule.now c.args.base c.args.supply.now c.args.lots.now c.loop-row.row c.args.until c.loop-row.found some
     (omega (arith, c.loop-row.auto.row-end, c.min-row.ensures, c.loop-row-test.false)) c.loop-row.invariant.fault
+
+pub bounds-widths-0 : goal.bounds-widths-0
+bounds-widths-0 c = grind (arith, common_steps)

@@ -1,3 +1,4 @@
+use Rattle.std.proofs.lemmas.Grind.{common_steps}
 use Rattle.std.proofs.Common.{◌≡◌, ◌-◌, ◌+◌, sym, subst, arith, rules, map, List, ◌∷◌, suc}
 use Rattle.value_table.proofs.Sizes.{line-room}
 use Rattle.value_table.proofs.TableLines.{entries, counted-first}
@@ -32,3 +33,12 @@ loop-k-preserved g c =
     let rest : AreCountedLines l (suc c.args.top) (suc (c.loop-k.k - 1)) (map entries_of lines) =
     subst (λ k. AreCountedLines l (suc c.args.top) k (map entries_of lines)) up c.loop-k.invariant in
     subst (λ (items : List _). AreCountedLines l (suc c.args.top) (c.loop-k.k - 1) (map entries_of items)) (sym made) (own, rest)
+
+pub units_room-requires : goal.units_room-requires
+units_room-requires g c = grind (arith, common_steps)
+
+pub units_room-requires-2 : goal.units_room-requires-2
+units_room-requires-2 g c = grind (arith, common_steps)
+
+pub index-requires : goal.index-requires
+index-requires g c = grind (arith, common_steps)

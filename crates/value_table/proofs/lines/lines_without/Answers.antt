@@ -1,3 +1,4 @@
+use Rattle.std.proofs.lemmas.Grind.{common_steps}
 use Rattle.std.proofs.Common.{◌≡◌, ◌≤◌, ◌+◌, ◌-◌, ◌++◌, [], ◌∷◌, sym, subst, arith, get_or, suc}
 use Rattle.choices.specs.auction_model.specs.Book.{menu_of}
 use Rattle.choices.specs.auction_model.specs.Table.{IsLine, AreLinesTo}
@@ -51,3 +52,9 @@ returns c =
     let end : c.loop-k.k ≡ suc m.bidders = omega (arith, c.requires.whole.lines, c.lines-k-end.ensures, c.requires.bidder.0, c.requires.bidder.1) in
     let was : AreLinesTo m (counted l) l.book.now.supply c.loop-k.k 0 c.loop-k.grid = c.loop-k.invariant in
     table-from_lines m (counted l) l.book.now.supply c.loop-k.grid (rw end at was)
+
+pub push_shared-requires-clause-width : goal.push_shared-requires-clause-width
+push_shared-requires-clause-width c = grind (arith, common_steps)
+
+pub push_shared-requires-in-loop-k-clause-width : goal.push_shared-requires-in-loop-k-clause-width
+push_shared-requires-in-loop-k-clause-width c = grind (arith, common_steps)

@@ -1,3 +1,4 @@
+use Rattle.std.proofs.lemmas.Grind.{common_steps}
 use Rattle.std.proofs.Common.{◌∙◌, ◌-◌, ◌^◌, sym, subst, arith}
 use Rattle.std.proofs.lemmas.List.{map-id}
 use Rattle.value_table.specs.Counted.{IsCountedLine}
@@ -23,3 +24,6 @@ returns-clause-line c =
     let made = c.put_line.new.line in
     subst (IsCountedLine c.args.lowering.now (c.args.j - 1)) (sym (c.widen_into.ensures ∙ c.deref-2.ensures.value
     ∙ written-all made _ c.args.rooms.now.line.len (omega (arith, c.put_line.auto.line, c.deref_mut-2.ensures.len)) ∙ sym (map-id made))) c.put_line.ensures
+
+pub returns-clause-rooms : goal.returns-clause-rooms
+returns-clause-rooms c = grind (arith, common_steps)

@@ -1,3 +1,4 @@
+use Rattle.std.proofs.lemmas.Grind.{common_steps}
 use Rattle.std.proofs.Common.{◌≡◌, ◌∙◌, ◌+◌, ◌-◌, ◌*◌, ◌+ℤ◌, ℤ, pos, ap, arith, map, length, take, drop, get_or}
 use Rattle.std.specs.Int.{int_max}
 use Rattle.std.proofs.lemmas.List.{length-take-le, length-drop}
@@ -24,3 +25,6 @@ loop-row-preserved c =
     ∙ ap (λ (z : ℤ). int_max z (worth +ℤ get_or (map number (take k (drop at below))) i (pos 0))) (read-number number line at k i (omega (arith, h)))
     ∙ ap (λ (z : ℤ). int_max (get_or (map number line) (at + i) (pos 0)) (worth +ℤ z)) (read-number number below at k i (omega (arith, h))))
     c.loop-row.invariant
+
+pub raise_run-requires-clause-sizes : goal.raise_run-requires-clause-sizes
+raise_run-requires-clause-sizes c = grind (arith, common_steps)

@@ -57,3 +57,30 @@ returns g c =
     g.A.Amount.number (g.A.Amount.number c.args.worth) line c.args.below.now c.raise_rows.new.line k c.requires.lots.lines.line (omega arith)
     (c.raise_rows.auto.line ∙ length-take-le k (drop start line) (omega (arith, length-drop start line)))
     c.raise_rows.ensures.raised c.raise_rows.ensures.kept
+
+pub bounds-widths-1 : goal.bounds-widths-1
+bounds-widths-1 g c = grind (arith, common_steps)
+
+pub overflow_mul-skip : goal.overflow_mul-skip
+overflow_mul-skip g c = grind (arith, common_steps)
+
+pub overflow_mul-from : goal.overflow_mul-from
+overflow_mul-from g c = grind (arith, common_steps)
+
+pub overflow_add-from : goal.overflow_add-from
+overflow_add-from g c = grind (arith, common_steps)
+
+pub overflow_sub-rows : goal.overflow_sub-rows
+overflow_sub-rows g c = grind (arith, common_steps)
+
+pub overflow_sub-rows-2 : goal.overflow_sub-rows-2
+overflow_sub-rows-2 g c = grind (arith, common_steps)
+
+pub slice_bounds-raise_rows-count : goal.slice_bounds-raise_rows-count
+slice_bounds-raise_rows-count g c = grind (arith, common_steps)
+
+pub slice_bounds-raise_rows-start : goal.slice_bounds-raise_rows-start
+slice_bounds-raise_rows-start g c = grind (arith, common_steps)
+
+pub slice_bounds-raise_rows-count-2 : goal.slice_bounds-raise_rows-count-2
+slice_bounds-raise_rows-count-2 g c = grind (arith, common_steps)

@@ -1,3 +1,4 @@
+use Rattle.std.proofs.lemmas.Grind.{common_steps}
 use Rattle.std.proofs.Common.{◌≡◌, ◌∙◌, ◌-◌, ◌+◌, ◌^◌, ℕ, sym, ap, subst, arith, rules, map, List, ◌∷◌, suc, pos, Vec, Global}
 use Rattle.value_table.proofs.TableLines.{entries, counted-first, counted-same}
 use Rattle.value_table.specs.Counted.{IsCountedLine, IsLineWithin, AreCountedLines}
@@ -36,3 +37,15 @@ loop-k-preserved c =
     let rest : AreCountedLines l (suc c.args.top) (suc (c.loop-k.k - 1)) (map entries_of lines) =
     subst (λ k. AreCountedLines l (suc c.args.top) k (map entries_of lines)) up c.loop-k.invariant in
     subst (λ (items : List _). AreCountedLines l (suc c.args.top) (c.loop-k.k - 1) (map entries_of items)) (sym made) (own, rest)
+
+pub units_room-requires : goal.units_room-requires
+units_room-requires c = grind (arith, common_steps)
+
+pub units_room-requires-2 : goal.units_room-requires-2
+units_room-requires-2 c = grind (arith, common_steps)
+
+pub index-requires : goal.index-requires
+index-requires c = grind (arith, common_steps)
+
+pub index-requires-in-loop-k : goal.index-requires-in-loop-k
+index-requires-in-loop-k c = grind (arith, common_steps)

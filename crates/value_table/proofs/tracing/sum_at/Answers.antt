@@ -1,3 +1,4 @@
+use Rattle.std.proofs.lemmas.Grind.{common_steps}
 use Rattle.std.proofs.Common.{◌≡◌, ◌∙◌, ◌≤◌, ◌^◌, ℤ, ap, arith, rules, get_or, map, pos, ◌+ℤ◌, unsigned_abs}
 use Rattle.std.proofs.lemmas.Int.{to_z-of_z, fits_signed_from_abs}
 use Rattle.choices.specs.auction_model.specs.Package.{less}
@@ -32,3 +33,6 @@ returns-in-Some-clause-sum g c =
     rw (to_z-of_z w128 b below_fits, to_z-of_z w128 c.worth.result worth_fits, to_z-of_z w128 (c.worth.result +ℤ b) sum_fits)
     (ap (λ (z : ℤ). z +ℤ b) c.worth.ensures.worth ∙ ap (λ (z : ℤ). counted l c.args.j c.args.i +ℤ z) c.number_at.ensures
     ∙ ap (λ r. counted l c.args.j c.args.i +ℤ get_or line r (pos 0)) rest)
+
+pub number_at-requires : goal.number_at-requires
+number_at-requires g c = grind (arith, common_steps)

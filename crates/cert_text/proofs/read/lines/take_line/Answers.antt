@@ -1,3 +1,4 @@
+use Rattle.std.proofs.lemmas.Grind.{common_steps}
 use Rattle.std.proofs.Common.{◌≡◌, ℕ, ◌-◌, List, length, take, drop, ap, arith, length-drop, Err}
 use Rattle.std.proofs.lemmas.List.{take_all}
 use Rattle.cert_text.proofs.PlanSteps.{line_missing, line_none}
@@ -16,3 +17,6 @@ returns-in-Err-Form-clause-stops c = λ n.
     let found = rw (tail-whole c.args.bytes.now c.args.place) at c.in-Some.ensures.found in
     let none = rw (tail-whole c.args.bytes.now c.args.place) at c.in-Err-Form.ensures.form in
     line_none c.args.bytes.now c.args.place c.args.word.now n c.in-Some.len found.0 found.1 (none (ap Err c.in-Err-Form.field-0-is))
+
+pub returns-in-Ok-clause-line : goal.returns-in-Ok-clause-line
+returns-in-Ok-clause-line c = grind (arith, common_steps)

@@ -1,4 +1,5 @@
-use Rattle.std.proofs.Common.{◌≡◌, List, [], ◌∷◌, get_or, sym, ap, subst, ◌∙◌, rules, FitsSigned}
+use Rattle.std.proofs.lemmas.Grind.{common_steps}
+use Rattle.std.proofs.Common.{◌≡◌, List, [], ◌∷◌, get_or, sym, ap, subst, ◌∙◌, rules, FitsSigned, arith}
 use Rattle.std.specs.Prelude.{ℤ, pos}
 use Rattle.std.specs.Int.{w128}
 use Rattle.std.proofs.lemmas.Int.{to_z-of_z}
@@ -17,3 +18,6 @@ returns-clause-leads c =
     (sym c.items-numbers.ensures) in
     simp to_z-of_z (subst (λ (ns : List ℤ). Leads c.args.bytes.now c.args.place (kind c.args.word.now (signed 2) ∷ []) c.in_ok-read.read.next []
     (line c.args.word.now ns ∷ [])) two c.in_ok-read.ensures.leads)
+
+pub returns-clause-range : goal.returns-clause-range
+returns-clause-range c = grind (arith, common_steps)
