@@ -95,6 +95,10 @@ MOST = 4398046511104
 # A book, the lines of its turns of pricing, and the outcome.
 PRICED = [
     ("Day and Cramton", DAY_CRAMTON, "round 1 point 14 12 row 1 2 choice 0 0 1 0 0 excess 6 / round 2 point 17 15 end", PRICES),
+    ("Day and Cramton, losers between the winners",
+     lines("book 1 / supply 1 1 / reserve 0 0 / bidder b3 / bid 1 1 32 / bidder b1 / bid 1 0 28 / bidder b4 / bid 1 0 14 "
+           "/ bidder b2 / bid 0 1 20 / bidder b5 / bid 0 1 12 / end"),
+     "round 1 point 14 12 row 2 4 choice 1 0 0 0 0 excess 6 / round 2 point 17 15 end", PRICES),
     ("nobody", NOBODY, "round 1 point end", "net 0 / revenue 0"),
     ("a bid of the reserve", AT_RESERVE, "round 1 point 0 end", "winner solo 1 bid 50 vickrey 50 pays 50 / net 0 / revenue 50"),
     ("thirds", LOCALS, "round 1 point 0 0 0 row 1 2 3 choice 0 0 0 1 excess 11 / round 2 point 3+2/3 3+2/3 3+2/3 end",

@@ -2,25 +2,34 @@
 ghost use Rattle.std.specs.Prelude.{◌≡◌, ◌∷◌, [], IfOk};
 ghost use Rattle.weights_file.specs.bid_book.specs.Lists.{bid_of};
 
-use std::alloc::Global;
+use crate::samples::book_of;
+use std::alloc::{AllocError, Global};
+use std::process::Abort;
 use std::test::Fail;
 use weights_file::bid_book::lots::{Bid, LotStop, Package, Supply};
-use weights_file::bid_book::{
-    BidBook, BidList, BidderBids, Bidders, Name, Reserves, read_book, write_book,
-};
+use weights_file::bid_book::{BidBook, BidList, BidderBids, Bidders, Name, Reserves, write_book};
 
 #[test]
 fn tells_what_a_book_holds(rt: HostRuntime) {
     let text =
         "book 1\nsupply 2 1\nreserve 5 3\nbidder east\nbid 0 1 9\nbid 2 0 14\nbidder west_2\nend\n";
-    let Ok(book) = read_book(rt.alloc(), text.as_bytes()) else {
-        panic!(rt; "this is a book");
-    };
+    let book = book_of(&rt, rt.alloc(), text);
+    is_small_sale(&rt, &book);
+    has_two_bids(&rt, &book);
+}
+
+/// Asserts what is sold, and to whom.
+fn is_small_sale(rt: &impl Abort, book: &BidBook) {
     assert!(rt; book.supply().counts() == [2, 1].as_slice());
     assert!(rt; book.reserves() == [5, 3].as_slice());
     assert_eq!(rt; book.bidders(), 2);
     assert_eq!(rt; book.name(1), "east");
     assert_eq!(rt; book.name(2), "west_2");
+}
+
+/// Asserts the bids of the first of two bidders; the second has none.
+fn has_two_bids(rt: &impl Abort, book: &BidBook) {
+    assert_eq!(rt; book.bidders(), 2);
     assert_eq!(rt; book.bids(2), 0);
     assert_eq!(rt; book.bids(1), 2);
     assert_eq!(rt; book.bid(1, 2).amount, 14);
@@ -82,18 +91,26 @@ fn small_book(alloc: Global) -> Result<BidBook, LotStop> {
     Ok(book)
 }
 
+/// Asserts the text of a book.
+fn is_written(
+    rt: &impl Abort,
+    alloc: Global,
+    book: &BidBook,
+    lines: &str,
+) -> Result<(), AllocError> {
+    let text = write_book(alloc, book)?;
+    assert_eq!(rt; text.items(), lines.as_bytes());
+    Ok(())
+}
+
 #[test]
 fn writes_a_book_of_lists_and_reads_it_back(rt: HostRuntime) -> Result<(), LotStop> {
     let book = small_book(rt.alloc())?;
-    let text = write_book(rt.alloc(), &book)?;
     let lines =
         "book 1\nsupply 3\nreserve 10\nbidder east\nbid 1 20\nbid 3 44\nbidder west\nbid 2 24\nend\n";
     assert_eq!(rt; lines.len(), 82);
-    assert_eq!(rt; text.items(), lines.as_bytes());
-    let Ok(again) = read_book(rt.alloc(), text.items()) else {
-        panic!(rt; "this is a book");
-    };
-    let other = write_book(rt.alloc(), &again)?;
-    assert_eq!(rt; other.items(), lines.as_bytes());
+    is_written(&rt, rt.alloc(), &book, lines)?;
+    let again = book_of(&rt, rt.alloc(), lines);
+    is_written(&rt, rt.alloc(), &again, lines)?;
     Ok(())
 }

@@ -1,8 +1,9 @@
-use crate::samples::is_line;
+use crate::samples::{book_of, is_line};
 use slot_places::choices::{Choice, Grid, Numbers, first_by_listing};
-use std::alloc::AllocError;
+use std::alloc::{AllocError, Global};
+use std::process::Abort;
+use weights_file::bid_book::BidBook;
 use weights_file::bid_book::line_text::wide_num::NumList;
-use weights_file::bid_book::read_book;
 
 #[test]
 fn choices_tell_their_numbers(rt: HostRuntime) -> Result<(), AllocError> {
@@ -49,15 +50,22 @@ fn grids_share_lines(rt: HostRuntime) -> Result<(), AllocError> {
     Ok(())
 }
 
+fn is_listed_first(
+    rt: &impl Abort,
+    alloc: Global,
+    book: &BidBook,
+    numbers: &[u16],
+) -> Result<(), AllocError> {
+    let choice = first_by_listing(alloc, book)?;
+    assert!(rt; choice.numbers() == numbers);
+    Ok(())
+}
+
 #[test]
 fn listing_takes_the_first_of_the_greatest(rt: HostRuntime) -> Result<(), AllocError> {
     // East alone counts as much as both together, with its second bid.
     let text =
         "book 1\nsupply 2\nreserve 0\nbidder east\nbid 1 5\nbid 2 9\nbidder west\nbid 1 4\nend\n";
-    let Ok(book) = read_book(rt.alloc(), text.as_bytes()) else {
-        panic!(rt; "this is a book");
-    };
-    let choice = first_by_listing(rt.alloc(), &book)?;
-    assert!(rt; choice.numbers() == [1, 1].as_slice());
-    Ok(())
+    let book = book_of(&rt, rt.alloc(), text);
+    is_listed_first(&rt, rt.alloc(), &book, &[1, 1])
 }

@@ -1,15 +1,16 @@
 ghost use Rattle.std.specs.Prelude.{◌<◌};
 ghost use Rattle.big_auction.specs.clock_stage.specs.Kept.{IsFor, bidders_in};
 
+use crate::samples::award_of;
+use big_auction::clock_stage::award_file::Award;
 use big_auction::clock_stage::award_file::auction_rules::lots::{LotStop, Package};
-use big_auction::clock_stage::award_file::{Award, read_award};
 use big_auction::clock_stage::{Clock, Closed, History, Reply};
 use std::alloc::Global;
 use std::process::Abort;
 use std::test::Fail;
 
 /// One category of three lots for two bidders.
-const AWARD: &[u8] = b"version = 1\ntick = 1\n\
+const AWARD: &str = "version = 1\ntick = 1\n\
     category = [{ name = \"lot\", supply = 3, points = 1, reserve = 10 }]\n\
     bidder = [{ name = \"east\", eligibility = 3 }, { name = \"west\", eligibility = 2 }]\n\
     step = [{ excess = 1, permille = 200 }]\n";
@@ -72,24 +73,43 @@ fn check_history(rt: &impl Abort, history: &History)
     assert!(rt; history.package(2, 1).counts() == [1].as_slice());
 }
 
-#[test]
-fn a_clock_keeps_its_rounds(rt: HostRuntime) -> Result<(), Fail> {
-    let Ok(award) = read_award(rt.alloc(), AWARD) else {
-        panic!(rt; "this is an award");
-    };
-    let mut clock = Clock::start(rt.alloc(), &award)?;
+/// Two rounds of bids, in the second of which demand is no more than supply.
+fn take_rounds(
+    rt: &impl Abort,
+    alloc: Global,
+    clock: &mut Clock,
+    award: &Award,
+) -> Result<(), LotStop>
+    requires { IsFor award.now clock.old }
+    ensures { IsFor award.now clock.new }
+{
     let bids = [(3, 1, Reply::Unknown), (1, 3, Reply::Ok), (2, 2, Reply::Ok)];
-    take_bids(&rt, rt.alloc(), &mut clock, &award, &bids)?;
-    let first = close(&rt, rt.alloc(), &mut clock, &award);
+    take_bids(rt, alloc, clock, award, &bids)?;
+    let first = close(rt, alloc, clock, award);
     assert_eq!(rt; first, Closed::NextRound(2));
     assert!(rt; clock.prices() == [12].as_slice());
     let bids = [(1, 1, Reply::Ok), (2, 2, Reply::Ok)];
-    take_bids(&rt, rt.alloc(), &mut clock, &award, &bids)?;
-    let last = close(&rt, rt.alloc(), &mut clock, &award);
+    take_bids(rt, alloc, clock, award, &bids)?;
+    let last = close(rt, alloc, clock, award);
     assert_eq!(rt; last, Closed::StageEnds);
+    Ok(())
+}
+
+/// Where the clock ends.
+fn check_end(rt: &impl Abort, clock: &Clock, award: &Award)
+    requires { IsFor award.now clock.now }
+{
     assert_eq!(rt; clock.round(), 2);
     assert_eq!(rt; clock.history().rounds(), 2);
     assert_eq!(rt; award.bidders(), 2);
-    check_history(&rt, clock.history());
+    check_history(rt, clock.history());
+}
+
+#[test]
+fn a_clock_keeps_its_rounds(rt: HostRuntime) -> Result<(), Fail> {
+    let award = award_of(&rt, rt.alloc(), AWARD);
+    let mut clock = Clock::start(rt.alloc(), &award)?;
+    take_rounds(&rt, rt.alloc(), &mut clock, &award)?;
+    check_end(&rt, &clock, &award);
     Ok(())
 }

@@ -3,9 +3,10 @@ ghost use Rattle.weights_file.specs.bid_book.specs.auction_model.specs.Greatest.
 ghost use Rattle.weights_file.specs.bid_book.specs.auction_model.specs.Lawful.{IsMarket};
 ghost use Rattle.book_tests.specs.OneOfTwo.{one_of_two, first_wins};
 
-use outcome::core_price::blocking::{Looked, find_block};
+use outcome::core_price::blocking::{Block, Looked, find_block};
 use slot_places::choices::{Choice, Chooser, Found, Numbers};
 use std::alloc::{AllocError, Global};
+use std::process::Abort;
 
 // Two bidders bid 5 and 3 for one thing, so the first wins.
 #[derive(Drop)]
@@ -79,17 +80,26 @@ fn one_of_two(alloc: Global) -> Result<OneOfTwo, AllocError> {
     Ok(OneOfTwo { winners })
 }
 
+/// Asserts the members and the bound of a block's row, its excess and its choice.
+fn block_is(rt: &impl Abort, block: &Block, row: (u16, i128), excess: i128, choice: &[u16]) {
+    assert_eq!(rt; block.row.members, row.0);
+    assert_eq!(rt; block.row.bound, row.1);
+    assert_eq!(rt; block.excess, excess);
+    assert!(rt; block.choice.numbers() == choice);
+}
+
+/// Asserts what a search found.
+fn found_is(rt: &impl Abort, found: &Found<()>, sum: i128, choice: &[u16]) {
+    assert_eq!(rt; found.sum, sum);
+    assert!(rt; found.choice.numbers() == choice);
+}
+
 #[test]
 fn the_loser_blocks_a_payment_of_nothing(rt: HostRuntime) -> Result<(), AllocError> {
     let chooser = one_of_two(rt.alloc())?;
     match find_block(rt.alloc(), &chooser, 1, &[0, 0])? {
         Looked::Free(_) => assert!(rt; false),
-        Looked::Block(block) => {
-            assert_eq!(rt; block.row.members, 1);
-            assert_eq!(rt; block.row.bound, 3);
-            assert_eq!(rt; block.excess, 3);
-            assert!(rt; block.choice.numbers() == [0u16, 1].as_slice());
-        }
+        Looked::Block(block) => block_is(&rt, &block, (1, 3), 3, &[0, 1]),
     }
     Ok(())
 }
@@ -98,10 +108,7 @@ fn the_loser_blocks_a_payment_of_nothing(rt: HostRuntime) -> Result<(), AllocErr
 fn nobody_blocks_the_losing_bid_as_payment(rt: HostRuntime) -> Result<(), AllocError> {
     let chooser = one_of_two(rt.alloc())?;
     match find_block(rt.alloc(), &chooser, 1, &[3, 0])? {
-        Looked::Free(found) => {
-            assert_eq!(rt; found.sum, 3);
-            assert!(rt; found.choice.numbers() == [1u16, 0].as_slice());
-        }
+        Looked::Free(found) => found_is(&rt, &found, 3, &[1, 0]),
         Looked::Block(_) => assert!(rt; false),
     }
     Ok(())

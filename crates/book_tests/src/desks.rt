@@ -3,9 +3,8 @@ ghost use Rattle.std.specs.Prelude.{◌≡◌, IsTrue, length};
 ghost use Rattle.big_auction.specs.clock_stage.specs.auction_rules.specs.Lawful.{HasCategories};
 ghost use Rattle.big_auction.specs.clock_stage.specs.auction_rules.specs.Terms.{Terms};
 
+use crate::samples::{award_of, events_of};
 use big_auction::clock_stage::award_file::bid_book::write_book;
-use big_auction::clock_stage::award_file::read_award;
-use big_auction::log_file::read_log;
 use log_replay::bid_desk::{Desk, DeskStop, Event, Reply};
 use std::alloc::Global;
 use std::process::Abort;
@@ -43,24 +42,42 @@ fn take(rt: &impl Abort, alloc: Global, desk: &mut Desk, event: &Event) -> Reply
 
 /// The replies to the lines of a log, and after each close the stage, the round and the prices; then the book, where there is one.
 fn replay(rt: &impl Abort, alloc: Global, award: &str, log: &str) -> Result<String, Fail> {
-    let Ok(award) = read_award(alloc, award.as_bytes()) else {
-        panic!(rt; "this is an award");
-    };
-    let Ok(events) = read_log(alloc, log.as_bytes(), &award) else {
-        panic!(rt; "this is a log");
-    };
+    let award = award_of(rt, alloc, award);
+    let events = events_of(rt, alloc, log, &award);
     let mut desk = Desk::new(alloc, award)?;
+    replay_on(rt, alloc, &mut desk, events.items())
+}
+
+/// What is replayed of a log on this desk.
+fn replay_on(
+    rt: &impl Abort,
+    alloc: Global,
+    desk: &mut Desk,
+    events: &[Event],
+) -> Result<String, Fail> {
     let mut text = String::new(alloc);
-    for event in events.items() {
-        let reply = take(rt, alloc, &mut desk, event);
-        text.push_str(&format!(in alloc; "{reply:?}")?)?;
-        if matches!(event, Event::Close) {
-            add_place(&mut text, alloc, &desk)?;
-        }
-        text.push_str("\n")?;
+    for event in events {
+        add_reply(rt, &mut text, alloc, desk, event)?;
     }
-    add_book(rt, &mut text, alloc, &desk)?;
+    add_book(rt, &mut text, alloc, desk)?;
     Ok(text)
+}
+
+/// The reply to a line, and after a close where the desk is.
+fn add_reply(
+    rt: &impl Abort,
+    text: &mut String,
+    alloc: Global,
+    desk: &mut Desk,
+    event: &Event,
+) -> Result<(), Fail> {
+    let reply = take(rt, alloc, desk, event);
+    text.push_str(&format!(in alloc; "{reply:?}")?)?;
+    if matches!(event, Event::Close) {
+        add_place(text, alloc, desk)?;
+    }
+    text.push_str("\n")?;
+    Ok(())
 }
 
 /// Where the desk is: its stage, its round and its prices.

@@ -1,8 +1,7 @@
 // Edits of bidders that the book doesn't have: a review says the same of each, whatever it adds.
-use crate::samples::DAY_CRAMTON;
+use crate::samples::{DAY_CRAMTON, book_of};
 use edits_file::read_edits;
 use edits_file::review::Edit;
-use weights_file::bid_book::read_book;
 
 // Whether the edit adds this bid.
 fn adds(edit: &Edit, j: u16, counts: &[u16], sum: u64) -> bool {
@@ -18,9 +17,7 @@ fn adds(edit: &Edit, j: u16, counts: &[u16], sum: u64) -> bool {
 
 #[test]
 fn reads_the_edit_of_an_unknown_bidder(rt: HostRuntime) {
-    let Ok(book) = read_book(rt.alloc(), DAY_CRAMTON.as_bytes()) else {
-        panic!(rt; "this is a book");
-    };
+    let book = book_of(&rt, rt.alloc(), DAY_CRAMTON);
     let text = b"edits 1\nadd north 1 0 5\nend\n";
     let Ok(edits) = read_edits(rt.alloc(), text, &book) else {
         panic!(rt; "this is an edit");
@@ -33,9 +30,7 @@ fn reads_the_edit_of_an_unknown_bidder(rt: HostRuntime) {
 
 #[test]
 fn reads_the_greatest_numbers(rt: HostRuntime) {
-    let Ok(book) = read_book(rt.alloc(), b"book 1\nsupply 1\nreserve 0\nend\n") else {
-        panic!(rt; "this is a book");
-    };
+    let book = book_of(&rt, rt.alloc(), "book 1\nsupply 1\nreserve 0\nend\n");
     let text = b"edits 1\nadd b1 65535 1000000000000000000\nend\n";
     let Ok(edits) = read_edits(rt.alloc(), text, &book) else {
         panic!(rt; "this is an edit");

@@ -1,5 +1,5 @@
 //! Tests of what awards, logs, the clock and the desk tell through their own types; of books, choices, tables of greatest value, values
-//! without a winner, blocking coalitions, slots, weights, edits and printed turns.
+//! without a winner, blocking coalitions, slots, weights, edits and printed fractions.
 #![tactic(auto)]
 
 #[cfg(test)]
@@ -17,9 +17,9 @@ mod desks;
 #[cfg(test)]
 mod edits;
 #[cfg(test)]
-mod logs;
+mod fractions;
 #[cfg(test)]
-mod printed_turns;
+mod logs;
 #[cfg(test)]
 mod reviews;
 #[cfg(test)]

@@ -1,26 +1,17 @@
-use big_auction::clock_stage::award_file::read_award;
-use big_auction::log_file::{Event, Reply, read_log, reply_line};
+use crate::samples::{award_of, events_of};
+use big_auction::log_file::{Event, Reply, reply_line};
+use std::process::Abort;
 use std::test::Fail;
 
 /// Two categories for two bidders.
-const AWARD: &[u8] = b"version = 1\ntick = 1\n\
+const AWARD: &str = "version = 1\ntick = 1\n\
     category = [{ name = \"a\", supply = 3, points = 1, reserve = 10 }, { name = \"b\", supply = 1, points = 1, reserve = 1 }]\n\
     bidder = [{ name = \"east\", eligibility = 3 }, { name = \"west\", eligibility = 2 }]\n\
     step = [{ excess = 1, permille = 100 }]\n";
 
-#[test]
-fn events_have_the_numbers_of_bidders(rt: HostRuntime) -> Result<(), Fail> {
-    let Ok(award) = read_award(rt.alloc(), AWARD) else {
-        panic!(rt; "this is an award");
-    };
-    let Ok(events) = read_log(
-        rt.alloc(),
-        b"draft,west,2 1,77\nsubmit,stranger,,\n",
-        &award,
-    ) else {
-        panic!(rt; "this is a log");
-    };
-    match events.items() {
+// Asserts that these are a draft of the second bidder, and a submission of a stranger.
+fn are_draft_and_submission(rt: &impl Abort, events: &[Event]) {
+    match events {
         [
             Event::Draft {
                 bidder,
@@ -36,7 +27,14 @@ fn events_have_the_numbers_of_bidders(rt: HostRuntime) -> Result<(), Fail> {
         }
         _ => panic!(rt; "a draft and a submission"),
     }
-    Ok(())
+}
+
+#[test]
+fn events_have_the_numbers_of_bidders(rt: HostRuntime) {
+    let award = award_of(&rt, rt.alloc(), AWARD);
+    let log = "draft,west,2 1,77\nsubmit,stranger,,\n";
+    let events = events_of(&rt, rt.alloc(), log, &award);
+    are_draft_and_submission(&rt, events.items());
 }
 
 #[test]

@@ -2,12 +2,12 @@
 ghost use Rattle.std.specs.Prelude.{◌≡◌, length};
 ghost use Rattle.edits_file.specs.review.specs.Edits.{edit_lots};
 
+use crate::samples::book_of;
 use edits_file::review::{Edit, EditReply, Review};
 use slot_places::choices::value;
 use std::alloc::{AllocError, Global};
 use vickrey::value_table::win;
 use weights_file::bid_book::lots::{LotStop, Package};
-use weights_file::bid_book::read_book;
 
 // How many categories the package of an edit has.
 fn categories_of(edit: &Edit) -> usize
@@ -78,9 +78,7 @@ fn edits_agree_with_the_edited_book(rt: HostRuntime) -> Result<(), LotStop> {
     let alloc = rt.alloc();
     let text =
         "book 1\nsupply 2 1\nreserve 1 0\nbidder a\nbid 1 0 10\nbid 2 0 16\nbidder b\nbid 0 1 5\nbidder c\nend\n";
-    let Ok(book) = read_book(alloc, text.as_bytes()) else {
-        panic!(rt; "this is a book");
-    };
+    let book = book_of(&rt, alloc, text);
     let mut review = Review::start(alloc, book)?;
     let mut number = 7u32;
     let mut taken = 0u32;

@@ -56,21 +56,31 @@ fn an_order_lists_each_bidder(rt: HostRuntime) -> Result<(), Fail> {
     Ok(())
 }
 
-#[test]
-fn slots_tell_what_was_read(rt: HostRuntime) {
-    let slots = slots_of(&rt, rt.alloc(), THREE);
+/// Asserts the names and the widths of three bidders.
+fn has_widths(rt: &impl Abort, slots: &Slots) {
     if slots.bidders() != 3 {
         panic!(rt; "there are three bidders");
     }
     assert!(rt; slots.name(1) == "x");
     assert_eq!(rt; slots.width(1), 2);
     assert_eq!(rt; slots.width(3), 1);
-    if slots.places(2) != 1 {
+}
+
+/// Asserts the only bid of the second bidder.
+fn has_one_place(rt: &impl Abort, slots: &Slots, start: u16, amount: u64) {
+    if slots.bidders() < 2 || slots.places(2) != 1 {
         panic!(rt; "y has one bid");
     }
     let place = slots.place(2, 1);
-    assert_eq!(rt; place.start, 4);
-    assert_eq!(rt; place.amount, 8);
+    assert_eq!(rt; place.start, start);
+    assert_eq!(rt; place.amount, amount);
+}
+
+#[test]
+fn slots_tell_what_was_read(rt: HostRuntime) {
+    let slots = slots_of(&rt, rt.alloc(), THREE);
+    has_widths(&rt, &slots);
+    has_one_place(&rt, &slots, 4, 8);
 }
 
 // Whether these can be the surpluses of a search: one for each bidder, 0 for losers, and no sum leaves the range.
@@ -94,14 +104,13 @@ fn are_surpluses(chooser: &SlotChooser, surplus: &[i128]) -> bool
 fn lowered_is(
     rt: &impl Abort,
     alloc: Global,
+    chooser: &SlotChooser,
     surplus: &[i128],
     numbers: &[u16],
     sum: i128,
     table: &[i128],
 ) -> Result<(), AllocError> {
-    let slots = slots_of(rt, alloc, THREE);
-    let chooser = SlotChooser::new(&slots, place_win(alloc, &slots)?);
-    if !are_surpluses(&chooser, surplus) {
+    if !are_surpluses(chooser, surplus) {
         panic!(rt; "these are surpluses");
     }
     let found = chooser.best_lowered(alloc, 1, surplus)?;
@@ -111,20 +120,29 @@ fn lowered_is(
     Ok(())
 }
 
-// Where x pays 15 for its bid of 10, its surplus is -5, and it counts 5 beside z, which leaves it without a bid.
-#[test]
-fn a_chooser_searches_at_surpluses(rt: HostRuntime) -> Result<(), Fail> {
-    let slots = slots_of(&rt, rt.alloc(), THREE);
-    let chooser = SlotChooser::new(&slots, place_win(rt.alloc(), &slots)?);
+// Asserts that the bids of x and y win.
+fn first_two_win(rt: &impl Abort, chooser: &SlotChooser) {
     assert!(rt; chooser.winners().numbers() == [1, 1, 0].as_slice());
     if chooser.members() != 3 {
         panic!(rt; "there are three bidders");
     }
     assert_eq!(rt; chooser.winner_value(1), 10);
     assert_eq!(rt; chooser.winner_value(3), 0);
+}
+
+// Where x pays 15 for its bid of 10, its surplus is -5, and it counts 5 beside z, which leaves it without a bid.
+fn searches(rt: &impl Abort, alloc: Global, chooser: &SlotChooser) -> Result<(), AllocError> {
     let paid = [12i128, 2, 12, 0, 2, 2, 0, 0];
-    lowered_is(&rt, rt.alloc(), &[6, 6, 0], &[0, 0, 1], 12, &paid)?;
+    lowered_is(rt, alloc, chooser, &[6, 6, 0], &[0, 0, 1], 12, &paid)?;
     let above = [17i128, 1, 17, 0, 6, 1, 5, 0];
-    lowered_is(&rt, rt.alloc(), &[-5, 7, 0], &[0, 0, 1], 17, &above)?;
+    lowered_is(rt, alloc, chooser, &[-5, 7, 0], &[0, 0, 1], 17, &above)
+}
+
+#[test]
+fn a_chooser_searches_at_surpluses(rt: HostRuntime) -> Result<(), Fail> {
+    let slots = slots_of(&rt, rt.alloc(), THREE);
+    let chooser = SlotChooser::new(&slots, place_win(rt.alloc(), &slots)?);
+    first_two_win(&rt, &chooser);
+    searches(&rt, rt.alloc(), &chooser)?;
     Ok(())
 }

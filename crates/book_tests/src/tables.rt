@@ -3,9 +3,10 @@ ghost use Rattle.weights_file.specs.bid_book.specs.auction_model.specs.Book.{mar
 ghost use Rattle.slot_places.specs.choices.specs.Lowering.{CanLower};
 ghost use Rattle.vickrey.specs.value_table.specs.SideValues.{AreSidesOf};
 
-use crate::samples::{DAY_CRAMTON, is_line};
+use crate::samples::{DAY_CRAMTON, book_of, is_line};
 use slot_places::choices::{Chooser, Found, Grid, first_by_listing, value};
 use std::alloc::{AllocError, Global};
+use std::process::Abort;
 use vickrey::value_table::{BookChooser, Sides, TurnTable, win};
 use weights_file::bid_book::{BidBook, read_book};
 
@@ -30,35 +31,41 @@ fn are_surpluses(chooser: &BookChooser, surplus: &[i128]) -> bool
     true
 }
 
-// What the search at these surpluses finds and the grid of its table, where they are surpluses.
+// What the search at these surpluses finds, and the grid of its table.
 fn search(
+    rt: &impl Abort,
     alloc: Global,
     chooser: &BookChooser,
     surplus: &[i128],
-) -> Result<Option<(Found<TurnTable>, Grid)>, AllocError> {
+) -> Result<(Found<TurnTable>, Grid), AllocError> {
     if !are_surpluses(chooser, surplus) {
-        return Ok(None);
+        panic!(rt; "these are surpluses");
     }
     let found = chooser.best_lowered(alloc, 1, surplus)?;
     let grid = found.table.grid(alloc, chooser.book)?;
-    Ok(Some((found, grid)))
+    Ok((found, grid))
+}
+
+// Asserts the sum and the choice of what was found.
+fn found_is(rt: &impl Abort, found: &Found<TurnTable>, sum: i128, numbers: &[u16]) {
+    assert_eq!(rt; found.sum, sum);
+    assert!(rt; found.choice.numbers() == numbers);
+}
+
+// Asserts that the first two of five bidders win.
+fn first_two_win(rt: &impl Abort, chooser: &BookChooser) {
+    assert!(rt; chooser.winners().numbers() == [1, 1, 0, 0, 0].as_slice());
+    assert_eq!(rt; chooser.winner_value(1), 28);
+    assert_eq!(rt; chooser.winner_value(3), 0);
 }
 
 #[test]
 fn a_chooser_searches_at_surpluses(rt: HostRuntime) -> Result<(), AllocError> {
-    let Ok(book) = read_book(rt.alloc(), DAY_CRAMTON.as_bytes()) else {
-        panic!(rt; "this is a book");
-    };
+    let book = book_of(&rt, rt.alloc(), DAY_CRAMTON);
     let chooser = BookChooser::new(&book, win(rt.alloc(), &book)?);
-    assert!(rt; chooser.winners().numbers() == [1, 1, 0, 0, 0].as_slice());
-    assert_eq!(rt; chooser.winner_value(1), 28);
-    assert_eq!(rt; chooser.winner_value(3), 0);
-    let surplus = [14i128, 8, 0, 0, 0];
-    let Some((found, _)) = search(rt.alloc(), &chooser, &surplus)? else {
-        panic!(rt; "these are surpluses");
-    };
-    assert_eq!(rt; found.sum, 32);
-    assert!(rt; found.choice.numbers() == [0, 0, 1, 0, 0].as_slice());
+    first_two_win(&rt, &chooser);
+    let (found, _grid) = search(&rt, rt.alloc(), &chooser, &[14, 8, 0, 0, 0])?;
+    found_is(&rt, &found, 32, &[0, 0, 1, 0, 0]);
     Ok(())
 }
 
@@ -68,16 +75,11 @@ fn a_chooser_searches_at_surpluses(rt: HostRuntime) -> Result<(), AllocError> {
 fn a_bidder_that_pays_more_than_its_bid_counts_where_it_is_not_used(
     rt: HostRuntime,
 ) -> Result<(), AllocError> {
-    let Ok(book) = read_book(rt.alloc(), TWO_OR_ONE.as_bytes()) else {
-        panic!(rt; "this is a book");
-    };
+    let book = book_of(&rt, rt.alloc(), TWO_OR_ONE);
     let chooser = BookChooser::new(&book, win(rt.alloc(), &book)?);
     assert!(rt; chooser.winners().numbers() == [1, 1, 0].as_slice());
-    let Some((found, grid)) = search(rt.alloc(), &chooser, &[-5, 9, 0])? else {
-        panic!(rt; "these are surpluses");
-    };
-    assert_eq!(rt; found.sum, 17);
-    assert!(rt; found.choice.numbers() == [0, 0, 1].as_slice());
+    let (found, grid) = search(&rt, rt.alloc(), &chooser, &[-5, 9, 0])?;
+    found_is(&rt, &found, 17, &[0, 0, 1]);
     assert!(rt; is_line(&grid, 0, &[5, 6, 15, 17]));
     assert!(rt; is_line(&grid, 1, &[0, 1, 0, 12]));
     Ok(())
@@ -101,21 +103,31 @@ fn are_values_without(book: &BidBook, sides: &Sides, values: &[i128]) -> bool
     true
 }
 
-#[test]
-fn sides_give_the_values_without_each_bidder(rt: HostRuntime) -> Result<(), AllocError> {
-    let Ok(book) = read_book(rt.alloc(), DAY_CRAMTON.as_bytes()) else {
-        panic!(rt; "this is a book");
-    };
-    let sides = Sides::build(rt.alloc(), &book)?;
-    assert!(rt; are_values_without(&book, &sides, WITHOUT_ONE));
+// Asserts what a side holds for the first bidders of five and for the last, and the table without the first.
+fn are_sides(
+    rt: &impl Abort,
+    alloc: Global,
+    book: &BidBook,
+    sides: &Sides,
+) -> Result<(), AllocError>
+    requires { AreSidesOf book.now sides.now }
+{
+    assert!(rt; are_values_without(book, sides, WITHOUT_ONE));
     if book.bidders() < 2 || book.supply().states() != 4 {
         panic!(rt; "there are five bidders, and one lot of each of two categories");
     }
     assert_eq!(rt; sides.left(2, 3), 48);
     assert_eq!(rt; sides.right(2, 3), 32);
-    let table = sides.table_without(rt.alloc(), &book, 1)?;
-    assert_eq!(rt; table.most(&book), 34);
+    let table = sides.table_without(alloc, book, 1)?;
+    assert_eq!(rt; table.most(book), 34);
     Ok(())
+}
+
+#[test]
+fn sides_give_the_values_without_each_bidder(rt: HostRuntime) -> Result<(), AllocError> {
+    let book = book_of(&rt, rt.alloc(), DAY_CRAMTON);
+    let sides = Sides::build(rt.alloc(), &book)?;
+    are_sides(&rt, rt.alloc(), &book, &sides)
 }
 
 /// Two lots of one category with a reserve of 1, and one lot of another.
@@ -144,11 +156,9 @@ fn listed_values(alloc: Global, texts: &[&str]) -> Result<Vec<i128>, AllocError>
 
 #[test]
 fn sides_agree_with_a_listing(rt: HostRuntime) -> Result<(), AllocError> {
-    let Ok(book) = read_book(rt.alloc(), THREE.as_bytes()) else {
-        panic!(rt; "this is a book");
-    };
-    let sides = Sides::build(rt.alloc(), &book)?;
     let values = listed_values(rt.alloc(), TWO_OF_THREE)?;
+    let book = book_of(&rt, rt.alloc(), THREE);
+    let sides = Sides::build(rt.alloc(), &book)?;
     assert!(rt; are_values_without(&book, &sides, &values));
     Ok(())
 }

@@ -1,14 +1,11 @@
-use crate::samples::{DAY_CRAMTON, is_line};
+use crate::samples::{DAY_CRAMTON, book_of, is_line};
 use std::alloc::AllocError;
 use vickrey::value_table::win;
 use vickrey::vickrey;
-use weights_file::bid_book::read_book;
 
 #[test]
 fn winners_pay_what_the_others_lose_by_them(rt: HostRuntime) -> Result<(), AllocError> {
-    let Ok(book) = read_book(rt.alloc(), DAY_CRAMTON.as_bytes()) else {
-        panic!(rt; "this is a book");
-    };
+    let book = book_of(&rt, rt.alloc(), DAY_CRAMTON);
     let winners = win(rt.alloc(), &book)?;
     let alone = vickrey(rt.alloc(), &book, &winners)?;
     if alone.count() != 2 || alone.singles().len() != 2 {

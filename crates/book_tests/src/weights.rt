@@ -1,5 +1,5 @@
 // What the reader takes.
-use weights_file::bid_book::read_book;
+use crate::samples::book_of;
 use weights_file::read_weights;
 
 /// Two bidders.
@@ -7,9 +7,7 @@ const BOOK: &str = "book 1\nsupply 2\nreserve 0\nbidder east\nbid 1 5\nbidder we
 
 #[test]
 fn reads_one_weight_for_each_bidder(rt: HostRuntime) {
-    let Ok(book) = read_book(rt.alloc(), BOOK.as_bytes()) else {
-        panic!(rt; "this is a book");
-    };
+    let book = book_of(&rt, rt.alloc(), BOOK);
     let text = b"weights 1\nweight east 1\nweight west_2 20\nend\n";
     let Ok(weights) = read_weights(rt.alloc(), text, &book) else {
         panic!(rt; "these are weights");
