@@ -5,7 +5,7 @@ ghost use Rattle.std.specs.Prelude.{◌<◌, length, IfOk, OnOk, All, IsTrue, ma
 use crate::samples::{
     AWARD, CHECK, DAY_CRAMTON, DAY_CRAMTON_CERT, LOWERED, LOWERED_OUTCOME, PRICE, SAMPLE,
 };
-use crate::settings::{joined, run_plain, words_of};
+use crate::settings::{Ended, joined, run_plain, words_of};
 use cca_run::cca_base::{CleanFiles, CleanSink, Files, WriteStop, write_file};
 use cca_run::{FileKind, Status, run};
 use std::alloc::{AllocError, Global};
@@ -84,17 +84,38 @@ fn fill(
     }
 }
 
+// Files that know the words, with what they hold before the run.
+fn files_of(alloc: Global, words: &[String], setting: Setting<'_>) -> Result<CleanFiles, Fail>
+    ensures { IfOk result (λ files. All (λ w. IsTrue ((⟦<CleanFiles as Files>⟧.folder files).knows w))
+        (map string_bytes words.now)) }
+{
+    let mut files = clean_files(alloc, words, setting.room)?;
+    fill(&mut files, words, 1, setting.first)?;
+    fill(&mut files, words, 2, setting.second)?;
+    fill(&mut files, words, 3, setting.third)?;
+    Ok(files)
+}
+
 // A run over such files.
 fn run_clean(alloc: Global, words: &[&str], setting: Setting<'_>) -> Result<Answer, Fail> {
     let words = words_of(alloc, words)?;
-    let mut files = clean_files(alloc, &words, setting.room)?;
-    fill(&mut files, &words, 1, setting.first)?;
-    fill(&mut files, &words, 2, setting.second)?;
-    fill(&mut files, &words, 3, setting.third)?;
+    let mut files = files_of(alloc, &words, setting)?;
     let mut out = CleanSink::new(alloc, setting.width)?;
     let status = run(alloc, &words, &mut files, &mut out);
     let printed = Vec::from_slice(alloc, out.bytes())?;
     Ok(Answer { status, printed })
+}
+
+// Asserts the status and what was printed.
+fn ends(rt: &impl Abort, answer: &Answer, status: Status, printed: &str) {
+    assert_eq!(rt; answer.status, status);
+    assert_eq!(rt; answer.printed.as_slice(), printed.as_bytes());
+}
+
+// Asserts that both runs end alike.
+fn are_alike(rt: &impl Abort, clean: &Answer, grown: &Ended) {
+    assert_eq!(rt; grown.status, clean.status);
+    assert_eq!(rt; grown.printed.as_slice(), clean.printed.as_slice());
 }
 
 // A run that is done and prints this, over files of both kinds, with an output that has room for that and no more.
@@ -118,10 +139,8 @@ fn prints(
         },
     )?;
     let grown = run_plain(alloc, words, first, second)?;
-    assert_eq!(rt; clean.status, Status::Done);
-    assert_eq!(rt; clean.printed.as_slice(), printed.as_bytes());
-    assert_eq!(rt; grown.status, clean.status);
-    assert_eq!(rt; grown.printed.as_slice(), clean.printed.as_slice());
+    ends(rt, &clean, Status::Done, printed);
+    are_alike(rt, &clean, &grown);
     Ok(())
 }
 
@@ -154,16 +173,12 @@ fn priced_within(alloc: Global, room: u64, width: u64) -> Result<Answer, Fail> {
 fn a_certificate_fits_to_its_last_byte(rt: HostRuntime) -> Result<(), Fail> {
     let alloc = rt.alloc();
     let fits = priced_within(alloc, CERT_LENGTH, 200)?;
+    assert_eq!(rt; fits.status, Status::Done);
     let short = priced_within(alloc, CERT_LENGTH - 1, 200)?;
     let fault = Status::WriteFault {
         file: FileKind::Cert,
     };
-    assert_eq!(rt; fits.status, Status::Done);
-    assert_eq!(rt; short.status, fault);
-    assert_eq!(rt;
-        short.printed.as_slice(),
-        b"cca: write fault cert\n".as_slice()
-    );
+    ends(&rt, &short, fault, "cca: write fault cert\n");
     Ok(())
 }
 
@@ -173,7 +188,6 @@ fn an_output_without_room_is_a_fault(rt: HostRuntime) -> Result<(), Fail> {
     let fault = Status::WriteFault {
         file: FileKind::Out,
     };
-    assert_eq!(rt; answer.status, fault);
-    assert!(rt; answer.printed.is_empty());
+    ends(&rt, &answer, fault, "");
     Ok(())
 }

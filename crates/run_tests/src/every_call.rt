@@ -1,12 +1,13 @@
 // Each load, append and put of a clean run fails in turn.
-ghost use Rattle.std.specs.Prelude.{◌<◌};
+ghost use Rattle.std.specs.Prelude.{◌<◌, IfOk, All, IsTrue, map, string_bytes};
+ghost use Rattle.cca_run.specs.cca_base.specs.MemFiles.{mem_folder};
 
 use crate::samples::{
     ALL_ALIKE, CHECK, DAY_CRAMTON, DAY_CRAMTON_CERT, EDITS, LOWERED, PLACE, PLACE_CHECK, PRICE,
     REVIEW, SAMPLE, SLOTS, SLOTS_CERT, WEIGH, WEIGH_CHECK,
 };
-use crate::settings::{fill, joined, left_at, no_files_in, words_of};
-use cca_run::cca_base::MemSink;
+use crate::settings::{fill, joined, left_at, no_files_in, sink_of, words_of};
+use cca_run::cca_base::{MemFiles, MemSink};
 use cca_run::{FileKind, Status, run};
 use std::alloc::{AllocError, Global};
 use std::process::Abort;
@@ -68,21 +69,47 @@ fn run_in_bites(
     requires { 0 < bite }
 {
     let words = words_of(alloc, words)?;
-    let mut files = no_files_in(alloc, &words, bite)?;
-    fill(&mut files, &words, 1, held.first)?;
-    fill(&mut files, &words, 2, held.second)?;
-    fill(&mut files, &words, 3, held.third)?;
+    let mut files = files_of(alloc, &words, held, bite, failing)?;
+    let mut out = sink_of(alloc, failing.put)?;
+    let status = run(alloc, &words, &mut files, &mut out);
+    ended_of(alloc, status, &files, &out)
+}
+
+// Files that know the words, with what they hold. At most so many bytes go in one call.
+fn files_of(
+    alloc: Global,
+    words: &[String],
+    held: Held<'_>,
+    bite: usize,
+    failing: Failing,
+) -> Result<MemFiles, AllocError>
+    requires { 0 < bite }
+    ensures { IfOk result
+        (λ files. All (λ w. IsTrue ((mem_folder files.files.items).knows w)) (map string_bytes words.now)) }
+{
+    let mut files = no_files_in(alloc, words, bite)?;
+    fill(&mut files, words, 1, held.first)?;
+    fill(&mut files, words, 2, held.second)?;
+    fill(&mut files, words, 3, held.third)?;
     files.fail_loads.push(failing.load)?;
     files.fail_appends.push(failing.append)?;
-    let mut out = MemSink::new(alloc, 5);
-    out.fail_puts.push(failing.put)?;
-    let status = run(alloc, &words, &mut files, &mut out);
+    Ok(files)
+}
+
+// What a run that gave this status has left.
+fn ended_of(
+    alloc: Global,
+    status: Status,
+    files: &MemFiles,
+    out: &MemSink,
+) -> Result<Ended, AllocError> {
+    let printed = Vec::from_slice(alloc, &out.bytes)?;
     Ok(Ended {
         status,
-        printed: out.bytes,
-        first: left_at(alloc, &files, 1)?,
-        second: left_at(alloc, &files, 2)?,
-        third: left_at(alloc, &files, 3)?,
+        printed,
+        first: left_at(alloc, files, 1)?,
+        second: left_at(alloc, files, 2)?,
+        third: left_at(alloc, files, 3)?,
         loads: files.loads,
         appends: files.appends,
         puts: out.puts,
@@ -91,6 +118,19 @@ fn run_in_bites(
 
 fn holds(left: &Option<Vec<u8>>, bytes: Option<&[u8]>) -> bool {
     left.as_deref() == bytes
+}
+
+// Asserts the status and what was printed. What is asserted stands beside nothing that is owned, which would make each assert dearer to check.
+fn ends(rt: &impl Abort, ended: &Ended, status: Status, printed: &[u8]) {
+    assert_eq!(rt; ended.status, status);
+    assert_eq!(rt; ended.printed.as_slice(), printed);
+}
+
+// Asserts that the files hold what they held.
+fn leaves(rt: &impl Abort, ended: &Ended, held: Held<'_>) {
+    assert!(rt; holds(&ended.first, held.first));
+    assert!(rt; holds(&ended.second, held.second));
+    assert!(rt; holds(&ended.third, held.third));
 }
 
 // The loads of these numbers are of a file of this kind: where one of them fails, its line alone is printed and no file has changed.
@@ -106,13 +146,24 @@ fn loads_fail(
 ) -> Result<(), Fail> {
     for load in from..to {
         let ended = run_failing(alloc, words, held, Failing { load, ..CLEAN })?;
-        assert_eq!(rt; ended.status, Status::ReadFault { file: kind });
-        assert_eq!(rt; ended.printed.as_slice(), line.as_bytes());
-        assert!(rt; holds(&ended.first, held.first));
-        assert!(rt; holds(&ended.second, held.second));
-        assert!(rt; holds(&ended.third, held.third));
+        ends(
+            rt,
+            &ended,
+            Status::ReadFault { file: kind },
+            line.as_bytes(),
+        );
+        leaves(rt, &ended, held);
     }
     Ok(())
+}
+
+// Asserts that the output took so many bytes of what a clean run prints, and that the files are as behind that.
+fn breaks_off(rt: &impl Abort, ended: &Ended, clean: &Ended, done: usize) {
+    let front = clean.printed.get(..done).expect(rt, "a front");
+    let file = FileKind::Out;
+    ends(rt, ended, Status::WriteFault { file }, front);
+    assert!(rt; holds(&ended.second, clean.second.as_deref()));
+    assert!(rt; holds(&ended.third, clean.third.as_deref()));
 }
 
 // Where the put of any number fails, what went out before is a front of the clean text, 5 bytes for each put, and the files are as after
@@ -133,12 +184,7 @@ fn puts_fail(
             ..CLEAN
         };
         let ended = run_failing(alloc, words, held, failing)?;
-        let front = clean.printed.get(..done).expect(rt, "a front");
-        let out = FileKind::Out;
-        assert_eq!(rt; ended.status, Status::WriteFault { file: out });
-        assert_eq!(rt; ended.printed.as_slice(), front);
-        assert!(rt; holds(&ended.second, clean.second.as_deref()));
-        assert!(rt; holds(&ended.third, clean.third.as_deref()));
+        breaks_off(rt, &ended, &clean, done);
         done += 5;
     }
     Ok(())
@@ -155,27 +201,36 @@ fn appends_fail(
     line: &str,
     text: &[u8],
 ) -> Result<(), Fail> {
-    let clean = run_failing(alloc, words, held, CLEAN)?;
+    let appends = run_failing(alloc, words, held, CLEAN)?.appends;
     let mut done = 0;
-    for before in 0..clean.appends {
+    for before in 0..appends {
         let failing = Failing {
             append: before + 1,
             ..CLEAN
         };
         let ended = run_failing(alloc, words, held, failing)?;
         let front = text.get(..done).expect(rt, "a front");
-        let is_left = if words.len() > 3 {
-            ended.third.as_deref().unwrap_or(b"") == front
-        } else {
-            ended.second.as_deref().unwrap_or(b"") == front
-        };
-        assert_eq!(rt; ended.status, Status::WriteFault { file: kind });
-        assert_eq!(rt; ended.printed.as_slice(), line.as_bytes());
-        assert!(rt; is_left);
+        ends(
+            rt,
+            &ended,
+            Status::WriteFault { file: kind },
+            line.as_bytes(),
+        );
+        assert!(rt; last_of(&ended, words) == front);
         done += 100;
     }
     assert!(rt; text.get(..done).is_none());
     Ok(())
+}
+
+// What the file that the last of these words names holds; nothing where it is missing.
+fn last_of<'a>(ended: &'a Ended, words: &[&str]) -> &'a [u8] {
+    let last = if words.len() > 3 {
+        &ended.third
+    } else {
+        &ended.second
+    };
+    last.as_deref().unwrap_or(b"")
 }
 
 const WIN: &[&str] = &["win", "BOOK"];
@@ -308,6 +363,24 @@ fn auction_stands_each_fault(rt: HostRuntime) -> Result<(), Fail> {
     puts_fail(&rt, alloc, AUCTION, held, 19)
 }
 
+// Each call of a run of `award`, which writes this certificate, fails in turn.
+fn award_stands(rt: &impl Abort, alloc: Global, held: Held<'_>, cert: &[u8]) -> Result<(), Fail> {
+    let kind = FileKind::Cert;
+    loads_fail(rt, alloc, AWARD, held, FileKind::Award, AWARD_FAULT, 1, 5)?;
+    loads_fail(rt, alloc, AWARD, held, FileKind::Log, LOG_FAULT, 5, 8)?;
+    appends_fail(rt, alloc, AWARD, held, kind, CERT_WRITE_FAULT, cert)?;
+    puts_fail(rt, alloc, AWARD, held, 20)
+}
+
+// Each call of a run of `audit` fails in turn.
+fn audit_stands(rt: &impl Abort, alloc: Global, held: Held<'_>) -> Result<(), Fail> {
+    loads_fail(rt, alloc, AUDIT, held, FileKind::Award, AWARD_FAULT, 1, 5)?;
+    loads_fail(rt, alloc, AUDIT, held, FileKind::Log, LOG_FAULT, 5, 8)?;
+    makes_loads(rt, alloc, AUDIT, held, 11)?;
+    loads_fail(rt, alloc, AUDIT, held, FileKind::Cert, CERT_FAULT, 8, 12)?;
+    puts_fail(rt, alloc, AUDIT, held, 21)
+}
+
 #[test]
 fn award_and_audit_stand_each_fault(rt: HostRuntime) -> Result<(), Fail> {
     let alloc = rt.alloc();
@@ -318,36 +391,12 @@ fn award_and_audit_stand_each_fault(rt: HostRuntime) -> Result<(), Fail> {
     };
     let clean = run_failing(alloc, AWARD, held, CLEAN)?;
     let cert = clean.third.as_deref().unwrap_or(b"");
-    loads_fail(&rt, alloc, AWARD, held, FileKind::Award, AWARD_FAULT, 1, 5)?;
-    loads_fail(&rt, alloc, AWARD, held, FileKind::Log, LOG_FAULT, 5, 8)?;
-    appends_fail(
-        &rt,
-        alloc,
-        AWARD,
-        held,
-        FileKind::Cert,
-        CERT_WRITE_FAULT,
-        cert,
-    )?;
-    puts_fail(&rt, alloc, AWARD, held, 20)?;
+    award_stands(&rt, alloc, held, cert)?;
     let tested = Held {
         third: Some(cert),
         ..held
     };
-    loads_fail(
-        &rt,
-        alloc,
-        AUDIT,
-        tested,
-        FileKind::Award,
-        AWARD_FAULT,
-        1,
-        5,
-    )?;
-    loads_fail(&rt, alloc, AUDIT, tested, FileKind::Log, LOG_FAULT, 5, 8)?;
-    makes_loads(&rt, alloc, AUDIT, tested, 11)?;
-    loads_fail(&rt, alloc, AUDIT, tested, FileKind::Cert, CERT_FAULT, 8, 12)?;
-    puts_fail(&rt, alloc, AUDIT, tested, 21)
+    audit_stands(&rt, alloc, tested)
 }
 
 #[test]
@@ -437,10 +486,11 @@ fn leaves_a_front(
 ) -> Result<(), Fail> {
     let failing = Failing { append, ..CLEAN };
     let ended = run_in_bites(alloc, AUCTION, held, 40, failing)?;
-    let file = FileKind::Book;
-    assert_eq!(rt; ended.status, Status::WriteFault { file });
-    assert_eq!(rt; ended.printed.as_slice(), BOOK_WRITE_FAULT.as_bytes());
-    assert!(rt; ended.third.as_deref().unwrap_or(b"") == front.as_bytes());
+    let fault = Status::WriteFault {
+        file: FileKind::Book,
+    };
+    ends(rt, &ended, fault, BOOK_WRITE_FAULT.as_bytes());
+    assert!(rt; last_of(&ended, AUCTION) == front.as_bytes());
     Ok(())
 }
 
@@ -454,7 +504,7 @@ fn makes_appends(
 ) -> Result<(), Fail> {
     let clean = run_in_bites(alloc, AUCTION, held, 40, CLEAN)?;
     assert_eq!(rt; clean.appends, appends);
-    assert!(rt; clean.third.as_deref().unwrap_or(b"") == book.as_bytes());
+    assert!(rt; last_of(&clean, AUCTION) == book.as_bytes());
     Ok(())
 }
 
@@ -480,9 +530,10 @@ fn a_certificate_that_held_something_still_holds_it(rt: HostRuntime) -> Result<(
     };
     let failing = Failing { append: 1, ..CLEAN };
     let ended = run_failing(alloc, PRICE, held, failing)?;
-    let file = FileKind::Cert;
-    assert_eq!(&rt; ended.status, Status::WriteFault { file });
-    assert_eq!(&rt; ended.printed.as_slice(), CERT_WRITE_FAULT.as_bytes());
-    assert!(&rt; holds(&ended.second, Some("x".as_bytes())));
+    let fault = Status::WriteFault {
+        file: FileKind::Cert,
+    };
+    ends(&rt, &ended, fault, CERT_WRITE_FAULT.as_bytes());
+    leaves(&rt, &ended, held);
     Ok(())
 }

@@ -1,8 +1,9 @@
 // Runs with faults of files and of the output.
 use crate::samples::{CHECK, DAY_CRAMTON, DAY_CRAMTON_CERT, DAY_CRAMTON_FRONT, PRICE, TIE};
-use crate::settings::{Setting, joined, run_on};
+use crate::settings::{Ended, Setting, joined, run_on};
 use cca_run::bid_book::LimitKind;
 use cca_run::{FileKind, Status};
+use std::process::Abort;
 use std::test::Fail;
 
 const WIN: &[&str] = &["win", "BOOK"];
@@ -10,6 +11,12 @@ const WIN: &[&str] = &["win", "BOOK"];
 const BOOK_FAULT: &str = "cca: read fault book\n";
 
 const CERT_FAULT: &str = "cca: read fault cert\n";
+
+// Asserts the status and what was printed.
+fn ends(rt: &impl Abort, ended: &Ended, status: Status, printed: &str) {
+    assert_eq!(rt; ended.status, status);
+    assert_eq!(rt; ended.printed.as_slice(), printed.as_bytes());
+}
 
 // The load of this number fails. A book of less than 100 bytes is read by two loads, the second at its end.
 #[test]
@@ -34,8 +41,7 @@ fn tells_faults_of_reading(rt: HostRuntime) -> Result<(), Fail> {
             fail_put: 0,
         };
         let ended = run_on(rt.alloc(), words, &setting)?;
-        assert_eq!(rt; ended.status, Status::ReadFault { file });
-        assert_eq!(rt; ended.printed.as_slice(), printed.as_bytes());
+        ends(&rt, &ended, Status::ReadFault { file }, printed);
     }
     Ok(())
 }
@@ -65,9 +71,8 @@ fn tells_faults_of_writing(rt: HostRuntime) -> Result<(), Fail> {
             fail_put,
         };
         let ended = run_on(rt.alloc(), words, &setting)?;
+        ends(&rt, &ended, Status::WriteFault { file }, printed);
         let left = joined(rt.alloc(), left)?;
-        assert_eq!(rt; ended.status, Status::WriteFault { file });
-        assert_eq!(rt; ended.printed.as_slice(), printed.as_bytes());
         assert_eq!(rt; ended.cert.as_deref().unwrap_or(b""), left.as_slice());
     }
     Ok(())
@@ -88,10 +93,6 @@ fn refuses_a_long_book(rt: HostRuntime) -> Result<(), Fail> {
         which: LimitKind::Bytes,
         count: 1_048_577,
     };
-    assert_eq!(rt; ended.status, too_long);
-    assert_eq!(rt;
-        ended.printed.as_slice(),
-        b"cca: limit bytes 1048577\n".as_slice()
-    );
+    ends(&rt, &ended, too_long, "cca: limit bytes 1048577\n");
     Ok(())
 }

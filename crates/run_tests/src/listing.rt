@@ -1,8 +1,10 @@
 // The winning choice beside a listing of all choices, and a table without a bidder.
 use crate::samples::{AT_RESERVE, DAY_CRAMTON, EQUALS, NOBODY, TIE, TWO_GLOBALS};
-use cca_run::bid_book::read_book;
+use cca_run::bid_book::{BidBook, read_book};
 use cca_run::choices::first_by_listing;
 use cca_run::value_table::{ValueTable, win};
+use std::alloc::{AllocError, Global};
+use std::process::Abort;
 use std::test::Fail;
 
 const TIED_AT_RESERVE: &str =
@@ -18,6 +20,27 @@ const TWO_CATEGORIES: &str =
 const LAST_WINS_ALL: &str =
     "book 1\nsupply 3\nreserve 1\nbidder a\nbid 1 2\nbid 2 3\nbid 3 5\nbidder b\nbid 1 2\nbid 2 3\nbidder c\nbid 3 6\n\
     end\n";
+
+fn book_of(rt: &impl Abort, alloc: Global, text: &str) -> BidBook {
+    let Ok(book) = read_book(alloc, text.as_bytes()) else {
+        panic!(rt; "this is a book");
+    };
+    book
+}
+
+// Asserts that these win, and that they are the first of the greatest by a listing.
+fn wins_and_is_first(
+    rt: &impl Abort,
+    alloc: Global,
+    book: &BidBook,
+    numbers: &[u16],
+) -> Result<(), AllocError> {
+    let choice = win(alloc, book)?;
+    assert_eq!(rt; choice.numbers(), numbers);
+    let first = first_by_listing(alloc, book)?;
+    assert_eq!(rt; first.numbers(), numbers);
+    Ok(())
+}
 
 #[test]
 fn agrees_with_a_listing(rt: HostRuntime) -> Result<(), Fail> {
@@ -35,13 +58,8 @@ fn agrees_with_a_listing(rt: HostRuntime) -> Result<(), Fail> {
     ];
     let alloc = rt.alloc();
     for (text, numbers) in table {
-        let Ok(book) = read_book(alloc, text.as_bytes()) else {
-            return Err("the book is refused".into());
-        };
-        let choice = win(alloc, &book)?;
-        assert_eq!(rt; choice.numbers(), numbers);
-        let first = first_by_listing(alloc, &book)?;
-        assert_eq!(rt; first.numbers(), numbers);
+        let book = book_of(&rt, alloc, text);
+        wins_and_is_first(&rt, alloc, &book, numbers)?;
     }
     Ok(())
 }
@@ -49,17 +67,21 @@ fn agrees_with_a_listing(rt: HostRuntime) -> Result<(), Fail> {
 #[test]
 fn leaves_a_bidder_out(rt: HostRuntime) -> Result<(), Fail> {
     let alloc = rt.alloc();
-    let Ok(book) = read_book(alloc, DAY_CRAMTON.as_bytes()) else {
-        return Err("the book is refused".into());
-    };
+    let book = book_of(&rt, alloc, DAY_CRAMTON);
+    leaves_out_the_first(&rt, alloc, &book)?;
+    Ok(())
+}
+
+// Asserts the table without the first of five bidders, with four states.
+fn leaves_out_the_first(rt: &impl Abort, alloc: Global, book: &BidBook) -> Result<(), AllocError> {
     if book.bidders() != 5 || book.supply().states() != 4 {
-        return Err("the book is another".into());
+        panic!(rt; "the book is another");
     }
-    let table = ValueTable::build(alloc, &book, 1, 1, &[0, 0, 0, 0, 0])?;
+    let table = ValueTable::build(alloc, book, 1, 1, &[0, 0, 0, 0, 0])?;
     assert_eq!(rt; table.grid().lines(), 6);
     assert_eq!(rt; table.entry(0, 3), 34);
     assert_eq!(rt; table.entry(1, 1), 20);
-    let choice = table.trace(alloc, &book)?;
+    let choice = table.trace(alloc, book)?;
     assert_eq!(rt; choice.numbers(), [0, 1, 0, 1, 0].as_slice());
     Ok(())
 }

@@ -1,8 +1,9 @@
 // An auction that is made from a number, where an append or a put fails.
-use crate::settings::{joined, left_at, no_files, words_of};
-use cca_run::cca_base::MemSink;
-use cca_run::{FileKind, Status, cca_base, run};
+use crate::settings::{joined, left_at, no_files, sink_of, words_of};
+use cca_run::cca_base::{MemFiles, MemSink};
+use cca_run::{FileKind, Status, run};
 use std::alloc::{AllocError, Global};
+use std::process::Abort;
 use std::test::Fail;
 
 /// What a run of `make` answers, prints and leaves in its two files.
@@ -35,11 +36,7 @@ const LOG_START: &str =
     "bid,b1,1 0 4 4,\nbid,b2,2 1 2 0,\nbid,b3,2 1 5 3,\nbid,b4,1 0 5 2,\nbid,b5,2 0 6 0,\nbid,b6,1 1 7 3,\nbid,";
 
 /// The bytes of the file that the word at this place names; none where it is missing.
-fn bytes_at(
-    alloc: Global,
-    files: &cca_base::MemFiles,
-    place: usize,
-) -> Result<Vec<u8>, AllocError> {
+fn bytes_at(alloc: Global, files: &MemFiles, place: usize) -> Result<Vec<u8>, AllocError> {
     match left_at(alloc, files, place)? {
         Some(bytes) => Ok(bytes),
         None => Ok(Vec::new(alloc)),
@@ -56,15 +53,37 @@ fn run_make(
     let words = words_of(alloc, words)?;
     let mut files = no_files(alloc, &words)?;
     files.fail_appends.push(fail_append)?;
-    let mut out = MemSink::new(alloc, 5);
-    out.fail_puts.push(fail_put)?;
+    let mut out = sink_of(alloc, fail_put)?;
     let status = run(alloc, &words, &mut files, &mut out);
+    ended_of(alloc, status, &files, &out)
+}
+
+/// What a run that gave this status has left.
+fn ended_of(
+    alloc: Global,
+    status: Status,
+    files: &MemFiles,
+    out: &MemSink,
+) -> Result<Ended, AllocError> {
+    let printed = Vec::from_slice(alloc, &out.bytes)?;
     Ok(Ended {
         status,
-        printed: out.bytes,
-        award: bytes_at(alloc, &files, 2)?,
-        log: bytes_at(alloc, &files, 3)?,
+        printed,
+        award: bytes_at(alloc, files, 2)?,
+        log: bytes_at(alloc, files, 3)?,
     })
+}
+
+/// Asserts the status and what was printed.
+fn ends(rt: &impl Abort, ended: &Ended, file: FileKind, printed: &str) {
+    assert_eq!(rt; ended.status, Status::WriteFault { file });
+    assert_eq!(rt; ended.printed.as_slice(), printed.as_bytes());
+}
+
+/// Asserts what stands in the two files.
+fn leaves(rt: &impl Abort, ended: &Ended, award: &[u8], log: &str) {
+    assert_eq!(rt; ended.award.as_slice(), award);
+    assert_eq!(rt; ended.log.as_slice(), log.as_bytes());
 }
 
 const SEVEN: &[&str] = &["make", "7", "AWARD", "LOG"];
@@ -91,10 +110,8 @@ fn keeps_the_order_of_appends_after_a_fault(rt: HostRuntime) -> Result<(), Fail>
     for (fail_append, file, printed, award, log) in table {
         let ended = run_make(rt.alloc(), SEVEN, fail_append, 0)?;
         let award = joined(rt.alloc(), award)?;
-        assert_eq!(rt; ended.status, Status::WriteFault { file });
-        assert_eq!(rt; ended.printed.as_slice(), printed.as_bytes());
-        assert_eq!(rt; ended.award.as_slice(), award.as_slice());
-        assert_eq!(rt; ended.log.as_slice(), log.as_bytes());
+        ends(&rt, &ended, file, printed);
+        leaves(&rt, &ended, &award, log);
     }
     Ok(())
 }
@@ -102,11 +119,7 @@ fn keeps_the_order_of_appends_after_a_fault(rt: HostRuntime) -> Result<(), Fail>
 #[test]
 fn tells_a_fault_of_the_output_behind_both_files(rt: HostRuntime) -> Result<(), Fail> {
     let ended = run_make(rt.alloc(), SEVEN, 0, 2)?;
-    let fault = Status::WriteFault {
-        file: FileKind::Out,
-    };
-    assert_eq!(rt; ended.status, fault);
-    assert_eq!(rt; ended.printed.as_slice(), b"made ".as_slice());
+    ends(&rt, &ended, FileKind::Out, "made ");
     assert_eq!(rt; ended.award.len(), 836);
     assert_eq!(rt; ended.log.len(), 28996);
     Ok(())

@@ -91,7 +91,7 @@ pub(crate) fn fill(
     }
 }
 
-// Files that know the words, with the bytes of the book and of the certificate.
+// Files that know the words, with the bytes of the book and of the certificate, and with the calls that fail.
 fn files_of(alloc: Global, words: &[String], setting: &Setting<'_>) -> Result<MemFiles, AllocError>
     ensures { IfOk result
         (λ files. All (λ w. IsTrue ((mem_folder files.files.items).knows w)) (map string_bytes words.now)) }
@@ -99,7 +99,16 @@ fn files_of(alloc: Global, words: &[String], setting: &Setting<'_>) -> Result<Me
     let mut files = no_files(alloc, words)?;
     fill(&mut files, words, 1, setting.book)?;
     fill(&mut files, words, 2, setting.cert)?;
+    files.fail_loads.push(setting.fail_load)?;
+    files.fail_appends.push(setting.fail_append)?;
     Ok(files)
+}
+
+/// An output that takes at most 5 bytes in one call, and of which the put of this number fails; 0 for none.
+pub(crate) fn sink_of(alloc: Global, fail_put: u64) -> Result<MemSink, AllocError> {
+    let mut out = MemSink::new(alloc, 5);
+    out.fail_puts.push(fail_put)?;
+    Ok(out)
 }
 
 /// The bytes of the file that the word at this place names, of different words.
@@ -125,15 +134,23 @@ pub(crate) fn run_on(
 ) -> Result<Ended, AllocError> {
     let words = words_of(alloc, words)?;
     let mut files = files_of(alloc, &words, setting)?;
-    files.fail_loads.push(setting.fail_load)?;
-    files.fail_appends.push(setting.fail_append)?;
-    let mut out = MemSink::new(alloc, 5);
-    out.fail_puts.push(setting.fail_put)?;
+    let mut out = sink_of(alloc, setting.fail_put)?;
     let status = run(alloc, &words, &mut files, &mut out);
+    ended_of(alloc, status, &files, &out)
+}
+
+// What a run that gave this status has left.
+fn ended_of(
+    alloc: Global,
+    status: Status,
+    files: &MemFiles,
+    out: &MemSink,
+) -> Result<Ended, AllocError> {
+    let printed = Vec::from_slice(alloc, &out.bytes)?;
     Ok(Ended {
         status,
-        printed: out.bytes,
-        cert: left_at(alloc, &files, 2)?,
+        printed,
+        cert: left_at(alloc, files, 2)?,
     })
 }
 

@@ -1,6 +1,6 @@
 use Rattle.std.proofs.Common.{◌≡◌, ℕ, zero, suc, List, [], ◌∷◌, get_or, ℤ, pos, refl}
 use Rattle.cca_run.specs.value_table.proofs.Plain.{plain-range}
-use Rattle.run_tests.proofs.listing.leaves_a_bidder_out.Goals as goal
+use Rattle.run_tests.proofs.listing.leaves_out_the_first.Goals as goal
 
 no_surplus : (k : ℕ) → get_or (pos 0 ∷ pos 0 ∷ pos 0 ∷ pos 0 ∷ pos 0 ∷ []) k (pos 0) ≡ pos 0
 no_surplus zero = refl
@@ -11,4 +11,4 @@ no_surplus (suc (suc (suc (suc zero)))) = refl
 no_surplus (suc (suc (suc (suc (suc k))))) = refl
 
 pub build-requires-clause-range : goal.build-requires-clause-range
-build-requires-clause-range g c = plain-range c.in-Ok.book 1 (pos 0 ∷ pos 0 ∷ pos 0 ∷ pos 0 ∷ pos 0 ∷ []) c.bidders.ensures.kept no_surplus
+build-requires-clause-range g c = plain-range c.args.book.now 1 (pos 0 ∷ pos 0 ∷ pos 0 ∷ pos 0 ∷ pos 0 ∷ []) c.bidders.ensures.kept no_surplus
