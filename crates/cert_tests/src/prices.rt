@@ -1,9 +1,9 @@
 ghost use Rattle.std.specs.Prelude.{IsTrue, length, pos, slice_index_or, ℕ, ◌<◌, ◌≤ℤ◌};
 
-use crate::samples::{DAY_CRAMTON, DAY_CRAMTON_CERT};
-use place_price::book_price::cert_text::choices::bid_book::{BidBook, read_book};
-use place_price::book_price::cert_text::write_cert;
-use place_price::book_price::core_price::blocking::{Looked, find_block};
+use crate::samples::{DAY_CRAMTON_CERT, day_cramton};
+use place_price::book_price::cert_text::choices::bid_book::BidBook;
+use place_price::book_price::cert_text::{Certificate, write_cert};
+use place_price::book_price::core_price::blocking::{Block, Looked, find_block};
 use place_price::book_price::core_price::{PriceStop, count_winners, for_bidders};
 use place_price::book_price::value_table::{BookChooser, TurnTable, win};
 use place_price::book_price::{PricedBook, price_book};
@@ -16,23 +16,41 @@ fn priced_alike(alloc: Global, book: &BidBook) -> Result<PricedBook, PriceStop> 
     price_book(alloc, book, &weights)
 }
 
-#[test]
-fn certificate_shows_the_prices(rt: HostRuntime) -> Result<(), AllocError> {
-    let Ok(book) = read_book(rt.alloc(), DAY_CRAMTON.as_bytes()) else {
-        panic!(rt; "this is a book");
-    };
-    let Ok(priced) = priced_alike(rt.alloc(), &book) else {
+/// The sample at these prices.
+fn priced_sample(rt: &impl Abort, alloc: Global) -> PricedBook {
+    let book = day_cramton(rt, alloc);
+    let Ok(priced) = priced_alike(alloc, &book) else {
         panic!(rt; "it can be priced");
     };
+    priced
+}
+
+/// Asserts what the certificate of the sample states, and in how many turns the prices were found.
+fn shows_the_prices(rt: &impl Abort, priced: &PricedBook) {
     let cert = &priced.cert;
     assert_eq!(rt; cert.den, 1);
     assert_eq!(rt; cert.value, 48);
     assert!(rt; cert.choice.numbers() == [1, 1, 0, 0, 0].as_slice());
     assert!(rt; cert.pay.items() == [17i128, 15, 0, 0, 0].as_slice());
     assert_eq!(rt; priced.turns.items().len(), 2);
-    let text = write_cert(rt.alloc(), cert)?;
+}
+
+/// Asserts that its text is that of the sample.
+fn is_written_as_sample(
+    rt: &impl Abort,
+    alloc: Global,
+    cert: &Certificate,
+) -> Result<(), AllocError> {
+    let text = write_cert(alloc, cert)?;
     assert!(rt; text.items() == DAY_CRAMTON_CERT.as_bytes());
     Ok(())
+}
+
+#[test]
+fn certificate_shows_the_prices(rt: HostRuntime) -> Result<(), AllocError> {
+    let priced = priced_sample(&rt, rt.alloc());
+    shows_the_prices(&rt, &priced);
+    is_written_as_sample(&rt, rt.alloc(), &priced.cert)
 }
 
 /// Whether no payment is below 0 or above a million.
@@ -67,26 +85,42 @@ fn look(
     find_block(alloc, chooser, 1, &at)
 }
 
-#[test]
-fn a_bidder_for_both_lots_blocks_the_prices_of_each_alone(
-    rt: HostRuntime,
-) -> Result<(), AllocError> {
-    let Ok(book) = read_book(rt.alloc(), DAY_CRAMTON.as_bytes()) else {
-        panic!(rt; "this is a book");
-    };
-    let chooser = BookChooser::new(&book, win(rt.alloc(), &book)?);
-    match look(&rt, rt.alloc(), &chooser, &[14, 12])? {
+fn is_block_of_b3(rt: &impl Abort, block: &Block) {
+    assert_eq!(rt; block.excess, 6);
+    assert!(rt; block.choice.numbers() == [0, 0, 1, 0, 0].as_slice());
+    assert_eq!(rt; block.row.members, 3);
+    assert_eq!(rt; block.row.bound, 32);
+}
+
+/// Asserts that b3 blocks the prices of each winner alone.
+fn b3_blocks(rt: &impl Abort, alloc: Global, chooser: &BookChooser) -> Result<(), AllocError> {
+    match look(rt, alloc, chooser, &[14, 12])? {
         Looked::Free(_) => panic!(rt; "b3 offers more"),
-        Looked::Block(block) => {
-            assert_eq!(rt; block.excess, 6);
-            assert!(rt; block.choice.numbers() == [0, 0, 1, 0, 0].as_slice());
-            assert_eq!(rt; block.row.members, 3);
-            assert_eq!(rt; block.row.bound, 32);
-        }
+        Looked::Block(block) => is_block_of_b3(rt, &block),
     }
-    match look(&rt, rt.alloc(), &chooser, &[17, 15])? {
+    Ok(())
+}
+
+/// Asserts that nobody blocks the core prices.
+fn nobody_blocks(rt: &impl Abort, alloc: Global, chooser: &BookChooser) -> Result<(), AllocError> {
+    match look(rt, alloc, chooser, &[17, 15])? {
         Looked::Free(found) => assert_eq!(rt; found.sum, 32),
         Looked::Block(_) => panic!(rt; "b3 offers no more"),
     }
     Ok(())
+}
+
+/// Asserts both.
+fn only_b3_blocks(rt: &impl Abort, alloc: Global, chooser: &BookChooser) -> Result<(), AllocError> {
+    b3_blocks(rt, alloc, chooser)?;
+    nobody_blocks(rt, alloc, chooser)
+}
+
+#[test]
+fn a_bidder_for_both_lots_blocks_the_prices_of_each_alone(
+    rt: HostRuntime,
+) -> Result<(), AllocError> {
+    let book = day_cramton(&rt, rt.alloc());
+    let chooser = BookChooser::new(&book, win(rt.alloc(), &book)?);
+    only_b3_blocks(&rt, rt.alloc(), &chooser)
 }

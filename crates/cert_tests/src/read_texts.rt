@@ -1,4 +1,5 @@
 use crate::samples::{DAY_CRAMTON_CERT, DAY_CRAMTON_SHAPE};
+use place_price::book_price::cert_text::choices::Grid;
 use place_price::book_price::cert_text::{
     CertRow, CertStop, Certificate, Shape, read_cert, write_cert,
 };
@@ -79,47 +80,85 @@ fn row_is(
     assert!(rt; row.choice.numbers() == choice);
 }
 
-// The certificate of a text, whose value has this text again.
-fn certificate_of(
+// The certificate of a text.
+fn certificate_of(rt: &impl Abort, alloc: Global, text: &str, shape: Shape) -> Certificate {
+    let Ok(cert) = read_cert(alloc, text.as_bytes(), shape) else {
+        panic!(rt; "this is a certificate");
+    };
+    cert
+}
+
+// Asserts that a certificate has this text.
+fn is_written(
+    rt: &impl Abort,
+    alloc: Global,
+    cert: &Certificate,
+    text: &str,
+) -> Result<(), AllocError> {
+    let written = write_cert(alloc, cert)?;
+    assert!(rt; written.items() == text.as_bytes());
+    Ok(())
+}
+
+// Asserts that what is read of a text has this text again.
+fn is_written_back(
     rt: &impl Abort,
     alloc: Global,
     text: &str,
     shape: Shape,
-) -> Result<Certificate, AllocError> {
-    let Ok(cert) = read_cert(alloc, text.as_bytes(), shape) else {
-        panic!(rt; "this is a certificate");
+) -> Result<(), AllocError> {
+    let cert = certificate_of(rt, alloc, text, shape);
+    is_written(rt, alloc, &cert, text)
+}
+
+// Asserts the denominator with the value, and what is paid.
+fn pays(rt: &impl Abort, cert: &Certificate, head: (i128, i128), pay: &[i128]) {
+    assert_eq!(rt; (cert.den, cert.value), head);
+    assert!(rt; cert.pay.items() == pay);
+}
+
+// Asserts that there is one row, of these members, multipliers and choice.
+fn has_one_row(
+    rt: &impl Abort,
+    cert: &Certificate,
+    members: &[u16],
+    multipliers: (i128, i128),
+    choice: &[u16],
+) {
+    let [row] = cert.rows.items() else {
+        panic!(rt; "there is one row");
     };
-    let written = write_cert(alloc, &cert)?;
-    assert!(rt; written.items() == text.as_bytes());
-    Ok(cert)
+    row_is(rt, row, members, multipliers, choice);
+}
+
+// Asserts the size of the lowered table of the sample, and its first line.
+fn is_lowered_table(rt: &impl Abort, table: &Grid) {
+    assert_eq!(rt; table.lines(), 6);
+    assert_eq!(rt; table.width(), 4);
+    let mut line = [0i128; 4];
+    table.put_part(0, 0, &mut line);
+    assert!(rt; line == [0, 15, 17, 32]);
+}
+
+// Asserts the choice and the tables of the sample.
+fn holds_the_sample(rt: &impl Abort, cert: &Certificate) {
+    assert!(rt; cert.choice.numbers() == [1, 1, 0, 0, 0].as_slice());
+    assert_eq!(rt; cert.withouts.items().len(), 2);
+    is_lowered_table(rt, &cert.lowered);
 }
 
 #[test]
 fn tells_what_a_certificate_holds(rt: HostRuntime) {
     assert_eq!(rt; DAY_CRAMTON_CERT.len(), 476);
-    let Ok(cert) = read_cert(rt.alloc(), DAY_CRAMTON_CERT.as_bytes(), DAY_CRAMTON_SHAPE) else {
-        panic!(rt; "this is a certificate");
-    };
-    assert_eq!(rt; cert.den, 1);
-    assert_eq!(rt; cert.value, 48);
-    assert!(rt; cert.choice.numbers() == [1, 1, 0, 0, 0].as_slice());
-    assert_eq!(rt; cert.withouts.items().len(), 2);
-    assert!(rt; cert.pay.items() == [17i128, 15, 0, 0, 0].as_slice());
-    assert_eq!(rt; cert.lowered.lines(), 6);
-    assert_eq!(rt; cert.lowered.width(), 4);
-    let mut line = [0i128; 4];
-    cert.lowered.put_part(0, 0, &mut line);
-    assert!(rt; line == [0, 15, 17, 32]);
-    let [row] = cert.rows.items() else {
-        panic!(rt; "there is one row");
-    };
-    row_is(&rt, row, &[1, 2], (1, 3), &[0, 0, 1, 0, 0]);
+    let cert = certificate_of(&rt, rt.alloc(), DAY_CRAMTON_CERT, DAY_CRAMTON_SHAPE);
+    holds_the_sample(&rt, &cert);
+    pays(&rt, &cert, (1, 48), &[17, 15, 0, 0, 0]);
+    has_one_row(&rt, &cert, &[1, 2], (1, 3), &[0, 0, 1, 0, 0]);
 }
 
 #[test]
-fn writes_back_what_was_read(rt: HostRuntime) -> Result<(), Fail> {
-    certificate_of(&rt, rt.alloc(), DAY_CRAMTON_CERT, DAY_CRAMTON_SHAPE)?;
-    Ok(())
+fn writes_back_what_was_read(rt: HostRuntime) -> Result<(), AllocError> {
+    is_written_back(&rt, rt.alloc(), DAY_CRAMTON_CERT, DAY_CRAMTON_SHAPE)
 }
 
 /// The lines before a faulty one, it and those behind it, and where it stops the reader. Signed numbers alone have a range, and a line of
@@ -190,52 +229,55 @@ fn tells_the_version_by_the_states(rt: HostRuntime) -> Result<(), Fail> {
 }
 
 #[test]
-fn writes_back_a_text_of_the_second_version(rt: HostRuntime) -> Result<(), Fail> {
+fn writes_back_a_text_of_the_second_version(rt: HostRuntime) -> Result<(), AllocError> {
     assert_eq!(rt; SECOND.len(), 237);
     let shape = Shape {
         bidders: 13,
         states: 1,
     };
-    certificate_of(&rt, rt.alloc(), SECOND, shape)?;
-    Ok(())
+    is_written_back(&rt, rt.alloc(), SECOND, shape)
 }
 
-#[test]
-fn reads_and_writes_payments_over_3(rt: HostRuntime) -> Result<(), Fail> {
-    let shape = Shape {
-        bidders: 4,
-        states: 8,
-    };
-    let cert = certificate_of(&rt, rt.alloc(), THIRDS, shape)?;
-    assert_eq!(rt; cert.den, 3);
-    assert_eq!(rt; cert.value, 30);
-    assert!(rt; cert.pay.items() == [11i128, 11, 11, 0].as_slice());
-    let [row] = cert.rows.items() else {
-        panic!(rt; "there is one row");
-    };
-    row_is(&rt, row, &[1, 2, 3], (3, 11), &[0, 0, 0, 1]);
+// Asserts that three win, and what is chosen without the last.
+fn has_three_parts(rt: &impl Abort, cert: &Certificate) {
     let [_, _, last] = cert.withouts.items() else {
         panic!(rt; "three win");
     };
     assert_eq!(rt; last.winner, 3);
     assert!(rt; last.choice.numbers() == [1, 1, 0, 0].as_slice());
-    Ok(())
+}
+
+// Asserts the three rows of five bidders.
+fn has_three_rows(rt: &impl Abort, cert: &Certificate) {
+    let [both, others, last] = cert.rows.items() else {
+        panic!(rt; "there are three rows");
+    };
+    row_is(rt, both, &[1, 2], (1, 0), &[0, 0, 1, 1, 0]);
+    row_is(rt, others, &[2, 3], (0, 8), &[1, 0, 0, 0, 1]);
+    row_is(rt, last, &[3], (1, -8), &[1, 1, 0, 0, 0]);
 }
 
 #[test]
-fn reads_and_writes_three_rows(rt: HostRuntime) -> Result<(), Fail> {
+fn reads_and_writes_payments_over_3(rt: HostRuntime) -> Result<(), AllocError> {
+    let shape = Shape {
+        bidders: 4,
+        states: 8,
+    };
+    let cert = certificate_of(&rt, rt.alloc(), THIRDS, shape);
+    pays(&rt, &cert, (3, 30), &[11, 11, 11, 0]);
+    has_one_row(&rt, &cert, &[1, 2, 3], (3, 11), &[0, 0, 0, 1]);
+    has_three_parts(&rt, &cert);
+    is_written(&rt, rt.alloc(), &cert, THIRDS)
+}
+
+#[test]
+fn reads_and_writes_three_rows(rt: HostRuntime) -> Result<(), AllocError> {
     let shape = Shape {
         bidders: 5,
         states: 8,
     };
-    let cert = certificate_of(&rt, rt.alloc(), THREE_ROWS, shape)?;
-    assert_eq!(rt; cert.den, 1);
-    assert!(rt; cert.pay.items() == [0i128, 8, 0, 0, 0].as_slice());
-    let [both, others, last] = cert.rows.items() else {
-        panic!(rt; "there are three rows");
-    };
-    row_is(&rt, both, &[1, 2], (1, 0), &[0, 0, 1, 1, 0]);
-    row_is(&rt, others, &[2, 3], (0, 8), &[1, 0, 0, 0, 1]);
-    row_is(&rt, last, &[3], (1, -8), &[1, 1, 0, 0, 0]);
-    Ok(())
+    let cert = certificate_of(&rt, rt.alloc(), THREE_ROWS, shape);
+    pays(&rt, &cert, (1, 30), &[0, 8, 0, 0, 0]);
+    has_three_rows(&rt, &cert);
+    is_written(&rt, rt.alloc(), &cert, THREE_ROWS)
 }

@@ -1,11 +1,21 @@
 // What several tests share: a book and its certificate, that of a placement, and texts with other lines.
 use place_price::book_price::cert_text::Shape;
+use place_price::book_price::cert_text::choices::bid_book::{BidBook, read_book};
 use std::alloc::{AllocError, Global};
+use std::process::Abort;
 
 /// The example of Day and Cramton (2012): one lot of each of two categories, and five bidders; b1 and b2 win.
-pub(crate) const DAY_CRAMTON: &str =
+const DAY_CRAMTON: &str =
     "book 1\nsupply 1 1\nreserve 0 0\nbidder b1\nbid 1 0 28\nbidder b2\nbid 0 1 20\n\
     bidder b3\nbid 1 1 32\nbidder b4\nbid 1 0 14\nbidder b5\nbid 0 1 12\nend\n";
+
+/// The book of this example.
+pub(crate) fn day_cramton(rt: &impl Abort, alloc: Global) -> BidBook {
+    let Ok(book) = read_book(alloc, DAY_CRAMTON.as_bytes()) else {
+        panic!(rt; "this is a book");
+    };
+    book
+}
 
 /// Its certificate: 476 bytes, of which the last line has 4.
 pub(crate) const DAY_CRAMTON_CERT: &str = "cert 1\nden 1\nvalue 48\nchoice 1 1 0 0 0\ntable\n\

@@ -4,14 +4,14 @@ ghost use Rattle.place_price.specs.cert_laws.specs.Tests.{bidders_of, states};
 ghost use Rattle.piece_check.specs.cert_pieces.specs.Rooms.{room_size};
 ghost use Rattle.piece_check.specs.Standing.{StandsFor};
 
-use crate::samples::{DAY_CRAMTON, DAY_CRAMTON_CERT};
+use crate::samples::{DAY_CRAMTON_CERT, day_cramton};
 use piece_check::StreamCheck;
 use piece_check::cert_check::Verdict;
 use piece_check::cert_facts::CertFacts;
 use piece_check::cert_pieces::TextStop;
 use place_price::book_price::cert_laws::cert_form::limits::CERT_BYTES;
 use place_price::book_price::cert_text::choices::Single;
-use place_price::book_price::cert_text::choices::bid_book::{BidBook, read_book};
+use place_price::book_price::cert_text::choices::bid_book::BidBook;
 use std::alloc::{AllocError, Global};
 use std::process::Abort;
 use std::test::Fail;
@@ -90,31 +90,33 @@ fn is_single(rt: &impl Abort, single: &Single, winner: u16, price: i128, choice:
     assert!(rt; single.choice.numbers() == choice);
 }
 
-// Asserts that the certificate in such pieces has these facts.
-fn tells_them(rt: &impl Abort, alloc: Global, more: u16) -> Result<(), AllocError> {
-    let Ok(book) = read_book(alloc, DAY_CRAMTON.as_bytes()) else {
-        panic!(rt; "this is a book");
-    };
-    let Some(facts) = facts_of(alloc, &book, DAY_CRAMTON_CERT.as_bytes(), more)? else {
-        panic!(rt; "its tests hold");
-    };
+// Asserts the facts of the sample.
+fn are_its_facts(rt: &impl Abort, facts: &CertFacts) {
     assert_eq!(rt; facts.den, 1);
     assert_eq!(rt; facts.value, 48);
     assert!(rt; facts.choice.numbers() == [1, 1, 0, 0, 0].as_slice());
     assert!(rt; facts.pay.items() == [17i128, 15, 0, 0, 0].as_slice());
-    let singles = facts.singles.items();
-    if singles.len() != 2 {
+    let [first, second] = facts.singles.items() else {
         panic!(rt; "two win");
+    };
+    is_single(rt, first, 1, 14, &[0, 1, 0, 1, 0]);
+    is_single(rt, second, 2, 12, &[1, 0, 0, 0, 1]);
+}
+
+// Asserts that the certificate of this book in such pieces has them.
+fn tells_them(rt: &impl Abort, alloc: Global, book: &BidBook, more: u16) -> Result<(), AllocError> {
+    match facts_of(alloc, book, DAY_CRAMTON_CERT.as_bytes(), more)? {
+        Some(facts) => are_its_facts(rt, &facts),
+        None => panic!(rt; "its tests hold"),
     }
-    is_single(rt, &singles[0], 1, 14, &[0, 1, 0, 1, 0]);
-    is_single(rt, &singles[1], 2, 12, &[1, 0, 0, 0, 1]);
     Ok(())
 }
 
 #[test]
 fn tells_the_facts_of_a_certificate(rt: HostRuntime) -> Result<(), Fail> {
+    let book = day_cramton(&rt, rt.alloc());
     for more in [0u16, 6, 475] {
-        tells_them(&rt, rt.alloc(), more)?;
+        tells_them(&rt, rt.alloc(), &book, more)?;
     }
     Ok(())
 }

@@ -7,7 +7,10 @@ use place_price::book_price::cert_text::{
     CertRow, CertRows, Certificate, WithoutList, WithoutPart, write_cert,
 };
 use std::alloc::{AllocError, Global};
-use std::test::Fail;
+use std::process::Abort;
+
+// What a helper expects that makes a whole certificate. There a `?` would drop all that is made before it, and its check would be dear.
+const MEMORY: &str = "there is memory";
 
 // The list of one number.
 fn single(alloc: Global, number: u16) -> Result<Numbers, AllocError>
@@ -48,10 +51,10 @@ fn table_of(alloc: Global, worth: i128) -> Result<Grid, AllocError>
 }
 
 // The certificate where nobody bids for one lot.
-fn nobody(alloc: Global) -> Result<Certificate, AllocError> {
-    let table = idle_table(alloc)?;
-    let lowered = idle_table(alloc)?;
-    Ok(Certificate {
+fn nobody(rt: &impl Abort, alloc: Global) -> Certificate {
+    let table = idle_table(alloc).expect(rt, MEMORY);
+    let lowered = idle_table(alloc).expect(rt, MEMORY);
+    Certificate {
         den: 1,
         value: 0,
         choice: Choice::new(Numbers::new(alloc)),
@@ -60,7 +63,7 @@ fn nobody(alloc: Global) -> Result<Certificate, AllocError> {
         pay: NumList::new(alloc),
         rows: CertRows::new(alloc),
         lowered,
-    })
+    }
 }
 
 // The part without the only bidder.
@@ -92,18 +95,44 @@ fn row(alloc: Global) -> Result<CertRow, AllocError>
     })
 }
 
-// A certificate that has all kinds of lines.
-fn one_bidder(alloc: Global) -> Result<Certificate, AllocError> {
-    let choice = Choice::new(single(alloc, 3)?);
-    let table = table_of(alloc, 10)?;
+// The list of the only part.
+fn parts_of_one(alloc: Global, part: WithoutPart) -> Result<WithoutList, AllocError>
+    ensures { IfOk result (λ list. list ≡ part ∷ []) }
+{
     let mut withouts = WithoutList::new(alloc);
-    withouts.push(part(alloc)?)?;
+    withouts.push(part)?;
+    Ok(withouts)
+}
+
+// The list of the only row.
+fn rows_of_one(alloc: Global, row: CertRow) -> Result<CertRows, AllocError>
+    ensures { IfOk result (λ list. list ≡ row ∷ []) }
+{
+    let mut rows = CertRows::new(alloc);
+    rows.push(row)?;
+    Ok(rows)
+}
+
+// What the only bidder pays.
+fn payment(alloc: Global) -> Result<NumList, AllocError>
+    ensures { IfOk result (λ list. list ≡ negsuc 3 ∷ []) }
+{
     let mut pay = NumList::new(alloc);
     pay.push(-4)?;
-    let mut rows = CertRows::new(alloc);
-    rows.push(row(alloc)?)?;
-    let lowered = table_of(alloc, 14)?;
-    Ok(Certificate {
+    Ok(pay)
+}
+
+// A certificate that has all kinds of lines.
+fn one_bidder(rt: &impl Abort, alloc: Global) -> Certificate {
+    let choice = Choice::new(single(alloc, 3).expect(rt, MEMORY));
+    let table = table_of(alloc, 10).expect(rt, MEMORY);
+    let part = part(alloc).expect(rt, MEMORY);
+    let withouts = parts_of_one(alloc, part).expect(rt, MEMORY);
+    let pay = payment(alloc).expect(rt, MEMORY);
+    let row = row(alloc).expect(rt, MEMORY);
+    let rows = rows_of_one(alloc, row).expect(rt, MEMORY);
+    let lowered = table_of(alloc, 14).expect(rt, MEMORY);
+    Certificate {
         den: 1,
         value: 10,
         choice,
@@ -112,7 +141,7 @@ fn one_bidder(alloc: Global) -> Result<Certificate, AllocError> {
         pay,
         rows,
         lowered,
-    })
+    }
 }
 
 // The list of two numbers.
@@ -178,22 +207,33 @@ fn row_of_both(alloc: Global) -> Result<CertRow, AllocError>
     })
 }
 
-// A certificate over the denominator 3 that has three rows.
-fn two_bidders(alloc: Global) -> Result<Certificate, AllocError> {
-    let choice = Choice::new(pair(alloc, 3, 1)?);
-    let table = two_lines(alloc)?;
-    let mut withouts = WithoutList::new(alloc);
-    withouts.push(part_of_two(alloc, 1)?)?;
-    withouts.push(part_of_two(alloc, 2)?)?;
+// What the two pay.
+fn payments(alloc: Global) -> Result<NumList, AllocError>
+    ensures { IfOk result (λ list. list ≡ pos 11 ∷ negsuc 3 ∷ []) }
+{
     let mut pay = NumList::new(alloc);
     pay.push(11)?;
     pay.push(-4)?;
-    let mut rows = CertRows::new(alloc);
-    rows.push(row_of_both(alloc)?)?;
-    rows.push(row_of_one(alloc, 2, 0)?)?;
-    rows.push(row_of_one(alloc, 1, -8)?)?;
-    let lowered = two_lines(alloc)?;
-    Ok(Certificate {
+    Ok(pay)
+}
+
+// A certificate over the denominator 3 that has three rows.
+fn two_bidders(rt: &impl Abort, alloc: Global) -> Certificate {
+    let choice = Choice::new(pair(alloc, 3, 1).expect(rt, MEMORY));
+    let table = two_lines(alloc).expect(rt, MEMORY);
+    let first = part_of_two(alloc, 1).expect(rt, MEMORY);
+    let second = part_of_two(alloc, 2).expect(rt, MEMORY);
+    let mut withouts = parts_of_one(alloc, first).expect(rt, MEMORY);
+    withouts.push(second).expect(rt, MEMORY);
+    let pay = payments(alloc).expect(rt, MEMORY);
+    let both = row_of_both(alloc).expect(rt, MEMORY);
+    let mut rows = rows_of_one(alloc, both).expect(rt, MEMORY);
+    rows.push(row_of_one(alloc, 2, 0).expect(rt, MEMORY))
+        .expect(rt, MEMORY);
+    rows.push(row_of_one(alloc, 1, -8).expect(rt, MEMORY))
+        .expect(rt, MEMORY);
+    let lowered = two_lines(alloc).expect(rt, MEMORY);
+    Certificate {
         den: 3,
         value: 30,
         choice,
@@ -202,37 +242,43 @@ fn two_bidders(alloc: Global) -> Result<Certificate, AllocError> {
         pay,
         rows,
         lowered,
-    })
+    }
 }
 
-#[test]
-fn writes_the_certificate_of_nobody(rt: HostRuntime) -> Result<(), Fail> {
-    let alloc = rt.alloc();
-    let text = write_cert(alloc, &nobody(alloc)?)?;
-    let lines = "cert 1\nden 1\nvalue 0\nchoice\ntable\nt 0 0\npay\nrows 0\nlowered\nt 0 0\nend\n";
+// Asserts the text of a certificate.
+fn is_written(
+    rt: &impl Abort,
+    alloc: Global,
+    cert: &Certificate,
+    lines: &str,
+) -> Result<(), AllocError> {
+    let text = write_cert(alloc, cert)?;
     assert_eq!(rt; text.items(), lines.as_bytes());
     Ok(())
 }
 
 #[test]
-fn writes_all_kinds_of_lines(rt: HostRuntime) -> Result<(), Fail> {
-    let alloc = rt.alloc();
-    let text = write_cert(alloc, &one_bidder(alloc)?)?;
+fn writes_the_certificate_of_nobody(rt: HostRuntime) -> Result<(), AllocError> {
+    let cert = nobody(&rt, rt.alloc());
+    let lines = "cert 1\nden 1\nvalue 0\nchoice\ntable\nt 0 0\npay\nrows 0\nlowered\nt 0 0\nend\n";
+    is_written(&rt, rt.alloc(), &cert, lines)
+}
+
+#[test]
+fn writes_all_kinds_of_lines(rt: HostRuntime) -> Result<(), AllocError> {
+    let cert = one_bidder(&rt, rt.alloc());
     let lines =
         "cert 1\nden 1\nvalue 10\nchoice 3\ntable\nt 0 10\nt 0 0\nwithout 1\nchoice 0\ntable\nt 0 0\nt 0 0\npay -4\n\
         rows 1\nrow 1\nmult 1 -105\nchoice 0\nlowered\nt 0 14\nt 0 0\nend\n";
-    assert_eq!(rt; text.items(), lines.as_bytes());
-    Ok(())
+    is_written(&rt, rt.alloc(), &cert, lines)
 }
 
 #[test]
-fn writes_three_rows_over_3(rt: HostRuntime) -> Result<(), Fail> {
-    let alloc = rt.alloc();
-    let text = write_cert(alloc, &two_bidders(alloc)?)?;
+fn writes_three_rows_over_3(rt: HostRuntime) -> Result<(), AllocError> {
+    let cert = two_bidders(&rt, rt.alloc());
     let lines = "cert 1\nden 3\nvalue 30\nchoice 3 1\ntable\nt 0 0\nt 0 0\nt 0 0\n\
         without 1\nchoice 0 0\ntable\nt 0 0\nt 0 0\nt 0 0\nwithout 2\nchoice 0 0\ntable\nt 0 0\nt 0 0\nt 0 0\n\
         pay 11 -4\nrows 3\nrow 1 2\nmult 3 11\nchoice 0 0\nrow 2\nmult 1 0\nchoice 0 0\n\
         row 1\nmult 1 -8\nchoice 0 0\nlowered\nt 0 0\nt 0 0\nt 0 0\nend\n";
-    assert_eq!(rt; text.items(), lines.as_bytes());
-    Ok(())
+    is_written(&rt, rt.alloc(), &cert, lines)
 }

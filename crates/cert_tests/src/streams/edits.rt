@@ -1,9 +1,9 @@
 // The certificate with other lines, in pieces.
-use crate::samples::{DAY_CRAMTON, DAY_CRAMTON_CERT, edited};
+use crate::samples::{DAY_CRAMTON_CERT, day_cramton, edited};
 use crate::streams::verdict_of;
 use piece_check::cert_check::Verdict;
 use piece_check::cert_pieces::TextStop;
-use place_price::book_price::cert_text::choices::bid_book::read_book;
+use place_price::book_price::cert_text::choices::bid_book::BidBook;
 use std::alloc::{AllocError, Global};
 use std::process::Abort;
 use std::test::Fail;
@@ -12,14 +12,25 @@ use std::test::Fail;
 fn says(
     rt: &impl Abort,
     alloc: Global,
+    book: &BidBook,
     text: &[u8],
     told: Result<Verdict, TextStop>,
 ) -> Result<(), AllocError> {
-    let Ok(book) = read_book(alloc, DAY_CRAMTON.as_bytes()) else {
-        panic!(rt; "this is a book");
-    };
-    assert_eq!(rt; verdict_of(alloc, &book, text, 6)?, told);
+    assert_eq!(rt; verdict_of(alloc, book, text, 6)?, told);
     Ok(())
+}
+
+// Asserts the same of the certificate with other lines in place of these bytes.
+fn says_of_edit(
+    rt: &impl Abort,
+    alloc: Global,
+    edit: (usize, usize, &str),
+    told: Result<Verdict, TextStop>,
+) -> Result<(), AllocError> {
+    let (from, to, lines) = edit;
+    let book = day_cramton(rt, alloc);
+    let text = edited(alloc, DAY_CRAMTON_CERT, from, to, lines)?;
+    says(rt, alloc, &book, &text, told)
 }
 
 // Which test and place fail first with these lines.
@@ -32,12 +43,11 @@ const FAILING: &[(usize, usize, &str, u8, u64)] = &[
 #[test]
 fn names_the_first_test_that_fails(rt: HostRuntime) -> Result<(), Fail> {
     for (from, to, lines, test, place) in FAILING {
-        let text = edited(rt.alloc(), DAY_CRAMTON_CERT, *from, *to, lines)?;
         let told = Verdict::No {
             test: *test,
             place: *place,
         };
-        says(&rt, rt.alloc(), &text, Ok(told))?;
+        says_of_edit(&rt, rt.alloc(), (*from, *to, lines), Ok(told))?;
     }
     Ok(())
 }
@@ -45,7 +55,7 @@ fn names_the_first_test_that_fails(rt: HostRuntime) -> Result<(), Fail> {
 #[test]
 fn refuses_a_number_out_of_range(rt: HostRuntime) -> Result<(), Fail> {
     let line = "mult 1 1329227995784915872903807060280344576\n";
-    let text = edited(rt.alloc(), DAY_CRAMTON_CERT, 364, 373, line)?;
-    says(&rt, rt.alloc(), &text, Err(TextStop::Range(364)))?;
+    let told = Err(TextStop::Range(364));
+    says_of_edit(&rt, rt.alloc(), (364, 373, line), told)?;
     Ok(())
 }
