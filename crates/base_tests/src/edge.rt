@@ -1,12 +1,14 @@
-// Real files where links, other writers, pipes and devices get in the way.
+// Real files where links, other writers, pipes and devices get in the way. What owns names or files lends them at once: each step beside a
+// value that is owned makes a check dearer.
 ghost use Rattle.std.specs.Prelude.{IfOk, IsTrue};
 
 use cca_base::{Files, RealFiles, write_file};
 use std::alloc::{AllocError, Global};
 use std::fs::{File, TryLockError};
-use std::io::{Read, Write};
-use std::os::fd::AsRawFd;
+use std::io::{PipeReader, Read, Write};
+use std::os::fd::{AsRawFd, RawFd};
 use std::os::unix::fs::symlink;
+use std::process::Abort;
 use std::test::Fail;
 use std::{env, fs, io, process, rt};
 
@@ -48,21 +50,43 @@ fn loads(rt: HostRuntime, name: &str) -> Result<bool, Fail> {
     Ok(files.load(name, 0, &mut piece).is_ok())
 }
 
+// How often appends to the name have failed, after one more.
+fn faults<F: Files>(files: &mut F, name: &str) -> u64
+    requires { IsTrue ((F.folder files.old).knows name.now) }
+{
+    let _stop = write_file(files, name, b"d");
+    files.append_faults(name)
+}
+
 // How often an append fails to the second name, once the first one was read.
-fn faults_after_reading(rt: HostRuntime, read: &str, other: &str) -> Result<u64, Fail> {
-    let mut files = real_files(rt.alloc(), &rt, read, other)?;
+fn faults_once_read<F: Files>(files: &mut F, read: &str, other: &str) -> Result<u64, Fail>
+    requires read { IsTrue ((F.folder files.old).knows read.now) }
+    requires other { IsTrue ((F.folder files.old).knows other.now) }
+{
     let mut piece = [0u8; 8];
     files.load(read, 0, &mut piece)?;
-    let _stop = write_file(&mut files, other, b"d");
-    Ok(files.append_faults(other))
+    Ok(faults(files, other))
+}
+
+// The same of real files.
+fn faults_after_reading(rt: HostRuntime, read: &str, other: &str) -> Result<u64, Fail> {
+    let mut files = real_files(rt.alloc(), &rt, read, other)?;
+    faults_once_read(&mut files, read, other)
 }
 
 // How often an append fails to the second name, once the first one was appended to.
+fn faults_once_appended<F: Files>(files: &mut F, first: &str, second: &str) -> Result<u64, Fail>
+    requires first { IsTrue ((F.folder files.old).knows first.now) }
+    requires second { IsTrue ((F.folder files.old).knows second.now) }
+{
+    write_file(files, first, b"abc")?;
+    Ok(faults(files, second))
+}
+
+// The same of real files.
 fn faults_after_appending(rt: HostRuntime, first: &str, second: &str) -> Result<u64, Fail> {
     let mut files = real_files(rt.alloc(), &rt, first, second)?;
-    write_file(&mut files, first, b"abc")?;
-    let _stop = write_file(&mut files, second, b"d");
-    Ok(files.append_faults(second))
+    faults_once_appended(&mut files, first, second)
 }
 
 // Whether the file of this name has these bytes.
@@ -70,7 +94,7 @@ fn holds(rt: HostRuntime, name: &str, bytes: &[u8]) -> Result<bool, Fail> {
     Ok(fs::read(&rt, name)?.as_slice() == bytes)
 }
 
-fn remove_files(rt: HostRuntime, names: &[&str]) -> Result<(), Fail> {
+pub(crate) fn remove_files(rt: HostRuntime, names: &[&str]) -> Result<(), Fail> {
     for name in names {
         fs::remove_file(&rt, *name)?;
     }
@@ -96,38 +120,64 @@ fn faults_under_second_names(
     ])
 }
 
+// Asserts that a file takes nothing under a second name. Only a test may abort, so it lends what does.
+fn takes_nothing(
+    abort: &impl Abort,
+    rt: HostRuntime,
+    file: &str,
+    link: &str,
+    hard: &str,
+    spelled: &str,
+) -> Result<(), Fail> {
+    assert!(abort; faults_under_second_names(rt, file, link, hard, spelled)? == [1, 1, 1, 1]);
+    assert!(abort; holds(rt, file, b"abc")?);
+    remove_files(rt, &[hard, link, file])
+}
+
+// The same, with a second spelling of the name made here.
+fn takes_nothing_by_links(
+    abort: &impl Abort,
+    rt: HostRuntime,
+    file: &str,
+    link: &str,
+    hard: &str,
+) -> Result<(), Fail> {
+    let spelled = format!(in rt.alloc(); "/.{file}")?;
+    takes_nothing(abort, rt, file, link, hard, spelled.as_str())
+}
+
 #[test]
 fn appends_nothing_to_a_file_that_has_another_name(rt: HostRuntime) -> Result<(), Fail> {
     let file = new_name(rt, "file")?;
     let link = new_name(rt, "link")?;
     let hard = new_name(rt, "hard")?;
-    let spelled = format!(in rt.alloc(); "/.{}", file.as_str())?;
-    let [file, link, hard, spelled] = [
-        file.as_str(),
-        link.as_str(),
-        hard.as_str(),
-        spelled.as_str(),
-    ];
-    assert!(rt; faults_under_second_names(rt, file, link, hard, spelled)? == [1, 1, 1, 1]);
-    assert!(rt; holds(rt, file, b"abc")?);
-    remove_files(rt, &[hard, link, file])
+    takes_nothing_by_links(&rt, rt, file.as_str(), link.as_str(), hard.as_str())
 }
 
-// Whether an append to this name is done while its file is locked, and whether behind that.
-fn appends_around_a_lock(rt: HostRuntime, name: &str) -> Result<(bool, bool), Fail> {
+fn lock(file: &File) -> Result<(), Fail> {
+    file.try_lock().map_err(io::Error::from)?;
+    Ok(())
+}
+
+// Whether an append to this name is done while its file is locked.
+fn appends_while_locked(rt: HostRuntime, name: &str) -> Result<bool, Fail> {
     let holder = File::create(&rt, name)?;
-    holder.try_lock().map_err(io::Error::from)?;
-    let locked = appends(rt, name)?;
-    drop(holder);
-    Ok((locked, appends(rt, name)?))
+    lock(&holder)?;
+    appends(rt, name)
+}
+
+// Asserts that an append to this name is done only once its file is locked no more.
+fn appends_behind_a_lock(abort: &impl Abort, rt: HostRuntime, name: &str) -> Result<(), Fail> {
+    assert!(abort; !appends_while_locked(rt, name)?);
+    assert!(abort; appends(rt, name)?);
+    assert!(abort; holds(rt, name, b"abc")?);
+    remove_files(rt, &[name])
 }
 
 #[test]
 fn appends_nothing_to_a_file_that_is_locked(rt: HostRuntime) -> Result<(), Fail> {
     let name = new_name(rt, "locked")?;
-    assert_eq!(rt; appends_around_a_lock(rt, name.as_str())?, (false, true));
-    assert!(rt; holds(rt, name.as_str(), b"abc")?);
-    remove_files(rt, &[name.as_str()])
+    appends_behind_a_lock(&rt, rt, name.as_str())
 }
 
 // Whether someone holds the lock of this file.
@@ -141,37 +191,73 @@ fn is_locked(rt: HostRuntime, name: &str) -> Result<bool, Fail> {
 }
 
 // Whether the first file is locked behind two appends to it, and whether behind one to the second file.
+fn locks_in_turn<F: Files>(
+    rt: HostRuntime,
+    files: &mut F,
+    first: &str,
+    second: &str,
+) -> Result<(bool, bool), Fail>
+    requires first { IsTrue ((F.folder files.old).knows first.now) }
+    requires second { IsTrue ((F.folder files.old).knows second.now) }
+{
+    write_file(files, first, b"abc")?;
+    write_file(files, first, b"def")?;
+    let between = is_locked(rt, first)?;
+    write_file(files, second, b"ghi")?;
+    Ok((between, is_locked(rt, first)?))
+}
+
+// The same of real files.
 fn locks(rt: HostRuntime, first: &str, second: &str) -> Result<(bool, bool), Fail> {
     let mut files = real_files(rt.alloc(), &rt, first, second)?;
-    write_file(&mut files, first, b"abc")?;
-    write_file(&mut files, first, b"def")?;
-    let between = is_locked(rt, first)?;
-    write_file(&mut files, second, b"ghi")?;
-    Ok((between, is_locked(rt, first)?))
+    locks_in_turn(rt, &mut files, first, second)
+}
+
+// Asserts that the lock of the first file is held until the second one is appended to.
+fn holds_a_lock(
+    abort: &impl Abort,
+    rt: HostRuntime,
+    first: &str,
+    second: &str,
+) -> Result<(), Fail> {
+    assert_eq!(abort; locks(rt, first, second)?, (true, false));
+    assert!(abort; holds(rt, first, b"abcdef")?);
+    remove_files(rt, &[first, second])
 }
 
 #[test]
 fn holds_a_lock_until_another_file_is_appended_to(rt: HostRuntime) -> Result<(), Fail> {
     let first = new_name(rt, "first")?;
     let second = new_name(rt, "second")?;
-    assert_eq!(rt; locks(rt, first.as_str(), second.as_str())?, (true, false));
-    assert!(rt; holds(rt, first.as_str(), b"abcdef")?);
-    remove_files(rt, &[first.as_str(), second.as_str()])
+    holds_a_lock(&rt, rt, first.as_str(), second.as_str())
 }
 
 // What loads of this name give from its first byte, from its fourth one, and from its fourth one again, if they are done.
-fn loads_in_order(rt: HostRuntime, name: &str) -> Result<[Option<usize>; 3], Fail> {
-    let mut files = real_files(rt.alloc(), &rt, name, name)?;
+fn three_loads<F: Files>(files: &mut F, name: &str) -> [Option<usize>; 3]
+    requires { IsTrue ((F.folder files.old).knows name.now) }
+{
     let mut piece = [0u8; 3];
     let first = files.load(name, 0, &mut piece).ok();
     let next = files.load(name, 3, &mut piece).ok();
     let again = files.load(name, 3, &mut piece).ok();
-    Ok([first, next, again])
+    [first, next, again]
+}
+
+// The same of a real file.
+fn loads_in_order(rt: HostRuntime, name: &str) -> Result<[Option<usize>; 3], Fail> {
+    let mut files = real_files(rt.alloc(), &rt, name, name)?;
+    Ok(three_loads(&mut files, name))
 }
 
 // What loads of the first byte of this name give before and behind a load of the other one, if they are done.
-fn loads_around(rt: HostRuntime, name: &str, other: &str) -> Result<[Option<usize>; 2], Fail> {
-    let mut files = real_files(rt.alloc(), &rt, name, other)?;
+fn loads_around_one<F: Files>(
+    files: &mut F,
+    name: &str,
+    other: &str,
+) -> Result<[Option<usize>; 2], Fail>
+    requires known { IsTrue ((F.folder files.old).knows name.now) }
+    requires other { IsTrue ((F.folder files.old).knows other.now) }
+{
     let mut piece = [0u8; 3];
     let before = files.load(name, 0, &mut piece).ok();
     files.load(other, 0, &mut piece)?;
@@ -179,34 +265,73 @@ fn loads_around(rt: HostRuntime, name: &str, other: &str) -> Result<[Option<usiz
     Ok([before, behind])
 }
 
+// The same of real files.
+fn loads_around(rt: HostRuntime, name: &str, other: &str) -> Result<[Option<usize>; 2], Fail> {
+    let mut files = real_files(rt.alloc(), &rt, name, other)?;
+    loads_around_one(&mut files, name, other)
+}
+
+// The name of an open file of this process.
+fn name_of(rt: HostRuntime, open: RawFd) -> Result<String, Fail> {
+    Ok(format!(in rt.alloc(); "/proc/self/fd/{open}")?)
+}
+
+// Asserts what loads from a pipe of eight bytes give.
+fn reads_a_pipe(abort: &impl Abort, rt: HostRuntime, name: &str) -> Result<(), Fail> {
+    assert!(abort; loads_in_order(rt, name)? == [Some(3), Some(3), None]);
+    assert!(abort; loads_around(rt, name, "/dev/null")? == [Some(2), None]);
+    Ok(())
+}
+
+fn reads_an_open_pipe(abort: &impl Abort, rt: HostRuntime, open: RawFd) -> Result<(), Fail> {
+    let name = name_of(rt, open)?;
+    reads_a_pipe(abort, rt, name.as_str())
+}
+
 #[test]
 fn reads_a_pipe_in_order_and_no_byte_of_it_twice(rt: HostRuntime) -> Result<(), Fail> {
     let (reader, mut writer) = io::pipe(&rt)?;
-    let name = format!(in rt.alloc(); "/proc/self/fd/{}", reader.as_raw_fd())?;
     writer.write_all(b"abcdefgh")?;
-    assert!(rt; loads_in_order(rt, name.as_str())? == [Some(3), Some(3), None]);
-    assert!(rt; loads_around(rt, name.as_str(), "/dev/null")? == [Some(2), None]);
-    Ok(())
+    reads_an_open_pipe(&rt, rt, reader.as_raw_fd())
+}
+
+// Asserts what loads from a file of five bytes give.
+fn reads_a_file(abort: &impl Abort, rt: HostRuntime, name: &str) -> Result<(), Fail> {
+    fs::write(&rt, name, b"abcde")?;
+    assert!(abort; loads_in_order(rt, name)? == [Some(3), Some(2), Some(2)]);
+    assert!(abort; loads_around(rt, name, "/dev/null")? == [Some(3), Some(3)]);
+    remove_files(rt, &[name])
 }
 
 #[test]
 fn reads_any_place_of_a_file(rt: HostRuntime) -> Result<(), Fail> {
     let name = new_name(rt, "places")?;
-    fs::write(&rt, name.as_str(), b"abcde")?;
-    assert!(rt; loads_in_order(rt, name.as_str())? == [Some(3), Some(2), Some(2)]);
-    assert!(rt; loads_around(rt, name.as_str(), "/dev/null")? == [Some(3), Some(3)]);
-    remove_files(rt, &[name.as_str()])
+    reads_a_file(&rt, rt, name.as_str())
+}
+
+// Whether an append to an open file is done.
+fn appends_to_open(rt: HostRuntime, open: RawFd) -> Result<bool, Fail> {
+    let name = name_of(rt, open)?;
+    appends(rt, name.as_str())
 }
 
 // How many bytes come out of a pipe that was appended to, if that is done.
-fn appends_to_a_pipe(rt: HostRuntime) -> Result<Option<usize>, Fail> {
-    let (mut reader, writer) = io::pipe(&rt)?;
-    let name = format!(in rt.alloc(); "/proc/self/fd/{}", writer.as_raw_fd())?;
-    if !appends(rt, name.as_str())? {
+fn read_appended(
+    rt: HostRuntime,
+    reader: &mut PipeReader,
+    writer: RawFd,
+) -> Result<Option<usize>, Fail> {
+    if !appends_to_open(rt, writer)? {
         return Ok(None);
     }
     let mut piece = [0u8; 8];
     Ok(Some(reader.read(&mut piece)?))
+}
+
+// The same of a new pipe.
+fn appends_to_a_pipe(rt: HostRuntime) -> Result<Option<usize>, Fail> {
+    let (mut reader, writer) = io::pipe(&rt)?;
+    read_appended(rt, &mut reader, writer.as_raw_fd())
 }
 
 #[test]

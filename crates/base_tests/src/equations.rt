@@ -6,6 +6,7 @@ use lin_solve::far_num::Far;
 use lin_solve::{Solved, Square, solve};
 use std::alloc::{AllocError, Global};
 use std::process::Abort;
+use std::slice::Iter;
 use std::test::Fail;
 
 const MOST: i128 = 1 << 46;
@@ -90,37 +91,36 @@ fn plus(rt: &impl Abort, a: i128, b: i128) -> i128 {
     a.checked_add(b).expect(rt, "a small sum")
 }
 
+// The product of the next row and the values.
+fn next_product(rt: &impl Abort, entries: &mut Iter<'_, i128>, values: &[Far]) -> Far {
+    let mut far = 0;
+    let mut near = 0;
+    for value in values {
+        let entry = *entries.next().expect(rt, "an entry");
+        far = plus(rt, far, times(rt, entry, value.far));
+        near = plus(rt, near, times(rt, entry, value.near));
+    }
+    pair(far, near)
+}
+
 // The matrix times the values is `den` times the right side.
 fn assert_solves(rt: &impl Abort, entries: &[i128], right: &[Far], den: i128, values: &[Far]) {
     assert!(rt; den >= 1);
     assert_eq!(rt; values.len(), right.len());
     let mut next = entries.iter();
     for goal in right {
-        let mut far = 0;
-        let mut near = 0;
-        for value in values {
-            let entry = *next.next().expect(rt, "an entry");
-            far = plus(rt, far, times(rt, entry, value.far));
-            near = plus(rt, near, times(rt, entry, value.near));
-        }
-        assert_eq!(rt; far, times(rt, den, goal.far));
-        assert_eq!(rt; near, times(rt, den, goal.near));
+        let sum = next_product(rt, &mut next, values);
+        assert_eq!(rt; sum.far, times(rt, den, goal.far));
+        assert_eq!(rt; sum.near, times(rt, den, goal.near));
     }
 }
 
-// The matrix is regular, and the answer of `solve` solves the system.
-fn assert_regular(
-    rt: &impl Abort,
-    alloc: Global,
-    size: usize,
-    entries: &[i128],
-    right: &[Far],
-) -> Result<(), AllocError> {
-    match answer(rt, alloc, size, entries, right)? {
-        Solved::One { den, values } => assert_solves(rt, entries, right, den, values.items()),
-        Solved::Dependent { .. } => panic!(rt; "a regular matrix of size {size}"),
+// The matrix is regular, and the answer solves the system.
+fn assert_regular(rt: &impl Abort, solved: &Solved, entries: &[i128], right: &[Far]) {
+    match solved {
+        Solved::One { den, values } => assert_solves(rt, entries, right, *den, values.items()),
+        Solved::Dependent { .. } => panic!(rt; "a regular matrix of size {}", right.len()),
     }
-    Ok(())
 }
 
 // The matrix sends the numbers, which aren't all 0, to 0.
@@ -136,6 +136,17 @@ fn assert_depends(rt: &impl Abort, entries: &[i128], numbers: &[i128]) {
         assert_eq!(rt; sum, 0);
     }
     assert!(rt; next.next().is_none());
+}
+
+// The matrix is dependent, and the answer tells a dependence.
+fn assert_dependent(rt: &impl Abort, solved: &Solved, size: usize, entries: &[i128]) {
+    match solved {
+        Solved::One { den, .. } => panic!(rt; "a dependent matrix of size {size} with den {den}"),
+        Solved::Dependent { combination } => {
+            assert_eq!(rt; combination.items().len(), size);
+            assert_depends(rt, entries, combination.items());
+        }
+    }
 }
 
 #[test]
@@ -168,7 +179,8 @@ fn small_regular_systems(rt: HostRuntime) -> Result<(), Fail> {
         ),
     ];
     for (size, entries, right) in table {
-        assert_regular(&rt, rt.alloc(), size, entries, right)?;
+        let solved = answer(&rt, rt.alloc(), size, entries, right)?;
+        assert_regular(&rt, &solved, entries, right);
     }
     Ok(())
 }
@@ -208,7 +220,8 @@ fn large_regular_systems(rt: HostRuntime) -> Result<(), Fail> {
         ),
     ];
     for (size, entries, right) in table {
-        assert_regular(&rt, rt.alloc(), size, entries, right)?;
+        let solved = answer(&rt, rt.alloc(), size, entries, right)?;
+        assert_regular(&rt, &solved, entries, right);
     }
     Ok(())
 }
@@ -230,18 +243,12 @@ fn weighed_systems(rt: HostRuntime) -> Result<(), Fail> {
         ),
     ];
     for (size, entries, right) in table {
-        match weighed_answer(&rt, rt.alloc(), size, entries, right)? {
-            Solved::One { den, values } => assert_solves(&rt, entries, right, den, values.items()),
-            Solved::Dependent { .. } => panic!(&rt; "a regular matrix of size {size}"),
-        }
+        let solved = weighed_answer(&rt, rt.alloc(), size, entries, right)?;
+        assert_regular(&rt, &solved, entries, right);
     }
     let entries = [40, 60, 20, 30];
-    match weighed_answer(&rt, rt.alloc(), 2, &entries, &[pair(1, 2), pair(3, 4)])? {
-        Solved::One { den, .. } => panic!(&rt; "a dependent matrix with den {den}"),
-        Solved::Dependent { combination } => {
-            assert_depends(&rt, &entries, combination.items());
-        }
-    }
+    let solved = weighed_answer(&rt, rt.alloc(), 2, &entries, &[pair(1, 2), pair(3, 4)])?;
+    assert_dependent(&rt, &solved, 2, &entries);
     Ok(())
 }
 
@@ -277,15 +284,8 @@ fn dependent_systems(rt: HostRuntime) -> Result<(), Fail> {
     ];
     for (size, entries) in table {
         assert!(rt; size <= 6);
-        match answer(&rt, rt.alloc(), size, entries, &right[..size])? {
-            Solved::One { den, .. } => panic!(&rt;
-                "a dependent matrix of size {size} with den {den}"
-            ),
-            Solved::Dependent { combination } => {
-                assert_eq!(rt; combination.items().len(), size);
-                assert_depends(&rt, entries, combination.items());
-            }
-        }
+        let solved = answer(&rt, rt.alloc(), size, entries, &right[..size])?;
+        assert_dependent(&rt, &solved, size, entries);
     }
     Ok(())
 }

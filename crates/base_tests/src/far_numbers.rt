@@ -2,6 +2,7 @@ ghost use Rattle.std.specs.Prelude.{◌≡◌};
 
 use lin_solve::far_num::{Far, FarList, FarPoint, Row, add, dot01, sub, times};
 use line_text::wide_num::{Op, Wide};
+use std::process::Abort;
 use std::test::Fail;
 
 const HALF: i128 = 1 << 119;
@@ -13,43 +14,36 @@ fn pair(far: i128, near: i128) -> Far
     Far { far, near }
 }
 
+/// Asserts what a calculation gives.
+fn gives(rt: &impl Abort, got: Result<Far, Wide>, wanted: Result<Far, Wide>) {
+    assert_eq!(rt; got, wanted);
+}
+
+fn too_wide(op: Op, left: i128, right: i128) -> Result<Far, Wide> {
+    Err(Wide { op, left, right })
+}
+
 #[test]
 fn operations(rt: HostRuntime) {
-    assert_eq!(rt; add(pair(1, -2), pair(3, 4)), Ok(pair(4, 2)));
-    assert_eq!(rt;
+    gives(&rt, add(pair(1, -2), pair(3, 4)), Ok(pair(4, 2)));
+    gives(
+        &rt,
         add(pair(1, HALF), pair(3, HALF)),
-        Err(Wide {
-            op: Op::Add,
-            left: HALF,
-            right: HALF
-        })
+        too_wide(Op::Add, HALF, HALF),
     );
-    assert_eq!(rt;
+    gives(
+        &rt,
         add(pair(HALF, HALF), pair(HALF, -7)),
-        Err(Wide {
-            op: Op::Add,
-            left: HALF,
-            right: HALF
-        })
+        too_wide(Op::Add, HALF, HALF),
     );
-    assert_eq!(rt; sub(pair(1, -2), pair(3, 4)), Ok(pair(-2, -6)));
-    assert_eq!(rt;
+    gives(&rt, sub(pair(1, -2), pair(3, 4)), Ok(pair(-2, -6)));
+    gives(
+        &rt,
         sub(pair(-HALF, 5), pair(HALF, 6)),
-        Err(Wide {
-            op: Op::Sub,
-            left: -HALF,
-            right: HALF
-        })
+        too_wide(Op::Sub, -HALF, HALF),
     );
-    assert_eq!(rt; times(pair(7, -2), -3), Ok(pair(-21, 6)));
-    assert_eq!(rt;
-        times(pair(7, HALF), 2),
-        Err(Wide {
-            op: Op::Mul,
-            left: HALF,
-            right: 2
-        })
-    );
+    gives(&rt, times(pair(7, -2), -3), Ok(pair(-21, 6)));
+    gives(&rt, times(pair(7, HALF), 2), too_wide(Op::Mul, HALF, 2));
 }
 
 #[test]
@@ -62,21 +56,14 @@ fn order(rt: HostRuntime) {
 #[test]
 fn sums_of_members(rt: HostRuntime) {
     let list = [pair(1, 10), pair(2, 20), pair(4, 40)];
-    assert_eq!(rt; dot01(0, &list), Ok(pair(0, 0)));
-    assert_eq!(rt; dot01(0b101, &list), Ok(pair(5, 50)));
-    assert_eq!(rt; dot01(0b111, &list), Ok(pair(7, 70)));
-    assert_eq!(rt; dot01(0, &[]), Ok(pair(0, 0)));
+    gives(&rt, dot01(0, &list), Ok(pair(0, 0)));
+    gives(&rt, dot01(0b101, &list), Ok(pair(5, 50)));
+    gives(&rt, dot01(0b111, &list), Ok(pair(7, 70)));
+    gives(&rt, dot01(0, &[]), Ok(pair(0, 0)));
     // The sum of all is in the range, and the third sum on the way isn't.
     let list = [pair(0, HALF), pair(5, 9), pair(1, HALF), pair(0, -HALF)];
-    assert_eq!(rt;
-        dot01(0b1101, &list),
-        Err(Wide {
-            op: Op::Add,
-            left: HALF,
-            right: HALF
-        })
-    );
-    assert_eq!(rt; dot01(0b1001, &list), Ok(pair(0, 0)));
+    gives(&rt, dot01(0b1101, &list), too_wide(Op::Add, HALF, HALF));
+    gives(&rt, dot01(0b1001, &list), Ok(pair(0, 0)));
 }
 
 #[test]

@@ -2,18 +2,37 @@ use line_text::wide_num::Text;
 use line_text::{
     NumbersStop, add_numbers, add_signed_numbers, field_len, numbers_behind, read_at_most,
 };
+use std::alloc::{AllocError, Global};
+use std::process::Abort;
 use std::test::Fail;
+
+/// Adds the word "t" and four numbers.
+fn add_line(text: &mut Text) -> Result<(), AllocError> {
+    text.add(b"t")?;
+    add_signed_numbers(text, &[-7, 0, 0, 120])
+}
+
+/// Whether a number behind the word "t" of this line is out of range, or why they aren't read.
+fn read_line(alloc: Global, line: &[u8]) -> Result<bool, NumbersStop> {
+    let mut numbers = Vec::new(alloc);
+    numbers_behind(line, b"t", &mut numbers)
+}
+
+/// Asserts which numbers stand behind the word "t" of this line.
+fn has_numbers(rt: &impl Abort, alloc: Global, line: &[u8], numbers: &[i128]) {
+    let mut read = Vec::new(alloc);
+    if numbers_behind(line, b"t", &mut read) != Ok(false) {
+        panic!(rt; "numbers in the range");
+    }
+    assert!(rt; read.as_slice() == numbers);
+}
 
 #[test]
 fn reads_back_the_numbers_that_it_wrote(rt: HostRuntime) -> Result<(), Fail> {
     let mut text = Text::new(rt.alloc());
-    text.add(b"t")?;
-    add_signed_numbers(&mut text, &[-7, 0, 0, 120])?;
+    add_line(&mut text)?;
     assert!(rt; text.items() == b"t -7 0 0 120".as_slice());
-    let mut numbers = Vec::new(rt.alloc());
-    let read = numbers_behind(text.items(), b"t", &mut numbers);
-    assert_eq!(rt; read, Ok(false));
-    assert!(rt; numbers.as_slice() == [-7i128, 0, 0, 120].as_slice());
+    has_numbers(&rt, rt.alloc(), text.items(), &[-7, 0, 0, 120]);
     Ok(())
 }
 
@@ -35,8 +54,7 @@ fn tells_a_number_out_of_range_from_no_number(rt: HostRuntime) {
         ("u 1", Err(NumbersStop::Form)),
     ];
     for (line, told) in cases {
-        let mut numbers = Vec::new(rt.alloc());
-        let read = numbers_behind(line.as_bytes(), b"t", &mut numbers);
+        let read = read_line(rt.alloc(), line.as_bytes());
         assert_eq!(rt; read, *told, "{line}");
     }
 }

@@ -1,47 +1,30 @@
 use line_text::wide_num::{
     NumList, Op, Text, Wide, add, digits, div_exact, gcd, mul, read_natural, read_number, sub,
 };
+use std::alloc::{AllocError, Global};
+use std::process::Abort;
 use std::test::Fail;
 
 const HALF: i128 = 1 << 119;
 
+/// Asserts what a calculation gives.
+fn gives(rt: &impl Abort, got: Result<i128, Wide>, wanted: Result<i128, Wide>) {
+    assert_eq!(rt; got, wanted);
+}
+
+fn too_wide(op: Op, left: i128, right: i128) -> Result<i128, Wide> {
+    Err(Wide { op, left, right })
+}
+
 #[test]
 fn sums_and_products(rt: HostRuntime) {
-    assert_eq!(rt; add(HALF - 1, HALF), Ok(2 * HALF - 1));
-    assert_eq!(rt;
-        add(-HALF, -HALF),
-        Err(Wide {
-            op: Op::Add,
-            left: -HALF,
-            right: -HALF
-        })
-    );
-    assert_eq!(rt; sub(3, 5), Ok(-2));
-    assert_eq!(rt;
-        sub(-HALF, HALF),
-        Err(Wide {
-            op: Op::Sub,
-            left: -HALF,
-            right: HALF
-        })
-    );
-    assert_eq!(rt; mul(HALF, 1), Ok(HALF));
-    assert_eq!(rt;
-        mul(HALF, 2),
-        Err(Wide {
-            op: Op::Mul,
-            left: HALF,
-            right: 2
-        })
-    );
-    assert_eq!(rt;
-        mul(HALF, -HALF),
-        Err(Wide {
-            op: Op::Mul,
-            left: HALF,
-            right: -HALF
-        })
-    );
+    gives(&rt, add(HALF - 1, HALF), Ok(2 * HALF - 1));
+    gives(&rt, add(-HALF, -HALF), too_wide(Op::Add, -HALF, -HALF));
+    gives(&rt, sub(3, 5), Ok(-2));
+    gives(&rt, sub(-HALF, HALF), too_wide(Op::Sub, -HALF, HALF));
+    gives(&rt, mul(HALF, 1), Ok(HALF));
+    gives(&rt, mul(HALF, 2), too_wide(Op::Mul, HALF, 2));
+    gives(&rt, mul(HALF, -HALF), too_wide(Op::Mul, HALF, -HALF));
 }
 
 #[test]
@@ -51,6 +34,12 @@ fn divisors(rt: HostRuntime) {
     assert_eq!(rt; gcd(0, 0), 0);
     assert_eq!(rt; div_exact(-18, 6), -3);
     assert_eq!(rt; div_exact(0, -7), 0);
+}
+
+/// Whether a number is written so.
+fn is_spelled(alloc: Global, number: i128, spelling: &str) -> Result<bool, AllocError> {
+    let text = digits(alloc, number)?;
+    Ok(text.items() == spelling.as_bytes())
 }
 
 #[test]
@@ -66,8 +55,7 @@ fn spellings(rt: HostRuntime) -> Result<(), Fail> {
         ),
     ];
     for (n, spelling) in table {
-        let text = digits(rt.alloc(), n)?;
-        assert_eq!(rt; text.items(), spelling.as_bytes());
+        assert!(rt; is_spelled(rt.alloc(), n, spelling)?, "{spelling}");
         assert_eq!(rt; read_number(spelling.as_bytes()), Some(n), "{spelling}");
     }
     Ok(())
@@ -98,15 +86,25 @@ fn no_spellings(rt: HostRuntime) {
     assert_eq!(rt; read_natural(b"4096"), Some(4096));
 }
 
-#[test]
-fn lists(rt: HostRuntime) -> Result<(), Fail> {
-    let mut text = Text::new(rt.alloc());
+fn fill_text(rt: &impl Abort, text: &mut Text) -> Result<(), AllocError> {
     text.push(b'a')?;
     text.add(b"bc")?;
     assert_eq!(rt; text.items(), b"abc".as_slice());
-    let mut numbers = NumList::new(rt.alloc());
-    numbers.push(-1)?;
-    numbers.push(HALF)?;
-    assert_eq!(rt; numbers.items(), [-1, HALF].as_slice());
+    Ok(())
+}
+
+fn fill_list(rt: &impl Abort, list: &mut NumList) -> Result<(), AllocError> {
+    list.push(-1)?;
+    list.push(HALF)?;
+    assert_eq!(rt; list.items(), [-1, HALF].as_slice());
+    Ok(())
+}
+
+#[test]
+fn lists(rt: HostRuntime) -> Result<(), Fail> {
+    let mut text = Text::new(rt.alloc());
+    fill_text(&rt, &mut text)?;
+    let mut list = NumList::new(rt.alloc());
+    fill_list(&rt, &mut list)?;
     Ok(())
 }
