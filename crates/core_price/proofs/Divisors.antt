@@ -1,5 +1,5 @@
 -- Divisors of lists, and points with their multipliers divided by a common divisor.
-use Rattle.std.specs.Prelude.{◌≡◌, ℕ, zero, suc, ◌+◌, ◌*◌, ◌<◌, List, [], ◌∷◌, ◌++◌, length, ℤ, pos, negsuc, ◌+ℤ◌, ◌*ℤ◌, ◌≤ℤ◌, ◌<ℤ◌, unsigned_abs, refl}
+use Rattle.std.specs.Prelude.{◌≡◌, ℕ, zero, suc, ◌+◌, ◌*◌, ◌<◌, List, length, ℤ, pos, negsuc, ◌+ℤ◌, ◌*ℤ◌, ◌≤ℤ◌, ◌<ℤ◌, unsigned_abs, refl}
 use Rattle.std.specs.Int.{IsGcd}
 use Rattle.std.proofs.Common.{sym, ◌∙◌, ap, arith, subst, inl, inr}
 use Rattle.std.proofs.lemmas.Int.{ints}
@@ -10,8 +10,6 @@ use Rattle.nearest_point.specs.wide_num.specs.Range.{Divides, InRange}
 use Rattle.nearest_point.specs.wide_num.specs.Sums.{nth}
 use Rattle.nearest_point.specs.lin_solve.specs.Elimination.{AreQuotients}
 use Rattle.core_price.specs.Lowest.{DividesAll, DividesPoint, IsLowest, IsMultiple}
-use lib.ListN.{length-append, get_or-append}
-use lib.Seq.{get_or-append_seam}
 
 -- a divisor of a divisor divides
 pub divides-through : (d e x : ℤ) → Divides d e → Divides e x → Divides d x

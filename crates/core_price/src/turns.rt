@@ -10,7 +10,7 @@ ghost use Rattle.core_price.specs.Rows.{block_choices, block_rows};
 ghost use Rattle.core_price.specs.SoFar.{CanTurn, HasEnded, IsSoFar};
 ghost use Rattle.blocking.specs.row_laws.specs.Surplus.{surpluses_of};
 ghost use Rattle.blocking.specs.row_laws.specs.Winners;
-ghost use Rattle.std.specs.Prelude.{IfOk, [], ◌≡◌, ◌++◌};
+ghost use Rattle.std.specs.Prelude.{IfOk, OnOk, None, Some, [], ◌∷◌, ◌≡◌, ◌++◌};
 
 use crate::bidders::for_bidders;
 use crate::reduce::reduced;
@@ -19,7 +19,7 @@ use crate::weights::winner_weights;
 use crate::{Turn, TurnList};
 use blocking::choices::{Chooser, Found};
 use blocking::far_num::Row;
-use blocking::{Looked, find_block};
+use blocking::{Block, Looked, find_block};
 use nearest_point::lin_solve::far_num::wide_num::NumList;
 use nearest_point::{Nearest, nearest};
 use std::alloc::{AllocError, Global};
@@ -57,24 +57,15 @@ pub(crate) fn take_turns<C: Chooser>(
         (surpluses_of (C.market chooser.now) (C.chosen chooser.now) e.near.den
         (Winners.for_bidders (C.chosen chooser.now) e.near.at)) e.last.table) }
 {
-    let Asked {
-        mut rows,
-        mut choices,
-    } = asked;
+    let mut asked = asked;
     let own = winner_weights(alloc, chooser.winners(), weights)?;
     let mut turns = TurnList::new(alloc);
     'turns: loop {
-        let near = turn_point(alloc, prices, &own, &rows)?;
+        let near = turn_point(alloc, prices, &own, &asked.rows)?;
         let at = for_bidders(alloc, chooser.winners(), near.at.items())?;
         match find_block(alloc, chooser, near.den, &at)? {
             Looked::Free(last) => {
-                let at = copied(alloc, near.at.items())?;
-                turns.push(Turn {
-                    den: near.den,
-                    at,
-                    block: None,
-                })?;
-                let asked = Asked { rows, choices };
+                add_last(alloc, &mut turns, &near)?;
                 return Ok(Ended {
                     near,
                     last,
@@ -82,17 +73,46 @@ pub(crate) fn take_turns<C: Chooser>(
                     turns,
                 });
             }
-            Looked::Block(block) => {
-                rows.push(block.row)?;
-                choices.push(block.choice.copied(alloc)?)?;
-                turns.push(Turn {
-                    den: near.den,
-                    at: near.at,
-                    block: Some(block),
-                })?;
-            }
+            Looked::Block(block) => add_block(alloc, &mut asked, &mut turns, near, block)?,
         }
     }
+}
+
+// Adds the turn of a point that nobody blocks.
+fn add_last(alloc: Global, turns: &mut TurnList, near: &Nearest) -> Result<(), AllocError>
+    ensures { OnOk result
+        (turns.new ≡ turns.old ++ (record { den = near.now.den; at = near.now.at; block = None } ∷ [])) }
+{
+    let at = copied(alloc, near.at.items())?;
+    turns.push(Turn {
+        den: near.den,
+        at,
+        block: None,
+    })?;
+    Ok(())
+}
+
+// Adds the turn of a point that is blocked, and what the next turn asks more.
+fn add_block(
+    alloc: Global,
+    asked: &mut Asked,
+    turns: &mut TurnList,
+    near: Nearest,
+    block: Block,
+) -> Result<(), AllocError>
+    ensures rows { OnOk result (asked.new.rows.items ≡ asked.old.rows.items ++ (block.row ∷ [])) }
+    ensures choices { OnOk result (asked.new.choices.items ≡ asked.old.choices.items ++ (block.choice ∷ [])) }
+    ensures turns { OnOk result
+        (turns.new ≡ turns.old ++ (record { den = near.den; at = near.at; block = Some block } ∷ [])) }
+{
+    asked.rows.push(block.row)?;
+    asked.choices.push(block.choice.copied(alloc)?)?;
+    turns.push(Turn {
+        den: near.den,
+        at: near.at,
+        block: Some(block),
+    })?;
+    Ok(())
 }
 
 // The point of a turn with its multipliers, over the least denominator.

@@ -18,10 +18,19 @@ pub fn review_text(alloc: Global, book: BidBook, edits: &[Edit]) -> Result<Text,
     ensures { IfOk result (λ text. IsReviewText book edits.now text) }
 {
     let mut review = Review::start(alloc, book)?;
+    let text = reviewed(alloc, &mut review, edits)?;
+    Ok(text)
+}
+
+/// The same of a review that has begun.
+fn reviewed(alloc: Global, review: &mut Review, edits: &[Edit]) -> Result<Text, AllocError>
+    requires { AllByRecursion (λ e. length (edit_lots e) ≡ length review.old.book.supply) edits.now }
+    ensures { IfOk result (λ text. IsReviewText review.old.book edits.now text) }
+{
     let mut text = Text::new(alloc);
-    add_state(&mut text, 0, &review)?;
+    add_state(&mut text, 0, review)?;
     for (k, edit) in edits.iter().enumerate() {
-        add_edit(alloc, &mut text, &mut review, k as u64 + 1, edit)?;
+        add_edit(alloc, &mut text, review, k as u64 + 1, edit)?;
     }
     let winners = win_text(alloc, review.book(), review.choice())?;
     text.add(winners.items())?;

@@ -24,7 +24,7 @@ turn_point-requires g c =
     let z = g.C.Chooser.chosen c.args.chooser.now in
     let ws = c.args.weights.now in
     rw (c.deref.ensures.value, c.deref-in-turns.ensures.value, c.in_ok-own.ensures, c.winners.ensures)
-    (can-solve m z c.args.prices.now ws c.requires.can c.turns.rows.items c.turns.choices.items c.turns.turns c.turns.invariant.far)
+    (can-solve m z c.args.prices.now ws c.requires.can c.turns.asked.rows.items c.turns.asked.choices.items c.turns.turns c.turns.invariant.far)
 
 pub find_block-requires : goal.find_block-requires
 find_block-requires g c =
@@ -35,8 +35,8 @@ find_block-requires g c =
     let prices = c.args.prices.now in
     let ws = c.args.weights.now in
     let can = c.requires.can in
-    let rows = c.turns.rows.items in
-    let choices = c.turns.choices.items in
+    let rows = c.turns.asked.rows.items in
+    let choices = c.turns.asked.choices.items in
     let past = c.turns.turns in
     let far : IsSoFar m z ws rows choices past = c.turns.invariant.far in
     let near = c.in_ok-near.near in
@@ -59,8 +59,8 @@ returns-in-Free-clause-ended g c =
     let prices = c.args.prices.now in
     let ws = c.args.weights.now in
     let can = c.requires.can in
-    let rows = c.turns.rows.items in
-    let choices = c.turns.choices.items in
+    let rows = c.turns.asked.rows.items in
+    let choices = c.turns.asked.choices.items in
     let past = c.turns.turns in
     let far : IsSoFar m z ws rows choices past = c.turns.invariant.far in
     let near = c.in_ok-near.near in
@@ -70,25 +70,24 @@ returns-in-Free-clause-ended g c =
     let spread : c.deref-in-turns-2.result.now ≡ for_bidders z near.at = c.deref-in-turns-2.ensures.value ∙ c.in_ok-at.ensures
     ∙ ap (λ l. for_bidders l c.items.result.now) c.winners-in-turns.ensures ∙ ap (for_bidders z) c.items.ensures in
     let free : IsUnblocked m z (point_of z near.den near.at) = rw (c.in-Free.is, d, spread) at c.in_ok-last.ensures.free in
-    let same : c.in_ok-at-in-Free.at ≡ near.at = c.in_ok-at-in-Free.ensures ∙ c.items-in-Free.ensures in
-    rw (c.in_ok-push-in-Free.ensures.pushed, same, d) (ends m lawful z win prices ws can rows choices past far near.den near.at near.first near.second answer
+    rw (c.in_ok-add_last-in-Free.ensures) (ends m lawful z win prices ws can rows choices past far near.den near.at near.first near.second answer
     c.in_ok-near.ensures.lowest free)
 
 pub returns-in-Free-clause-rows : goal.returns-in-Free-clause-rows
-returns-in-Free-clause-rows g c = rw (c.in_ok-push-in-Free.ensures.pushed) (c.turns.invariant.rows ∙ ap (λ l. c.args.asked.rows.items ++ l)
+returns-in-Free-clause-rows g c = rw (c.in_ok-add_last-in-Free.ensures) (c.turns.invariant.rows ∙ ap (λ l. c.args.asked.rows.items ++ l)
     (sym (rows-last c.turns.turns _ refl)))
 
 pub returns-in-Free-clause-choices : goal.returns-in-Free-clause-choices
-returns-in-Free-clause-choices g c = rw (c.in_ok-push-in-Free.ensures.pushed) (c.turns.invariant.choices
+returns-in-Free-clause-choices g c = rw (c.in_ok-add_last-in-Free.ensures) (c.turns.invariant.choices
     ∙ ap (λ l. c.args.asked.choices.items ++ l) (sym (choices-last c.turns.turns _ refl)))
 
 pub turns-smaller : goal.turns-smaller
 turns-smaller g c =
     let m = g.C.Chooser.market c.args.chooser.now in
     let z = g.C.Chooser.chosen c.args.chooser.now in
-    let few : length c.turns.turns < 2 ^ winners_in z = turns-few m z c.args.weights.now c.turns.rows.items c.turns.choices.items c.turns.turns
+    let few : length c.turns.turns < 2 ^ winners_in z = turns-few m z c.args.weights.now c.turns.asked.rows.items c.turns.asked.choices.items c.turns.turns
     c.turns.invariant.far in
-    let more : length c.push-in-Block-3.new.self ≡ length c.turns.turns + 1 = ap length c.in_ok-push-in-Block-3.ensures.pushed
+    let more : length c.add_block.new.turns ≡ length c.turns.turns + 1 = ap length c.in_ok-add_block-in-Block.ensures.turns
     ∙ length-append c.turns.turns (_ ∷ []) in
     omega (arith, few, more)
 
@@ -101,8 +100,8 @@ turns-preserved g c =
     let prices = c.args.prices.now in
     let ws = c.args.weights.now in
     let can = c.requires.can in
-    let rows = c.turns.rows.items in
-    let choices = c.turns.choices.items in
+    let rows = c.turns.asked.rows.items in
+    let choices = c.turns.asked.choices.items in
     let past = c.turns.turns in
     let far : IsSoFar m z ws rows choices past = c.turns.invariant.far in
     let near = c.in_ok-near.near in
@@ -115,11 +114,9 @@ turns-preserved g c =
     let b : Block = c.in-Block.block in
     let turn : Turn = record { den = near.den; at = near.at; block = Some b } in
     rw (
-      c.in_ok-push-in-Block.ensures.items,
-      c.in_ok-push-in-Block-2.ensures.items,
-      c.in_ok-push-in-Block-3.ensures.pushed,
-      c.in_ok-copied-in-Block.ensures,
-      d,
+      c.in_ok-add_block-in-Block.ensures.rows,
+      c.in_ok-add_block-in-Block.ensures.choices,
+      c.in_ok-add_block-in-Block.ensures.turns,
     ) record {
       far = next m lawful z win prices ws can rows choices past far near.den near.at near.first near.second answer b block turn refl;
       rows = rows-block rows c.args.asked.rows.items past turn b refl c.turns.invariant.rows;

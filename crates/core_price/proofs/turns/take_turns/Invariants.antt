@@ -7,9 +7,9 @@ use Rattle.core_price.proofs.turns.take_turns.Given as goal
 
 abbrev pub invariant-turns : goal.invariant-turns
 invariant-turns g l = record {
-  far : IsSoFar (g.C.Chooser.market l.chooser) (g.C.Chooser.chosen l.chooser) l.weights l.rows.items l.choices.items l.turns;
-  rows : l.rows.items ≡ l.fn.asked.rows.items ++ block_rows l.turns;
-  choices : l.choices.items ≡ l.fn.asked.choices.items ++ block_choices l.turns;
+  far : IsSoFar (g.C.Chooser.market l.chooser) (g.C.Chooser.chosen l.chooser) l.weights l.asked.rows.items l.asked.choices.items l.turns;
+  rows : l.asked.rows.items ≡ l.fn.asked.rows.items ++ block_rows l.turns;
+  choices : l.asked.choices.items ≡ l.fn.asked.choices.items ++ block_choices l.turns;
 }
 
 abbrev pub decreases-turns : goal.decreases-turns
