@@ -157,9 +157,8 @@ fn loads_fail(
     Ok(())
 }
 
-// Asserts that the output took so many bytes of what a clean run prints, and that the files are as behind that.
-fn breaks_off(rt: &impl Abort, ended: &Ended, clean: &Ended, done: usize) {
-    let front = clean.printed.get(..done).expect(rt, "a front");
+// Asserts that the output took this front of what a clean run prints, and that the files are as behind that.
+fn breaks_off(rt: &impl Abort, ended: &Ended, clean: &Ended, front: &[u8]) {
     let file = FileKind::Out;
     ends(rt, ended, Status::WriteFault { file }, front);
     assert!(rt; holds(&ended.second, clean.second.as_deref()));
@@ -184,7 +183,8 @@ fn puts_fail(
             ..CLEAN
         };
         let ended = run_failing(alloc, words, held, failing)?;
-        breaks_off(rt, &ended, &clean, done);
+        let front = clean.printed.get(..done).expect(rt, "a front");
+        breaks_off(rt, &ended, &clean, front);
         done += 5;
     }
     Ok(())
