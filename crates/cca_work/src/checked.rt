@@ -118,6 +118,33 @@ fn judged(alloc: Global, checker: &StreamCheck<'_>, room: &[i128]) -> Result<Cer
     }
 }
 
+// What the file of a certificate shows for whose checker there is room.
+fn judged_file<F: Files>(
+    alloc: Global,
+    files: &mut F,
+    name: &str,
+    book: &BidBook,
+    weights: &[u32],
+    room: &mut [i128],
+    piece: &mut [u8],
+) -> Result<CertFacts, Status>
+    requires known { IsTrue ((F.folder files.old).knows name.now) }
+    requires weights { AreWeights (bidders_of book.now) weights.now }
+    requires room { length room.old ≡ room_size (bidders_of book.now) (states book.now) }
+    requires piece { 0 < length piece.old }
+    ensures value { IfOk result
+        (IsRead CERT_BYTES (ShowsFacts book.now weights.now) name.now (F.folder files.old) (F.folder files.new)) }
+    ensures stop { IfErr result
+        (InputStops Cert CERT_BYTES (StopsCheck book.now weights.now) name.now (F.folder files.old)
+        (F.folder files.new)) }
+    ensures loads { OnlyLoads name.now (F.folder files.old) (F.folder files.new) }
+{
+    match fed(files, name, book, weights, room, piece) {
+        Ok(checker) => judged(alloc, &checker, room),
+        Err(stop) => Err(status_of_read(FileKind::Cert, CERT_BYTES, stop)),
+    }
+}
+
 /// The facts of the certificate that is the file of this known name, checked by the weights from pieces of at most 4,096 bytes, so that no
 /// memory grows with it. Then all tests hold for the certificate that the file states, and its choice and its payments are the core
 /// outcome.
@@ -146,8 +173,13 @@ pub fn check_input<F: Files>(
     let mut numbers = empty_room(alloc, book)?;
     let mut bytes = empty_piece(alloc)?;
     let room = numbers.as_mut_slice();
-    match fed(files, name, book, weights, room, bytes.as_mut_slice()) {
-        Ok(checker) => judged(alloc, &checker, room),
-        Err(stop) => Err(status_of_read(FileKind::Cert, CERT_BYTES, stop)),
-    }
+    judged_file(
+        alloc,
+        files,
+        name,
+        book,
+        weights,
+        room,
+        bytes.as_mut_slice(),
+    )
 }

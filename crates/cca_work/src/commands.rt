@@ -1,12 +1,20 @@
 // The work of each command.
-ghost use Rattle.std.specs.Prelude.{ℕ, List, [], IsTrue};
+ghost use Rattle.std.specs.Prelude.{◌≡◌, ◌⊎◌, ℕ, List, [], ◌∷◌, Err, IsTrue};
 ghost use Rattle.place_price.specs.outcome.specs.auction_model.specs.Prices.{AreWeights};
 ghost use Rattle.place_price.specs.cert_laws.specs.Tests.{bidders_of};
 ghost use Rattle.cca_inputs.specs.Command.{win, weigh, weigh_check, auction, award, audit, check, place_check, price, review, one_priced, three_files, two_files, two_priced};
 ghost use Rattle.cca_inputs.specs.Words.{KnowsFiles, command_value};
 ghost use Rattle.cca_inputs.specs.declared.shape.OnePriced.TheVariants.{Place};
-ghost use Rattle.cca_work.specs.Gives.{WinGives};
-ghost use Rattle.cca_work.specs.Works.{CertWorks, HasLogged, IsWork, Works};
+ghost use Rattle.cca_inputs.specs.declared.status.FileKind.TheVariants.{Book, Cert, Edits, Log, Weights};
+ghost use Rattle.cca_inputs.specs.declared.status.Status.{Status};
+ghost use Rattle.cca_inputs.specs.limits.specs.declared.TheConstants.{LOG_BYTES, WEIGHTS_BYTES};
+ghost use Rattle.cca_inputs.specs.Answers.{LogAnswers, WeightsAnswers};
+ghost use Rattle.cca_inputs.specs.cca_base.specs.Files.{Folder};
+ghost use Rattle.cca_inputs.specs.Outcome.{stops, value};
+ghost use Rattle.cca_inputs.specs.Reading.{InputStops, IsRead, OnlyLoads};
+ghost use Rattle.big_auction.specs.clock_stage.specs.auction_rules.specs.declared.Event.{Event};
+ghost use Rattle.cca_work.specs.Gives.{AuctionGives, EditsGive, PlaceCertGives, PlaceVerdictGives, PriceGives, ReviewGives, WinGives, ones};
+ghost use Rattle.cca_work.specs.Works.{CertWorks, HasBook, HasLogged, IsWork, Works, WorksFrom, bare};
 
 use crate::auction::{logged_book, replayed};
 use crate::checked::check_input;
@@ -17,8 +25,10 @@ use crate::reviewing::reviewed;
 use crate::verdict::accepted;
 use crate::win::win_of;
 use crate::work::{Stop, Work};
+use big_auction::clock_stage::award_file::Award;
 use big_auction::log_file::packages_of_log;
 use cca_inputs::cca_base::Files;
+use cca_inputs::slot_places::Slots;
 use cca_inputs::weights_file::bid_book::BidBook;
 use cca_inputs::{
     AwardInput, BookInput, Command, EditsInput, LogInput, OnePriced, PlaceCertInput, PriceForm,
@@ -42,6 +52,40 @@ fn checked<F: Files>(
     accepted(alloc, book, &facts)
 }
 
+// The same with a weight of 1 for each bidder.
+fn checked_alike<F: Files>(
+    alloc: Global,
+    files: &mut F,
+    cert: &str,
+    book: &BidBook,
+) -> Result<Work, Stop>
+    requires { IsTrue ((F.folder files.old).knows cert.now) }
+    ensures { CertWorks book.now (ones book.now) cert.now (F.folder files.old) (F.folder files.new) result }
+{
+    let weights = ones_of(alloc, book)?;
+    checked(alloc, files, cert, book, &weights)
+}
+
+// The book that the log of an award leads to.
+fn logged_behind<F: Files>(
+    alloc: Global,
+    files: &mut F,
+    log: &str,
+    award: Award,
+) -> Result<BidBook, Stop>
+    requires { IsTrue ((F.folder files.old).knows log.now) }
+    ensures out { ((s : Status) × (result ≡ Err (bare s))
+        × InputStops Log LOG_BYTES (λ bytes x. LogAnswers award bytes (stops x)) log.now (F.folder files.old) (F.folder files.new) s)
+        ⊎ ((events : List Event)
+        × IsRead LOG_BYTES (λ bytes v. LogAnswers award bytes (value v)) log.now (F.folder files.old) (F.folder files.new) events
+        × HasBook award events result) }
+    ensures loads { OnlyLoads log.now (F.folder files.old) (F.folder files.new) }
+{
+    let events = read_input(alloc, files, log, &LogInput { award: &award })?;
+    packages_of_log();
+    logged_book(alloc, award, &events)
+}
+
 // The book that an award and its log lead to, the first inputs of `award` and of `audit`.
 fn logged<F: Files>(alloc: Global, files: &mut F, terms: &str, log: &str) -> Result<BidBook, Stop>
     requires terms { IsTrue ((F.folder files.old).knows terms.now) }
@@ -49,9 +93,7 @@ fn logged<F: Files>(alloc: Global, files: &mut F, terms: &str, log: &str) -> Res
     ensures { HasLogged terms.now log.now (F.folder files.old) (F.folder files.new) result }
 {
     let award = read_input(alloc, files, terms, &AwardInput)?;
-    let events = read_input(alloc, files, log, &LogInput { award: &award })?;
-    packages_of_log();
-    logged_book(alloc, award, &events)
+    logged_behind(alloc, files, log, award)
 }
 
 fn winners(alloc: Global, book: &BidBook) -> Result<Work, Stop>
@@ -91,8 +133,27 @@ fn check_work<F: Files>(alloc: Global, files: &mut F, book: &str, cert: &str) ->
     ensures { Works (check book.now cert.now) (F.folder files.old) (F.folder files.new) result }
 {
     let book = read_input(alloc, files, book, &BookInput)?;
-    let weights = ones_of(alloc, &book)?;
-    checked(alloc, files, cert, &book, &weights)
+    checked_alike(alloc, files, cert, &book)
+}
+
+// What the weights give of the bidders of a book.
+fn weighed<F: Files>(
+    alloc: Global,
+    files: &mut F,
+    weights: &str,
+    book: &BidBook,
+    form: PriceForm,
+) -> Result<Work, Stop>
+    requires { IsTrue ((F.folder files.old).knows weights.now) }
+    ensures out { ((s : Status) × (result ≡ Err (bare s))
+        × InputStops Weights WEIGHTS_BYTES (λ bytes x. WeightsAnswers book.now bytes (stops x)) weights.now (F.folder files.old) (F.folder files.new) s)
+        ⊎ ((w : List ℕ)
+        × IsRead WEIGHTS_BYTES (λ bytes v. WeightsAnswers book.now bytes (value v)) weights.now (F.folder files.old) (F.folder files.new) w
+        × IsWork (PriceGives book.now w form) (Cert ∷ []) result) }
+    ensures loads { OnlyLoads weights.now (F.folder files.old) (F.folder files.new) }
+{
+    let weights = read_input(alloc, files, weights, &WeightsInput { book })?;
+    price_weighed(alloc, book, weights.items(), form)
 }
 
 fn weigh_work<F: Files>(
@@ -108,8 +169,29 @@ fn weigh_work<F: Files>(
         → Works (weigh book.now weights.now cert form) (F.folder files.old) (F.folder files.new) result }
 {
     let book = read_input(alloc, files, book, &BookInput)?;
-    let weights = read_input(alloc, files, weights, &WeightsInput { book: &book })?;
-    price_weighed(alloc, &book, weights.items(), form)
+    weighed(alloc, files, weights, &book, form)
+}
+
+// What the weights of the bidders of a book give, and a certificate behind them.
+fn weigh_checked<F: Files>(
+    alloc: Global,
+    files: &mut F,
+    weights: &str,
+    cert: &str,
+    book: &BidBook,
+) -> Result<Work, Stop>
+    requires weights { IsTrue ((F.folder files.old).knows weights.now) }
+    requires cert { IsTrue ((F.folder files.old).knows cert.now) }
+    ensures { ((s : Status) × (result ≡ Err (bare s))
+        × InputStops Weights WEIGHTS_BYTES (λ bytes x. WeightsAnswers book.now bytes (stops x)) weights.now (F.folder files.old) (F.folder files.new) s
+        × OnlyLoads weights.now (F.folder files.old) (F.folder files.new))
+        ⊎ ((w : List ℕ) × (mid : Folder)
+        × IsRead WEIGHTS_BYTES (λ bytes v. WeightsAnswers book.now bytes (value v)) weights.now (F.folder files.old) mid w
+        × OnlyLoads weights.now (F.folder files.old) mid
+        × CertWorks book.now w cert.now mid (F.folder files.new) result) }
+{
+    let weights = read_input(alloc, files, weights, &WeightsInput { book })?;
+    checked(alloc, files, cert, book, weights.items())
 }
 
 fn weigh_check_work<F: Files>(
@@ -125,8 +207,27 @@ fn weigh_check_work<F: Files>(
     ensures { Works (weigh_check book.now weights.now cert.now) (F.folder files.old) (F.folder files.new) result }
 {
     let book = read_input(alloc, files, book, &BookInput)?;
-    let weights = read_input(alloc, files, weights, &WeightsInput { book: &book })?;
-    checked(alloc, files, cert, &book, weights.items())
+    weigh_checked(alloc, files, weights, cert, &book)
+}
+
+// What the log of an award gives.
+fn replayed_behind<F: Files>(
+    alloc: Global,
+    files: &mut F,
+    log: &str,
+    award: Award,
+) -> Result<Work, Stop>
+    requires { IsTrue ((F.folder files.old).knows log.now) }
+    ensures out { ((s : Status) × (result ≡ Err (bare s))
+        × InputStops Log LOG_BYTES (λ bytes x. LogAnswers award bytes (stops x)) log.now (F.folder files.old) (F.folder files.new) s)
+        ⊎ ((events : List Event)
+        × IsRead LOG_BYTES (λ bytes v. LogAnswers award bytes (value v)) log.now (F.folder files.old) (F.folder files.new) events
+        × IsWork (AuctionGives award events) (Book ∷ []) result) }
+    ensures loads { OnlyLoads log.now (F.folder files.old) (F.folder files.new) }
+{
+    let log = read_input(alloc, files, log, &LogInput { award: &award })?;
+    packages_of_log();
+    replayed(alloc, award, &log)
 }
 
 fn auction_work<F: Files>(
@@ -141,9 +242,7 @@ fn auction_work<F: Files>(
         → Works (auction award.now log.now book) (F.folder files.old) (F.folder files.new) result }
 {
     let award = read_input(alloc, files, award, &AwardInput)?;
-    let log = read_input(alloc, files, log, &LogInput { award: &award })?;
-    packages_of_log();
-    replayed(alloc, award, &log)
+    replayed_behind(alloc, files, log, award)
 }
 
 fn award_work<F: Files>(
@@ -175,8 +274,7 @@ fn audit_work<F: Files>(
     ensures { Works (audit terms.now log.now cert.now) (F.folder files.old) (F.folder files.new) result }
 {
     let book = logged(alloc, files, terms, log)?;
-    let weights = ones_of(alloc, &book)?;
-    checked(alloc, files, cert, &book, &weights)
+    checked_alike(alloc, files, cert, &book)
 }
 
 fn place_work<F: Files>(
@@ -193,6 +291,21 @@ fn place_work<F: Files>(
     placed(alloc, &slots, form.rounds)
 }
 
+// What the certificate of a placement gives whose slots are at hand.
+fn checked_places<F: Files>(
+    alloc: Global,
+    files: &mut F,
+    cert: &str,
+    slots: &Slots,
+) -> Result<Work, Stop>
+    requires { IsTrue ((F.folder files.old).knows cert.now) }
+    ensures { WorksFrom Cert cert.now (λ content. PlaceCertGives slots.now content (PlaceVerdictGives slots.now))
+        (F.folder files.old) (F.folder files.new) result }
+{
+    let cert = read_input(alloc, files, cert, &PlaceCertInput { slots })?;
+    place_verdict(alloc, slots, &cert)
+}
+
 fn place_check_work<F: Files>(
     alloc: Global,
     files: &mut F,
@@ -204,8 +317,17 @@ fn place_check_work<F: Files>(
     ensures { Works (place_check slots.now cert.now) (F.folder files.old) (F.folder files.new) result }
 {
     let slots = read_input(alloc, files, slots, &SlotsInput)?;
-    let cert = read_input(alloc, files, cert, &PlaceCertInput { slots: &slots })?;
-    place_verdict(alloc, &slots, &cert)
+    checked_places(alloc, files, cert, &slots)
+}
+
+// What the edits of a book give.
+fn edited<F: Files>(alloc: Global, files: &mut F, edits: &str, book: BidBook) -> Result<Work, Stop>
+    requires { IsTrue ((F.folder files.old).knows edits.now) }
+    ensures { WorksFrom Edits edits.now (λ content. EditsGive book content (ReviewGives book))
+        (F.folder files.old) (F.folder files.new) result }
+{
+    let edits = read_input(alloc, files, edits, &EditsInput { book: &book })?;
+    reviewed(alloc, book, edits.items())
 }
 
 fn review_work<F: Files>(
@@ -219,8 +341,7 @@ fn review_work<F: Files>(
     ensures { Works (review book.now edits.now) (F.folder files.old) (F.folder files.new) result }
 {
     let book = read_input(alloc, files, book, &BookInput)?;
-    let edits = read_input(alloc, files, edits, &EditsInput { book: &book })?;
-    reviewed(alloc, book, edits.items())
+    edited(alloc, files, edits, book)
 }
 
 fn two_work<F: Files>(

@@ -1,5 +1,5 @@
 // The auction that is made from a number.
-ghost use Rattle.std.specs.Prelude.{◌≡◌, [], ◌∷◌, IfOk};
+ghost use Rattle.std.specs.Prelude.{◌≡◌, ◌++◌, [], ◌∷◌, IfOk, OnOk};
 ghost use Rattle.big_auction.specs.MadeAward.{made_bidders};
 ghost use Rattle.cca_inputs.specs.declared.status.FileKind.{FileKind};
 ghost use Rattle.cca_work.specs.Gives.{MakeGives, award_file, log_file, made_line};
@@ -31,21 +31,27 @@ fn summary(alloc: Global, number: u32, lines: u64) -> Result<Text, AllocError>
     Ok(text)
 }
 
+// Adds a text that is appended.
+fn add_text(
+    alloc: Global,
+    texts: &mut Vec<FileText>,
+    kind: FileKind,
+    text: Text,
+) -> Result<(), AllocError>
+    ensures { OnOk result (texts.new.items ≡ texts.old.items ++ (record { kind = kind; text = text } ∷ [])) }
+{
+    let text = LongText::from_text(alloc, text)?;
+    texts.push(FileText { kind, text })?;
+    Ok(())
+}
+
 // The texts that are appended, the award first.
 fn texts_of(alloc: Global, award: Text, log: Text) -> Result<Vec<FileText>, AllocError>
     ensures { IfOk result (λ texts. texts.items ≡ award_file award ∷ log_file log ∷ []) }
 {
-    let award_text = LongText::from_text(alloc, award)?;
-    let log_text = LongText::from_text(alloc, log)?;
     let mut texts = Vec::new(alloc);
-    texts.push(FileText {
-        kind: FileKind::Award,
-        text: award_text,
-    })?;
-    texts.push(FileText {
-        kind: FileKind::Log,
-        text: log_text,
-    })?;
+    add_text(alloc, &mut texts, FileKind::Award, award)?;
+    add_text(alloc, &mut texts, FileKind::Log, log)?;
     Ok(texts)
 }
 

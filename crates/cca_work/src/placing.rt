@@ -11,8 +11,9 @@ ghost use Rattle.cca_inputs.specs.declared.status.FileKind.{FileKind};
 ghost use Rattle.cca_work.specs.Gives.{ArePlacedLines, IsPlaceYes, PlaceGives, PlaceVerdictGives, cert_file};
 ghost use Rattle.cca_work.specs.Works.{IsWork};
 
-use crate::price_text::rounds_part;
+use crate::price_text::behind_rounds;
 use crate::pricing::{PriceTexts, with_cert};
+use crate::verdict::behind_yes;
 use crate::work::{Stop, Work};
 use cca_inputs::cert_parts::LongText;
 use cca_inputs::place_cert::{PlaceCertificate, write_places};
@@ -40,10 +41,16 @@ fn placed_lines(
         (turns_of cert.now.choice turns.now) text) }
 {
     slots.kept();
-    let mut text = rounds_part(alloc, &cert.choice, turns, rounds)?;
     let prices = place_text(alloc, slots, cert)?;
-    text.add(prices.items())?;
-    Ok(text)
+    behind_rounds(alloc, &cert.choice, turns, rounds, &prices)
+}
+
+// The text of a certificate of a placement.
+fn places_part(alloc: Global, cert: &PlaceCertificate) -> Result<LongText, AllocError>
+    ensures { IfOk result (λ text. text ≡ place_text (place_cert_value cert.now)) }
+{
+    let text = write_places(alloc, cert)?;
+    LongText::from_text(alloc, text)
 }
 
 // The printed prices of slots that are priced, and the text of their certificate.
@@ -62,8 +69,7 @@ fn slot_texts(
 {
     let cert = &priced.cert;
     let printed = placed_lines(alloc, slots, cert, priced.turns.items(), rounds)?;
-    let text = write_places(alloc, cert)?;
-    let cert = LongText::from_text(alloc, text)?;
+    let cert = places_part(alloc, cert)?;
     Ok(PriceTexts { printed, cert })
 }
 
@@ -90,11 +96,8 @@ fn place_yes(alloc: Global, slots: &Slots, cert: &PlaceCertificate) -> Result<Te
     requires holds { Holds slots.now (place_cert_value cert.now) }
     ensures { IfOk result (λ text. IsPlaceYes slots.now (place_cert_value cert.now) text) }
 {
-    let mut text = Text::new(alloc);
-    text.add(b"yes\n")?;
     let prices = place_text(alloc, slots, cert)?;
-    text.add(prices.items())?;
-    Ok(text)
+    behind_yes(alloc, &prices)
 }
 
 /// What a certificate of a placement gives.

@@ -1,25 +1,28 @@
 // What is printed of the prices of a book.
-ghost use Rattle.std.specs.Prelude.{◌<◌, ◌^◌, ℕ, IfOk, length};
+ghost use Rattle.std.specs.Prelude.{◌≡◌, ◌<◌, ◌^◌, ◌++◌, ℕ, IfOk, List, length};
 ghost use Rattle.std.specs.List.{AllByRecursion};
 ghost use Rattle.place_price.specs.cert_laws.specs.Sound.{cert_point, cert_prices};
 ghost use Rattle.place_price.specs.cert_laws.specs.Tests.{Holds, bidders_of, states};
 ghost use Rattle.cca_inputs.specs.cert_text.specs.CertValues.{cert_value, IsFor};
 ghost use Rattle.place_price.specs.outcome.specs.core_price.specs.Turns.{turns_of};
 ghost use Rattle.place_price.specs.outcome.specs.Turns.{CanPrintTurn};
+ghost use Rattle.place_price.specs.outcome.specs.print_form.specs.Prices.{IsPriceText};
+ghost use Rattle.cca_inputs.specs.cert_facts.specs.Facts.{AreFacts};
+ghost use Rattle.cca_inputs.specs.cert_form.specs.Certificate.{CertValue};
 ghost use Rattle.cca_work.specs.Gives.{ArePriceLines, ArePrinted, AreRounds, IsPriceJson};
 
 use cca_inputs::PriceForm;
 use cca_inputs::place_cert::cert_text::Certificate;
 use cca_inputs::slot_places::choices::Choice;
 use cca_inputs::weights_file::bid_book::BidBook;
-use piece_check::cert_facts::facts;
+use piece_check::cert_facts::{CertFacts, facts};
 use place_price::outcome::core_price::Turn;
 use place_price::outcome::print_form::line_text::wide_num::Text;
 use place_price::outcome::{outcome_json, outcome_text, rounds_text};
 use std::alloc::{AllocError, Global};
 
-/// The lines of the turns, where they are asked for.
-pub fn rounds_part(
+// The lines of the turns, where they are asked for.
+fn rounds_part(
     alloc: Global,
     winners: &Choice,
     turns: &[Turn],
@@ -34,6 +37,36 @@ pub fn rounds_part(
     } else {
         Ok(Text::new(alloc))
     }
+}
+
+/// These lines, behind those of the turns where they are asked for.
+pub fn behind_rounds(
+    alloc: Global,
+    winners: &Choice,
+    turns: &[Turn],
+    rounds: bool,
+    lines: &Text,
+) -> Result<Text, AllocError>
+    requires turns { AllByRecursion (CanPrintTurn winners.now) turns.now }
+    requires few { length winners.now < 2 ^ 16 }
+    ensures { IfOk result (λ text. (part : List ℕ)
+        × AreRounds rounds winners.now (turns_of winners.now turns.now) part × (text ≡ part ++ lines.now)) }
+{
+    let mut text = rounds_part(alloc, winners, turns, rounds)?;
+    text.add(lines.items())?;
+    Ok(text)
+}
+
+// The outcome that a certificate shows.
+fn cert_lines(alloc: Global, book: &BidBook, cert: &Certificate) -> Result<Text, AllocError>
+    requires shape { IsFor (bidders_of book.now) (states book.now) cert.now }
+    requires holds { (w : ℕ → ℕ) × Holds book.now w (cert_value cert.now) }
+    ensures { IfOk result
+        (λ text. IsPriceText book.now cert.now.choice (cert_prices book.now (cert_value cert.now))
+        (cert_point (cert_value cert.now)) text) }
+{
+    let facts = facts(alloc, book, cert)?;
+    outcome_text(alloc, book, &facts)
 }
 
 fn price_lines(
@@ -51,11 +84,29 @@ fn price_lines(
         (cert_point (cert_value cert.now)) (turns_of cert.now.choice turns.now) text) }
 {
     book.kept();
-    let mut text = rounds_part(alloc, &cert.choice, turns, rounds)?;
-    let facts = facts(alloc, book, cert)?;
-    let prices = outcome_text(alloc, book, &facts)?;
-    text.add(prices.items())?;
-    Ok(text)
+    let prices = cert_lines(alloc, book, cert)?;
+    behind_rounds(alloc, &cert.choice, turns, rounds, &prices)
+}
+
+// The line of JSON of the facts of a certificate, with the turns where they are asked for.
+fn facts_json(
+    alloc: Global,
+    book: &BidBook,
+    facts: &CertFacts,
+    turns: &[Turn],
+    rounds: bool,
+) -> Result<Text, AllocError>
+    requires facts { (c : CertValue) × AreFacts book.now c facts.now }
+    requires turns { AllByRecursion (CanPrintTurn facts.now.choice) turns.now }
+    ensures { (c : CertValue) → AreFacts book.now c facts.now
+        → IfOk result (λ text. IsPriceJson rounds book.now c.choice (cert_prices book.now c) (cert_point c)
+        (turns_of c.choice turns.now) text) }
+{
+    if rounds {
+        outcome_json(alloc, book, facts, Some(turns))
+    } else {
+        outcome_json(alloc, book, facts, None)
+    }
 }
 
 fn price_json(
@@ -73,11 +124,7 @@ fn price_json(
         (cert_point (cert_value cert.now)) (turns_of cert.now.choice turns.now) text) }
 {
     let facts = facts(alloc, book, cert)?;
-    if rounds {
-        outcome_json(alloc, book, &facts, Some(turns))
-    } else {
-        outcome_json(alloc, book, &facts, None)
-    }
+    facts_json(alloc, book, &facts, turns, rounds)
 }
 
 /// What is printed of a certificate and the turns that led to it, in this form. The only error is want of memory.

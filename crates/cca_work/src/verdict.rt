@@ -1,5 +1,5 @@
 // What a certificate gives for which all tests hold.
-ghost use Rattle.std.specs.Prelude.{List, ℕ, [], IfOk};
+ghost use Rattle.std.specs.Prelude.{◌≡◌, ◌++◌, List, ℕ, [], IfOk, codes};
 ghost use Rattle.place_price.specs.outcome.specs.auction_model.specs.Prices.{weight_of};
 ghost use Rattle.cca_inputs.specs.cert_facts.specs.Facts.{AreFacts};
 ghost use Rattle.cca_inputs.specs.cert_form.specs.Certificate.{CertValue};
@@ -15,15 +15,22 @@ use place_price::outcome::outcome_text;
 use place_price::outcome::print_form::line_text::wide_num::Text;
 use std::alloc::{AllocError, Global};
 
+/// These lines behind the line `yes`.
+pub fn behind_yes(alloc: Global, lines: &Text) -> Result<Text, AllocError>
+    ensures { IfOk result (λ text. text ≡ codes "yes\n" ++ lines.now) }
+{
+    let mut text = Text::new(alloc);
+    text.add(b"yes\n")?;
+    text.add(lines.items())?;
+    Ok(text)
+}
+
 fn yes_text(alloc: Global, book: &BidBook, facts: &CertFacts) -> Result<Text, AllocError>
     requires { (c : CertValue) × AreFacts book.now c facts.now }
     ensures { (c : CertValue) → AreFacts book.now c facts.now → IfOk result (IsYesText book.now c) }
 {
-    let mut text = Text::new(alloc);
-    text.add(b"yes\n")?;
     let outcome = outcome_text(alloc, book, facts)?;
-    text.add(outcome.items())?;
-    Ok(text)
+    behind_yes(alloc, &outcome)
 }
 
 /// What a certificate with these facts gives for which all tests hold.

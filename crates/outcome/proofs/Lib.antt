@@ -12,3 +12,4 @@ mod PlainTexts
 mod Reserves
 mod ReviewLines
 mod ReviewTexts
+mod StateLines

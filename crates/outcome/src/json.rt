@@ -1,5 +1,5 @@
 // The JSON of the outcome that a certificate shows.
-ghost use Rattle.std.specs.Prelude.{◌≡◌, ℕ, ◌<◌, ◌^◌, ◌++◌, ℤ, IfOk, IfSome, IsFalse, List, codes, length};
+ghost use Rattle.std.specs.Prelude.{◌≡◌, ℕ, ◌<◌, ◌^◌, ◌++◌, ℤ, IfOk, OnOk, IfSome, IsFalse, List, codes, length};
 ghost use Rattle.std.specs.List.{AllByRecursion};
 ghost use Rattle.std.specs.Option.{option_map};
 ghost use Rattle.cert_facts.specs.Facts.{AreFacts};
@@ -8,7 +8,7 @@ ghost use Rattle.cert_facts.specs.cert_laws.specs.Sound.{cert_point, cert_prices
 ghost use Rattle.core_price.specs.Turns.{turns_of};
 ghost use Rattle.print_form.specs.Json.{AreLastMembers, IsOutcome, IsOutcomeJson};
 ghost use Rattle.serde_json.specs.Data.{Data, Members, array, member, no_members, object};
-ghost use Rattle.serde_json.specs.View.{items_of, view};
+ghost use Rattle.serde_json.specs.View.{items_of, members_view, view};
 ghost use Rattle.serde_json.specs.Written.{compact_text, has_float};
 ghost use Rattle.outcome.specs.Printable.{HavePrices, IsPrintable, point_of};
 ghost use Rattle.outcome.specs.Turns.{CanPrintTurn};
@@ -21,7 +21,7 @@ use cert_facts::bid_book::BidBook;
 use cert_facts::choices::Choice;
 use core_price::Turn;
 use core_price::blocking::far_num::wide_num::Text;
-use serde_json::{Value, json};
+use serde_json::{Map, Value, put};
 use std::alloc::{AllocError, Global};
 
 /// The JSON of the outcome that a certificate of a book shows, from its facts: one object on one line, with a line feed. Its keys are
@@ -125,7 +125,9 @@ fn plain_object(
 ) -> Result<Value, AllocError>
     ensures { IfOk result (λ v. view v ≡ object (member (codes "net") (view net) (member (codes "revenue") (view revenue) (member (codes "winners") (view winners) no_members)))) }
 {
-    json!(in alloc; {"net": net, "revenue": revenue, "winners": winners})
+    let mut members = Map::new(alloc);
+    put_members(alloc, &mut members, net, revenue, winners)?;
+    Ok(Value::Object(members))
 }
 
 fn object_with_rounds(
@@ -137,5 +139,24 @@ fn object_with_rounds(
 ) -> Result<Value, AllocError>
     ensures { IfOk result (λ v. view v ≡ object (member (codes "net") (view net) (member (codes "revenue") (view revenue) (member (codes "rounds") (view rounds) (member (codes "winners") (view winners) no_members))))) }
 {
-    json!(in alloc; {"net": net, "revenue": revenue, "rounds": rounds, "winners": winners})
+    let mut members = Map::new(alloc);
+    put_members(alloc, &mut members, net, revenue, winners)?;
+    put(&mut members, alloc, "rounds", rounds)?;
+    Ok(Value::Object(members))
+}
+
+// Puts the members that each outcome has.
+fn put_members(
+    alloc: Global,
+    members: &mut Map<String, Value>,
+    net: Value,
+    revenue: Value,
+    winners: Value,
+) -> Result<(), AllocError>
+    requires { members_view members.old.entries ≡ no_members }
+    ensures { OnOk result (members_view members.new.entries ≡ member (codes "net") (view net) (member (codes "revenue") (view revenue) (member (codes "winners") (view winners) no_members))) }
+{
+    put(members, alloc, "net", net)?;
+    put(members, alloc, "revenue", revenue)?;
+    put(members, alloc, "winners", winners)
 }

@@ -1,12 +1,12 @@
 // The JSON values of what is printed of a certificate's outcome.
-ghost use Rattle.std.specs.Prelude.{◌≡◌, ℕ, ◌<◌, ◌^◌, ◌++◌, IfOk, List, codes, length, map, unsigned_abs};
+ghost use Rattle.std.specs.Prelude.{◌≡◌, ℕ, ◌<◌, ◌^◌, ◌++◌, IfOk, OnOk, List, codes, length, map, unsigned_abs};
 ghost use Rattle.std.specs.List.{AllByRecursion};
 ghost use Rattle.std.specs.Str.{IsAscii};
 ghost use Rattle.core_price.specs.Turns.{turn_of, turns_of};
 ghost use Rattle.print_form.specs.Json.{AreRounds, IsRound, amount_json, count_json};
 ghost use Rattle.print_form.specs.Turns.{IsTurnLine};
 ghost use Rattle.serde_json.specs.Data.{Data, array, string, object, member, no_members};
-ghost use Rattle.serde_json.specs.View.{items_of, view};
+ghost use Rattle.serde_json.specs.View.{items_of, members_view, view};
 ghost use Rattle.outcome.specs.Fractions.{fraction_text};
 ghost use Rattle.outcome.specs.Json.{EndsLine, winner_data};
 ghost use Rattle.outcome.specs.Prices.{CanPrintPrice};
@@ -19,7 +19,7 @@ use cert_facts::bid_book::BidBook;
 use cert_facts::choices::Choice;
 use core_price::Turn;
 use core_price::blocking::far_num::wide_num::Text;
-use serde_json::{Value, json};
+use serde_json::{Map, Value, put};
 use std::alloc::{AllocError, Global};
 
 /// An amount as a number.
@@ -80,17 +80,45 @@ fn winner_value(alloc: Global, book: &BidBook, price: &WinnerPrice) -> Result<Va
     ensures { IfOk result (λ v. view v ≡ winner_data book.now price.now) }
 {
     let bid = book.bid(price.bidder, price.bid);
-    let package = package_value(alloc, bid.package.counts())?;
-    let pays = fraction_value(alloc, price.pays)?;
-    let vickrey = amount_value(price.vickrey);
-    winner_object(
+    let mut members = Map::new(alloc);
+    put_bid(
         alloc,
+        &mut members,
         bid.amount,
         book.name(price.bidder),
-        package,
-        pays,
-        vickrey,
-    )
+        bid.package.counts(),
+    )?;
+    put_prices(alloc, &mut members, price)?;
+    Ok(Value::Object(members))
+}
+
+// Puts the members of a bid.
+fn put_bid(
+    alloc: Global,
+    members: &mut Map<String, Value>,
+    bid: u64,
+    name: &str,
+    counts: &[u16],
+) -> Result<(), AllocError>
+    requires { members_view members.old.entries ≡ no_members }
+    ensures { OnOk result (members_view members.new.entries ≡ member (codes "bid") (count_json bid) (member (codes "name") (string name.now) (member (codes "package") (array (items_of (map count_json counts.now))) no_members))) }
+{
+    put(members, alloc, "bid", Value::from(bid))?;
+    put(members, alloc, "name", Value::try_from_str(alloc, name)?)?;
+    put(members, alloc, "package", package_value(alloc, counts)?)
+}
+
+// Puts the members of the prices behind those of the bid.
+fn put_prices(
+    alloc: Global,
+    members: &mut Map<String, Value>,
+    price: &WinnerPrice,
+) -> Result<(), AllocError>
+    requires { unsigned_abs price.now.vickrey < 2 ^ 63 }
+    ensures { (bid name lots : Data) → members_view members.old.entries ≡ member (codes "bid") bid (member (codes "name") name (member (codes "package") lots no_members)) → OnOk result (members_view members.new.entries ≡ member (codes "bid") bid (member (codes "name") name (member (codes "package") lots (member (codes "pays") (string (fraction_text price.now.pays)) (member (codes "vickrey") (amount_json price.now.vickrey) no_members))))) }
+{
+    put(members, alloc, "pays", fraction_value(alloc, price.pays)?)?;
+    put(members, alloc, "vickrey", amount_value(price.vickrey))
 }
 
 fn package_value(alloc: Global, counts: &[u16]) -> Result<Value, AllocError>
@@ -101,19 +129,6 @@ fn package_value(alloc: Global, counts: &[u16]) -> Result<Value, AllocError>
         values.push(Value::from(*count))?;
     }
     Ok(list_value(values))
-}
-
-fn winner_object(
-    alloc: Global,
-    bid: u64,
-    name: &str,
-    package: Value,
-    pays: Value,
-    vickrey: Value,
-) -> Result<Value, AllocError>
-    ensures { IfOk result (λ v. view v ≡ object (member (codes "bid") (count_json bid) (member (codes "name") (string name.now) (member (codes "package") (view «package») (member (codes "pays") (view pays) (member (codes "vickrey") (view vickrey) no_members)))))) }
-{
-    json!(in alloc; {"bid": bid, "name": name, "package": package, "pays": pays, "vickrey": vickrey})
 }
 
 /// The line of each turn as a text without its line feed.

@@ -3,6 +3,8 @@ ghost use Rattle.std.specs.Prelude.{◌≡◌, ℕ, ◌≤◌, ◌<◌, ◌^◌,
 ghost use Rattle.std.specs.List.{AllByRecursion};
 ghost use Rattle.core_price.specs.wide_num.specs.Sums.{nth, total};
 ghost use Rattle.core_price.specs.wide_num.specs.Range.{InRange};
+ghost use Rattle.std.specs.Fmt.{decimal, signed_decimal};
+ghost use Rattle.print_form.specs.book_form.specs.line_text.specs.Decimals.{decimals_text};
 ghost use Rattle.outcome.specs.Fractions.{IsFractionOf, fraction_text};
 ghost use Rattle.outcome.specs.Prices.{line_of, lines_of, reserves_of, CanPrintPrice};
 
@@ -33,17 +35,52 @@ fn add_price(text: &mut Text, book: &BidBook, price: &WinnerPrice) -> Result<(),
     ensures { OnOk result (text.new ≡ text.old ++ line_of book.now price.now) }
 {
     let bid = book.bid(price.bidder, price.bid);
-    text.add(b"winner ")?;
-    text.add(book.name(price.bidder).as_bytes())?;
-    add_numbers(text, bid.package.counts())?;
-    text.add(b" bid ")?;
-    add_decimal(text, bid.amount as u128)?;
-    text.add(b" vickrey ")?;
-    add_signed(text, price.vickrey)?;
-    text.add(b" pays ")?;
-    add_fraction(text, price.pays)?;
+    add_package(text, book.name(price.bidder), bid.package.counts())?;
+    add_amounts(text, bid.amount, price)?;
     text.push(b'\n')?;
     Ok(())
+}
+
+// Adds who wins what.
+fn add_package(text: &mut Text, name: &str, counts: &[u16]) -> Result<(), AllocError>
+    ensures { OnOk result (text.new ≡ text.old ++ codes "winner " ++ name.now ++ decimals_text counts.now) }
+{
+    text.add(b"winner ")?;
+    text.add(name.as_bytes())?;
+    add_numbers(text, counts)
+}
+
+// Adds the amount of the bid and the prices.
+fn add_amounts(text: &mut Text, amount: u64, price: &WinnerPrice) -> Result<(), AllocError>
+    ensures { OnOk result (text.new ≡ text.old ++ codes " bid " ++ decimal amount ++ codes " vickrey " ++ signed_decimal price.now.vickrey ++ codes " pays " ++ fraction_text price.now.pays) }
+{
+    add_bid(text, amount)?;
+    add_vickrey(text, price.vickrey)?;
+    add_pays(text, price.pays)
+}
+
+// Adds the amount of the bid.
+fn add_bid(text: &mut Text, amount: u64) -> Result<(), AllocError>
+    ensures { OnOk result (text.new ≡ text.old ++ codes " bid " ++ decimal amount) }
+{
+    text.add(b" bid ")?;
+    add_decimal(text, amount as u128)
+}
+
+// Adds the Vickrey price.
+fn add_vickrey(text: &mut Text, vickrey: i128) -> Result<(), AllocError>
+    ensures { OnOk result (text.new ≡ text.old ++ codes " vickrey " ++ signed_decimal vickrey) }
+{
+    text.add(b" vickrey ")?;
+    add_signed(text, vickrey)
+}
+
+// Adds what is paid.
+fn add_pays(text: &mut Text, pays: Fraction) -> Result<(), AllocError>
+    ensures { OnOk result (text.new ≡ text.old ++ codes " pays " ++ fraction_text pays) }
+{
+    text.add(b" pays ")?;
+    add_fraction(text, pays)
 }
 
 /// Adds the line of the revenue.

@@ -1,7 +1,9 @@
 // The winners, each alone.
-ghost use Rattle.std.specs.Prelude.{◌≡◌, ◌≤◌, ◌<◌, IfOk, IsTrue, length};
+ghost use Rattle.std.specs.Prelude.{◌≡◌, ◌≤◌, ◌<◌, ◌++◌, ◌∷◌, [], IfOk, OnOk, IsTrue, length};
 ghost use Rattle.book_price.specs.cert_laws.specs.auction_model.specs.Market.{uses, value_of};
 ghost use Rattle.book_price.specs.choices.specs.Singles.{AreSingles, IsSingle};
+ghost use Rattle.book_price.specs.choices.specs.declared.chooser.Single.{Single};
+ghost use Rattle.place_check.specs.place_cert.specs.declared.certificate.PlaceWithout.{PlaceWithout};
 ghost use Rattle.place_price.specs.PlacedParts.{ArePartsOf, IsPartOf};
 ghost use Rattle.place_check.specs.slot_places.specs.Board.{market_of};
 
@@ -36,17 +38,40 @@ pub(crate) fn each_winner(
         (λ a. AreSingles (market_of chooser.now.slots.now) chooser.now.winners a.singles.items) }
     ensures parts { IfOk result (λ a. ArePartsOf chooser.now.slots.now a.singles.items a.parts) }
 {
-    let mut singles = Vec::new(alloc);
-    let mut parts = PlaceWithouts::new(alloc);
+    let singles = Vec::new(alloc);
+    let parts = PlaceWithouts::new(alloc);
+    let mut alone = Alone { singles, parts };
     for k in 0..chooser.slots.bidders() {
         let j = k as u16 + 1;
         if chooser.winners.number(j) != 0 {
-            let one = without_winner(alloc, chooser, value, j)?;
-            singles.push(one.single)?;
-            parts.push(one.part)?;
+            add_winner(alloc, chooser, value, j, &mut alone)?;
         }
     }
-    Ok(Alone { singles, parts })
+    Ok(alone)
+}
+
+/// Adds winner `j` alone.
+fn add_winner(
+    alloc: Global,
+    chooser: &SlotChooser,
+    value: i128,
+    j: u16,
+    alone: &mut Alone,
+) -> Result<(), AllocError>
+    requires value { value ≡ value_of (market_of chooser.now.slots.now) chooser.now.winners }
+    requires bidder { (0 < j) × (j ≤ length chooser.now.slots.now.bidders) }
+    requires used { IsTrue (uses chooser.now.winners j) }
+    ensures { OnOk result
+        ((single : Single) × (part : PlaceWithout) × (single.winner ≡ j)
+        × IsSingle (market_of chooser.now.slots.now) chooser.now.winners single
+        × IsPartOf chooser.now.slots.now single part
+        × (alone.new.singles.items ≡ alone.old.singles.items ++ single ∷ [])
+        × (alone.new.parts ≡ alone.old.parts ++ part ∷ [])) }
+{
+    let One { single, part } = without_winner(alloc, chooser, value, j)?;
+    alone.singles.push(single)?;
+    alone.parts.push(part)?;
+    Ok(())
 }
 
 /// Winner `j` alone. Its price is what the others reach without it, less what they win with.

@@ -1,21 +1,36 @@
 // The certificate of the prices of slots.
-ghost use Rattle.std.specs.Prelude.{◌≡◌, IfOk, List, length};
+ghost use Rattle.std.specs.Prelude.{◌≡◌, ◌<◌, ◌^◌, IfOk, IsTrue, List, length, map};
+ghost use Rattle.std.specs.List.{AllByRecursion};
 ghost use Rattle.book_price.specs.cert_laws.specs.Sound.{cert_point};
 ghost use Rattle.book_price.specs.choices.specs.declared.chooser.Single.{Single};
+ghost use Rattle.book_price.specs.Made.{row_from};
 ghost use Rattle.book_price.specs.core_price.specs.Turns.{point_of};
+ghost use Rattle.book_price.specs.row_laws.specs.Winners;
 ghost use Rattle.place_check.specs.place_cert.specs.CertValues.{place_cert_value};
+ghost use Rattle.place_check.specs.place_cert.specs.Parts.{row_value};
 ghost use Rattle.place_check.specs.place_laws.specs.PlacePriced.{IsPricedPlaceCert};
+ghost use Rattle.place_check.specs.slot_places.specs.Board.{market_of};
+ghost use Rattle.place_check.specs.slot_places.specs.Orders.{IsPlacement};
 ghost use Rattle.place_price.specs.Found.{AreFound};
+ghost use Rattle.place_price.specs.PlacedRows.{HasAllowedChoice, IsPlacedRow};
 
 use crate::bidder_rows::all_rows;
 use crate::placing::placement;
 use crate::pricing::PricedPlaces;
 use book_price::cert_laws::cert_form::line_text::wide_num::NumList;
-use book_price::cert_text::choices::{Found, Grid};
+use book_price::cert_text::choices::{Choice, Found, Grid, Numbers};
 use book_price::core_price::{Priced, for_bidders};
-use place_check::place_cert::{PlaceCertificate, PlaceWithouts};
+use place_check::place_cert::{PlaceCertificate, PlaceRows, PlaceWithouts};
 use place_check::place_laws::slot_places::Slots;
 use std::alloc::{AllocError, Global};
+
+/// What the certificate has beside what was found: the placement of its choice, what each bidder pays, and its rows.
+#[derive(Drop)]
+struct Added {
+    order: Numbers,
+    pay: NumList,
+    rows: PlaceRows,
+}
 
 /// The certificate of what was found, with the turns of pricing.
 pub(crate) fn certificate(
@@ -33,29 +48,43 @@ pub(crate) fn certificate(
     ensures turns { IfOk result (λ p. p.turns ≡ priced.turns) }
 {
     slots.kept();
-    let Found { choice, sum, table } = whole;
-    let Priced {
-        den,
-        at,
-        rows,
-        last,
-        turns,
-    } = priced;
-    let order = placement(alloc, slots, &choice)?;
-    let paid = at.items();
-    let pay = NumList::from_vec(for_bidders(alloc, &choice, paid)?);
-    let kept = rows.items();
-    let rows = all_rows(alloc, slots, &choice, kept)?;
+    let added = what_is_added(alloc, slots, &whole.choice, &priced)?;
+    let last = priced.last;
     let cert = PlaceCertificate {
-        den,
-        value: sum,
-        choice,
-        order,
-        table,
+        den: priced.den,
+        value: whole.sum,
+        choice: whole.choice,
+        order: added.order,
+        table: whole.table,
         withouts: parts,
-        pay,
-        rows,
+        pay: added.pay,
+        rows: added.rows,
         lowered: last.table,
     };
-    Ok(PricedPlaces { cert, turns })
+    Ok(PricedPlaces {
+        cert,
+        turns: priced.turns,
+    })
+}
+
+/// What is added to this winning choice and its prices.
+fn what_is_added(
+    alloc: Global,
+    slots: &Slots,
+    choice: &Choice,
+    priced: &Priced<Grid>,
+) -> Result<Added, AllocError>
+    requires allowed { IsTrue ((market_of slots.now).allowed choice.now) }
+    requires few { length choice.now < 2 ^ 16 }
+    requires points { length priced.now.at ≡ Winners.winners_in choice.now }
+    requires kept { AllByRecursion (HasAllowedChoice slots.now) priced.now.rows }
+    ensures order { IfOk result (λ a. IsPlacement slots.now choice.now a.order) }
+    ensures pay { IfOk result (λ a. a.pay ≡ Winners.for_bidders choice.now priced.now.at) }
+    ensures rows { IfOk result (λ a. map row_value a.rows ≡ map (row_from choice.now) priced.now.rows) }
+    ensures placed { IfOk result (λ a. AllByRecursion (IsPlacedRow slots.now) a.rows) }
+{
+    let order = placement(alloc, slots, choice)?;
+    let pay = NumList::from_vec(for_bidders(alloc, choice, priced.at.items())?);
+    let rows = all_rows(alloc, slots, choice, priced.rows.items())?;
+    Ok(Added { order, pay, rows })
 }

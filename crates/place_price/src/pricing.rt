@@ -3,15 +3,18 @@ ghost use Rattle.std.specs.Prelude.{◌≡◌, IfOk, List, length, ℕ};
 ghost use Rattle.std.specs.List.{AllByRecursion};
 ghost use Rattle.book_price.specs.cert_laws.specs.auction_model.specs.Greatest.{IsWinning};
 ghost use Rattle.book_price.specs.cert_laws.specs.auction_model.specs.Lowered.{lowered};
+ghost use Rattle.book_price.specs.cert_laws.specs.auction_model.specs.Market.{value_of};
 ghost use Rattle.book_price.specs.cert_laws.specs.auction_model.specs.Prices.{alike};
 ghost use Rattle.book_price.specs.cert_laws.specs.auction_model.specs.PricingRun.{IsPricingRun};
 ghost use Rattle.book_price.specs.cert_laws.specs.Sound.{cert_point};
 ghost use Rattle.book_price.specs.choices.specs.Singles.{AreSingles};
+ghost use Rattle.book_price.specs.choices.specs.declared.chooser.Single.{Single};
 ghost use Rattle.book_price.specs.core_price.specs.Priced.{IsPriced};
 ghost use Rattle.book_price.specs.core_price.specs.Turns.{IsPointOfTurn, turns_of};
 ghost use Rattle.book_price.specs.core_price.specs.declared.priced.PriceStop.TheVariants.{Memory};
 ghost use Rattle.place_check.specs.place_cert.specs.CertValues.{place_cert_value};
 ghost use Rattle.place_check.specs.place_laws.specs.PlacePriced.{IsPricedPlaceCert};
+ghost use Rattle.place_price.specs.Found.{AreFound};
 ghost use Rattle.place_price.specs.Ones.{ones};
 ghost use Rattle.book_price.specs.row_laws.specs.Surplus.{surpluses_of};
 ghost use Rattle.book_price.specs.row_laws.specs.Turns.{IsLastPoint};
@@ -22,9 +25,9 @@ ghost use Rattle.place_check.specs.slot_places.specs.Slots.{amount_of};
 
 use crate::alone::each_winner;
 use crate::certificate::certificate;
-use book_price::cert_text::choices::{Grid, Single};
+use book_price::cert_text::choices::{Found, Grid, Single};
 use book_price::core_price::{PriceStop, Priced, TurnList, price};
-use place_check::place_cert::PlaceCertificate;
+use place_check::place_cert::{PlaceCertificate, PlaceWithouts};
 use place_check::place_laws::slot_places::{SlotChooser, Slots, place_best};
 use std::alloc::{AllocError, Global};
 
@@ -51,10 +54,8 @@ pub fn priced_places(alloc: Global, slots: &Slots) -> Result<PricedPlaces, Alloc
         (λ p. IsLastPoint (turns_of p.cert.choice p.turns) (cert_point (place_cert_value p.cert).cert)) }
 {
     let whole = place_best(alloc, slots)?;
-    let chooser = SlotChooser::new(slots, whole.choice.copied(alloc)?);
-    let alone = each_winner(alloc, &chooser, whole.sum)?;
-    let priced = priced_alike(alloc, &chooser, &alone.singles)?;
-    let priced = certificate(alloc, slots, whole, alone.parts, priced)?;
+    let found = pricing_of(alloc, slots, &whole)?;
+    let priced = certificate(alloc, slots, whole, found.parts, found.priced)?;
     Ok(priced)
 }
 
@@ -76,6 +77,28 @@ pub fn place_rounds(alloc: Global, slots: &Slots) -> Result<TurnList, AllocError
 {
     let priced = priced_places(alloc, slots)?;
     Ok(priced.turns)
+}
+
+/// The parts of the certificate without each winner, and the prices of the winners.
+#[derive(Drop)]
+struct Pricing {
+    parts: PlaceWithouts,
+    priced: Priced<Grid>,
+}
+
+/// What is found with this winning choice, its worth and its table.
+fn pricing_of(alloc: Global, slots: &Slots, whole: &Found<Grid>) -> Result<Pricing, AllocError>
+    requires winning { IsWinning (market_of slots.now) whole.now.choice }
+    requires value { whole.now.sum ≡ value_of (market_of slots.now) whole.now.choice }
+    requires table { IsSetTable (board_of slots.now) (amount_of slots.now) whole.now.table }
+    ensures { IfOk result
+        (λ p. (singles : List Single) × AreFound slots.now whole.now singles p.parts p.priced) }
+{
+    let chooser = SlotChooser::new(slots, whole.choice.copied(alloc)?);
+    let alone = each_winner(alloc, &chooser, whole.sum)?;
+    let priced = priced_alike(alloc, &chooser, &alone.singles)?;
+    let parts = alone.parts;
+    Ok(Pricing { parts, priced })
 }
 
 /// The prices of the winners where all bidders weigh 1. At most six bidders stand in slots, so never too many win.

@@ -1,13 +1,16 @@
 // The lines of the bidders and of the winners.
-ghost use Rattle.std.specs.Prelude.{◌≡◌, ◌<◌, ◌+◌, ◌*◌, ◌^◌, ◌++◌, OnOk, List, ℕ, length};
+ghost use Rattle.std.specs.Prelude.{◌≡◌, ◌<◌, ◌+◌, ◌*◌, ◌^◌, ◌++◌, ◌∷◌, OnOk, List, ℕ, codes, length};
+ghost use Rattle.std.specs.Fmt.{decimal, signed_decimal};
 ghost use Rattle.std.specs.List.{AllByRecursion};
 ghost use Rattle.outcome.specs.auction_model.specs.Lowered.{of_bidder};
 ghost use Rattle.outcome.specs.auction_model.specs.Market.{number_of};
 ghost use Rattle.outcome.specs.cert_laws.specs.Sound.{cert_point};
 ghost use Rattle.outcome.specs.Fractions.{IsFractionOf};
+ghost use Rattle.outcome.specs.print_form.specs.Fractions.{IsFractionText};
 ghost use Rattle.place_check.specs.place_cert.specs.CertValues.{place_cert_value};
 ghost use Rattle.place_check.specs.place_laws.specs.PlaceSound.{prices_in};
 ghost use Rattle.place_check.specs.slot_places.specs.Board.{market_of};
+ghost use Rattle.place_check.specs.slot_places.specs.Slots.{bid_of, bidder_of};
 ghost use Rattle.place_price.specs.PlaceText.{ArePricedLines, placed_line, placed_lines};
 ghost use Rattle.place_price.specs.PlacePrintable.{CanPrint, IsBidder, IsLineOf, IsRestOf};
 
@@ -113,12 +116,51 @@ fn add_winner(
         (cert_point (place_cert_value cert.now).cert) j (number_of cert.now.choice j) line
         × (text.new ≡ text.old ++ line)) }
 {
+    add_bid(text, slots, cert, j)?;
+    add_prices(text, slots, cert, j)?;
+    Ok(())
+}
+
+// Adds the line of winner `j` as far as its bid.
+fn add_bid(
+    text: &mut Text,
+    slots: &Slots,
+    cert: &PlaceCertificate,
+    j: u16,
+) -> Result<(), AllocError>
+    requires can { CanPrint slots.now cert.now }
+    requires bidder { IsBidder slots.now j }
+    requires wins { 0 < number_of cert.now.choice j }
+    ensures { OnOk result
+        (text.new ≡ text.old ++ codes "winner " ++ (bidder_of slots.now j).name
+        ++ (32 ∷ decimal (bid_of slots.now j (number_of cert.now.choice j)).start) ++ codes " bid "
+        ++ decimal (bid_of slots.now j (number_of cert.now.choice j)).amount) }
+{
     let place = slots.place(j, cert.choice.number(j));
     text.add(b"winner ")?;
     text.add(slots.name(j).as_bytes())?;
     add_number(text, place.start as u64)?;
     text.add(b" bid ")?;
     add_decimal(text, place.amount as u128)?;
+    Ok(())
+}
+
+// Adds what stands behind the bid of winner `j`: its Vickrey price and what it pays.
+fn add_prices(
+    text: &mut Text,
+    slots: &Slots,
+    cert: &PlaceCertificate,
+    j: u16,
+) -> Result<(), AllocError>
+    requires can { CanPrint slots.now cert.now }
+    requires bidder { IsBidder slots.now j }
+    requires wins { 0 < number_of cert.now.choice j }
+    ensures { OnOk result
+        ((pays : List ℕ) × IsFractionText (of_bidder cert.now.pay j) cert.now.den pays
+        × (text.new ≡ text.old ++ codes " vickrey "
+        ++ signed_decimal (prices_in (market_of slots.now) (place_cert_value cert.now).cert j)
+        ++ codes " pays " ++ pays ++ codes "\n")) }
+{
     text.add(b" vickrey ")?;
     add_signed(text, vickrey(slots, cert, j))?;
     text.add(b" pays ")?;

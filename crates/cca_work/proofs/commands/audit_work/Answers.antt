@@ -1,15 +1,11 @@
 use Rattle.std.proofs.Common.{refl, sym, ap, subst, ◌∙◌, arith, Bool, IsTrue, List, ℕ, [], ◌∷◌, Err}
 use Rattle.std.proofs.lemmas.Result.{err_from_is_err_and}
-use Rattle.place_price.specs.outcome.specs.auction_model.specs.Prices.{AreWeights}
-use Rattle.place_price.specs.book_price.proofs.Ones.{ones-weigh}
-use Rattle.place_price.specs.cert_laws.specs.Tests.{bidders_of}
 use Rattle.cca_inputs.specs.Command.{audit}
 use Rattle.cca_inputs.specs.declared.status.FileKind.TheVariants.{Award, Log, Cert}
 use Rattle.cca_work.specs.Gives.{CertGives, VerdictGives, ones}
 use Rattle.cca_work.specs.Works.{Works}
 use Rattle.cca_work.specs.declared.work.Stop.{Stop}
-use Rattle.cca_work.proofs.CertWork.{same-weights}
-use Rattle.cca_work.proofs.Progress.{IsNext, begins, logged-at, logged-kept, logged-stops, no-memory, works-from}
+use Rattle.cca_work.proofs.Progress.{IsNext, begins, logged-at, logged-kept, logged-stops, works-from}
 use Rattle.cca_work.proofs.commands.audit_work.Goals as goal
 
 first : (terms log cert : List ℕ) → IsNext (audit terms log cert) [] Award terms
@@ -35,31 +31,12 @@ returns-in_err-book g c =
     let is = err_from_is_err_and c.from_residual.result c.from_residual.ensures.1 in
     subst (Works command old new) (sym (is.1 ∙ ap (λ (s : Stop). Err s) is.2)) stopped
 
-pub returns-in_err-weights : goal.returns-in_err-weights
-returns-in_err-weights g c =
-    let terms = c.args.terms.now in
-    let log = c.args.log.now in
-    let cert = c.args.cert.now in
-    let old = g.F.Files.folder c.args.files.now in
-    let new = g.F.Files.folder c.logged.new.files in
-    let command = audit terms log cert in
-    let at = logged-at command (λ contents b. CertGives b (contents Cert) (VerdictGives b (ones b))) terms log old (first terms log cert)
-    (second terms log cert)
-    (begins command old) new c.in_ok-book.book c.in_ok-book.ensures in
-    let is = err_from_is_err_and c.from_residual-in_err-weights.result c.from_residual-in_err-weights.ensures.1 in
-    subst (Works command old new) (sym (is.1 ∙ ap (λ (s : Stop). Err s) is.2)) (no-memory command old new _ _ at)
-
-pub checked-requires-clause-known : goal.checked-requires-clause-known
-checked-requires-clause-known g c =
+pub checked_alike-requires : goal.checked_alike-requires
+checked_alike-requires g c =
     let old = g.F.Files.folder c.args.files.now in
     let new = g.F.Files.folder c.logged.new.files in
     let kept = logged-kept c.args.terms.now c.args.log.now old new c.in_ok-book.book c.in_ok-book.ensures in
     subst (λ (k : List ℕ → Bool). IsTrue (k c.args.cert.now)) (sym kept.knows) c.requires.cert
-
-pub checked-requires-clause-weights : goal.checked-requires-clause-weights
-checked-requires-clause-weights g c =
-    let bidders = bidders_of c.in_ok-book.book in
-    subst (AreWeights bidders) (sym (c.deref.ensures.value ∙ c.in_ok-weights.ensures)) (ones-weigh bidders)
 
 pub returns : goal.returns
 returns g c =
@@ -69,12 +46,10 @@ returns g c =
     let book = c.in_ok-book.book in
     let old = g.F.Files.folder c.args.files.now in
     let mid = g.F.Files.folder c.logged.new.files in
-    let new = g.F.Files.folder c.checked.new.files in
+    let new = g.F.Files.folder c.checked_alike.new.files in
     let command = audit terms log cert in
     let at = logged-at command (λ contents b. CertGives b (contents Cert) (VerdictGives b (ones b))) terms log old (first terms log cert)
     (second terms log cert)
     (begins command old) mid book c.in_ok-book.ensures in
-    let work = same-weights book _ (ones book) cert mid new c.checked.result (c.deref.ensures.value ∙ c.in_ok-weights.ensures) c.checked.ensures in
     works-from command old mid new (Log ∷ Award ∷ []) Cert cert (λ content. CertGives book content (VerdictGives book (ones book)))
-    (third terms log cert) at refl
-    c.checked.result work
+    (third terms log cert) at refl c.checked_alike.result c.checked_alike.ensures

@@ -1,8 +1,5 @@
 use Rattle.std.proofs.Common.{◌∙◌, refl, arith, [], ◌∷◌, sym, ap, subst, Err}
 use Rattle.std.proofs.lemmas.Result.{err_from_is_err_and}
-use Rattle.place_price.specs.outcome.specs.auction_model.specs.Prices.{AreWeights}
-use Rattle.place_price.specs.book_price.proofs.Ones.{ones-weigh}
-use Rattle.place_price.specs.cert_laws.specs.Tests.{bidders_of}
 use Rattle.cca_inputs.specs.limits.specs.declared.TheConstants.{BOOK_BYTES}
 use Rattle.cca_inputs.specs.Answers.{BookAnswers}
 use Rattle.cca_inputs.specs.Command.{check}
@@ -10,8 +7,7 @@ use Rattle.cca_inputs.specs.declared.status.FileKind.TheVariants.{Book, Cert}
 use Rattle.cca_work.specs.Gives.{CertGives, VerdictGives, ones}
 use Rattle.cca_work.specs.Works.{Works}
 use Rattle.cca_work.specs.declared.work.Stop.{Stop}
-use Rattle.cca_work.proofs.CertWork.{same-weights}
-use Rattle.cca_work.proofs.Progress.{begins, no-memory, reads-next, stops-next, works-from}
+use Rattle.cca_work.proofs.Progress.{begins, reads-next, stops-next, works-from}
 use Rattle.cca_work.proofs.commands.check_work.Goals as goal
 
 pub returns-in_err-book : goal.returns-in_err-book
@@ -25,36 +21,16 @@ returns-in_err-book g c =
     let is = err_from_is_err_and c.from_residual.result c.from_residual.ensures.1 in
     subst (Works command old new) (sym (is.1 ∙ ap (λ (s : Stop). Err s) is.2)) stopped
 
-pub returns-in_err-weights : goal.returns-in_err-weights
-returns-in_err-weights g c =
-    let command = check c.args.book.now c.args.cert.now in
-    let old = g.F.Files.folder c.args.files.now in
-    let mid = g.F.Files.folder c.read_input.new.files in
-    let read = c.in_ok-book.ensures.value in
-    let book = c.in_ok-book.book in
-    let at = reads-next command old old mid [] Book BOOK_BYTES BookAnswers (λ contents b. CertGives b (contents Cert) (VerdictGives b
-    (ones b))) c.args.book.now refl (0, omega arith, refl) refl (begins command old)
-    c.in_ok-book.ensures.loads book read.bytes read.short read.says read.here in
-    let stopped = no-memory command old mid _ _ at in
-    let is = err_from_is_err_and c.from_residual-in_err-weights.result c.from_residual-in_err-weights.ensures.1 in
-    subst (Works command old mid) (sym (is.1 ∙ ap (λ (s : Stop). Err s) is.2)) stopped
-
-pub checked-requires-clause-weights : goal.checked-requires-clause-weights
-checked-requires-clause-weights g c =
-    let bidders = bidders_of c.in_ok-book.book in
-    subst (AreWeights bidders) (sym (c.deref.ensures.value ∙ c.in_ok-weights.ensures)) (ones-weigh bidders)
-
 pub returns : goal.returns
 returns g c =
     let cert = c.args.cert.now in
     let command = check c.args.book.now cert in
     let old = g.F.Files.folder c.args.files.now in
     let mid = g.F.Files.folder c.read_input.new.files in
-    let new = g.F.Files.folder c.checked.new.files in
+    let new = g.F.Files.folder c.checked_alike.new.files in
     let read = c.in_ok-book.ensures.value in
     let book = c.in_ok-book.book in
     let at = reads-next command old old mid [] Book BOOK_BYTES BookAnswers (λ contents b. CertGives b (contents Cert) (VerdictGives b (ones b)))
     c.args.book.now refl (0, omega arith, refl) refl (begins command old) c.in_ok-book.ensures.loads book read.bytes read.short read.says read.here in
-    let work = same-weights book _ (ones book) cert mid new c.checked.result (c.deref.ensures.value ∙ c.in_ok-weights.ensures) c.checked.ensures in
     works-from command old mid new (Book ∷ []) Cert cert (λ content. CertGives book content (VerdictGives book (ones book)))
-    (record { input = refl; within = (1, omega arith, refl); place = refl; unseen = (refl, tt) }) at refl c.checked.result work
+    (record { input = refl; within = (1, omega arith, refl); place = refl; unseen = (refl, tt) }) at refl c.checked_alike.result c.checked_alike.ensures

@@ -1,15 +1,13 @@
-use Rattle.std.proofs.Common.{refl, arith, [], ◌∷◌, sym, ap, subst, ◌∙◌, Err}
+use Rattle.std.proofs.Common.{inl, inr, refl, arith, [], ◌∷◌, sym, ap, subst, ◌∙◌, Err}
 use Rattle.std.proofs.lemmas.Result.{err_from_is_err_and}
-use Rattle.place_price.specs.outcome.specs.auction_model.specs.Prices.{AreWeights}
-use Rattle.place_price.specs.cert_laws.specs.Tests.{bidders_of}
 use Rattle.cca_inputs.specs.limits.specs.declared.TheConstants.{BOOK_BYTES, WEIGHTS_BYTES}
 use Rattle.cca_inputs.specs.Answers.{BookAnswers, WeightsAnswers}
 use Rattle.cca_inputs.specs.Command.{weigh_check}
+use Rattle.cca_inputs.specs.Outcome.{stops}
 use Rattle.cca_inputs.specs.declared.status.FileKind.TheVariants.{Book, Cert, Weights}
 use Rattle.cca_work.specs.Gives.{CertGives, VerdictGives, WeightsGive}
 use Rattle.cca_work.specs.Works.{Works}
 use Rattle.cca_work.specs.declared.work.Stop.{Stop}
-use Rattle.cca_work.proofs.CertWork.{same-weights}
 use Rattle.cca_work.proofs.Progress.{begins, reads-next, stops-next, works-from}
 use Rattle.cca_work.proofs.commands.weigh_check_work.Goals as goal
 
@@ -24,46 +22,29 @@ returns-in_err-book g c =
     let is = err_from_is_err_and c.from_residual.result c.from_residual.ensures.1 in
     subst (Works command old new) (sym (is.1 ∙ ap (λ (s : Stop). Err s) is.2)) stopped
 
-pub returns-in_err-weights : goal.returns-in_err-weights
-returns-in_err-weights g c =
-    let command = weigh_check c.args.book.now c.args.weights.now c.args.cert.now in
-    let old = g.F.Files.folder c.args.files.now in
-    let mid = g.F.Files.folder c.read_input.new.files in
-    let new = g.F.Files.folder c.read_input-2.new.files in
-    let read = c.in_ok-book.ensures.value in
-    let book = c.in_ok-book.book in
-    let at = reads-next command old old mid [] Book BOOK_BYTES BookAnswers (λ contents b. WeightsGive b (contents Weights) (λ w. CertGives b
-    (contents Cert) (VerdictGives b w))) c.args.book.now refl (0, omega arith, refl) refl (begins command old)
-    c.in_ok-book.ensures.loads book read.bytes read.short read.says read.here in
-    let stopped = stops-next command old mid new _ Weights WEIGHTS_BYTES (WeightsAnswers book) (λ contents w. CertGives book (contents Cert)
-    (VerdictGives book w)) c.args.weights.now refl (1, omega arith, refl) refl at
-    c.in_err-weights.ensures.loads _ (λ bytes s x. x) (λ files. refl) (λ files. (refl, tt)) c.in_err-weights.field-0.0 c.in_err-weights.ensures.stop in
-    let is = err_from_is_err_and c.from_residual-in_err-weights.result c.from_residual-in_err-weights.ensures.1 in
-    subst (Works command old new) (sym (is.1 ∙ ap (λ (s : Stop). Err s) is.2)) stopped
-
-pub checked-requires-clause-weights : goal.checked-requires-clause-weights
-checked-requires-clause-weights g c =
-    let weighed = c.in_ok-weights.ensures.value in
-    subst (AreWeights (bidders_of c.in_ok-book.book)) (sym c.items.ensures) weighed.says.1
-
 pub returns : goal.returns
 returns g c =
+    let name = c.args.weights.now in
     let cert = c.args.cert.now in
-    let command = weigh_check c.args.book.now c.args.weights.now cert in
+    let command = weigh_check c.args.book.now name cert in
     let old = g.F.Files.folder c.args.files.now in
     let first = g.F.Files.folder c.read_input.new.files in
-    let mid = g.F.Files.folder c.read_input-2.new.files in
-    let new = g.F.Files.folder c.checked.new.files in
+    let new = g.F.Files.folder c.weigh_checked.new.files in
     let read = c.in_ok-book.ensures.value in
     let book = c.in_ok-book.book in
     let at = reads-next command old old first [] Book BOOK_BYTES BookAnswers
     (λ contents b. WeightsGive b (contents Weights) (λ w. CertGives b (contents Cert) (VerdictGives b w))) c.args.book.now refl (0, omega arith, refl) refl
     (begins command old) c.in_ok-book.ensures.loads book read.bytes read.short read.says read.here in
-    let weighed = c.in_ok-weights.ensures.value in
-    let weights = c.in_ok-weights.weights in
-    let behind = reads-next command old first mid _ Weights WEIGHTS_BYTES (WeightsAnswers book) (λ contents w. CertGives book (contents Cert)
-    (VerdictGives book w))
-    c.args.weights.now refl (1, omega arith, refl) refl at c.in_ok-weights.ensures.loads weights weighed.bytes weighed.short weighed.says.0 weighed.here in
-    let work = same-weights book _ weights cert mid new c.checked.result c.items.ensures c.checked.ensures in
-    works-from command old mid new (Weights ∷ Book ∷ []) Cert cert (λ content. CertGives book content (VerdictGives book weights))
-    (record { input = refl; within = (2, omega arith, refl); place = refl; unseen = (refl, (refl, tt)) }) behind refl c.checked.result work
+    elim c.weigh_checked.ensures [
+      | inl x ↦ subst (Works command old new) (sym x.1) (stops-next command old first new (Book ∷ []) Weights WEIGHTS_BYTES (WeightsAnswers book)
+          (λ contents w. CertGives book (contents Cert) (VerdictGives book w)) name refl (1, omega arith, refl) refl at x.3
+          (λ bytes s. WeightsAnswers book bytes (stops s)) (λ bytes s h. h) (λ files. refl) (λ files. (refl, tt)) x.0 x.2)
+      | inr x ↦ (let weights = x.0 in
+          let mid = x.1 in
+          let said = x.2 in
+          works-from command old mid new (Weights ∷ Book ∷ []) Cert cert (λ content. CertGives book content (VerdictGives book weights))
+          (record { input = refl; within = (2, omega arith, refl); place = refl; unseen = (refl, (refl, tt)) })
+          (reads-next command old first mid (Book ∷ []) Weights WEIGHTS_BYTES (WeightsAnswers book)
+          (λ contents w. CertGives book (contents Cert) (VerdictGives book w)) name refl (1, omega arith, refl) refl at x.3 weights said.bytes said.short
+          said.says said.here) refl c.weigh_checked.result x.4)
+    ]

@@ -1,4 +1,4 @@
-use Rattle.std.proofs.Common.{◌∙◌, subst, sym}
+use Rattle.std.proofs.Common.{subst, sym}
 use Rattle.std.specs.List.{AllByRecursion}
 use Rattle.place_price.specs.outcome.specs.Turns.{CanPrintTurn}
 use Rattle.cca_work.proofs.placing.slot_texts.Goals as goal
@@ -8,4 +8,4 @@ placed_lines-requires-clause-turns c =
     subst (λ turns. AllByRecursion (CanPrintTurn c.args.priced.now.cert.choice) turns) (sym c.items.ensures) c.requires.turns
 
 pub returns : goal.returns
-returns c = (rw c.items.ensures at c.in_ok-printed.ensures, c.in_ok-cert.ensures ∙ c.in_ok-text.ensures)
+returns c = (rw c.items.ensures at c.in_ok-printed.ensures, c.in_ok-cert.ensures)

@@ -1,8 +1,6 @@
-use Rattle.std.proofs.Common.{◌≡◌, ◌++◌, rules}
-use Rattle.std.specs.Prelude.{codes}
+use Rattle.std.proofs.lemmas.Result.{IfOk-weaker}
 use Rattle.cca_work.proofs.verdict.yes_text.Goals as goal
 
 pub returns : goal.returns
-returns c =
-    let whole : c.add-2.new.self ≡ codes "yes\n" ++ c.in_ok-outcome.outcome = search rules in
-    λ cert are. (c.in_ok-outcome.outcome, c.in_ok-outcome.ensures cert are, whole)
+returns c = λ cert are. IfOk-weaker c.behind_yes.result _ _ (λ text whole. (c.in_ok-outcome.outcome, c.in_ok-outcome.ensures cert are, whole))
+    c.behind_yes.ensures

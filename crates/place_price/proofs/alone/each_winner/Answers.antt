@@ -8,7 +8,7 @@ use Rattle.place_price.proofs.Parts.{more-parts}
 use Rattle.place_check.specs.slot_places.specs.Board.{market_of}
 use Rattle.book_price.specs.vickrey.proofs.VickreyLaws.{winners-skip, winners-take}
 use Rattle.place_price.proofs.alone.each_winner.Goals as goal
-use Rattle.place_price.proofs.alone.each_winner.Goals.{then-number-ne0+in_ok-one+in_ok-push+in_ok-push-2, else-number-ne0}
+use Rattle.place_price.proofs.alone.each_winner.Goals.{then-number-ne0+in_ok-add_winner, else-number-ne0}
 
 pub loop-k-preserved : goal.loop-k-preserved
 loop-k-preserved c =
@@ -22,22 +22,24 @@ loop-k-preserved c =
     let number : c.number.result ≡ get_or z k 0 = c.number.ensures ∙ ap (λ n. get_or z n 0) back in
     let was = c.loop-k.invariant in
     elim c.if-number-ne0.branch [
-      | then-number-ne0+in_ok-one+in_ok-push+in_ok-push-2 w ↦
-          let one = w.in_ok-one.one in
+      | then-number-ne0+in_ok-add_winner w ↦
+          let added = w.in_ok-add_winner.ensures in
+          let single = added.0 in
+          let part = added.1 in
           let some : get_or z k 0 ≢ 0 = λ e. w.if-number-ne0.true (number ∙ e) in
           let more : winners_after 0 (take (k + 1) z) ≡ winners_after 0 (take k z) ++ (k + 1) ∷ [] = winners-take z k inside some in
-          let singles : c.if-number-ne0.singles.items ≡ c.loop-k.singles.items ++ one.single ∷ [] = rw w.singles-is w.in_ok-push.ensures.items in
-          let parts : c.if-number-ne0.parts ≡ c.loop-k.parts ++ one.part ∷ [] = w.parts-is ∙ w.in_ok-push-2.ensures.pushed in
+          let singles : c.if-number-ne0.alone.singles.items ≡ c.loop-k.alone.singles.items ++ single ∷ [] = rw w.alone-is added.5 in
+          let parts : c.if-number-ne0.alone.parts ≡ c.loop-k.alone.parts ++ part ∷ [] = rw w.alone-is added.6 in
           record {
-            winners = ap (map winner) singles ∙ map-append winner c.loop-k.singles.items (one.single ∷ []) ∙ ap (λ l. l ++ one.single.winner ∷ []) was.winners
-                ∙ ap (λ n. winners_after 0 (take k z) ++ n ∷ []) w.in_ok-one.ensures.winner ∙ sym more;
-            each = rw singles (each-push (IsSingle (market_of slots) z) c.loop-k.singles.items one.single was.each w.in_ok-one.ensures.single);
-            parts = rw (singles, parts) (more-parts slots c.loop-k.singles.items c.loop-k.parts one.single one.part was.parts w.in_ok-one.ensures.part);
+            winners = ap (map winner) singles ∙ map-append winner c.loop-k.alone.singles.items (single ∷ []) ∙ ap (λ l. l ++ single.winner ∷ []) was.winners
+                ∙ ap (λ n. winners_after 0 (take k z) ++ n ∷ []) added.2 ∙ sym more;
+            each = rw singles (each-push (IsSingle (market_of slots) z) c.loop-k.alone.singles.items single was.each added.3);
+            parts = rw (singles, parts) (more-parts slots c.loop-k.alone.singles.items c.loop-k.alone.parts single part was.parts added.4);
           }
       | else-number-ne0 w ↦
           let none : get_or z k 0 ≡ 0 = sym number ∙ w.if-number-ne0.false in
           let same : winners_after 0 (take (k + 1) z) ≡ winners_after 0 (take k z) = winners-skip z k inside none in
-          rw (w.singles-is, w.parts-is) (record {
+          rw w.alone-is (record {
             winners = was.winners ∙ sym same;
             each = was.each;
             parts = was.parts;

@@ -8,7 +8,7 @@ use Rattle.place_price.proofs.alone.each_winner.Given as goal
 
 abbrev pub invariant-loop-k : goal.invariant-loop-k
 invariant-loop-k l = record {
-  winners : map (λ (s : Single). s.winner) l.singles.items ≡ winners_after 0 (take l.k l.chooser.winners);
-  each : AllByRecursion (IsSingle (market_of l.chooser.slots.now) l.chooser.winners) l.singles.items;
-  parts : ArePartsOf l.chooser.slots.now l.singles.items l.parts;
+  winners : map (λ (s : Single). s.winner) l.alone.singles.items ≡ winners_after 0 (take l.k l.chooser.winners);
+  each : AllByRecursion (IsSingle (market_of l.chooser.slots.now) l.chooser.winners) l.alone.singles.items;
+  parts : ArePartsOf l.chooser.slots.now l.alone.singles.items l.alone.parts;
 }
