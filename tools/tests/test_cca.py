@@ -1,18 +1,20 @@
 """The script `cca`, over a stand-in for the kit's tool and five small crates: what it builds, by which calls, and what it tells."""
 import os, pathlib, re, shutil, signal, stat, subprocess, sys, tempfile, time, unittest
 
-SCRIPT = pathlib.Path(__file__).resolve().parents[2] / "cca"
+ROOT = pathlib.Path(__file__).resolve().parents[2]
 USES = {"low": "", "left": "low", "right": "low", "top": "left right", "cca": "top", "more_tests": "top"}
 PROGRAM = ["low", "left", "right", "top", "cca"]
 
-# `rt` with no words, `rt ci`, `rt all check` and `rt run`, over crates of one file. One that says `fault` is not proved, one that says
-# `slow` takes a minute, and one that says `waits` as long unless there is a file `go`; `dies` makes a program that a signal ends, and
-# `odd` one that prints something else than it should. What is proved is kept in the folder `kept`, as the kit does.
+# `rt` with no words, `rt ci`, `rt all check`, `rt run`, and what `bench/libraries` calls of its inside, over crates of one file. One that says
+# `fault` is not proved, one that says `slow` takes a minute, and one that says `waits` as long unless there is a file `go`; `dies` makes a
+# program that a signal ends, and `odd` one that prints something else than it should. What is proved is kept in the folder `kept`, as the kit does.
 TOOL = '''#!%s
-import hashlib, os, pathlib, sys, time
+import hashlib, os, pathlib, sys, time, types
 kit = pathlib.Path(__file__).resolve().parents[1]
 words, keeps = sys.argv[1:], (kit / "keeps").exists()
-root = pathlib.Path.cwd() if words[:1] == ["ci"] else pathlib.Path.cwd().parents[1]
+if __name__ != "__main__":
+    words = ["libraries"]
+root = pathlib.Path.cwd() if words[0:1] in (["ci"], ["libraries"]) else pathlib.Path.cwd().parents[1]
 if not words:
     sys.exit("What a run passed is kept" + " beside the\\nkit" * keeps)
 with open(kit / "calls", "a") as calls:
@@ -21,38 +23,89 @@ uses = dict(line.split("#")[0].split(":") for line in (root / "crates.txt").read
 if words == ["ci"]:
     found = sorted(str(it.relative_to(root)) for it in root.rglob("*") if not it.is_dir())
     (kit / "tree").write_text("\\n".join(found) + "\\n" + str(root))
-text = {name: (root / "crates" / name / "src" / "lib.rt").read_text() for name in uses}
+source = lambda name: (root / "crates" / name / "src" / "lib.rt").read_text()
+text = {name: source(name) for name in uses}
 below = lambda name: {name}.union(*map(below, uses[name].split()))
+failed = []
 def prove(name):
     out, sum = root / "crates" / name / "out", hashlib.sha256(repr(sorted((it, text[it]) for it in below(name))).encode()).hexdigest()
     kept = kit / "kept" / sum if words == ["ci"] else out / "rlib" / "stamp"
     if kept.exists() and kept.read_text() == sum:
         return print(f"rt: {name} is kept: by an earlier run", flush=True)
     print(f"== {name}", flush=True)
-    if "fault" in text[name]:
-        print(f"fn {name}::one: proved\\n{root}/crates/{name}/src/lib.rt: error: it is wrong\\nrt: {name} NOT PROVED\\nrt: more", flush=True)
+    if tried(name):
+        print(f"rt: {name} NOT PROVED\\nrt: more", flush=True)
         return failed.append(name)
+    kept.parent.mkdir(parents=True, exist_ok=True)
+    kept.write_text(sum)
+    print(f"rt: {name} proved", flush=True)
+def tried(name, out=sys.stdout):
+    if "fault" in text[name]:
+        print(f"fn {name}::one: proved\\n{root}/crates/{name}/src/lib.rt: error: it is wrong", file=out, flush=True)
+        return 1
     with open(kit / "proved", "a") as proved:
         print(name, file=proved)
     for _ in range(600 if text[name] in ("slow", "waits") else 1):
         if text[name] != "waits" or not (kit / "go").exists():
             time.sleep(0.1)
-    kept.parent.mkdir(parents=True, exist_ok=True)
-    kept.write_text(sum)
-    print(f"rt: {name} proved", flush=True)
-failed = []
-for name in uses if words != ["run"] else ["cca"]:
-    if words[:1] != ["all"] or name not in ("cca", "more_tests"):
-        prove(name) if not failed or "slow" in text[name] else print(f"rt: {name} NOT PROVED: its library {failed[0]} failed", flush=True)
-if words[:1] != ["all"] and not failed:
-    made = root / "crates" / "cca" / "out" / "cca"
-    made.parent.mkdir(exist_ok=True)
-    end = "kill -9 $$" if "dies" in text["cca"] else "exit 3"
-    made.write_text("#!/bin/sh\\necho made of " + " ".join(text[it] for it in sorted(below("cca"))) + ', with "$@"\\n' + end + "\\n")
-    made.chmod(0o755)
-if "odd" in text["cca"] and words == ["ci"]:
-    failed.append(print("rt: FAILED: cca (run)"))
-sys.exit(bool(failed))
+    return 0
+class Crate:
+    def __init__(self, name, known):
+        self.name, self.folder, self.out, self.is_program = name, str(root / "crates" / name), sys.stdout, name == "cca"
+        self.rlib, self.deps = f"{self.folder}/out/rlib/{name}.rlib", [known[it] for it in uses[name].split()]
+    def below(self):
+        return list(dict.fromkeys(it for dep in self.deps for it in [*dep.below(), dep]))
+    def count(self, pattern):
+        return 1
+    def stamp(self):
+        return hashlib.sha256(repr((source(self.name), [it.stamp() for it in self.deps])).encode()).hexdigest()
+    def is_built(self):
+        stamp = pathlib.Path(self.rlib).parent / "stamp"
+        return os.path.isdir(self.rlib) and stamp.exists() and stamp.read_text() == self.stamp()
+    def words(self, flags, keeps):
+        return [*flags, *[it.rlib for it in self.below()]]
+    def call(self, tool, verb, *words):
+        *flags, dash, to = words
+        text[self.name] = source(self.name)
+        lacking = [it for it in flags[3:] if not os.path.isdir(it)]
+        if (tool, verb, flags[0], flags[2], dash, to) != ("rattle", "build", "--jobs", "--statements", "-o", self.rlib) or lacking:
+            return print(f"error: {words}", file=self.out) or 2
+        return tried(self.name, self.out) or os.mkdir(to) or 0
+def crates_below(folder):
+    known = {}
+    for name in uses:
+        known[name] = rtlib.Crate(name, known)
+    top = known.get(os.path.basename(folder))
+    return [it for it in known.values() if not top or it is top or it in top.below()]
+def in_lanes(tasks):
+    from concurrent.futures import ThreadPoolExecutor
+    given = {}
+    with ThreadPoolExecutor(4) as pool:
+        left = dict(tasks)
+        while left:
+            ready = [it for it in left if all(below in given for below in left[it][0])]
+            runs = {it: pool.submit(left.pop(it)[3], given, 1) for it in ready}
+            given.update({it: run.result() for it, run in runs.items()})
+    return given
+need = lambda crate: 1
+rtlib = types.SimpleNamespace(Crate=Crate, RATTLE="rattle", crates_below=crates_below, guarded=lambda: [], lock=lambda crates: [])
+if (kit / "other").exists():
+    del in_lanes
+if __name__ == "__main__":
+    for name in uses if words != ["run"] else ["cca"]:
+        if words[:1] == ["ci"] or words[:1] == ["all"] and name not in ("cca", "more_tests"):
+            prove(name) if not failed or "slow" in text[name] else print(f"rt: {name} NOT PROVED: its library {failed[0]} failed", flush=True)
+    if words[:1] == ["run"]:
+        prove("cca")
+    if words[:1] != ["all"] and not failed:
+        made = root / "crates" / "cca" / "out" / "cca"
+        made.parent.mkdir(exist_ok=True)
+        end = "kill -9 $$" if "dies" in text["cca"] else "exit 3"
+        made.write_text("#!/bin/sh\\necho made of " + " ".join(text[it] for it in sorted(below("cca"))) + ', with "$@"\\n' + end + "\\n")
+        made.chmod(0o755)
+    if "odd" in text["cca"] and words == ["ci"]:
+        failed.append(print("rt: FAILED: cca (run)"))
+    sys.exit(bool(failed))
 ''' % sys.executable
 
 
@@ -66,7 +119,9 @@ class Case(unittest.TestCase):
         self.temporary = pathlib.Path(room.name) / "temporary"
         for folder in (self.root, self.temporary, self.kit / "bin"):
             folder.mkdir(parents=True)
-        shutil.copy2(SCRIPT, self.root)
+        shutil.copy2(ROOT / "cca", self.root)
+        (self.root / "bench").mkdir()
+        shutil.copy2(ROOT / "bench" / "libraries", self.root / "bench")
         (self.root / "HANDLES").write_text("Handles allowed: none.\n")
         (self.root / "crates.txt").write_text("# Crates.\n" + "".join(f"{name}: {low} # .\n" for name, low in USES.items()))
         for name in USES:
@@ -279,18 +334,77 @@ class ByLibraries(Both, Case):
     """A kit whose gate keeps nothing."""
 
     keeps = False
+    memory = os.sysconf("SC_PAGE_SIZE") * os.sysconf("SC_PHYS_PAGES")
+    calls = ["libraries", f"run --jobs {max(1, min(os.cpu_count(), memory // (3 * 10**9)))}"]
 
-    @property
-    def calls(self):
-        memory = os.sysconf("SC_PAGE_SIZE") * os.sysconf("SC_PHYS_PAGES")
-        return [f"all check --jobs {max(1, min(os.cpu_count() + 2, memory // (3 * 10**9)))}", "run"]
-
-    def test_the_sources_are_read_first(self):
+    def test_the_stages(self):
         told = self.call()[2]
-        self.assertRegex(told, r"(?m)^cca: reading all sources, 0 of 5 crates, 0 min 0 s$")
+        self.assertRegex(told, r"(?m)^cca: proving, 0 of 5 crates, 0 min 0 s$")
         self.assertRegex(told, r"(?m)^cca: proving, 1 of 5 crates, 0 min \d s: \w+$")
         self.assertRegex(told, r"(?m)^cca: compiling, 4 of 5 crates, 0 min \d s: top$")
         self.assertRegex(told, r"(?m)^cca: compiling, 5 of 5 crates, 0 min \d s: cca$")
+
+    def test_what_is_above_a_fault_is_not_tried(self):
+        self.write("left", "fault")
+        self.write("right", "slow")
+        status, out, told = self.call()
+        self.assertEqual((status, out), (70, ""))
+        self.assertRegex(told, r"(?m)^== left\n.*crates/left/src/lib\.rt: error: it is wrong\ncca was not built\.\n\Z")
+        self.assertEqual(sorted(self.noted("proved")), ["low", "right"])
+
+    def test_a_library_is_made_of_what_it_says(self):
+        self.write("right", "waits")
+        process = self.begin("a", "b")
+        self.until("proved", "right")
+        self.write("right", "later")
+        (self.kit / "go").touch()
+        process.communicate(timeout=40)
+        self.assertEqual(sorted(self.noted("proved")), ["cca", "left", "low", "right", "right", "top"])
+
+    def libraries(self, *words):
+        """The status of a call of `bench/libraries`, and what it prints beside the crates."""
+        how = {"env": {"PATH": f"{self.kit / 'bin'}:/usr/bin:/bin"}, "stdout": subprocess.PIPE, "stderr": subprocess.PIPE, "text": True}
+        done = subprocess.run([sys.executable, self.root / "bench" / "libraries", *words], **how)
+        return done.returncode, re.sub(r"(?m)^== .*\n", "", done.stdout), done.stderr
+
+    def test_libraries_alone(self):
+        text = "rt: low proved\nrt: left proved\nrt: right proved\nrt: top proved\nrt: more_tests proved\n5 of 5 libraries are there\n"
+        status, out, told = self.libraries()
+        self.assertEqual((status, sorted(out.splitlines()), told), (0, sorted(text.splitlines()), ""))
+        self.write("left", "other")
+        text = "rt: low is kept\nrt: left proved\nrt: right is kept\nrt: top proved\n4 of 4 libraries are there\n"
+        status, out, told = self.libraries("cca")
+        self.assertEqual((status, sorted(out.splitlines()), told), (0, sorted(text.splitlines()), ""))
+        self.write("right", "fault")
+        status, out, told = self.libraries("cca")
+        self.assertEqual((status, out.splitlines()[-1], told), (1, "2 of 4 libraries are there", ""))
+        self.write("right", "right")
+        self.assertEqual(self.libraries("cca")[1].count(" proved\n"), 2)
+        self.assertEqual(self.libraries("none"), (1, "", "usage: bench/libraries [CRATE]\n"))
+
+
+class ByTheKit(Case):
+    """A kit whose gate keeps nothing, and of whose inside no more is known."""
+
+    keeps = False
+
+    def setUp(self):
+        super().setUp()
+        (self.kit / "other").touch()
+
+    def test_all_is_left_to_the_kit(self):
+        status, out, told = self.call("a", "b")
+        self.assertEqual((status, out), (3, self.built()))
+        at_once = max(1, min(os.cpu_count() + 2, ByLibraries.memory // (3 * 10**9)))
+        self.assertEqual(self.noted("calls"), ["libraries", f"all check --jobs {at_once}", "run"])
+        self.assertRegex(told, r"(?m)^cca: reading all sources, 0 of 5 crates, 0 min \d s$")
+        self.assertRegex(told, r"(?m)^cca: proving, 1 of 5 crates, 0 min \d s: \w+$")
+        self.assertRegex(told, r"(?m)^cca: compiling, 4 of 5 crates, 0 min \d s: top$")
+        self.assertRegex(told, r"(?m)^cca: compiling, 5 of 5 crates, 0 min \d s: cca$")
+        self.write("left", "fault")
+        status, out, told = self.call()
+        self.assertEqual((status, out), (70, ""))
+        self.assertRegex(told, r"(?m)^== left\n.*crates/left/src/lib\.rt: error: it is wrong$")
 
 
 if __name__ == "__main__":
