@@ -26,7 +26,6 @@ ghost use Rattle.auction_rules.specs.View.{view, own_replies};
 ghost use Rattle.auction_rules.specs.Lawful.{AreDrafts, AreLimited, HasCategories, IsLawfulBid, NeverRises};
 ghost use Rattle.auction_rules.specs.BookOfLog.{IsGreatestFor, bid_lots, bids_in_book, book_bidder, book_of_log, pairs_of};
 
-pub use lots;
 use lots::Package;
 
 /// One line of a log. Bidders are numbered from 1, and a number that no bidder has, 0 too, is a stranger's.

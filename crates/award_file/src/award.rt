@@ -8,7 +8,7 @@ ghost use Rattle.award_file.specs.Fields.{fault_value, cap_values};
 use crate::caps::{CapFault, SpectrumCap, first_exceeded};
 use crate::entrants::Entrants;
 use crate::steps::StepTable;
-use auction_rules::lots::{Package, Supply};
+use bid_book::lots::{Package, Supply};
 use std::marker::Model;
 
 /// The settings of an award. Bidders are numbered from 1, in the order of the award.

@@ -10,9 +10,9 @@ mod read;
 mod steps;
 
 pub use auction_rules;
-pub use auction_rules::lots::limits::LimitKind;
 pub use award::Award;
 pub use bid_book;
+pub use bid_book::lots::limits::LimitKind;
 pub use caps::CapFault;
 pub use laws::{book_of_award, stated_award};
 pub use read::{AwardStop, read_award};

@@ -13,13 +13,11 @@ ghost use Rattle.bid_desk.specs.Lists.{IsKept};
 
 use crate::lists::BidderLists;
 use crate::slots::{copied_entries, put_entry};
+use award_file::Award;
+use award_file::bid_book::lots::{Bid, Package, Supply};
+use award_file::bid_book::{BidBook, BidList, BidderBids, Bidders, Name, Reserves};
 use relative_cap::amount_listed;
 use relative_cap::clock_stage::History;
-use relative_cap::clock_stage::award_file::Award;
-use relative_cap::clock_stage::award_file::auction_rules::lots::{Bid, Package, Supply};
-use relative_cap::clock_stage::award_file::bid_book::{
-    BidBook, BidList, BidderBids, Bidders, Name, Reserves,
-};
 use std::alloc::{AllocError, Global};
 
 /// Sets the amount for the package in a list, or leaves the list's own where that is greater.

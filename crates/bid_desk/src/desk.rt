@@ -26,15 +26,13 @@ ghost use Rattle.bid_desk.specs.Reached.{IsBidOrDrop, IsTaken, IsTakenOrMemory, 
 use crate::book::book_of;
 use crate::lists::{BidderLists, empty_lists};
 use crate::testers::{no_testers, test_list};
-use relative_cap::clock_stage::award_file::auction_rules::lots::Package;
-use relative_cap::clock_stage::award_file::auction_rules::lots::limits::{
-    MOST_AMOUNT, MOST_DRAFTS,
-};
-use relative_cap::clock_stage::award_file::auction_rules::{
+use award_file::auction_rules::{
     Event, Reply, Stage, bidders_of_book, book_within_caps, desk_book, interleaving,
 };
-use relative_cap::clock_stage::award_file::bid_book::BidBook;
-use relative_cap::clock_stage::award_file::{Award, book_of_award};
+use award_file::bid_book::BidBook;
+use award_file::bid_book::lots::Package;
+use award_file::bid_book::lots::limits::{MOST_AMOUNT, MOST_DRAFTS};
+use award_file::{Award, book_of_award};
 use relative_cap::clock_stage::{Clock, Closed, reply_to_package};
 use relative_cap::{ListTester, OverCap, highest};
 use std::alloc::{AllocError, Global};

@@ -9,7 +9,7 @@ ghost use Rattle.bid_desk.specs.Lists.{IsKept, lists_with};
 
 use crate::difference::Difference;
 use crate::slots::{Slot, copy_entries, has_entry, put_entry, slot_of};
-use relative_cap::clock_stage::award_file::auction_rules::lots::{Bid, Package};
+use award_file::bid_book::lots::{Bid, Package};
 use std::alloc::{AllocError, Global};
 use std::marker::Model;
 use std::mem;

@@ -7,7 +7,7 @@ ghost use Rattle.bid_desk.specs.Lists.{IsKept};
 ghost use Rattle.bid_desk.specs.Differences.{SetsAmount};
 ghost use Rattle.bid_desk.specs.Slots.{IsSlot};
 
-use relative_cap::clock_stage::award_file::auction_rules::lots::{Bid, Package};
+use award_file::bid_book::lots::{Bid, Package};
 use relative_cap::{is_same, place_of};
 use std::alloc::{AllocError, Global};
 

@@ -8,8 +8,8 @@ ghost use Rattle.relative_cap.specs.Answer.{excess_value};
 ghost use Rattle.relative_cap.specs.OwnRounds.{bid_value, entry_lots, rounds_of};
 ghost use Rattle.bid_desk.specs.Testers.{AreFor, IsTesterOrNew};
 
+use award_file::bid_book::lots::Bid;
 use relative_cap::clock_stage::History;
-use relative_cap::clock_stage::award_file::auction_rules::lots::Bid;
 use relative_cap::{ListTester, OverCap};
 use std::alloc::{AllocError, Global};
 

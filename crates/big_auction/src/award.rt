@@ -5,8 +5,8 @@ ghost use Rattle.big_auction.specs.AwardText.{category_text, entrant_text, key_l
 ghost use Rattle.big_auction.specs.MadeAward.{category_with, made_bidders, made_categories, made_entrant, made_name};
 
 use crate::values::{BIDDERS, RESERVES, SUPPLY};
-use clock_stage::award_file::bid_book::line_text::add_decimal;
-use row_laws::far_num::wide_num::Text;
+use log_file::award_file::bid_book::line_text::add_decimal;
+use log_file::award_file::bid_book::line_text::wide_num::Text;
 use std::alloc::{AllocError, Global};
 
 /// The points that each bidder may bid for in round 1.

@@ -9,7 +9,5 @@ mod made;
 mod prices;
 mod values;
 
-pub use clock_stage;
 pub use laws::{answered_log, few_winners, lawful_award, stated_award, stated_log};
-pub use log_file;
 pub use made::{Made, make};

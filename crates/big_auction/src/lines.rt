@@ -13,8 +13,8 @@ ghost use Rattle.big_auction.specs.Parts.{bids_for, counts_of, figures_of};
 use crate::draws::Draws;
 use crate::prices::{amount, cost};
 use crate::values::{DRAFTS, Figures, Lots, STAYING};
-use clock_stage::award_file::bid_book::line_text::{add_decimal, add_number};
-use row_laws::far_num::wide_num::Text;
+use log_file::award_file::bid_book::line_text::wide_num::Text;
+use log_file::award_file::bid_book::line_text::{add_decimal, add_number};
 use std::alloc::AllocError;
 
 /// A bidder by its number, with the package of its own and the one that it asks for at last.

@@ -16,7 +16,7 @@ use crate::laws::{answered_log, few_winners, lawful_award, stated_award, stated_
 use crate::lines::{Bidder, add_bid, add_bidder, add_bids, add_close};
 use crate::prices::{final_prices, last_package};
 use crate::values::{BIDDERS, FULL_ROUNDS, Figures, Lots, STAYING, WIDEST};
-use row_laws::far_num::wide_num::Text;
+use log_file::award_file::bid_book::line_text::wide_num::Text;
 use std::alloc::{AllocError, Global};
 
 /// How many lines each log has.

@@ -12,8 +12,8 @@ ghost use Rattle.big_auction.specs.MadeLog.{amount_of, full_rounds, last_of};
 ghost use Rattle.big_auction.specs.Parts.{counts_of, figures_of, held_from};
 
 use crate::values::{FULL_ROUNDS, Figures, Lots, NO_LOTS, RESERVES, STAYING, SUPPLY};
-use clock_stage::award_file::StepTable;
 use clock_stage::step;
+use log_file::award_file::StepTable;
 use std::alloc::{AllocError, Global};
 
 /// What the bidder asks for in the last round.

@@ -7,6 +7,4 @@ mod look;
 mod row;
 mod surplus;
 
-pub use choices;
 pub use look::{Block, Looked, find_block};
-pub use row_laws::far_num;

@@ -8,7 +8,7 @@ ghost use Rattle.blocking.specs.Look.{CanLook, IfFree, IfBlocked, IsFound, IsBlo
 use crate::row::row_given;
 use crate::surplus::surpluses;
 use choices::{Choice, Chooser, Found};
-use row_laws::far_num::Row;
+use far_num::Row;
 use std::alloc::{AllocError, Global};
 
 /// What blocks a point most.

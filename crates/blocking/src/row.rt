@@ -7,7 +7,7 @@ ghost use Rattle.row_laws.specs.Winners.{idle_row, bits_after};
 ghost use Rattle.blocking.specs.Look.{CanLook, IsFound, payments};
 
 use choices::{Choice, Chooser};
-use row_laws::far_num::Row;
+use far_num::Row;
 
 /// The winners that the choice doesn't use and that pay no more than their bid, with the bound that the choice gives them.
 /// `excess` is what the greatest lowered sum is above all payments, times `den`.

@@ -1,7 +1,6 @@
 //! The form of a book as definitions, and what is printed of its winners. No code stands here.
 #![tactic(auto)]
 
-pub use limits;
 use limits::LimitKind;
 pub use line_text;
 

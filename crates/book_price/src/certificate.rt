@@ -9,14 +9,14 @@ ghost use Rattle.cert_text.specs.CertValues.{IsFor, cert_value};
 use crate::bidder_rows::all_rows;
 use crate::lines::shared;
 use crate::parts::all_parts;
-use cert_laws::cert_form::line_text::wide_num::NumList;
 use cert_text::Certificate;
 use cert_text::choices::Choice;
 use cert_text::choices::bid_book::BidBook;
+use cert_text::choices::bid_book::line_text::wide_num::NumList;
 use core_price::{Priced, for_bidders};
 use std::alloc::{AllocError, Global};
+use value_table::{TurnTable, ValueTable};
 use vickrey::Vickrey;
-use vickrey::value_table::{TurnTable, ValueTable};
 
 /// The certificate of what was found by some weights. It shares the lines of all tables.
 pub(crate) fn certificate(

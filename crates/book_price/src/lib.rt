@@ -11,9 +11,6 @@ mod lines;
 mod parts;
 mod pricing;
 
-pub use cert_laws;
-pub use cert_text;
 pub use core_price;
 pub use laws::books_can_be_priced;
 pub use pricing::{PricedBook, price_book};
-pub use vickrey::value_table;

@@ -15,7 +15,7 @@ use cert_text::choices::Choice;
 use cert_text::choices::bid_book::BidBook;
 use core_price::{PriceStop, TurnList, count_winners, many_win, price};
 use std::alloc::{AllocError, Global};
-use vickrey::value_table::{BookChooser, ValueTable, plain_table};
+use value_table::{BookChooser, ValueTable, plain_table};
 use vickrey::vickrey_from;
 
 // Room for more than the tables of a turn and the text of a certificate.

@@ -1,6 +1,6 @@
 use crate::samples::award_of;
-use big_auction::clock_stage::award_file::auction_rules::lots::Package;
-use big_auction::clock_stage::award_file::{Award, CapFault};
+use log_file::award_file::bid_book::lots::Package;
+use log_file::award_file::{Award, CapFault};
 use std::alloc::Global;
 use std::process::Abort;
 

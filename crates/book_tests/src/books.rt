@@ -3,11 +3,13 @@ ghost use Rattle.std.specs.Prelude.{◌≡◌, ◌∷◌, [], IfOk};
 ghost use Rattle.weights_file.specs.bid_book.specs.Lists.{bid_of};
 
 use crate::samples::book_of;
+use log_file::award_file::bid_book::lots::{Bid, LotStop, Package, Supply};
+use log_file::award_file::bid_book::{
+    BidBook, BidList, BidderBids, Bidders, Name, Reserves, write_book,
+};
 use std::alloc::{AllocError, Global};
 use std::process::Abort;
 use std::test::Fail;
-use weights_file::bid_book::lots::{Bid, LotStop, Package, Supply};
-use weights_file::bid_book::{BidBook, BidList, BidderBids, Bidders, Name, Reserves, write_book};
 
 #[test]
 fn tells_what_a_book_holds(rt: HostRuntime) {

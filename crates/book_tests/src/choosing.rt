@@ -1,9 +1,9 @@
 use crate::samples::{book_of, is_line};
-use slot_places::choices::{Choice, Grid, Numbers, first_by_listing};
+use log_file::award_file::bid_book::BidBook;
+use log_file::award_file::bid_book::line_text::wide_num::NumList;
 use std::alloc::{AllocError, Global};
 use std::process::Abort;
-use weights_file::bid_book::BidBook;
-use weights_file::bid_book::line_text::wide_num::NumList;
+use value_table::choices::{Choice, Grid, Numbers, first_by_listing};
 
 #[test]
 fn choices_tell_their_numbers(rt: HostRuntime) -> Result<(), AllocError> {

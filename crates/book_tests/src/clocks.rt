@@ -2,9 +2,9 @@ ghost use Rattle.std.specs.Prelude.{◌<◌};
 ghost use Rattle.big_auction.specs.clock_stage.specs.Kept.{IsFor, bidders_in};
 
 use crate::samples::award_of;
-use big_auction::clock_stage::award_file::Award;
-use big_auction::clock_stage::award_file::auction_rules::lots::{LotStop, Package};
-use big_auction::clock_stage::{Clock, Closed, History, Reply};
+use clock_stage::{Clock, Closed, History, Reply};
+use log_file::award_file::Award;
+use log_file::award_file::bid_book::lots::{LotStop, Package};
 use std::alloc::Global;
 use std::process::Abort;
 use std::test::Fail;

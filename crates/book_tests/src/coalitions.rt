@@ -3,10 +3,10 @@ ghost use Rattle.weights_file.specs.bid_book.specs.auction_model.specs.Greatest.
 ghost use Rattle.weights_file.specs.bid_book.specs.auction_model.specs.Lawful.{IsMarket};
 ghost use Rattle.book_tests.specs.OneOfTwo.{one_of_two, first_wins};
 
-use outcome::core_price::blocking::{Block, Looked, find_block};
-use slot_places::choices::{Choice, Chooser, Found, Numbers};
+use blocking::{Block, Looked, find_block};
 use std::alloc::{AllocError, Global};
 use std::process::Abort;
+use value_table::choices::{Choice, Chooser, Found, Numbers};
 
 // Two bidders bid 5 and 3 for one thing, so the first wins.
 #[derive(Drop)]

@@ -4,8 +4,8 @@ ghost use Rattle.big_auction.specs.clock_stage.specs.auction_rules.specs.Lawful.
 ghost use Rattle.big_auction.specs.clock_stage.specs.auction_rules.specs.Terms.{Terms};
 
 use crate::samples::{award_of, events_of};
-use big_auction::clock_stage::award_file::bid_book::write_book;
-use log_replay::bid_desk::{Desk, DeskStop, Event, Reply};
+use bid_desk::{Desk, DeskStop, Event, Reply};
+use log_file::award_file::bid_book::write_book;
 use std::alloc::Global;
 use std::process::Abort;
 use std::test::Fail;

@@ -1,7 +1,7 @@
 // Edits of bidders that the book doesn't have: a review says the same of each, whatever it adds.
 use crate::samples::{DAY_CRAMTON, book_of};
 use edits_file::read_edits;
-use edits_file::review::Edit;
+use review::Edit;
 
 // Whether the edit adds this bid.
 fn adds(edit: &Edit, j: u16, counts: &[u16], sum: u64) -> bool {

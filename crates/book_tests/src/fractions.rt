@@ -2,7 +2,7 @@
 ghost use Rattle.std.specs.Prelude.{◌≤ℤ◌, pos};
 ghost use Rattle.outcome.specs.core_price.specs.wide_num.specs.Range.{InRange};
 
-use outcome::core_price::blocking::far_num::wide_num::Text;
+use log_file::award_file::bid_book::line_text::wide_num::Text;
 use outcome::{Fraction, add_fraction};
 use std::alloc::{AllocError, Global};
 use std::test::Fail;

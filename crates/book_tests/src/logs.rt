@@ -1,5 +1,5 @@
 use crate::samples::{award_of, events_of};
-use big_auction::log_file::{Event, Reply, reply_line};
+use log_file::{Event, Reply, reply_line};
 use std::process::Abort;
 use std::test::Fail;
 

@@ -3,11 +3,11 @@ ghost use Rattle.std.specs.Prelude.{◌≡◌, length};
 ghost use Rattle.edits_file.specs.review.specs.Edits.{edit_lots};
 
 use crate::samples::book_of;
-use edits_file::review::{Edit, EditReply, Review};
-use slot_places::choices::value;
+use log_file::award_file::bid_book::lots::{LotStop, Package};
+use review::{Edit, EditReply, Review};
 use std::alloc::{AllocError, Global};
-use vickrey::value_table::win;
-use weights_file::bid_book::lots::{LotStop, Package};
+use value_table::choices::value;
+use value_table::win;
 
 // How many categories the package of an edit has.
 fn categories_of(edit: &Edit) -> usize

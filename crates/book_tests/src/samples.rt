@@ -2,12 +2,12 @@
 // makes its check dearer.
 ghost use Rattle.std.specs.Prelude.{◌≡◌, IfOk};
 
-use big_auction::clock_stage::award_file::{Award, read_award};
-use big_auction::log_file::{Events, read_log};
-use slot_places::choices::{Choice, Grid, Numbers};
+use log_file::award_file::bid_book::{BidBook, read_book};
+use log_file::award_file::{Award, read_award};
+use log_file::{Events, read_log};
 use std::alloc::{AllocError, Global};
 use std::process::Abort;
-use weights_file::bid_book::{BidBook, read_book};
+use value_table::choices::{Choice, Grid, Numbers};
 
 /// The example of Day and Cramton (2012): one lot of each of two categories, and five bidders; b1 and b2 win.
 pub(crate) const DAY_CRAMTON: &str =

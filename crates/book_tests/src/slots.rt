@@ -3,11 +3,11 @@ ghost use Rattle.slot_places.specs.choices.specs.Lowering.{CanLower};
 ghost use Rattle.slot_places.specs.Board.{market_of};
 
 use crate::samples::{choice_of, is_line};
-use slot_places::choices::Chooser;
 use slot_places::{SlotChooser, Slots, place_win, read_slots};
 use std::alloc::{AllocError, Global};
 use std::process::Abort;
 use std::test::Fail;
+use value_table::choices::Chooser;
 
 /// The bids of x and y fit together, and that of z with neither.
 const THREE: &str =

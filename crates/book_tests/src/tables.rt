@@ -4,11 +4,11 @@ ghost use Rattle.slot_places.specs.choices.specs.Lowering.{CanLower};
 ghost use Rattle.vickrey.specs.value_table.specs.SideValues.{AreSidesOf};
 
 use crate::samples::{DAY_CRAMTON, book_of, is_line};
-use slot_places::choices::{Chooser, Found, Grid, first_by_listing, value};
+use log_file::award_file::bid_book::{BidBook, read_book};
 use std::alloc::{AllocError, Global};
 use std::process::Abort;
-use vickrey::value_table::{BookChooser, Sides, TurnTable, win};
-use weights_file::bid_book::{BidBook, read_book};
+use value_table::choices::{Chooser, Found, Grid, first_by_listing, value};
+use value_table::{BookChooser, Sides, TurnTable, win};
 
 /// One lot of each of two categories; a and b win it, and c bids for both.
 const TWO_OR_ONE: &str =

@@ -1,6 +1,6 @@
 use crate::samples::{DAY_CRAMTON, book_of, is_line};
 use std::alloc::AllocError;
-use vickrey::value_table::win;
+use value_table::win;
 use vickrey::vickrey;
 
 #[test]

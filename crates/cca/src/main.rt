@@ -12,7 +12,7 @@ ghost use Rattle.cca.specs.Ends.{EndsAs};
 ghost use Rattle.cca.specs.declared.NoWords.{NoWords};
 ghost use Rattle.cca.specs.declared.NoWords.TheVariants.{Memory, NotText};
 
-use cca_run::cca_base::{Files, RealFiles, RealSink, Sink};
+use cca_base::{Files, RealFiles, RealSink, Sink};
 use cca_run::{Status, run};
 use std::alloc::{AllocError, Global};
 use std::env::Args;

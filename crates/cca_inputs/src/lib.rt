@@ -12,7 +12,6 @@ mod status;
 mod stops;
 mod words;
 
-pub use cca_base;
 pub use cert_parts;
 pub use edits_file;
 pub use file_text::FileText;
@@ -25,10 +24,8 @@ pub use inputs::place_cert_input::PlaceCertInput;
 pub use inputs::slots_input::SlotsInput;
 pub use inputs::weights_input::WeightsInput;
 pub use line::{Line, line_of};
-pub use place_cert;
 pub use price_form::PriceForm;
 pub use shape::{OnePriced, Shape, ThreeFiles, TwoFiles, TwoPriced};
-pub use slot_places;
 pub use status::{CertKind, FileKind, Status};
 pub use stops::status_of_read;
 pub use weights_file;

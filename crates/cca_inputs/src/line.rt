@@ -6,7 +6,7 @@ ghost use Rattle.cca_inputs.specs.StatusLine.{status_line, file_text, limit_text
 use crate::{CertKind, FileKind, Status};
 use arrayvec::ArrayVec;
 use itoa::Buffer;
-use log_file::award_file::auction_rules::lots::limits::LimitKind;
+use log_file::award_file::bid_book::lots::limits::LimitKind;
 
 // No line is longer.
 const ROOM: usize = 80;

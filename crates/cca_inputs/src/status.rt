@@ -2,7 +2,7 @@
 ghost use Rattle.std.specs.Prelude.{◌≡◌};
 ghost use Rattle.cca_inputs.specs.Code.{code_of};
 
-use log_file::award_file::auction_rules::lots::limits::LimitKind;
+use log_file::award_file::bid_book::lots::limits::LimitKind;
 
 /// The part that a file plays. It is printed in lower case.
 #[derive(Clone, Copy, Debug, PartialEq, Eq)]

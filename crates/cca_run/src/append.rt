@@ -7,7 +7,7 @@ ghost use Rattle.cca_run.specs.Ends.{AppendEnds, OnlyAppends};
 ghost use Rattle.std.specs.Prelude.{[], ◌∷◌};
 
 use crate::FileKind;
-use cca_work::cca_base::Files;
+use cca_base::Files;
 use cca_work::{Command, FileText, write_long};
 
 // Appends one text to the command's file of its kind, which the error names.

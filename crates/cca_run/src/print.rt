@@ -6,7 +6,7 @@ ghost use Rattle.cca_work.specs.Works.{text_before};
 ghost use Rattle.cca_run.specs.Ends.{Written};
 
 use crate::{FileKind, Status};
-use cca_work::cca_base::{Sink, write_sink};
+use cca_base::{Sink, write_sink};
 use cca_work::{Stop, line_of};
 
 // Writes the text, and says whether all of it was written.

@@ -26,7 +26,7 @@ use crate::append::append_all;
 use crate::laws::{awarded_cert_passes, complete_log_ends, complete_log_is_awarded, headline};
 use crate::print::{print, print_stop};
 use crate::{FileKind, Status};
-use cca_work::cca_base::{Files, Sink};
+use cca_base::{Files, Sink};
 use cca_work::{Command, Work, line_of, read_command, work_out};
 use std::alloc::Global;
 

@@ -7,14 +7,14 @@ ghost use Rattle.cca_work.specs.Gives.{AuctionGives, RepliesGive, replay_status}
 ghost use Rattle.cca_work.specs.Works.{HasBook, IsWork};
 
 use crate::work::{Stop, Work};
-use big_auction::clock_stage::award_file::Award;
-use big_auction::log_file::Events;
 use cca_inputs::cert_parts::LongText;
-use cca_inputs::place_cert::cert_text::cert_form::limits::LimitKind;
-use cca_inputs::weights_file::bid_book::{BidBook, write_book};
 use cca_inputs::{FileKind, FileText, Status};
+use log_file::Events;
+use log_file::award_file::Award;
+use log_file::award_file::bid_book::line_text::wide_num::Text;
+use log_file::award_file::bid_book::lots::limits::LimitKind;
+use log_file::award_file::bid_book::{BidBook, write_book};
 use log_replay::{Replay, ReplayStop, replay};
-use place_price::outcome::print_form::line_text::wide_num::Text;
 use std::alloc::Global;
 
 /// The lines of the replies to a log and the text of its book, or those lines and why it has none.

@@ -11,15 +11,15 @@ ghost use Rattle.cca_work.specs.Checked.{IsFed, IsJudged, ShowsFacts, StopsCheck
 ghost use Rattle.cca_inputs.specs.Reading.{InputStops, IsRead, OnlyLoads};
 ghost use Rattle.cca_inputs.specs.declared.status.FileKind.TheVariants.{Cert};
 
-use cca_inputs::cca_base::{Files, ReadStop};
-use cca_inputs::place_cert::cert_text::cert_form::limits::CERT_BYTES;
-use cca_inputs::place_cert::cert_text::cert_form::one_cert;
-use cca_inputs::weights_file::bid_book::BidBook;
+use cca_base::{Files, ReadStop};
 use cca_inputs::{CertKind, FileKind, Status, status_of_read};
+use log_file::award_file::bid_book::BidBook;
+use log_file::award_file::bid_book::lots::limits::CERT_BYTES;
 use piece_check::StreamCheck;
 use piece_check::cert_check::Verdict;
 use piece_check::cert_facts::CertFacts;
 use piece_check::cert_pieces::TextStop;
+use place_cert::cert_text::cert_form::one_cert;
 use std::alloc::{AllocError, Global};
 
 // Bytes that one load asks for.

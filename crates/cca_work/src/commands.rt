@@ -25,15 +25,15 @@ use crate::reviewing::reviewed;
 use crate::verdict::accepted;
 use crate::win::win_of;
 use crate::work::{Stop, Work};
-use big_auction::clock_stage::award_file::Award;
-use big_auction::log_file::packages_of_log;
-use cca_inputs::cca_base::Files;
-use cca_inputs::slot_places::Slots;
-use cca_inputs::weights_file::bid_book::BidBook;
+use cca_base::Files;
 use cca_inputs::{
     AwardInput, BookInput, Command, EditsInput, LogInput, OnePriced, PlaceCertInput, PriceForm,
     SlotsInput, ThreeFiles, TwoFiles, TwoPriced, WeightsInput, read_input,
 };
+use log_file::award_file::Award;
+use log_file::award_file::bid_book::BidBook;
+use log_file::packages_of_log;
+use place_price::place_check::place_laws::slot_places::Slots;
 use std::alloc::Global;
 
 // What the file of a certificate gives whose book and weights are at hand.

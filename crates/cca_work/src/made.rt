@@ -8,9 +8,9 @@ ghost use Rattle.cca_work.specs.Works.{IsWork};
 use crate::work::{Stop, Work};
 use big_auction::{Made, make};
 use cca_inputs::cert_parts::LongText;
-use cca_inputs::weights_file::bid_book::line_text::add_decimal;
 use cca_inputs::{FileKind, FileText};
-use place_price::outcome::print_form::line_text::wide_num::Text;
+use log_file::award_file::bid_book::line_text::add_decimal;
+use log_file::award_file::bid_book::line_text::wide_num::Text;
 use std::alloc::{AllocError, Global};
 
 // How many bidders each made auction has.

@@ -12,14 +12,14 @@ ghost use Rattle.cca_inputs.specs.cert_form.specs.Certificate.{CertValue};
 ghost use Rattle.cca_work.specs.Gives.{ArePriceLines, ArePrinted, AreRounds, IsPriceJson};
 
 use cca_inputs::PriceForm;
-use cca_inputs::place_cert::cert_text::Certificate;
-use cca_inputs::slot_places::choices::Choice;
-use cca_inputs::weights_file::bid_book::BidBook;
+use log_file::award_file::bid_book::BidBook;
+use log_file::award_file::bid_book::line_text::wide_num::Text;
 use piece_check::cert_facts::{CertFacts, facts};
-use place_price::outcome::core_price::Turn;
-use place_price::outcome::print_form::line_text::wide_num::Text;
+use place_cert::cert_text::Certificate;
+use place_price::book_price::core_price::Turn;
 use place_price::outcome::{outcome_json, outcome_text, rounds_text};
 use std::alloc::{AllocError, Global};
+use value_table::choices::Choice;
 
 // The lines of the turns, where they are asked for.
 fn rounds_part(

@@ -18,12 +18,12 @@ ghost use Rattle.cca_work.specs.Works.{IsWork};
 use crate::price_text::price_text;
 use crate::work::{Stop, Work};
 use cca_inputs::cert_parts::{LongText, cert_parts};
-use cca_inputs::place_cert::cert_text::cert_form::limits::LimitKind;
-use cca_inputs::weights_file::bid_book::BidBook;
 use cca_inputs::{FileKind, FileText, PriceForm};
+use log_file::award_file::bid_book::BidBook;
+use log_file::award_file::bid_book::line_text::wide_num::Text;
+use log_file::award_file::bid_book::lots::limits::LimitKind;
+use place_price::book_price::core_price::PriceStop;
 use place_price::book_price::{PricedBook, price_book};
-use place_price::outcome::core_price::PriceStop;
-use place_price::outcome::print_form::line_text::wide_num::Text;
 use std::alloc::{AllocError, Global};
 
 /// The printed prices, and the text of their certificate.

@@ -6,9 +6,9 @@ ghost use Rattle.cca_work.specs.Gives.{ReviewGives};
 ghost use Rattle.cca_work.specs.Works.{IsWork};
 
 use crate::work::{Stop, Work};
-use cca_inputs::weights_file::bid_book::BidBook;
-use place_price::outcome::review::Edit;
+use log_file::award_file::bid_book::BidBook;
 use place_price::outcome::review_text;
+use review::Edit;
 use std::alloc::Global;
 
 /// What is printed of the edits of a book.

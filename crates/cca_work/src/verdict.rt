@@ -9,10 +9,10 @@ ghost use Rattle.cca_work.specs.Gives.{IsYesText, VerdictGives};
 ghost use Rattle.cca_work.specs.Works.{IsWork};
 
 use crate::work::{Stop, Work};
-use cca_inputs::weights_file::bid_book::BidBook;
+use log_file::award_file::bid_book::BidBook;
+use log_file::award_file::bid_book::line_text::wide_num::Text;
 use piece_check::cert_facts::CertFacts;
 use place_price::outcome::outcome_text;
-use place_price::outcome::print_form::line_text::wide_num::Text;
 use std::alloc::{AllocError, Global};
 
 /// These lines behind the line `yes`.

@@ -4,11 +4,11 @@ ghost use Rattle.place_price.specs.outcome.specs.auction_model.specs.Greatest.{I
 ghost use Rattle.place_price.specs.outcome.specs.auction_model.specs.Book.{market_of};
 ghost use Rattle.place_price.specs.outcome.specs.print_form.specs.WinText;
 
-use cca_inputs::weights_file::bid_book::BidBook;
-use place_price::outcome::print_form::line_text::wide_num::Text;
-use place_price::outcome::review::value_table::win;
+use log_file::award_file::bid_book::BidBook;
+use log_file::award_file::bid_book::line_text::wide_num::Text;
 use place_price::outcome::win_text;
 use std::alloc::{AllocError, Global};
+use value_table::win;
 
 /// The lines of the winners of a book, in order, and the line of their net value.
 pub fn win_of(alloc: Global, book: &BidBook) -> Result<Text, AllocError>

@@ -3,10 +3,10 @@ ghost use Rattle.std.specs.Prelude.{◌≡◌};
 ghost use Rattle.cca_work.specs.Works.{bare, price_status};
 ghost use Rattle.cca_inputs.specs.declared.status.Status.TheVariants.{Memory};
 
-use cca_inputs::place_cert::cert_text::cert_form::limits::LimitKind;
 use cca_inputs::{FileText, Status};
-use place_price::outcome::core_price::PriceStop;
-use place_price::outcome::print_form::line_text::wide_num::Text;
+use log_file::award_file::bid_book::line_text::wide_num::Text;
+use log_file::award_file::bid_book::lots::limits::LimitKind;
+use place_price::book_price::core_price::PriceStop;
 use std::alloc::{AllocError, AllocFailed};
 
 /// What a command prints, and the texts that it appends to its files, in order.

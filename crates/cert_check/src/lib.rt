@@ -31,7 +31,6 @@ pub mod sums;
 mod tables;
 mod verdict;
 
-pub use cert_text;
 pub use checking::check;
 pub use choice::choice_test;
 pub use claim::Claim;

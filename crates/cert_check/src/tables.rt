@@ -18,9 +18,9 @@ use crate::claim::Claim;
 use crate::tables::earlier::earlier_fault;
 use crate::tables::gains::put_gains;
 use crate::tables::grids::table_test;
-use cert_text::cert_form::limits::{MOST_BIDDERS, MOST_STATES};
 use cert_text::choices::Grid;
 use cert_text::choices::bid_book::BidBook;
+use cert_text::choices::bid_book::lots::limits::{MOST_BIDDERS, MOST_STATES};
 use line_check::Offers;
 
 /// Room for a number of each bidder.

@@ -5,7 +5,5 @@ mod shown;
 mod singles;
 
 pub use cert_laws;
-pub use cert_text::choices;
-pub use cert_text::choices::bid_book;
 pub use shown::{CertFacts, facts};
 pub use singles::Singles;

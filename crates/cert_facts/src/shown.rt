@@ -7,8 +7,8 @@ ghost use Rattle.cert_text.specs.CertValues.{cert_value};
 ghost use Rattle.cert_text.specs.Parts.{without_value};
 
 use crate::Singles;
-use cert_laws::cert_form::line_text::wide_num::NumList;
 use cert_text::choices::bid_book::BidBook;
+use cert_text::choices::bid_book::line_text::wide_num::NumList;
 use cert_text::choices::{Choice, Single, value, worth};
 use cert_text::{Certificate, WithoutPart};
 use std::alloc::{AllocError, Global};

@@ -10,9 +10,6 @@ ghost use Rattle.cert_form.specs.Certificate.{CertValue};
 ghost use Rattle.cert_form.specs.CertText.{IsCertificate};
 ghost use Rattle.cert_form.specs.Says.{cert_text, CertSays};
 
-pub use limits;
-pub use line_text;
-
 /// Bytes say at most one thing of a certificate: a certificate, where the first faulty line begins, or where the first line begins
 /// that is of right form and has a number out of range.
 pub fn one_cert()

@@ -24,8 +24,6 @@ ghost use Rattle.cert_laws.specs.Priced.{IsPricedCert};
 ghost use Rattle.cert_laws.specs.Sound.{IsSound};
 ghost use Rattle.cert_laws.specs.Tests.{Obeys, bidders_of, states, C5, lowered_net, Holds, FailsFirst};
 
-pub use cert_form;
-
 /// A certificate that passes all tests is sound: its choice is the winning one, its value the value of that choice, its
 /// parts give the Vickrey prices, and its choice and payments are the core outcome.
 ///

@@ -7,8 +7,8 @@ ghost use Rattle.cert_text.specs.Written.{bytes_of, lines_of_part, lines_of_part
 ghost use Rattle.cert_parts.specs.CertLines.{lines_to_lowered, lines_to_part_table, lines_to_table};
 
 use crate::LongText;
-use cert_text::cert_form::line_text::wide_num::Text;
 use cert_text::choices::Grid;
+use cert_text::choices::bid_book::line_text::wide_num::Text;
 use cert_text::{
     Certificate, WithoutPart, add_choice, add_head, add_number_line, add_rows, add_signed_line,
     add_version, write_cert,

@@ -5,8 +5,8 @@ ghost use Rattle.cert_text.specs.Written.{bytes_of, IsTableInRange};
 ghost use Rattle.cert_parts.specs.TextParts.{all_bytes, AreWritable};
 
 use crate::part::Part;
-use cert_text::cert_form::line_text::wide_num::Text;
 use cert_text::choices::Grid;
+use cert_text::choices::bid_book::line_text::wide_num::Text;
 use std::alloc::{AllocError, Global};
 use std::marker::Model;
 

@@ -1,6 +1,6 @@
 // The parts of a text.
-use cert_text::cert_form::line_text::wide_num::Text;
 use cert_text::choices::Grid;
+use cert_text::choices::bid_book::line_text::wide_num::Text;
 
 /// A part of a text.
 #[derive(Drop)]

@@ -11,7 +11,7 @@ use crate::lines::add_table;
 use crate::outbox::{add_bytes, append, append_front};
 use crate::part::Part;
 use cca_base::Files;
-use cert_text::cert_form::line_text::wide_num::Text;
+use cert_text::choices::bid_book::line_text::wide_num::Text;
 
 /// A text isn't written whole, since an append failed.
 #[derive(Clone, Copy, Debug, PartialEq, Eq)]

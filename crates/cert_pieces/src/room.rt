@@ -11,7 +11,7 @@ ghost use Rattle.cert_pieces.specs.LineParts.{IsPart, ReadsOn};
 use crate::due::{Due, Table};
 use crate::line::form::Form;
 use crate::line::{LinePart, LineRead, Outcome, read_line};
-use cert_text::cert_form::limits::{MOST_BIDDERS, MOST_STATES};
+use cert_text::choices::bid_book::lots::limits::{MOST_BIDDERS, MOST_STATES};
 use cert_text::{Shape, has_first_version};
 
 /// How many numbers the room of a reader has.

@@ -3,10 +3,10 @@ ghost use Rattle.piece_check.specs.cert_pieces.specs.Rooms.{room_size};
 
 use crate::samples::{DAY_CRAMTON_CERT, DAY_CRAMTON_SHAPE};
 use piece_check::cert_pieces::{Reader, TextStop, room_len};
-use place_price::book_price::cert_laws::cert_form::limits::CERT_BYTES;
-use place_price::book_price::cert_text::{CertStop, Shape, read_cert};
+use place_cert::cert_text::{CertStop, Shape, read_cert};
 use std::alloc::{AllocError, Global};
 use std::process::Abort;
+use value_table::choices::bid_book::lots::limits::CERT_BYTES;
 
 /// The sample before its first table.
 const BEFORE_TABLE: &str = "cert 1\nden 1\nvalue 48\nchoice 1 1 0 0 0\ntable\n";

@@ -1,11 +1,9 @@
 use crate::samples::{PLACE_CERT, edited};
-use place_price::book_price::cert_text::choices::Grid;
-use place_price::place_check::place_cert::{
-    CertStop, PlaceCertificate, PlaceRow, PlaceWithout, read_places, write_places,
-};
+use place_cert::{CertStop, PlaceCertificate, PlaceRow, PlaceWithout, read_places, write_places};
 use std::alloc::{AllocError, Global};
 use std::process::Abort;
 use std::test::Fail;
+use value_table::choices::Grid;
 
 // Where the reader stops at the sample with other lines in place of these bytes, if it stops.
 fn stop_at(

@@ -1,14 +1,14 @@
 ghost use Rattle.std.specs.Prelude.{IsTrue, length, pos, slice_index_or, ℕ, ◌<◌, ◌≤ℤ◌};
 
 use crate::samples::{DAY_CRAMTON_CERT, day_cramton};
-use place_price::book_price::cert_text::choices::bid_book::BidBook;
-use place_price::book_price::cert_text::{Certificate, write_cert};
+use place_cert::cert_text::{Certificate, write_cert};
 use place_price::book_price::core_price::blocking::{Block, Looked, find_block};
 use place_price::book_price::core_price::{PriceStop, count_winners, for_bidders};
-use place_price::book_price::value_table::{BookChooser, TurnTable, win};
 use place_price::book_price::{PricedBook, price_book};
 use std::alloc::{AllocError, Global};
 use std::process::Abort;
+use value_table::choices::bid_book::BidBook;
+use value_table::{BookChooser, TurnTable, win};
 
 /// The prices where all bidders weigh 1.
 fn priced_alike(alloc: Global, book: &BidBook) -> Result<PricedBook, PriceStop> {

@@ -1,11 +1,9 @@
 use crate::samples::{DAY_CRAMTON_CERT, DAY_CRAMTON_SHAPE};
-use place_price::book_price::cert_text::choices::Grid;
-use place_price::book_price::cert_text::{
-    CertRow, CertStop, Certificate, Shape, read_cert, write_cert,
-};
+use place_cert::cert_text::{CertRow, CertStop, Certificate, Shape, read_cert, write_cert};
 use std::alloc::{AllocError, Global};
 use std::process::Abort;
 use std::test::Fail;
+use value_table::choices::Grid;
 
 /// Two bidders, one state.
 const TWO: Shape = Shape {

@@ -1,8 +1,8 @@
 // What several tests share: a book and its certificate, that of a placement, and texts with other lines.
-use place_price::book_price::cert_text::Shape;
-use place_price::book_price::cert_text::choices::bid_book::{BidBook, read_book};
+use place_cert::cert_text::Shape;
 use std::alloc::{AllocError, Global};
 use std::process::Abort;
+use value_table::choices::bid_book::{BidBook, read_book};
 
 /// The example of Day and Cramton (2012): one lot of each of two categories, and five bidders; b1 and b2 win.
 const DAY_CRAMTON: &str =

@@ -9,12 +9,12 @@ use piece_check::StreamCheck;
 use piece_check::cert_check::Verdict;
 use piece_check::cert_facts::CertFacts;
 use piece_check::cert_pieces::TextStop;
-use place_price::book_price::cert_laws::cert_form::limits::CERT_BYTES;
-use place_price::book_price::cert_text::choices::Single;
-use place_price::book_price::cert_text::choices::bid_book::BidBook;
 use std::alloc::{AllocError, Global};
 use std::process::Abort;
 use std::test::Fail;
+use value_table::choices::Single;
+use value_table::choices::bid_book::BidBook;
+use value_table::choices::bid_book::lots::limits::CERT_BYTES;
 
 mod edits;
 

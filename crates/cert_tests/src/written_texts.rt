@@ -1,13 +1,11 @@
 // The texts of three small certificates.
 ghost use Rattle.std.specs.Prelude.{◌≡◌, ◌∷◌, [], negsuc, pos, IfOk};
 
-use place_price::book_price::cert_laws::cert_form::line_text::wide_num::NumList;
-use place_price::book_price::cert_text::choices::{Choice, Grid, Numbers};
-use place_price::book_price::cert_text::{
-    CertRow, CertRows, Certificate, WithoutList, WithoutPart, write_cert,
-};
+use place_cert::cert_text::{CertRow, CertRows, Certificate, WithoutList, WithoutPart, write_cert};
 use std::alloc::{AllocError, Global};
 use std::process::Abort;
+use value_table::choices::bid_book::line_text::wide_num::NumList;
+use value_table::choices::{Choice, Grid, Numbers};
 
 // What a helper expects that makes a whole certificate. There a `?` would drop all that is made before it, and its check would be dear.
 const MEMORY: &str = "there is memory";

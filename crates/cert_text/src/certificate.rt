@@ -9,8 +9,8 @@ ghost use Rattle.cert_text.specs.Parts.{cert_from, without_value};
 ghost use Rattle.choices.specs.Lines.{width_of};
 
 use crate::{CertRows, WithoutList};
-use cert_form::line_text::wide_num::NumList;
 use choices::bid_book::BidBook;
+use choices::bid_book::line_text::wide_num::NumList;
 use choices::{Choice, Grid, Numbers};
 
 /// For how many bidders and states a certificate is.

@@ -5,9 +5,9 @@ ghost use Rattle.std.specs.Fmt.{decimal};
 ghost use Rattle.cert_form.specs.line_text.specs.Numeral.{numbers_text};
 ghost use Rattle.cert_form.specs.line_text.specs.Range.{AllInRange};
 
-use cert_form::line_text::add_signed_numbers;
-use cert_form::line_text::wide_num::Text;
 use choices::Grid;
+use choices::bid_book::line_text::add_signed_numbers;
+use choices::bid_book::line_text::wide_num::Text;
 use itoa::write_digits;
 use std::alloc::AllocError;
 

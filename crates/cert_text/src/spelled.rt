@@ -6,8 +6,8 @@ ghost use Rattle.cert_text.specs.Written.{line_bytes, lines_of_part, lines_of_pa
 
 use crate::WithoutPart;
 use crate::write::{add_choice, add_number_line, add_signed_line, add_table_line, line_room};
-use cert_form::line_text::wide_num::Text;
 use choices::Grid;
+use choices::bid_book::line_text::wide_num::Text;
 use std::alloc::{AllocError, Global};
 
 /// The text of each line of a table, with its line feed.

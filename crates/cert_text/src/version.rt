@@ -5,7 +5,9 @@ ghost use Rattle.cert_text.specs.Readers.{Leads, Halts};
 
 use crate::read::fields::take_these;
 use crate::{CertStop, Shape};
-use cert_form::limits::{FIRST_VERSION_BIDDERS, FIRST_VERSION_STATES, MOST_BIDDERS, MOST_STATES};
+use choices::bid_book::lots::limits::{
+    FIRST_VERSION_BIDDERS, FIRST_VERSION_STATES, MOST_BIDDERS, MOST_STATES,
+};
 use std::alloc::Global;
 
 /// Whether the text of a certificate for so many bidders and states is of the first version.

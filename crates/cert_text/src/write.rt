@@ -14,9 +14,9 @@ use crate::fields::{add_fields, add_table_fields};
 use crate::spelled::{add_parts, add_spelled, spelled_lines};
 use crate::version::has_first_version;
 use crate::{CertRow, Certificate};
-use cert_form::limits::{MOST_BIDDERS, MOST_STATES};
-use cert_form::line_text::add_numbers;
-use cert_form::line_text::wide_num::Text;
+use choices::bid_book::line_text::add_numbers;
+use choices::bid_book::line_text::wide_num::Text;
+use choices::bid_book::lots::limits::{MOST_BIDDERS, MOST_STATES};
 use choices::{Choice, Grid};
 use std::alloc::{AllocError, Global};
 

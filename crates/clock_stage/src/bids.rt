@@ -6,8 +6,8 @@ ghost use Rattle.award_file.specs.auction_rules.specs.declared.Stage.{Stage};
 ghost use Rattle.award_file.specs.auction_rules.specs.Replies.{bid_reply};
 
 use award_file::Award;
-use award_file::auction_rules::lots::Package;
 use award_file::auction_rules::{Reply, Stage};
+use award_file::bid_book::lots::Package;
 
 /// The reply to a package of a bidder of the award who is eligible for so many points: the first category above the supply, the
 /// first spectrum cap that it breaks, or the eligibility where its points are above that, and else Ok. Clock bids and drafts are

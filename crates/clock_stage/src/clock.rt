@@ -15,8 +15,8 @@ use crate::bids::reply_to_bid;
 use crate::closes::{Closed, Closing, closing_of};
 use crate::rounds::{ClockRound, History, empty_packages};
 use award_file::Award;
-use award_file::auction_rules::lots::Package;
 use award_file::auction_rules::{Event, Reply};
+use award_file::bid_book::lots::Package;
 use std::alloc::{AllocError, Global};
 use std::marker::Model;
 

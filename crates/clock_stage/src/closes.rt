@@ -9,8 +9,8 @@ use crate::demand::{demand_of, first_above_top, is_met};
 use crate::rounds::{ClockRound, History, empty_packages, points_of};
 use crate::steps::raised_prices;
 use award_file::Award;
-use award_file::auction_rules::lots::Package;
-use award_file::auction_rules::lots::limits::MOST_ROUNDS;
+use award_file::bid_book::lots::Package;
+use award_file::bid_book::lots::limits::MOST_ROUNDS;
 use std::alloc::{AllocError, Global};
 
 /// What the close of a round answers. Categories are numbered from 1.

@@ -8,8 +8,8 @@ ghost use Rattle.award_file.specs.auction_rules.specs.State.{asked_of};
 ghost use Rattle.clock_stage.specs.ClockState.{top_reply};
 ghost use Rattle.clock_stage.specs.Kept.{IsHeld};
 
-use award_file::auction_rules::lots::limits::MOST_PRICE;
-use award_file::auction_rules::lots::{Package, Supply};
+use award_file::bid_book::lots::limits::MOST_PRICE;
+use award_file::bid_book::lots::{Package, Supply};
 use std::alloc::{AllocError, Global};
 
 /// Adds the counts of a package to a sum.

@@ -5,7 +5,7 @@ ghost use Rattle.award_file.specs.auction_model.specs.Package.{cost_of};
 ghost use Rattle.clock_stage.specs.Kept.{IsHeld, IsHistory, IsRound, bidders_in, categories_in, round_at};
 ghost use Rattle.clock_stage.specs.Rounds.{round_value};
 
-use award_file::auction_rules::lots::{Package, Supply};
+use award_file::bid_book::lots::{Package, Supply};
 use std::alloc::{AllocError, Global};
 use std::marker::Model;
 use std::mem;

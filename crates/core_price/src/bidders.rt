@@ -3,7 +3,7 @@ ghost use Rattle.blocking.specs.row_laws.specs.Winners;
 ghost use Rattle.blocking.specs.row_laws.specs.Winners.{row_of, winners_in};
 ghost use Rattle.std.specs.Prelude.{IfOk, OnOk, [], length, if◌then◌else◌, ◌++◌, ◌<◌, ◌==◌, ◌%◌, ◌^◌, ◌∷◌, ◌≡◌};
 
-use blocking::choices::{Choice, Numbers};
+use choices::{Choice, Numbers};
 use std::alloc::{AllocError, Global};
 
 /// How many bidders win.

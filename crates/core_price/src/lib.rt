@@ -12,7 +12,7 @@ ghost use Rattle.blocking.specs.row_laws.specs.Surplus.{surpluses_of};
 ghost use Rattle.blocking.specs.row_laws.specs.Winners.{for_bidders, winners_in};
 ghost use Rattle.std.specs.Prelude.{IfErr, IfOk, length, pos, ◌*◌, ◌^◌, ◌≡◌, ◌≤ℤ◌, ◌≤◌};
 
-use blocking::choices::{Chooser, Single};
+use choices::{Chooser, Single};
 use std::alloc::{AllocError, Global};
 
 mod bidders;

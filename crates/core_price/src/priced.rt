@@ -4,9 +4,9 @@ ghost use Rattle.std.specs.Prelude.{◌≡◌};
 
 use crate::{RowList, TurnList};
 use blocking::Block;
-use blocking::choices::{Choice, Found};
-use blocking::far_num::Row;
-use nearest_point::lin_solve::far_num::wide_num::NumList;
+use choices::bid_book::line_text::wide_num::NumList;
+use choices::{Choice, Found};
+use nearest_point::lin_solve::far_num::Row;
 use std::alloc::AllocError;
 
 /// A row with the choice that gives it, and its multipliers at the last point.

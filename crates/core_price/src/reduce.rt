@@ -4,8 +4,8 @@ ghost use Rattle.nearest_point.specs.Numbers.{AreBelow};
 ghost use Rattle.std.specs.Prelude.{IfOk, length, pos, ℕ, ℤ, ◌<ℤ◌, ◌^◌, ◌≡◌};
 ghost use Rattle.nearest_point.specs.wide_num.specs.Range.{Divides, InRange};
 
+use choices::bid_book::line_text::wide_num::{div_exact, gcd};
 use nearest_point::Nearest;
-use nearest_point::lin_solve::far_num::wide_num::{div_exact, gcd};
 use nearest_point::lin_solve::quotients;
 use std::alloc::{AllocError, Global};
 

@@ -4,8 +4,8 @@ ghost use Rattle.core_price.specs.Rows.{single_bits};
 ghost use Rattle.blocking.specs.limits.specs.declared.TheConstants.{MOST_WINNERS};
 ghost use Rattle.std.specs.Prelude.{IfOk, length, map, ◌≡◌, ◌≤◌};
 
-use blocking::choices::{Choice, Single};
-use blocking::far_num::Row;
+use choices::{Choice, Single};
+use nearest_point::lin_solve::far_num::Row;
 use std::alloc::{AllocError, Global};
 
 /// The rows so far, each with the choice that gives it.

@@ -17,10 +17,10 @@ use crate::reduce::reduced;
 use crate::start::Asked;
 use crate::weights::winner_weights;
 use crate::{Turn, TurnList};
-use blocking::choices::{Chooser, Found};
-use blocking::far_num::Row;
 use blocking::{Block, Looked, find_block};
-use nearest_point::lin_solve::far_num::wide_num::NumList;
+use choices::bid_book::line_text::wide_num::NumList;
+use choices::{Chooser, Found};
+use nearest_point::lin_solve::far_num::Row;
 use nearest_point::{Nearest, nearest};
 use std::alloc::{AllocError, Global};
 

@@ -3,8 +3,8 @@ ghost use Rattle.blocking.specs.row_laws.specs.Weights.{FewWin, ManyWin, WeighAl
 ghost use Rattle.blocking.specs.row_laws.specs.Winners.{winners_in};
 ghost use Rattle.std.specs.Prelude.{IfOk, IsTrue, length, not, ◌≡◌};
 
-use blocking::choices::Choice;
-use blocking::choices::bid_book::lots::limits::{MOST_WEIGHTED_WINNERS, MOST_WINNERS};
+use choices::Choice;
+use choices::bid_book::lots::limits::{MOST_WEIGHTED_WINNERS, MOST_WINNERS};
 use std::alloc::{AllocError, Global};
 
 /// The weights of the winners in order, from one for each bidder.

@@ -6,10 +6,10 @@ ghost use Rattle.edits_file.specs.EditsForm.{number_among};
 ghost use Rattle.edits_file.specs.Stages.{BeginsWithCounts, BeginsWithNumber, IsHead, StatesBid, StatesPackage};
 
 use crate::LimitKind;
-use review::value_table::choices::bid_book::line_text::{LineStop, field_len, read_at_most};
-use review::value_table::choices::bid_book::lots::Package;
-use review::value_table::choices::bid_book::lots::limits::{MOST_STATED_AMOUNT, MOST_STATED_COUNT};
-use review::value_table::choices::bid_book::{BidBook, Excess, is_name};
+use bid_book::line_text::{LineStop, field_len, read_at_most};
+use bid_book::lots::Package;
+use bid_book::lots::limits::{MOST_STATED_AMOUNT, MOST_STATED_COUNT};
+use bid_book::{BidBook, Excess, is_name};
 use std::alloc::{AllocError, Global};
 
 /// The bidder, the package and the amount that a line states behind its word. Bidder 0 is one that the book doesn't have.

@@ -10,11 +10,10 @@ mod laws;
 mod line;
 mod read;
 
+pub use bid_book::lots::limits::LimitKind;
 pub use edits::Edits;
 pub use laws::{edit_counts, one_edits, some_edits};
 pub use read::read_edits;
-pub use review;
-pub use review::value_table::choices::bid_book::lots::limits::LimitKind;
 use std::alloc::AllocError;
 
 /// Why bytes state no edits of a book.

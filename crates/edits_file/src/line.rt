@@ -5,9 +5,9 @@ ghost use Rattle.edits_file.specs.Stages.{States};
 
 use crate::LimitKind;
 use crate::fields::{read_bid, read_package};
+use bid_book::line_text::LineStop;
+use bid_book::{BidBook, Excess};
 use review::Edit;
-use review::value_table::choices::bid_book::line_text::LineStop;
-use review::value_table::choices::bid_book::{BidBook, Excess};
 use std::alloc::Global;
 
 /// The edit of the book that a line states.

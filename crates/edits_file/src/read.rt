@@ -10,11 +10,9 @@ ghost use Rattle.edits_file.specs.declared.read.Stage.TheVariants.{Ended};
 
 use crate::line::read_edit;
 use crate::{EditStop, Edits};
-use review::value_table::choices::bid_book::line_text::{
-    LineReader, LineStop, TextStop, read_lines,
-};
-use review::value_table::choices::bid_book::lots::limits::{LimitKind, MOST_EDITS};
-use review::value_table::choices::bid_book::{BidBook, Excess};
+use bid_book::line_text::{LineReader, LineStop, TextStop, read_lines};
+use bid_book::lots::limits::{LimitKind, MOST_EDITS};
+use bid_book::{BidBook, Excess};
 use std::alloc::Global;
 
 /// What the lines so far say.

@@ -8,7 +8,6 @@ mod far_list;
 
 pub use arithmetic::{add, dot01, sub, times};
 pub use far_list::FarList;
-pub use wide_num;
 
 /// The number `far * t + near`, where `t` is above every number. Pairs are ordered by `far`, then by `near`.
 #[derive(Clone, Copy, Debug, Drop, PartialEq, Eq, PartialOrd, Ord)]

@@ -5,8 +5,8 @@ ghost use Rattle.std.specs.Prelude.{IfOk, [], length, pos, slice_index_or, ℕ, 
 ghost use Rattle.far_num.specs.wide_num.specs.Sums.{nth};
 
 use crate::kernel::kernel;
-use far_num::wide_num::NumList;
 use std::alloc::{AllocError, Global};
+use wide_num::NumList;
 
 /// Column `i`.
 pub fn column(alloc: Global, lines: &[NumList], i: usize) -> Result<NumList, AllocError>

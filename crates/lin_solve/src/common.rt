@@ -8,9 +8,9 @@ ghost use Rattle.far_num.specs.wide_num.specs.Sums.{nth};
 
 use crate::pivots::{Pivot, grow, pivot_at};
 use crate::rows::times;
-use far_num::wide_num::{NumList, div_exact};
 use far_num::{Far, FarList};
 use std::alloc::{AllocError, Global};
+use wide_num::{NumList, div_exact};
 
 /// The pivots of all places.
 pub fn all_pivots(

@@ -5,8 +5,8 @@ ghost use Rattle.std.specs.Prelude.{IfOk, MatchOption, [], false, length, pos, s
 ghost use Rattle.far_num.specs.wide_num.specs.Sums.{nth};
 
 use crate::rows::{dot, reduced};
-use far_num::wide_num::NumList;
 use std::alloc::{AllocError, Global};
+use wide_num::NumList;
 
 /// The combination of the row `v` and the pivot's row `w` that `line` sends to 0, divided by what its numbers share.
 fn cleared_row(alloc: Global, line: &[i128], v: &[i128], w: &[i128]) -> Result<NumList, AllocError>

@@ -6,8 +6,8 @@ ghost use Rattle.far_num.specs.wide_num.specs.Sums.{nth};
 
 use crate::columns::{clearing, column};
 use crate::rows::{dot, times};
-use far_num::wide_num::{NumList, div_exact, gcd};
 use std::alloc::{AllocError, Global};
+use wide_num::{NumList, div_exact, gcd};
 
 /// The products of a row that clears all columns but one: value `i` of the solution is `far / c` and `near / c`.
 #[derive(Clone, Copy, Drop)]

@@ -4,8 +4,8 @@ ghost use Rattle.std.specs.Prelude.{IfOk, length, pos, unsigned_abs, ℕ, ◌*�
 ghost use Rattle.far_num.specs.wide_num.specs.Range.{Divides};
 ghost use Rattle.far_num.specs.wide_num.specs.Sums.{nth};
 
-use far_num::wide_num::{NumList, div_exact, gcd};
 use std::alloc::{AllocError, Global};
+use wide_num::{NumList, div_exact, gcd};
 
 /// A product that is known to stay in the range.
 pub fn times(a: i128, b: i128) -> i128

@@ -7,9 +7,9 @@ ghost use Rattle.far_num.specs.wide_num.specs.Sums.{nth};
 use crate::common::{all_pivots, common_den, values};
 use crate::kernel::kernel;
 use crate::square::Square;
-use far_num::wide_num::NumList;
 use far_num::{Far, FarList};
 use std::alloc::{AllocError, Global};
+use wide_num::NumList;
 
 /// What a linear system has: one solution, or a dependence.
 #[derive(Debug, Drop)]

@@ -2,9 +2,9 @@ ghost use Rattle.lin_solve.specs.Matrix.{IsSquare, row};
 ghost use Rattle.std.specs.Prelude.{IfOk, List, length, ℕ, ℤ, ◌*◌, ◌+◌, ◌<◌, ◌≡◌, ◌≤◌};
 ghost use Rattle.far_num.specs.wide_num.specs.Sums.{nth};
 
-use far_num::wide_num::NumList;
 use std::alloc::{AllocError, Global};
 use std::marker::Model;
+use wide_num::NumList;
 
 /// A square matrix of whole numbers with 1 to 6 lines. Contracts see it as the list of its lines.
 #[derive(Debug, Drop)]

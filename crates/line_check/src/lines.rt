@@ -17,7 +17,7 @@ use crate::growth::{is_growing, is_growing_narrow};
 use crate::offers::Offers;
 use crate::rule::{LinePair, LineRule, NarrowRule};
 use crate::walk::{block_fault, run_fault};
-use cert_laws::cert_form::limits::MOST_STATES;
+use choices::bid_book::lots::limits::MOST_STATES;
 use choices::bid_book::lots::{Package, Supply, used_categories};
 
 /// The greatest number with which the rules are tested in 64 bits.

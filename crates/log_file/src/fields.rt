@@ -7,10 +7,8 @@ ghost use Rattle.log_file.specs.LogForm.{AreCounts, IsNameOf, counts_text};
 
 use arrayvec::ArrayVec;
 use award_file::Award;
-use award_file::auction_rules::lots::limits::{
-    MOST_CATEGORIES, MOST_STATED_AMOUNT, MOST_STATED_COUNT,
-};
 use award_file::bid_book::line_text::{field_len, read_at_most};
+use award_file::bid_book::lots::limits::{MOST_CATEGORIES, MOST_STATED_AMOUNT, MOST_STATED_COUNT};
 use award_file::bid_book::name_text;
 
 /// The counts of a package, which take no memory.

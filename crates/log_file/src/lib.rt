@@ -12,8 +12,8 @@ mod record;
 mod reply;
 
 pub use award_file;
-pub use award_file::auction_rules::lots::limits::LimitKind;
 pub use award_file::auction_rules::{Event, Reply};
+pub use award_file::bid_book::lots::limits::LimitKind;
 pub use events::Events;
 pub use laws::{one_reading, packages_of_log, written_log};
 pub use read::read_log;

@@ -11,7 +11,7 @@ ghost use Rattle.log_file.specs.Statements.{IsUntaken, event_stated, untaken_sto
 use crate::record::{Statement, read_statement};
 use crate::{Events, LimitKind, LogStop};
 use award_file::Award;
-use award_file::auction_rules::lots::limits::MOST_RECORDS;
+use award_file::bid_book::lots::limits::MOST_RECORDS;
 use csv::{ByteRecord, Error, ErrorKind, Reader, ReaderBuilder};
 use std::alloc::Global;
 

@@ -7,7 +7,7 @@ ghost use Rattle.log_file.specs.Statements.{event_stated};
 use crate::fields::{Counts, read_amount, read_bidder, read_counts};
 use award_file::Award;
 use award_file::auction_rules::Event;
-use award_file::auction_rules::lots::Package;
+use award_file::bid_book::lots::Package;
 use csv::ByteRecord;
 use std::alloc::{AllocError, Global};
 

@@ -5,7 +5,6 @@ mod lines;
 mod replaying;
 mod results;
 
-pub use bid_desk;
 pub use log_file::Events;
 pub use log_file::award_file::auction_rules::Event;
 pub use replaying::replay;

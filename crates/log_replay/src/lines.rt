@@ -9,9 +9,9 @@ ghost use Rattle.log_replay.specs.ReplyLines.{done_at, done_by, refusal_of};
 use crate::ReplayStop;
 use bid_desk::Desk;
 use log_file::award_file::Award;
-use log_file::award_file::auction_rules::lots::limits::MOST_ROUNDS;
 use log_file::award_file::auction_rules::{Event, Reply, Stage};
 use log_file::award_file::bid_book::line_text::wide_num::Text;
+use log_file::award_file::bid_book::lots::limits::MOST_ROUNDS;
 use log_file::{CloseDone, reply_line};
 use std::alloc::{AllocError, Global};
 

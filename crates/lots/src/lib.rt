@@ -9,7 +9,6 @@ mod package;
 mod places;
 mod supply;
 
-pub use auction_model;
 pub use counts::used_categories;
 pub use limits;
 pub use package::{Bid, Package};

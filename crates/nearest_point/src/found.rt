@@ -1,4 +1,4 @@
-use point_laws::wide_num::NumList;
+use wide_num::NumList;
 
 /// A point with one first and one second multiplier for each row, all over one denominator.
 #[derive(Debug, Drop)]

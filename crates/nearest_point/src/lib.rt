@@ -16,8 +16,8 @@ ghost use Rattle.std.specs.Prelude.{IfOk, length, ◌≤◌};
 ghost use Rattle.point_laws.specs.wide_num.specs.Sums.{nth};
 
 use lin_solve::far_num::Row;
-use point_laws::wide_num::NumList;
 use std::alloc::{AllocError, Global};
+use wide_num::NumList;
 
 mod exchange;
 mod found;

@@ -13,8 +13,8 @@ use crate::lines::{add_prices, add_revenue, revenue};
 use crate::prices::{WinnerPrice, winner_prices};
 use crate::{Fraction, add_net};
 use cert_facts::CertFacts;
-use cert_facts::bid_book::BidBook;
-use core_price::blocking::far_num::wide_num::Text;
+use choices::bid_book::BidBook;
+use choices::bid_book::line_text::wide_num::Text;
 use std::alloc::{AllocError, Global};
 
 /// The text of the outcome that a certificate of a book shows, from its facts: a line for each winner in order, with its bid, its

@@ -3,8 +3,8 @@ ghost use Rattle.std.specs.Prelude.{◌≡◌, ℤ, ◌+◌, ◌<◌, ◌^◌, �
 ghost use Rattle.core_price.specs.wide_num.specs.Range.{InRange};
 ghost use Rattle.outcome.specs.Fractions.{IsFractionOf, fraction_text};
 
-use core_price::blocking::far_num::wide_num::{Text, gcd};
-use print_form::line_text::add_decimal;
+use choices::bid_book::line_text::add_decimal;
+use choices::bid_book::line_text::wide_num::{Text, gcd};
 use std::alloc::AllocError;
 
 /// A fraction that isn't negative: its whole part, and a rest over its least denominator.

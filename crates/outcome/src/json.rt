@@ -17,10 +17,10 @@ use crate::certified::paid_in_all;
 use crate::json_values::{amount_value, fraction_value, round_values, winner_values};
 use crate::prices::winner_prices;
 use cert_facts::CertFacts;
-use cert_facts::bid_book::BidBook;
-use cert_facts::choices::Choice;
+use choices::Choice;
+use choices::bid_book::BidBook;
+use choices::bid_book::line_text::wide_num::Text;
 use core_price::Turn;
-use core_price::blocking::far_num::wide_num::Text;
 use serde_json::{Map, Value, put};
 use std::alloc::{AllocError, Global};
 

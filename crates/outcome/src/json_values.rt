@@ -15,10 +15,10 @@ ghost use Rattle.outcome.specs.Turns.{CanPrintTurn};
 use crate::prices::WinnerPrice;
 use crate::turns::add_turn;
 use crate::{Fraction, add_fraction};
-use cert_facts::bid_book::BidBook;
-use cert_facts::choices::Choice;
+use choices::Choice;
+use choices::bid_book::BidBook;
+use choices::bid_book::line_text::wide_num::Text;
 use core_price::Turn;
-use core_price::blocking::far_num::wide_num::Text;
 use serde_json::{Map, Value, put};
 use std::alloc::{AllocError, Global};
 

@@ -16,12 +16,10 @@ mod turns;
 mod win;
 
 pub use certified::outcome_text;
-pub use core_price;
 pub use fraction::{Fraction, add_fraction};
 pub use json::outcome_json;
 pub use numbers::{add_net, add_numbers};
 pub use print_form;
-pub use review;
 pub use reviewing::{one_review_text, review_text};
 pub use turns::rounds_text;
 pub use win::win_text;

@@ -10,9 +10,9 @@ ghost use Rattle.outcome.specs.Prices.{line_of, lines_of, reserves_of, CanPrintP
 
 use crate::prices::WinnerPrice;
 use crate::{Fraction, add_fraction, add_numbers};
-use cert_facts::bid_book::BidBook;
-use core_price::blocking::far_num::wide_num::Text;
-use print_form::line_text::{add_decimal, add_signed};
+use choices::bid_book::BidBook;
+use choices::bid_book::line_text::wide_num::Text;
+use choices::bid_book::line_text::{add_decimal, add_signed};
 use std::alloc::AllocError;
 
 /// Adds the line of each winner.

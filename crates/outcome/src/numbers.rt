@@ -3,8 +3,8 @@ ghost use Rattle.std.specs.Prelude.{◌≡◌, ◌++◌, OnOk};
 ghost use Rattle.print_form.specs.book_form.specs.line_text.specs.Decimals.{decimals_text};
 ghost use Rattle.print_form.specs.WinText.{net_line};
 
-use core_price::blocking::far_num::wide_num::Text;
-use print_form::line_text::{add_number, add_signed};
+use choices::bid_book::line_text::wide_num::Text;
+use choices::bid_book::line_text::{add_number, add_signed};
 use std::alloc::AllocError;
 
 /// Adds numbers, each behind one space. The only error is want of memory.

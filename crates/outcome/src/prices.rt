@@ -8,8 +8,8 @@ ghost use Rattle.outcome.specs.Printable.{IsPrintable, IsWinnerOf, point_of};
 
 use crate::Fraction;
 use cert_facts::CertFacts;
-use cert_facts::bid_book::BidBook;
-use cert_facts::choices::Single;
+use choices::Single;
+use choices::bid_book::BidBook;
 use std::alloc::{AllocError, Global};
 
 /// What is printed of a winner. All amounts are gross.

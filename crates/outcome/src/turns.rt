@@ -10,11 +10,11 @@ ghost use Rattle.core_price.specs.wide_num.specs.Sums.{nth};
 ghost use Rattle.outcome.specs.Turns.{AreFractions, CanPrintTurn, Grows};
 
 use crate::{Fraction, add_fraction, add_numbers};
-use cert_facts::choices::Choice;
+use choices::Choice;
+use choices::bid_book::line_text::add_number;
+use choices::bid_book::line_text::wide_num::Text;
 use core_price::blocking::Block;
-use core_price::blocking::far_num::wide_num::Text;
 use core_price::{Turn, members_of};
-use print_form::line_text::add_number;
 use std::alloc::{AllocError, Global};
 
 /// The lines of the turns of a pricing run: for each its point, and what blocks it.

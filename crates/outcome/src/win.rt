@@ -6,11 +6,11 @@ ghost use Rattle.print_form.specs.WinText;
 ghost use Rattle.print_form.specs.WinText.{winner_line, winner_lines};
 
 use crate::{add_net, add_numbers};
-use cert_facts::bid_book::BidBook;
-use cert_facts::bid_book::lots::Bid;
-use cert_facts::choices::{Choice, value};
-use core_price::blocking::far_num::wide_num::Text;
-use print_form::line_text::add_number;
+use choices::bid_book::BidBook;
+use choices::bid_book::line_text::add_number;
+use choices::bid_book::line_text::wide_num::Text;
+use choices::bid_book::lots::Bid;
+use choices::{Choice, value};
 use std::alloc::{AllocError, Global};
 
 /// The lines of the winners of a choice, in order, and the line of their net value. The book knows the choice. The only error is

@@ -18,13 +18,13 @@ use crate::judging::judged;
 use crate::kept::{members_behind, totals_behind};
 use crate::moment::Moment;
 use crate::row_totals::{RowTotals, no_totals};
-use cert_check::cert_text::Shape;
 use cert_check::{Failure, Verdict, verdict_of};
 use cert_facts::CertFacts;
-use cert_facts::bid_book::BidBook;
-use cert_facts::cert_laws::cert_form::one_cert;
 use cert_facts::cert_laws::{one_verdict, sound_yes};
 use cert_pieces::{Due, Progress, Reader, TextStop, room_len};
+use cert_text::Shape;
+use cert_text::cert_form::one_cert;
+use cert_text::choices::bid_book::BidBook;
 use std::alloc::{AllocError, Global};
 
 /// Checks a certificate of a book, of which pieces of bytes come.

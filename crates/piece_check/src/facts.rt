@@ -13,11 +13,11 @@ ghost use Rattle.piece_check.specs.WholeRoom.{HasAll, single_at};
 
 use crate::room::{number_in, numbers_in, put_choice};
 use cert_check::BIDDER_ROOM;
-use cert_check::cert_text::cert_form::line_text::wide_num::NumList;
-use cert_facts::bid_book::BidBook;
-use cert_facts::choices::{Choice, Single, value_among, worth};
 use cert_facts::{CertFacts, Singles};
 use cert_pieces::Due;
+use cert_text::choices::bid_book::BidBook;
+use cert_text::choices::bid_book::line_text::wide_num::NumList;
+use cert_text::choices::{Choice, Single, value_among, worth};
 use std::alloc::{AllocError, Global};
 
 /// The facts of the certificate whose numbers stand in the room. The only error is want of memory.

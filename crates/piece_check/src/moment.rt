@@ -5,8 +5,8 @@ ghost use Rattle.cert_facts.specs.cert_laws.specs.Tests.{bidders_of, states};
 ghost use Rattle.cert_pieces.specs.Rooms.{room_size};
 
 use crate::row_totals::RowTotals;
-use cert_facts::bid_book::BidBook;
 use cert_pieces::Due;
+use cert_text::choices::bid_book::BidBook;
 
 /// A line that has come whole and in range, and what is kept of those before it.
 #[derive(Drop)]

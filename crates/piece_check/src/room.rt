@@ -5,9 +5,9 @@ ghost use Rattle.cert_facts.specs.cert_laws.specs.Tests.{bidders_of, states};
 ghost use Rattle.cert_pieces.specs.Dues.{IsDue};
 ghost use Rattle.cert_pieces.specs.Rooms.{room_size, segment};
 
-use cert_check::cert_text::Shape;
-use cert_facts::bid_book::BidBook;
 use cert_pieces::{Due, numbers_span};
+use cert_text::Shape;
+use cert_text::choices::bid_book::BidBook;
 
 /// The numbers of the room that belong to a line, as many as it may have.
 pub(crate) fn numbers_in<'a>(book: &BidBook, due: Due, room: &'a [i128]) -> &'a [i128]

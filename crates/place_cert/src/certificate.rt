@@ -5,7 +5,7 @@ ghost use Rattle.place_cert.specs.Parts.{place_cert_from};
 ghost use Rattle.place_cert.specs.PlaceText.{IsPlaceCertificate};
 
 use cert_text::PartList;
-use cert_text::cert_form::line_text::wide_num::NumList;
+use cert_text::choices::bid_book::line_text::wide_num::NumList;
 use cert_text::choices::{Choice, Grid, Numbers};
 
 /// A best choice without a winner, its order, and the table that shows it.

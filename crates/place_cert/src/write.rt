@@ -11,7 +11,7 @@ ghost use Rattle.place_cert.specs.PlaceSays.{place_text};
 ghost use Rattle.place_cert.specs.Written.{lines_of_head, ArePartsInRange, IsRowInRange};
 
 use crate::{PlaceCertificate, PlaceRow, PlaceWithout};
-use cert_text::cert_form::line_text::wide_num::Text;
+use cert_text::choices::bid_book::line_text::wide_num::Text;
 use cert_text::choices::{Choice, Numbers};
 use cert_text::{add_choice, add_number_line, add_signed_line, add_table};
 use std::alloc::{AllocError, Global};

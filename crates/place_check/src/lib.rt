@@ -26,5 +26,4 @@ mod tables;
 pub use cert_check::{Verdict, sum_paid};
 pub use checking::check_places;
 pub use claims::vickrey;
-pub use place_cert;
 pub use place_laws;

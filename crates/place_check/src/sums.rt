@@ -10,10 +10,10 @@ ghost use Rattle.place_check.specs.RowSums.{AreRowSums};
 
 use crate::amounts::amount;
 use cert_check::add_row;
-use cert_check::cert_text::choices::Choice;
 use cert_check::sums::amounts::counted;
 use cert_check::sums::members::is_among;
 use place_cert::PlaceRow;
+use place_cert::cert_text::choices::Choice;
 use place_laws::slot_places::{MOST_PLACED, Slots};
 
 /// What the bid that the choice gives to bidder `j` is worth, and 0 for a loser.

@@ -8,7 +8,7 @@ ghost use Rattle.place_laws.specs.slot_places.specs.SetTable.{holds};
 ghost use Rattle.place_check.specs.OfferRules.{worth_with, KeepsBid, KeepsBidder, SetTableAt};
 
 use crate::offers::Offers;
-use cert_check::cert_text::choices::Grid;
+use place_cert::cert_text::choices::Grid;
 use place_laws::slot_places::sets::{is_in, weight};
 
 /// Whether the rules hold at a place of a table, which is a set, or behind all sets the most that the entry of nobody may be.

@@ -8,8 +8,8 @@ ghost use Rattle.place_price.specs.PlacedParts.{ArePartsOf, IsPartOf};
 ghost use Rattle.place_check.specs.slot_places.specs.Board.{market_of};
 
 use crate::placing::placement;
-use book_price::cert_text::choices::{Chooser, Single};
-use place_check::place_cert::{PlaceWithout, PlaceWithouts};
+use place_cert::cert_text::choices::{Chooser, Single};
+use place_cert::{PlaceWithout, PlaceWithouts};
 use place_check::place_laws::slot_places::SlotChooser;
 use std::alloc::{AllocError, Global};
 

@@ -6,9 +6,9 @@ ghost use Rattle.place_check.specs.place_cert.specs.Parts.{row_value};
 ghost use Rattle.place_price.specs.PlacedRows.{HasAllowedChoice, IsPlacedRow};
 
 use crate::placing::placement;
-use book_price::cert_text::choices::Choice;
 use book_price::core_price::{PricedRow, members_of};
-use place_check::place_cert::{PlaceRow, PlaceRows};
+use place_cert::cert_text::choices::Choice;
+use place_cert::{PlaceRow, PlaceRows};
 use place_check::place_laws::slot_places::Slots;
 use std::alloc::{AllocError, Global};
 

@@ -17,10 +17,10 @@ ghost use Rattle.place_price.specs.PlacedRows.{HasAllowedChoice, IsPlacedRow};
 use crate::bidder_rows::all_rows;
 use crate::placing::placement;
 use crate::pricing::PricedPlaces;
-use book_price::cert_laws::cert_form::line_text::wide_num::NumList;
-use book_price::cert_text::choices::{Choice, Found, Grid, Numbers};
 use book_price::core_price::{Priced, for_bidders};
-use place_check::place_cert::{PlaceCertificate, PlaceRows, PlaceWithouts};
+use place_cert::cert_text::choices::bid_book::line_text::wide_num::NumList;
+use place_cert::cert_text::choices::{Choice, Found, Grid, Numbers};
+use place_cert::{PlaceCertificate, PlaceRows, PlaceWithouts};
 use place_check::place_laws::slot_places::Slots;
 use std::alloc::{AllocError, Global};
 

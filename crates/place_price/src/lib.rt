@@ -13,11 +13,11 @@ mod printing;
 
 pub use book_price;
 pub use outcome;
-pub use place_check;
-pub use place_check::place_cert::{
+pub use place_cert::{
     CertStop, PlaceCertificate, PlaceRow, PlaceRows, PlaceWithout, PlaceWithouts, read_places,
     write_places,
 };
+pub use place_check;
 pub use place_check::{Verdict, check_places};
 pub use pricing::{PricedPlaces, place_rounds, price_places, priced_places};
 pub use printing::{one_place_text, place_text};

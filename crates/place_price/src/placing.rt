@@ -3,7 +3,7 @@ ghost use Rattle.std.specs.Prelude.{IfOk, IsTrue};
 ghost use Rattle.place_check.specs.slot_places.specs.Board.{market_of};
 ghost use Rattle.place_check.specs.slot_places.specs.Orders.{IsPlacement};
 
-use book_price::cert_text::choices::{Choice, Numbers};
+use place_cert::cert_text::choices::{Choice, Numbers};
 use place_check::place_laws::slot_places::Slots;
 use std::alloc::{AllocError, Global};
 

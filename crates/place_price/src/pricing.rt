@@ -25,9 +25,9 @@ ghost use Rattle.place_check.specs.slot_places.specs.Slots.{amount_of};
 
 use crate::alone::each_winner;
 use crate::certificate::certificate;
-use book_price::cert_text::choices::{Found, Grid, Single};
 use book_price::core_price::{PriceStop, Priced, TurnList, price};
-use place_check::place_cert::{PlaceCertificate, PlaceWithouts};
+use place_cert::cert_text::choices::{Found, Grid, Single};
+use place_cert::{PlaceCertificate, PlaceWithouts};
 use place_check::place_laws::slot_places::{SlotChooser, Slots, place_best};
 use std::alloc::{AllocError, Global};
 

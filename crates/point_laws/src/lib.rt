@@ -8,8 +8,6 @@ ghost use Rattle.point_laws.specs.Multipliers.{AreFirst, AreSecond, AreShares, S
 ghost use Rattle.point_laws.specs.Points.{HasLeastSum, IsNearestTo, MeetsRows};
 ghost use Rattle.std.specs.Prelude.{pos, ℕ, ℤ, ◌≤ℤ◌};
 
-pub use wide_num;
-
 /// Multipliers show that a point meets the two aims of a core-selecting rule. They are the multipliers that Kuhn and
 /// Tucker gave for a least sum and for a least square distance (Nonlinear programming, 1951).
 ///

@@ -16,9 +16,8 @@ ghost use Rattle.print_form.specs.Prices.{IsPriceText};
 ghost use Rattle.print_form.specs.Turns.{AreTurnLines};
 ghost use Rattle.row_laws.specs.Turns.{IsLastPoint};
 
-pub use book_form::line_text;
+use auction_model::vickrey_prices;
 pub use row_laws;
-use row_laws::auction_model::vickrey_prices;
 
 /// A fraction has one text, whatever the denominator over which it is kept.
 pub fn one_fraction()

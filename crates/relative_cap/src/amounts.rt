@@ -10,7 +10,7 @@ ghost use Rattle.relative_cap.specs.OwnRounds.{amount_for, bid_value, entry_lots
 
 use crate::packages::{is_before, is_same};
 use clock_stage::History;
-use clock_stage::award_file::auction_rules::lots::{Bid, Package};
+use lots::{Bid, Package};
 
 /// The amount of the clock bid of bidder `j` in round `r` where it is for the package, and else 0.
 fn clock_amount(history: &History, j: u16, r: u32, package: &Package) -> u64

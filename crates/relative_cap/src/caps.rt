@@ -16,8 +16,8 @@ use crate::levels::{fill_levels, high_over, last_peak};
 use crate::packages::is_same;
 use crate::rounds::constraining_round;
 use clock_stage::History;
-use clock_stage::award_file::auction_rules::lots::limits::MOST_ROUNDS;
-use clock_stage::award_file::auction_rules::lots::{Bid, Package};
+use lots::limits::MOST_ROUNDS;
+use lots::{Bid, Package};
 
 /// What the package may cost by round `r`: the highest amount for what bidder `j` held in it, which is given, and the price of the
 /// difference.

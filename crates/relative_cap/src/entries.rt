@@ -10,7 +10,7 @@ ghost use Rattle.relative_cap.specs.Tested.{IsPutAt, IsTested, tested_bid, teste
 use crate::packages::{is_before, is_same};
 use crate::terms::{PackageTerms, package_terms};
 use clock_stage::History;
-use clock_stage::award_file::auction_rules::lots::{Bid, Package};
+use lots::{Bid, Package};
 use std::alloc::{AllocError, Global};
 
 /// An entry of a list with what the closed rounds say of the cap of its package.

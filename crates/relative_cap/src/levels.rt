@@ -8,7 +8,7 @@ ghost use Rattle.relative_cap.specs.OwnRounds.{entry_lots, bid_value};
 
 use crate::amounts::{amount_listed, highest};
 use clock_stage::History;
-use clock_stage::award_file::auction_rules::lots::Bid;
+use lots::Bid;
 
 /// Works out the levels of bidder `j`, from the last round to the first: the greatest eligibility from each round on, and for each
 /// round the greatest clock bid for what the bidder held in it.

@@ -2,7 +2,7 @@
 ghost use Rattle.std.specs.Prelude.{◌≡◌, length};
 ghost use Rattle.clock_stage.specs.auction_model.specs.PackageTests.{is_before, is_same};
 
-use clock_stage::award_file::auction_rules::lots::Package;
+use lots::Package;
 
 /// Whether two packages of as many categories have the same counts.
 pub fn is_same(package: &Package, other: &Package) -> bool

@@ -7,7 +7,7 @@ ghost use Rattle.relative_cap.specs.Asked.{ArePoints, IsBidderOf};
 ghost use Rattle.relative_cap.specs.OwnRounds.{IsConstraining, eligibility_in, rounds_of};
 
 use clock_stage::History;
-use clock_stage::award_file::auction_rules::lots::Package;
+use lots::Package;
 
 /// The last round in which bidder `j` was eligible for so many points at its start, where it was so in round 1.
 pub fn last_enough(history: &History, j: u16, needed: u64) -> u32

@@ -10,7 +10,7 @@ ghost use Rattle.relative_cap.specs.RoundsOfPackage.{IsRoundTerms, IsTerms, firs
 use crate::levels::last_peak;
 use crate::packages::is_same;
 use clock_stage::History;
-use clock_stage::award_file::auction_rules::lots::Package;
+use lots::Package;
 
 /// What one round says of the cap of a package, in whole units of money.
 #[derive(Clone, Copy)]

@@ -16,7 +16,7 @@ use crate::entries::{TestedEntry, follow};
 use crate::levels::fill_levels;
 use crate::terms::{PackageTerms, RoundTerms};
 use clock_stage::History;
-use clock_stage::award_file::auction_rules::lots::Bid;
+use lots::Bid;
 use std::alloc::{AllocError, Global};
 use std::marker::Model;
 

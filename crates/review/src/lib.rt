@@ -13,4 +13,3 @@ mod tracing;
 pub use edit::{Edit, EditReply};
 pub use laws::edited_amounts;
 pub use review::Review;
-pub use value_table;

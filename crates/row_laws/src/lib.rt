@@ -24,8 +24,6 @@ ghost use Rattle.row_laws.specs.Winners.{winners_in, for_bidders, for_winners, r
 ghost use Rattle.row_laws.specs.Surplus.{lowered_sum, AsksWinnersOnly};
 ghost use Rattle.row_laws.specs.Rows.{HasWinners, IsGivenBy, Meets};
 
-pub use auction_model;
-pub use far_num;
 pub use plain::{plain_outcome, plain_turns};
 
 /// The first choice of greatest lowered sum is the block that a turn takes, with the winners that it doesn't use and that

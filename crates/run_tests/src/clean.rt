@@ -6,7 +6,7 @@ use crate::samples::{
     AWARD, CHECK, DAY_CRAMTON, DAY_CRAMTON_CERT, LOWERED, LOWERED_OUTCOME, PRICE, SAMPLE,
 };
 use crate::settings::{Ended, joined, run_plain, words_of};
-use cca_run::cca_base::{CleanFiles, CleanSink, Files, WriteStop, write_file};
+use cca_base::{CleanFiles, CleanSink, Files, WriteStop, write_file};
 use cca_run::{FileKind, Status, run};
 use std::alloc::{AllocError, Global};
 use std::process::Abort;

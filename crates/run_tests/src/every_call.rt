@@ -7,7 +7,7 @@ use crate::samples::{
     REVIEW, SAMPLE, SLOTS, SLOTS_CERT, WEIGH, WEIGH_CHECK,
 };
 use crate::settings::{fill, joined, left_at, no_files_in, sink_of, words_of};
-use cca_run::cca_base::{MemFiles, MemSink};
+use cca_base::{MemFiles, MemSink};
 use cca_run::{FileKind, Status, run};
 use std::alloc::{AllocError, Global};
 use std::process::Abort;

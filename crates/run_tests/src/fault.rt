@@ -1,10 +1,10 @@
 // Runs with faults of files and of the output.
 use crate::samples::{CHECK, DAY_CRAMTON, DAY_CRAMTON_CERT, DAY_CRAMTON_FRONT, PRICE, TIE};
 use crate::settings::{Ended, Setting, joined, run_on};
-use cca_run::bid_book::LimitKind;
 use cca_run::{FileKind, Status};
 use std::process::Abort;
 use std::test::Fail;
+use value_table::choices::bid_book::LimitKind;
 
 const WIN: &[&str] = &["win", "BOOK"];
 

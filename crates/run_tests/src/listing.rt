@@ -1,11 +1,11 @@
 // The winning choice beside a listing of all choices, and a table without a bidder.
 use crate::samples::{AT_RESERVE, DAY_CRAMTON, EQUALS, NOBODY, TIE, TWO_GLOBALS};
-use cca_run::bid_book::{BidBook, read_book};
-use cca_run::choices::first_by_listing;
-use cca_run::value_table::{ValueTable, win};
 use std::alloc::{AllocError, Global};
 use std::process::Abort;
 use std::test::Fail;
+use value_table::choices::bid_book::{BidBook, read_book};
+use value_table::choices::first_by_listing;
+use value_table::{ValueTable, win};
 
 const TIED_AT_RESERVE: &str =
     "book 1\nsupply 1\nreserve 5\nbidder a\nbid 1 5\nbidder b\nbid 1 5\nend\n";

@@ -1,6 +1,6 @@
 // An auction that is made from a number, where an append or a put fails.
 use crate::settings::{joined, left_at, no_files, sink_of, words_of};
-use cca_run::cca_base::{MemFiles, MemSink};
+use cca_base::{MemFiles, MemSink};
 use cca_run::{FileKind, Status, run};
 use std::alloc::{AllocError, Global};
 use std::process::Abort;

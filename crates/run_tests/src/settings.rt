@@ -2,10 +2,10 @@
 ghost use Rattle.std.specs.Prelude.{◌<◌, length, IfOk, OnOk, All, IsTrue, map, string_bytes};
 ghost use Rattle.cca_run.specs.cca_base.specs.MemFiles.{mem_folder};
 
-use cca_run::bid_book::LimitKind;
-use cca_run::cca_base::{MemFiles, MemSink};
+use cca_base::{MemFiles, MemSink};
 use cca_run::{CertKind, FileKind, Status, run};
 use std::alloc::{AllocError, Global};
+use value_table::choices::bid_book::LimitKind;
 
 /// What the files hold before a run, and the load, the append and the put that fail; 0 for none.
 #[derive(Clone, Copy, Debug)]

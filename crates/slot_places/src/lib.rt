@@ -12,7 +12,6 @@ pub mod sets;
 mod slot_chooser;
 mod slots;
 
-pub use choices;
 pub use choices::bid_book::lots::limits::{LimitKind, MOST_PLACED};
 pub use laws::{one_slots, slot_market, slot_orders, some_slots};
 pub use read::read_slots;

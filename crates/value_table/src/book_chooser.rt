@@ -5,8 +5,8 @@ ghost use Rattle.choices.specs.auction_model.specs.Greatest.{IsWinning};
 ghost use Rattle.choices.specs.auction_model.specs.Lawful.{IsMarket};
 
 use crate::TurnTable;
+use auction_model::book_market;
 use choices::bid_book::BidBook;
-use choices::bid_book::lots::auction_model::book_market;
 use choices::{Choice, Chooser, Found};
 use std::alloc::{AllocError, Global};
 

@@ -6,5 +6,4 @@ mod source;
 mod winners;
 
 pub use pricing::{vickrey, vickrey_from};
-pub use value_table;
 pub use winners::Vickrey;

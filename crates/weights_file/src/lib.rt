@@ -9,7 +9,6 @@ mod line;
 mod read;
 mod weights;
 
-pub use bid_book;
 pub use laws::{one_text, one_weighing, some_weighing};
 pub use read::read_weights;
 use std::alloc::{AllocError, AllocFailed};

@@ -11,7 +11,7 @@ use crate::read::AwardStop;
 use crate::read::fields::{
     broken, broken_top, has_other, list_at, name_at, number_at, row_of, value_at,
 };
-use auction_rules::lots::limits::{MOST_COUNT, MOST_ELIGIBILITY};
+use bid_book::lots::limits::{MOST_COUNT, MOST_ELIGIBILITY};
 use std::alloc::{AllocError, Global};
 use toml::Value;
 use toml::value::Table;

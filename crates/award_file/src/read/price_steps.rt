@@ -8,7 +8,7 @@ ghost use Rattle.award_file.specs.Walk as walk;
 
 use crate::read::AwardStop;
 use crate::read::fields::{broken, broken_top, has_other, list_at, number_at};
-use auction_rules::lots::limits::{MOST_EXCESS, MOST_PERMILLE, MOST_STEPS};
+use bid_book::lots::limits::{MOST_EXCESS, MOST_PERMILLE, MOST_STEPS};
 use std::alloc::Global;
 use toml::Value;
 use toml::value::Table;

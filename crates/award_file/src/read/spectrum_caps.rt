@@ -10,7 +10,7 @@ ghost use Rattle.award_file.specs.Walk as walk;
 use crate::caps::SpectrumCap;
 use crate::read::AwardStop;
 use crate::read::fields::{broken, broken_top, has_other, list_at, number_at, row_of, value_at};
-use auction_rules::lots::limits::{MOST_CAP_LIMIT, MOST_CAP_WEIGHT, MOST_CAPS};
+use bid_book::lots::limits::{MOST_CAP_LIMIT, MOST_CAP_WEIGHT, MOST_CAPS};
 use std::alloc::{AllocError, Global};
 use toml::Value;
 use toml::value::Table;

@@ -1,6 +1,6 @@
 // Awards as inputs.
 use crate::{FileKind, Input, Status};
-use log_file::award_file::auction_rules::lots::limits::AWARD_BYTES;
+use log_file::award_file::bid_book::lots::limits::AWARD_BYTES;
 use log_file::award_file::{Award, read_award};
 use std::alloc::Global;
 

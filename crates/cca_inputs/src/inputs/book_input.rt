@@ -1,6 +1,6 @@
 // Books as inputs.
 use crate::{FileKind, Input, Status};
-use log_file::award_file::auction_rules::lots::limits::BOOK_BYTES;
+use log_file::award_file::bid_book::lots::limits::BOOK_BYTES;
 use log_file::award_file::bid_book::{BidBook, read_book};
 use std::alloc::Global;
 

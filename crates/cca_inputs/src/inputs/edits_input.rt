@@ -1,8 +1,8 @@
 // Edits of a book as inputs.
 use crate::{FileKind, Input, Status};
 use edits_file::{Edits, read_edits};
-use log_file::award_file::auction_rules::lots::limits::EDITS_BYTES;
 use log_file::award_file::bid_book::BidBook;
+use log_file::award_file::bid_book::lots::limits::EDITS_BYTES;
 use std::alloc::Global;
 
 /// The edits of a book.

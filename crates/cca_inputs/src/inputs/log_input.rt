@@ -1,7 +1,7 @@
 // Logs of an award as inputs.
 use crate::{FileKind, Input, Status};
 use log_file::award_file::Award;
-use log_file::award_file::auction_rules::lots::limits::LOG_BYTES;
+use log_file::award_file::bid_book::lots::limits::LOG_BYTES;
 use log_file::{Events, read_log};
 use std::alloc::Global;
 

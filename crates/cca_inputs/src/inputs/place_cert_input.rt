@@ -1,6 +1,6 @@
 // Certificates of a placement as inputs.
 use crate::{FileKind, Input, Status};
-use log_file::award_file::auction_rules::lots::limits::CERT_BYTES;
+use log_file::award_file::bid_book::lots::limits::CERT_BYTES;
 use place_cert::{PlaceCertificate, read_places};
 use slot_places::Slots;
 use std::alloc::Global;

@@ -1,6 +1,6 @@
 // Slots as inputs.
 use crate::{FileKind, Input, Status};
-use log_file::award_file::auction_rules::lots::limits::SLOTS_BYTES;
+use log_file::award_file::bid_book::lots::limits::SLOTS_BYTES;
 use slot_places::{Slots, read_slots};
 use std::alloc::Global;
 

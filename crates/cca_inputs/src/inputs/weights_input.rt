@@ -1,7 +1,7 @@
 // Weights of the bidders of a book as inputs.
 use crate::{FileKind, Input, Status};
-use log_file::award_file::auction_rules::lots::limits::WEIGHTS_BYTES;
 use log_file::award_file::bid_book::BidBook;
+use log_file::award_file::bid_book::lots::limits::WEIGHTS_BYTES;
 use std::alloc::Global;
 use weights_file::{Weights, read_weights};
 

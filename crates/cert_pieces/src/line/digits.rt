@@ -5,7 +5,7 @@ ghost use Rattle.cert_pieces.specs.Tallies.{IsTally};
 ghost use Rattle.cert_pieces.specs.Pieces.{between};
 
 use crate::line::tally::Tally;
-use cert_text::cert_form::line_text::wide_num::EDGE;
+use cert_text::choices::bid_book::line_text::wide_num::EDGE;
 
 /// The tally of a first digit.
 pub(crate) fn first(digit: u8) -> Tally

@@ -3,10 +3,10 @@ use crate::samples::{DAY_CRAMTON_CERT, day_cramton, edited};
 use crate::streams::verdict_of;
 use piece_check::cert_check::Verdict;
 use piece_check::cert_pieces::TextStop;
-use place_price::book_price::cert_text::choices::bid_book::BidBook;
 use std::alloc::{AllocError, Global};
 use std::process::Abort;
 use std::test::Fail;
+use value_table::choices::bid_book::BidBook;
 
 // Asserts what a checker says of a text in pieces of seven bytes.
 fn says(

@@ -8,7 +8,7 @@ ghost use Rattle.cert_text.specs.Readers.{IsLineAt, Leads, Halts, LeadsLike, Hal
 
 use crate::CertStop;
 use crate::read::lines::{LineNumbers, take_line};
-use cert_form::line_text::wide_num::NumList;
+use choices::bid_book::line_text::wide_num::NumList;
 use choices::{Choice, Numbers};
 use std::alloc::{AllocError, Global};
 

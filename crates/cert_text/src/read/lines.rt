@@ -5,8 +5,8 @@ ghost use Rattle.cert_text.specs.Readers.{IsLineAt, IsRefused};
 ghost use Rattle.cert_form.specs.line_text.specs.Fields.{HasLine};
 
 use crate::CertStop;
-use cert_form::line_text::wide_num::NumList;
-use cert_form::line_text::{NumbersStop, line_len, numbers_behind};
+use choices::bid_book::line_text::wide_num::NumList;
+use choices::bid_book::line_text::{NumbersStop, line_len, numbers_behind};
 use std::alloc::Global;
 
 /// The numbers of a line, and where the next line begins. Where one is out of range the list has only as many numbers.

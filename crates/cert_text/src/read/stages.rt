@@ -12,7 +12,7 @@ use crate::read::parts::take_parts;
 use crate::read::rows::{take_number, take_rows};
 use crate::read::tables::{TableRead, take_named};
 use crate::{CertRows, CertStop, Shape, WithoutList};
-use cert_form::line_text::wide_num::NumList;
+use choices::bid_book::line_text::wide_num::NumList;
 use choices::{Choice, Grid};
 use std::alloc::Global;
 

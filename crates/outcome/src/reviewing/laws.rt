@@ -7,7 +7,7 @@ ghost use Rattle.review.specs.Edits.{edit_lots};
 ghost use Rattle.review.specs.declared.edit.Edit.{Edit};
 ghost use Rattle.outcome.specs.ReviewText.{IsReviewText};
 
-use review::value_table::choices::bid_book::lots::auction_model::{book_market, winning_choice};
+use auction_model::{book_market, winning_choice};
 
 /// The edits of a book within the limits, whose packages have the book's number of categories, have one text.
 pub fn one_review_text()

@@ -4,10 +4,8 @@ ghost use Rattle.std.specs.Fmt.{decimal, signed_decimal};
 ghost use Rattle.review.specs.line_text.specs.Decimals.{decimals_text};
 ghost use Rattle.outcome.specs.ReviewText.{IsStateLine, refusal_text, worded};
 
-use review::value_table::choices::bid_book::line_text::wide_num::Text;
-use review::value_table::choices::bid_book::line_text::{
-    add_decimal, add_number, add_numbers, add_signed,
-};
+use choices::bid_book::line_text::wide_num::Text;
+use choices::bid_book::line_text::{add_decimal, add_number, add_numbers, add_signed};
 use review::{EditReply, Review};
 use std::alloc::AllocError;
 

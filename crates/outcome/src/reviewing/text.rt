@@ -6,8 +6,8 @@ ghost use Rattle.outcome.specs.ReviewText.{IsReplyLine, IsReviewText, behind};
 
 use crate::reviewing::lines::{add_refusal, add_state};
 use crate::win_text;
-use review::value_table::choices::bid_book::BidBook;
-use review::value_table::choices::bid_book::line_text::wide_num::Text;
+use choices::bid_book::BidBook;
+use choices::bid_book::line_text::wide_num::Text;
 use review::{Edit, EditReply, Review};
 use std::alloc::{AllocError, Global};
 

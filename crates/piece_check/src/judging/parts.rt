@@ -14,8 +14,8 @@ use crate::judging::tables::is_at_most;
 use crate::moment::Moment;
 use crate::room::{numbers_in, put_choice};
 use cert_check::{BIDDER_ROOM, Failure, Offers, is_allowed_without};
-use cert_facts::choices::value_among;
 use cert_pieces::{Due, Table};
+use cert_text::choices::value_among;
 
 /// What the choice without winner `j` shows: whether it is known, fits and uses that winner.
 pub(crate) fn part_choice(at: &Moment, j: u16) -> Finding

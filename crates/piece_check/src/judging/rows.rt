@@ -17,8 +17,8 @@ use crate::room::{number_in, numbers_in, put_choice};
 use cert_check::{
     BIDDER_ROOM, Claim, Column, Failure, first_test, of_test, row_holds, second_test,
 };
-use cert_facts::choices::value_among;
 use cert_pieces::Due;
+use cert_text::choices::value_among;
 
 /// What the count of rows shows: where there is none, the tests of the multipliers.
 pub(crate) fn rows_line(at: &Moment, claim: &Claim) -> Finding

@@ -14,8 +14,8 @@ use crate::judging::rules::rules_found;
 use crate::moment::Moment;
 use crate::room::{number_in, numbers_in, put_choice};
 use cert_check::{BIDDER_ROOM, Offers, behind_table, none_earlier, of_test, with_late};
-use cert_facts::bid_book::BidBook;
 use cert_pieces::{Due, Table};
+use cert_text::choices::bid_book::BidBook;
 
 /// What line `k` of the head's table shows: the third test, as far as it is known then.
 pub(crate) fn head_line(at: &Moment, k: u16) -> Finding

@@ -12,7 +12,7 @@ use crate::read::parts::take_parts;
 use crate::read::pieces::{take_ordered, take_table};
 use crate::read::rows::take_rows;
 use crate::{PlaceRows, PlaceWithouts};
-use cert_text::cert_form::line_text::wide_num::NumList;
+use cert_text::choices::bid_book::line_text::wide_num::NumList;
 use cert_text::choices::{Choice, Grid, Numbers};
 use cert_text::{CertStop, take_count, take_signed};
 use std::alloc::Global;

@@ -14,10 +14,10 @@ ghost use Rattle.place_check.specs.slot_places.specs.Slots.{bid_of, bidder_of};
 ghost use Rattle.place_price.specs.PlaceText.{ArePricedLines, placed_line, placed_lines};
 ghost use Rattle.place_price.specs.PlacePrintable.{CanPrint, IsBidder, IsLineOf, IsRestOf};
 
-use outcome::print_form::line_text::wide_num::Text;
-use outcome::print_form::line_text::{add_decimal, add_number, add_signed};
 use outcome::{Fraction, add_fraction};
-use place_check::place_cert::PlaceCertificate;
+use place_cert::PlaceCertificate;
+use place_cert::cert_text::choices::bid_book::line_text::wide_num::Text;
+use place_cert::cert_text::choices::bid_book::line_text::{add_decimal, add_number, add_signed};
 use place_check::place_laws::slot_places::Slots;
 use place_check::vickrey;
 use std::alloc::AllocError;

@@ -11,10 +11,10 @@ ghost use Rattle.place_price.specs.PlaceText.{IsPlaceText, value_line};
 ghost use Rattle.place_price.specs.PlacePrintable.{CanPrint};
 
 use crate::printing::lines::{add_placed, add_winners};
-use outcome::print_form::line_text::add_signed;
-use outcome::print_form::line_text::wide_num::Text;
 use outcome::{Fraction, add_fraction};
-use place_check::place_cert::PlaceCertificate;
+use place_cert::PlaceCertificate;
+use place_cert::cert_text::choices::bid_book::line_text::add_signed;
+use place_cert::cert_text::choices::bid_book::line_text::wide_num::Text;
 use place_check::place_laws::slot_places::Slots;
 use place_check::sum_paid;
 use std::alloc::{AllocError, Global};
