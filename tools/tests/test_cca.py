@@ -378,6 +378,7 @@ class ByLibraries(Both, Case):
         self.write("right", "fault")
         status, out, told = self.libraries("cca")
         self.assertEqual((status, out.splitlines()[-1], told), (1, "2 of 4 libraries are there", ""))
+        self.assertNotIn("rt: top", out)
         self.write("right", "right")
         self.assertEqual(self.libraries("cca")[1].count(" proved\n"), 2)
         self.assertEqual(self.libraries("none"), (1, "", "usage: bench/libraries [CRATE]\n"))
