@@ -5,7 +5,7 @@ ROOT = pathlib.Path(__file__).resolve().parents[2]
 USES = {"low": "", "left": "low", "right": "low", "top": "left right", "cca": "top", "more_tests": "top"}
 PROGRAM = ["low", "left", "right", "top", "cca"]
 
-# `rt` with no words, `rt ci`, `rt all check`, `rt run`, and what `bench/libraries` calls of its inside, over crates of one file. One that says
+# `rt` with no words, `rt ci`, `rt all check`, `rt run`, and what `bench/libraries` and `bench/proofs` call of its inside, over crates of one file. One that says
 # `fault` is not proved, one that says `slow` takes a minute, and one that says `waits` as long unless there is a file `go`; `dies` makes a
 # program that a signal ends, and `odd` one that prints something else than it should. What is proved is kept in the folder `kept`, as the kit does.
 TOOL = '''#!%s
@@ -13,23 +13,22 @@ import hashlib, os, pathlib, sys, time, types
 kit = pathlib.Path(__file__).resolve().parents[1]
 words, keeps = sys.argv[1:], (kit / "keeps").exists()
 if __name__ != "__main__":
-    words = ["libraries"]
-root = pathlib.Path.cwd() if words[0:1] in (["ci"], ["libraries"]) else pathlib.Path.cwd().parents[1]
+    words = ["inside"]
+root = pathlib.Path.cwd() if words[0:1] in (["ci"], ["inside"]) else pathlib.Path.cwd().parents[1]
 if not words:
     sys.exit("What a run passed is kept" + " beside the\\nkit" * keeps)
-with open(kit / "calls", "a") as calls:
-    print(*words, file=calls)
+def note(file, *words):
+    with open(kit / file, "a") as notes:
+        print(*words, file=notes)
+note("calls", *words)
 uses = dict(line.split("#")[0].split(":") for line in (root / "crates.txt").read_text().splitlines() if ":" in line.split("#")[0])
-if words == ["ci"]:
-    found = sorted(str(it.relative_to(root)) for it in root.rglob("*") if not it.is_dir())
-    (kit / "tree").write_text("\\n".join(found) + "\\n" + str(root))
 source = lambda name: (root / "crates" / name / "src" / "lib.rt").read_text()
 text = {name: source(name) for name in uses}
 below = lambda name: {name}.union(*map(below, uses[name].split()))
 failed = []
-def prove(name):
+def prove(name, keeps=False):
     out, sum = root / "crates" / name / "out", hashlib.sha256(repr(sorted((it, text[it]) for it in below(name))).encode()).hexdigest()
-    kept = kit / "kept" / sum if words == ["ci"] else out / "rlib" / "stamp"
+    kept = kit / "kept" / sum if keeps else out / "rlib" / "stamp"
     if kept.exists() and kept.read_text() == sum:
         return print(f"rt: {name} is kept: by an earlier run", flush=True)
     print(f"== {name}", flush=True)
@@ -43,8 +42,7 @@ def tried(name, out=sys.stdout):
     if "fault" in text[name]:
         print(f"fn {name}::one: proved\\n{root}/crates/{name}/src/lib.rt: error: it is wrong", file=out, flush=True)
         return 1
-    with open(kit / "proved", "a") as proved:
-        print(name, file=proved)
+    note("proved", name)
     for _ in range(600 if text[name] in ("slow", "waits") else 1):
         if text[name] != "waits" or not (kit / "go").exists():
             time.sleep(0.1)
@@ -89,23 +87,44 @@ def in_lanes(tasks):
     return given
 need = lambda crate: 1
 rtlib = types.SimpleNamespace(Crate=Crate, RATTLE="rattle", crates_below=crates_below, guarded=lambda: [], lock=lambda crates: [])
-if (kit / "other").exists():
-    del in_lanes
-if __name__ == "__main__":
-    for name in uses if words != ["run"] else ["cca"]:
-        if words[:1] == ["ci"] or words[:1] == ["all"] and name not in ("cca", "more_tests"):
-            prove(name) if not failed or "slow" in text[name] else print(f"rt: {name} NOT PROVED: its library {failed[0]} failed", flush=True)
-    if words[:1] == ["run"]:
+def make(names, keeps=False):
+    for name in names:
+        prove(name, keeps) if not failed or "slow" in text[name] else print(f"rt: {name} NOT PROVED: its library {failed[0]} failed", flush=True)
+def link():
+    made = root / "crates" / "cca" / "out" / "cca"
+    made.parent.mkdir(exist_ok=True)
+    end = "kill -9 $$" if "dies" in text["cca"] else "exit 3"
+    made.write_text("#!/bin/sh\\necho made of " + " ".join(text[it] for it in sorted(below("cca"))) + ', with "$@"\\n' + end + "\\n")
+    made.chmod(0o755)
+def ci():
+    found = sorted(str(it.relative_to(root)) for it in root.rglob("*") if not it.is_dir())
+    (kit / "tree").write_text("\\n".join(found) + "\\n" + str(root))
+    tasks = {}
+    for name in uses:
+        waits = [(it, "proof") for it in uses[name].split()]
+        tasks[name, "proof"] = waits, 1, 1, lambda given, jobs, name=name: make([name], True)
+        tasks[name, "tests"] = waits, 0, 1, lambda given, jobs, name=name: note("tested", name)
+        if (root / "crates" / name / "must-fail").exists():
+            tasks[name, "edits"] = [(name, "proof"), (name, "tests")], 1, 1, lambda given, jobs, name=name: note("tried", name)
+    given = in_lanes(tasks)
+    for name in uses:
+        given[name, "proof"], given[name, "tests"]
+def main(words):
+    if words == ["ci"]:
+        ci()
+    elif words[:1] == ["all"]:
+        make(it for it in uses if it not in ("cca", "more_tests"))
+    else:
         prove("cca")
     if words[:1] != ["all"] and not failed:
-        made = root / "crates" / "cca" / "out" / "cca"
-        made.parent.mkdir(exist_ok=True)
-        end = "kill -9 $$" if "dies" in text["cca"] else "exit 3"
-        made.write_text("#!/bin/sh\\necho made of " + " ".join(text[it] for it in sorted(below("cca"))) + ', with "$@"\\n' + end + "\\n")
-        made.chmod(0o755)
+        link()
     if "odd" in text["cca"] and words == ["ci"]:
         failed.append(print("rt: FAILED: cca (run)"))
-    sys.exit(bool(failed))
+    return int(bool(failed))
+if __name__ == "__main__":
+    sys.exit(main(words))
+if (kit / "other").exists():
+    del in_lanes
 ''' % sys.executable
 
 
@@ -121,7 +140,8 @@ class Case(unittest.TestCase):
             folder.mkdir(parents=True)
         shutil.copy2(ROOT / "cca", self.root)
         (self.root / "bench").mkdir()
-        shutil.copy2(ROOT / "bench" / "libraries", self.root / "bench")
+        for name in ("kit.py", "libraries", "proofs"):
+            shutil.copy2(ROOT / "bench" / name, self.root / "bench")
         (self.root / "HANDLES").write_text("Handles allowed: none.\n")
         (self.root / "crates.txt").write_text("# Crates.\n" + "".join(f"{name}: {low} # .\n" for name, low in USES.items()))
         for name in USES:
@@ -287,7 +307,7 @@ class Both:
 class ByTheGate(Both, Case):
     """A kit whose gate keeps what passed."""
 
-    calls = ["ci"]
+    calls = ["inside"]
 
     def test_the_copy(self):
         self.call()
@@ -320,6 +340,33 @@ class ByTheGate(Both, Case):
         self.assertEqual(sorted(self.named(told)), sorted(PROGRAM))
         self.assertEqual(self.noted("proved"), [])
 
+    def test_tests_and_edits_are_left_to_the_gate(self):
+        self.call()
+        self.assertEqual((self.noted("tested"), self.noted("tried")), ([], []))
+        subprocess.run([self.kit / "bin" / "rt", "ci"], cwd=self.root, stdout=subprocess.DEVNULL, check=False)
+        self.assertEqual((sorted(self.noted("tested")), sorted(self.noted("tried"))), (sorted(USES), sorted(USES)))
+
+    def proofs(self, *words):
+        """The status of a call of `bench/proofs` at the top of the repository, and what it prints where it is called wrongly."""
+        how = {"cwd": self.root, "env": {"PATH": f"{self.kit / 'bin'}:/usr/bin:/bin"}, "stdout": subprocess.DEVNULL, "stderr": subprocess.PIPE, "text": True}
+        done = subprocess.run([sys.executable, self.root / "bench" / "proofs", *words], **how)
+        return done.returncode, done.stderr
+
+    def test_an_edit_waits_for_its_tests(self):
+        self.assertEqual(self.proofs("ci"), (1, "usage: bench/proofs\n"))
+        self.assertEqual(self.noted("calls"), [])
+        self.assertEqual(self.proofs(), (0, ""))
+        self.assertEqual((sorted(self.noted("tested")), sorted(self.noted("tried"))), (sorted(USES), sorted(USES)))
+        for name in USES:
+            shutil.rmtree(self.root / "crates" / name / "must-fail")
+        self.assertEqual(self.proofs(), (0, ""))
+        self.assertEqual((self.noted("tested"), self.noted("tried")), ([], []))
+
+    def test_a_kit_of_whose_inside_no_more_is_known(self):
+        (self.kit / "other").touch()
+        self.assertEqual(self.call("a", "b")[:2], (3, self.built()))
+        self.assertEqual((self.noted("calls"), sorted(self.noted("tested"))), (["inside", "ci"], sorted(PROGRAM)))
+
     def test_a_store_that_cannot_be_written(self):
         if os.geteuid() == 0:
             self.skipTest("root may write everywhere")
@@ -335,7 +382,7 @@ class ByLibraries(Both, Case):
 
     keeps = False
     memory = os.sysconf("SC_PAGE_SIZE") * os.sysconf("SC_PHYS_PAGES")
-    calls = ["libraries", f"run --jobs {max(1, min(os.cpu_count(), memory // (3 * 10**9)))}"]
+    calls = ["inside", f"run --jobs {max(1, min(os.cpu_count(), memory // (3 * 10**9)))}"]
 
     def test_the_stages(self):
         told = self.call()[2]
@@ -397,7 +444,7 @@ class ByTheKit(Case):
         status, out, told = self.call("a", "b")
         self.assertEqual((status, out), (3, self.built()))
         at_once = max(1, min(os.cpu_count() + 2, ByLibraries.memory // (3 * 10**9)))
-        self.assertEqual(self.noted("calls"), ["libraries", f"all check --jobs {at_once}", "run"])
+        self.assertEqual(self.noted("calls"), ["inside", f"all check --jobs {at_once}", "run"])
         self.assertRegex(told, r"(?m)^cca: reading all sources, 0 of 5 crates, 0 min \d s$")
         self.assertRegex(told, r"(?m)^cca: proving, 1 of 5 crates, 0 min \d s: \w+$")
         self.assertRegex(told, r"(?m)^cca: compiling, 4 of 5 crates, 0 min \d s: top$")

@@ -12,9 +12,9 @@ use Rattle.cca_work.specs.cca_inputs.specs.cert_form.specs.PlaceCert.{PlaceCertV
 use Rattle.cca_work.specs.place_price.specs.cert_laws.specs.Sound.{cert_point}
 use Rattle.cca_work.specs.cca_inputs.specs.limits.specs.declared.TheConstants.{CERT_BYTES, MOST_PLACED, SLOTS_BYTES}
 use Rattle.cca_work.specs.cca_inputs.specs.place_cert.specs.PlaceSays.{PlaceCertSays, place_text}
-use Rattle.cca_work.specs.place_price.specs.place_laws.specs.PlacePriced.{IsPricedPlaceCert, IsSamePricing}
-use Rattle.cca_work.specs.place_price.specs.place_laws.specs.PlaceSound.{IsPlaceSound, prices_in}
-use Rattle.cca_work.specs.place_price.specs.place_laws.specs.PlaceTests as places
+use Rattle.cca_work.specs.place_price.specs.place_check.specs.PlacePriced.{IsPricedPlaceCert, IsSamePricing}
+use Rattle.cca_work.specs.place_price.specs.place_check.specs.PlaceSound.{IsPlaceSound, prices_in}
+use Rattle.cca_work.specs.place_price.specs.place_check.specs.PlaceTests as places
 use Rattle.cca_work.specs.place_price.specs.PlaceText.{IsPlaceText}
 use Rattle.cca_work.specs.outcome.specs.print_form.specs.Turns.{AreTurnLines}
 use Rattle.cca_work.specs.cca_inputs.specs.slot_places.specs.Board.{market_of}

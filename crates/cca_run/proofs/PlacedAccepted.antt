@@ -10,8 +10,8 @@ use Rattle.cca_work.specs.cca_inputs.specs.limits.specs.declared.TheConstants.{C
 use Rattle.cca_work.specs.cca_inputs.specs.place_cert.specs.PlaceSays.{PlaceCertSays, place_text}
 use Rattle.cca_work.specs.cca_inputs.specs.place_cert.specs.PlaceText.{IsPlaceCertificate, place_lines}
 use Rattle.cca_work.specs.place_price.specs.cert_laws.specs.Sound.{cert_point}
-use Rattle.cca_work.specs.place_price.specs.place_laws.specs.PlaceSound.{prices_in}
-use Rattle.cca_work.specs.place_price.specs.place_laws.specs.PlaceTests as places
+use Rattle.cca_work.specs.place_price.specs.place_check.specs.PlaceSound.{prices_in}
+use Rattle.cca_work.specs.place_price.specs.place_check.specs.PlaceTests as places
 use Rattle.cca_work.specs.place_price.specs.PlaceText.{IsPlaceText}
 use Rattle.cca_work.specs.cca_inputs.specs.slot_places.specs.Board.{market_of}
 use Rattle.cca_work.specs.cca_inputs.specs.slot_places.specs.SlotForm.{IsSlotText, slot_lines}

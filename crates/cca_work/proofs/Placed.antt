@@ -5,7 +5,7 @@ use Rattle.place_price.specs.outcome.specs.auction_model.specs.PricingRun.{IsPri
 use Rattle.place_price.specs.outcome.specs.auction_model.specs.Prices.{alike}
 use Rattle.place_price.specs.outcome.specs.core_price.specs.Turns.{turns_of}
 use Rattle.place_price.specs.outcome.specs.core_price.specs.declared.priced.Turn.{Turn}
-use Rattle.place_price.specs.place_laws.specs.PlacePriced.{IsPricedPlaceCert}
+use Rattle.place_price.specs.place_check.specs.PlacePriced.{IsPricedPlaceCert}
 use Rattle.big_auction.specs.row_laws.specs.Turns.{IsLastPoint}
 use Rattle.place_price.specs.cert_laws.specs.Sound.{cert_point}
 use Rattle.cca_inputs.specs.place_cert.specs.CertValues.{place_cert_value}

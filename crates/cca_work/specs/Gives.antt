@@ -35,9 +35,9 @@ use Rattle.place_price.specs.outcome.specs.auction_model.specs.Prices.{alike}
 use Rattle.cca_inputs.specs.cert_form.specs.PlaceCert.{PlaceCertValue}
 use Rattle.cca_inputs.specs.place_cert.specs.PlaceSays.{place_text}
 use Rattle.cca_inputs.specs.place_cert.specs.PlaceText.{IsPlaceCertificate}
-use Rattle.place_price.specs.place_laws.specs.PlacePriced.{IsPricedPlaceCert}
-use Rattle.place_price.specs.place_laws.specs.PlaceSound.{IsPlaceSound, prices_in}
-use Rattle.place_price.specs.place_laws.specs.PlaceTests as places
+use Rattle.place_price.specs.place_check.specs.PlacePriced.{IsPricedPlaceCert}
+use Rattle.place_price.specs.place_check.specs.PlaceSound.{IsPlaceSound, prices_in}
+use Rattle.place_price.specs.place_check.specs.PlaceTests as places
 use Rattle.place_price.specs.PlaceText.{IsPlaceText}
 use Rattle.place_price.specs.outcome.specs.review.specs.declared.edit.Edit.{Edit}
 use Rattle.place_price.specs.outcome.specs.ReviewText.{IsReviewText}

@@ -33,7 +33,7 @@ use cca_inputs::{
 use log_file::award_file::Award;
 use log_file::award_file::bid_book::BidBook;
 use log_file::packages_of_log;
-use place_price::place_check::place_laws::slot_places::Slots;
+use place_price::place_check::slot_places::Slots;
 use std::alloc::Global;
 
 // What the file of a certificate gives whose book and weights are at hand.

@@ -30,6 +30,6 @@ pub use place_price::one_place_text;
 pub use place_price::outcome::one_review_text;
 pub use place_price::outcome::print_form::row_laws::plain_outcome;
 pub use place_price::outcome::print_form::{one_outcome_json, one_price_text, one_run_text};
-pub use place_price::place_check::place_laws::slot_places::{one_slots, slot_market};
-pub use place_price::place_check::place_laws::{one_place_verdict, one_pricing, sound_places};
+pub use place_price::place_check::slot_places::{one_slots, slot_market};
+pub use place_price::place_check::{one_place_verdict, one_pricing, sound_places};
 pub use work::{Stop, Work};

@@ -5,7 +5,7 @@ ghost use Rattle.place_price.specs.outcome.specs.core_price.specs.Turns.{turns_o
 ghost use Rattle.place_price.specs.outcome.specs.Turns.{CanPrintTurn};
 ghost use Rattle.cca_inputs.specs.place_cert.specs.CertValues.{place_cert_value};
 ghost use Rattle.cca_inputs.specs.place_cert.specs.PlaceSays.{place_text};
-ghost use Rattle.place_price.specs.place_laws.specs.PlaceTests.{Holds};
+ghost use Rattle.place_price.specs.place_check.specs.PlaceTests.{Holds};
 ghost use Rattle.cca_inputs.specs.Outcome.{done};
 ghost use Rattle.cca_inputs.specs.declared.status.FileKind.{FileKind};
 ghost use Rattle.cca_work.specs.Gives.{ArePlacedLines, IsPlaceYes, PlaceGives, PlaceVerdictGives, cert_file};
@@ -20,7 +20,7 @@ use cca_inputs::{CertKind, Status};
 use log_file::award_file::bid_book::line_text::wide_num::Text;
 use place_cert::{PlaceCertificate, write_places};
 use place_price::book_price::core_price::Turn;
-use place_price::place_check::place_laws::slot_places::Slots;
+use place_price::place_check::slot_places::Slots;
 use place_price::place_check::{Verdict, check_places};
 use place_price::{PricedPlaces, place_text, priced_places};
 use std::alloc::{AllocError, Global};

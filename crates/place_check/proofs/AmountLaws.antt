@@ -3,8 +3,8 @@ use Rattle.std.specs.Prelude.{◌≡◌, ℕ, zero, suc, ◌^◌, ◌≤◌, ◌
 use Rattle.std.proofs.Common.{inl, inr, ap, arith}
 use Rattle.std.proofs.lemmas.Bool.{cases_lt}
 use Rattle.std.proofs.lemmas.List.{get_or_past}
-use Rattle.place_laws.specs.slot_places.specs.Kept.{AreSlots}
-use Rattle.place_laws.specs.slot_places.specs.Slots.{SlotList, SlotBid, bids_of, bid_of, amount_of, no_bid}
+use Rattle.slot_places.specs.Kept.{AreSlots}
+use Rattle.slot_places.specs.Slots.{SlotList, SlotBid, bids_of, bid_of, amount_of, no_bid}
 
 -- a bidder has no bid with a number past its last
 pub amount-past : (slots : SlotList) (j i : ℕ) → length (bids_of slots j) < i → amount_of slots j i ≡ pos 0

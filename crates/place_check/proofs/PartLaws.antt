@@ -9,9 +9,9 @@ use Rattle.place_cert.specs.CertValues.{place_cert_value}
 use Rattle.place_cert.specs.declared.certificate.PlaceCertificate.{PlaceCertificate}
 use Rattle.place_cert.specs.declared.certificate.PlaceWithout.{PlaceWithout}
 use Rattle.cert_check.specs.cert_laws.specs.cert_form.specs.PlaceCert.{order_without}
-use Rattle.place_laws.specs.PlaceTests.{IsPlacedPart}
-use Rattle.place_laws.specs.slot_places.specs.Orders.{allows}
-use Rattle.place_laws.specs.slot_places.specs.Slots.{SlotList}
+use Rattle.place_check.specs.PlaceTests.{IsPlacedPart}
+use Rattle.slot_places.specs.Orders.{allows}
+use Rattle.slot_places.specs.Slots.{SlotList}
 use Rattle.place_check.specs.Shown.{IsFor}
 
 -- what a certificate keeps, for the bidders of the slots

@@ -8,12 +8,12 @@ use Rattle.cert_check.specs.auction_model.specs.Market.{Market, number_of, uses,
 use Rattle.cert_check.specs.auction_model.specs.Prices.{sum_over}
 use Rattle.cert_check.specs.cert_laws.specs.cert_form.specs.Certificate.{CertValue, RowValue, part_of, row_of, is_member}
 use Rattle.cert_check.specs.cert_laws.specs.MarketTests.{PaysWithinBids, IsTight, ShowsLeastSum, ShowsNearest, won_in, vickrey_in, sum_holding}
-use Rattle.place_laws.specs.slot_places.specs.Board.{market_of}
-use Rattle.place_laws.specs.slot_places.specs.Orders.{allows}
-use Rattle.place_laws.specs.slot_places.specs.Slots.{SlotList, bids_of}
-use Rattle.place_laws.specs.slot_places.proofs.OrderLaws.{allowed-by_order}
+use Rattle.slot_places.specs.Board.{market_of}
+use Rattle.slot_places.specs.Orders.{allows}
+use Rattle.slot_places.specs.Slots.{SlotList, bids_of}
+use Rattle.slot_places.proofs.OrderLaws.{allowed-by_order}
 use Rattle.cert_check.specs.cert_laws.specs.cert_form.specs.PlaceCert.{PlaceCertValue, order_without, order_in_row}
-use Rattle.place_laws.specs.PlaceTests.{P2, P4, P6, IsPlacedPart}
+use Rattle.place_check.specs.PlaceTests.{P2, P4, P6, IsPlacedPart}
 use Rattle.place_check.specs.Shown.{IsTightPlaced}
 
 -- not one of the places 1 to n

@@ -4,10 +4,10 @@ use Rattle.std.proofs.Common.{inl, inr, sym, ◌∙◌, subst, arith, eqb}
 use Rattle.std.proofs.lemmas.Bool.{cases_lt, cond-false, ne_eqb, false≢true}
 use Rattle.std.proofs.lemmas.Int.{ints}
 use Rattle.cert_check.specs.auction_model.specs.Table.{entry_at}
-use Rattle.place_laws.specs.slot_places.specs.Board.{Board, board_of, board_without}
-use Rattle.place_laws.specs.slot_places.specs.SetTable.{holds}
-use Rattle.place_laws.specs.slot_places.specs.Slots.{SlotList, bids_of}
-use Rattle.place_laws.specs.PlaceTests.{ObeysSet}
+use Rattle.slot_places.specs.Board.{Board, board_of, board_without}
+use Rattle.slot_places.specs.SetTable.{holds}
+use Rattle.slot_places.specs.Slots.{SlotList, bids_of}
+use Rattle.place_check.specs.PlaceTests.{ObeysSet}
 use Rattle.place_check.specs.OfferRules.{KeepsBid, KeepsBidder, SetTableAt}
 
 -- a test that fails

@@ -8,13 +8,13 @@ use Rattle.std.proofs.lemmas.List.{length-replicate}
 use Rattle.cert_check.specs.auction_model.specs.Lowered.{of_bidder}
 use Rattle.cert_check.specs.auction_model.specs.Market.{uses, worth_in}
 use Rattle.cert_check.specs.auction_model.proofs.ListLaws.{zeros-at}
-use Rattle.place_laws.specs.slot_places.specs.Board.{board_of, market_of}
-use Rattle.place_laws.specs.slot_places.specs.Kept.{AreSlots}
-use Rattle.place_laws.specs.slot_places.specs.Slots.{SlotList, bid_of, amount_of}
-use Rattle.place_laws.specs.slot_places.proofs.WithoutLaws.{one-bid}
+use Rattle.slot_places.specs.Board.{board_of, market_of}
+use Rattle.slot_places.specs.Kept.{AreSlots}
+use Rattle.slot_places.specs.Slots.{SlotList, bid_of, amount_of}
+use Rattle.slot_places.proofs.WithoutLaws.{one-bid}
 use Rattle.cert_check.specs.cert_laws.specs.cert_form.specs.PlaceCert.{PlaceCertValue}
-use Rattle.place_laws.specs.PlaceTests.{lowered_in, P1, P2, P3, P5}
-use Rattle.place_laws.proofs.SetSizes.{worth-most}
+use Rattle.place_check.specs.PlaceTests.{lowered_in, P1, P2, P3, P5}
+use Rattle.place_check.proofs.SetSizes.{worth-most}
 use Rattle.cert_check.proofs.LoweredLaws.{scaled-small}
 use Rattle.cert_check.proofs.Worths.{once}
 use Rattle.place_check.specs.OfferRules.{worth_with, HasSmallWorths}

@@ -3,9 +3,9 @@ use Rattle.std.specs.Prelude.{◌≡◌, ℕ, ◌+◌, ◌<◌, Some, None, refl
 use Rattle.std.proofs.Common.{inl, inr, sym, subst, arith}
 use Rattle.std.proofs.lemmas.Bool.{cases_lt}
 use Rattle.cert_check.specs.Places.{IsFirstFailing}
-use Rattle.place_laws.specs.slot_places.specs.Slots.{SlotList}
+use Rattle.slot_places.specs.Slots.{SlotList}
 use Rattle.cert_check.specs.cert_laws.specs.cert_form.specs.PlaceCert.{PlaceCertValue}
-use Rattle.place_laws.specs.PlaceTests.{Asks, Holds, FailsFirst, P1, P2, P3, P5}
+use Rattle.place_check.specs.PlaceTests.{Asks, Holds, FailsFirst, P1, P2, P3, P5}
 use Rattle.place_check.specs.Verdicts.{HoldsUpTo}
 
 module _ (slots : SlotList) (p : PlaceCertValue) (t : ℕ) (before : HoldsUpTo slots p t) where

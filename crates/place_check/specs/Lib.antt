@@ -1,7 +1,9 @@
+pub mod PlaceTests
+pub mod PlaceSound
+pub mod PlacePriced
 pub mod Verdicts
 pub mod OfferRules
 pub mod Shown
 pub mod RowSums
 pub use Rattle.place_cert
-pub use Rattle.place_laws
-pub use Rattle.place_laws.specs.slot_places
+pub use Rattle.slot_places

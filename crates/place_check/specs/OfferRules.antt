@@ -2,10 +2,10 @@
 use Rattle.std.specs.Prelude.{◌≡◌, ℕ, ◌+◌, ◌-◌, ◌^◌, ◌<◌, ◌≤◌, IsTrue, IsFalse, List, length, ℤ, ◌+ℤ◌, ◌-ℤ◌, ◌*ℤ◌, ◌≤ℤ◌, unsigned_abs}
 use Rattle.cert_check.specs.auction_model.specs.Lowered.{of_bidder}
 use Rattle.cert_check.specs.auction_model.specs.Table.{entry_at}
-use Rattle.place_laws.specs.slot_places.specs.Board.{Board, board_without}
-use Rattle.place_laws.specs.slot_places.specs.SetTable.{holds}
-use Rattle.place_laws.specs.slot_places.specs.Slots.{SlotList, amount_of}
-use Rattle.place_laws.specs.PlaceTests.{ObeysSet}
+use Rattle.slot_places.specs.Board.{Board, board_without}
+use Rattle.slot_places.specs.SetTable.{holds}
+use Rattle.slot_places.specs.Slots.{SlotList, amount_of}
+use Rattle.place_check.specs.PlaceTests.{ObeysSet}
 
 -- den times an amount, less what its bidder gains
 abbrev pub worth_with : SlotList → ℤ → List ℤ → ℕ → ℕ → ℤ

@@ -8,12 +8,12 @@ use Rattle.cert_check.specs.cert_laws.specs.MarketTests.{IsTight}
 use Rattle.place_cert.specs.Parts.{row_value}
 use Rattle.place_cert.specs.declared.certificate.PlaceCertificate.{PlaceCertificate}
 use Rattle.place_cert.specs.declared.certificate.PlaceRow.{PlaceRow}
-use Rattle.place_laws.specs.slot_places.specs.Board.{board_of, market_of}
-use Rattle.place_laws.specs.slot_places.specs.Orders.{allows}
-use Rattle.place_laws.specs.slot_places.specs.SetTable.{holds}
-use Rattle.place_laws.specs.slot_places.specs.Slots.{SlotList, amount_of}
+use Rattle.slot_places.specs.Board.{board_of, market_of}
+use Rattle.slot_places.specs.Orders.{allows}
+use Rattle.slot_places.specs.SetTable.{holds}
+use Rattle.slot_places.specs.Slots.{SlotList, amount_of}
 use Rattle.cert_check.specs.cert_laws.specs.cert_form.specs.PlaceCert.{PlaceCertValue}
-use Rattle.place_laws.specs.PlaceTests.{P5}
+use Rattle.place_check.specs.PlaceTests.{P5}
 
 -- the certificate has as many bidders as the slots
 abbrev pub IsFor : SlotList → PlaceCertificate → Type 0

@@ -2,9 +2,9 @@
 use Rattle.std.specs.Prelude.{ℕ, ◌<◌}
 use Rattle.cert_check.specs.declared.verdict.Verdict.{Verdict}
 use Rattle.cert_check.specs.declared.verdict.Verdict.TheVariants.{Yes, No}
-use Rattle.place_laws.specs.slot_places.specs.Slots.{SlotList}
+use Rattle.slot_places.specs.Slots.{SlotList}
 use Rattle.cert_check.specs.cert_laws.specs.cert_form.specs.PlaceCert.{PlaceCertValue}
-use Rattle.place_laws.specs.PlaceTests.{Asks, Holds, FailsFirst}
+use Rattle.place_check.specs.PlaceTests.{Asks, Holds, FailsFirst}
 
 -- yes where all tests hold at all places, else the first test that fails with its first place
 abbrev pub IsPlaceVerdict : SlotList → PlaceCertValue → Verdict → Type 0

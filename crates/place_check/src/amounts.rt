@@ -2,10 +2,10 @@
 ghost use Rattle.std.specs.Prelude.{◌≡◌, ◌*◌, ◌≤◌, ◌<◌, ◌≤ℤ◌, length, pos};
 ghost use Rattle.cert_check.specs.auction_model.specs.Market.{value_of};
 ghost use Rattle.cert_check.specs.limits.specs.declared.TheConstants.{MOST_AMOUNT, MOST_PLACED};
-ghost use Rattle.place_laws.specs.slot_places.specs.Board.{market_of};
-ghost use Rattle.place_laws.specs.slot_places.specs.Slots.{amount_of};
+ghost use Rattle.slot_places.specs.Board.{market_of};
+ghost use Rattle.slot_places.specs.Slots.{amount_of};
 
-use place_laws::slot_places::Slots;
+use slot_places::Slots;
 
 /// The amount of bid `i` of bidder `j`, and 0 where it has no such bid.
 pub(crate) fn amount(slots: &Slots, j: u16, i: u16) -> i128

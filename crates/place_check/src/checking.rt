@@ -3,19 +3,19 @@ ghost use Rattle.std.specs.Prelude.{◌≡◌, ◌<◌, ◌≤◌, ◌↔◌, �
 ghost use Rattle.cert_check.specs.Head.{HoldsBefore};
 ghost use Rattle.cert_check.specs.Places.{IsFirstFailing};
 ghost use Rattle.place_cert.specs.CertValues.{place_cert_value};
-ghost use Rattle.place_laws.specs.PlacePriced.{IsPricedPlaceCert};
-ghost use Rattle.place_laws.specs.PlaceSound.{IsPlaceSound};
-ghost use Rattle.place_laws.specs.PlaceTests.{Asks};
+ghost use Rattle.place_check.specs.PlacePriced.{IsPricedPlaceCert};
+ghost use Rattle.place_check.specs.PlaceSound.{IsPlaceSound};
+ghost use Rattle.place_check.specs.PlaceTests.{Asks};
 ghost use Rattle.place_check.specs.Shown.{IsFor};
 ghost use Rattle.place_check.specs.Verdicts.{HoldsUpTo, IsPlaceVerdict};
 
 use crate::claims::{least_holds, nearest_holds, payment_holds, row_holds};
 use crate::heads::{amounts_hold, choice_holds, lowered_holds, sizes_hold};
+use crate::laws::{one_place_verdict, sound_places};
 use crate::parts::part_holds;
 use cert_check::Verdict;
 use place_cert::PlaceCertificate;
-use place_laws::slot_places::Slots;
-use place_laws::{one_place_verdict, sound_places};
+use slot_places::Slots;
 
 /// Tests a placement certificate of slots.
 ///

@@ -7,9 +7,9 @@ ghost use Rattle.cert_check.specs.cert_laws.specs.cert_form.specs.Certificate.{i
 ghost use Rattle.cert_check.specs.cert_laws.specs.MarketTests.{IsTight, sum_holding, vickrey_in};
 ghost use Rattle.place_cert.specs.CertValues.{place_cert_value};
 ghost use Rattle.place_cert.specs.Parts.{part_value, row_value, row_order, AreRows};
-ghost use Rattle.place_laws.specs.PlaceTests.{P5, P6, P7, P8};
-ghost use Rattle.place_laws.specs.slot_places.specs.Board.{market_of};
-ghost use Rattle.place_laws.specs.slot_places.specs.Orders.{allows};
+ghost use Rattle.place_check.specs.PlaceTests.{P5, P6, P7, P8};
+ghost use Rattle.slot_places.specs.Board.{market_of};
+ghost use Rattle.slot_places.specs.Orders.{allows};
 ghost use Rattle.place_check.specs.Shown.{HasSmallProducts, IsTightPlaced, IsFor, IsRowFor};
 
 use crate::amounts::worth;
@@ -20,7 +20,7 @@ use cert_check::sums::members::{uses_all, uses_none};
 use cert_check::sums::paid_by;
 use cert_check::{is_first, is_signed};
 use place_cert::{PlaceCertificate, PlaceRow};
-use place_laws::slot_places::Slots;
+use slot_places::Slots;
 
 /// Whether P5 holds at a place: a winner pays no more than it bids, and a loser nothing.
 pub(crate) fn payment_holds(slots: &Slots, cert: &PlaceCertificate, place: usize) -> bool

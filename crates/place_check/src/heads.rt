@@ -4,8 +4,8 @@ ghost use Rattle.cert_check.specs.auction_model.specs.Lowered.{of_bidder};
 ghost use Rattle.cert_check.specs.auction_model.specs.Market.{uses, worth_in};
 ghost use Rattle.cert_check.specs.Head.{HoldsBefore};
 ghost use Rattle.place_cert.specs.CertValues.{place_cert_value};
-ghost use Rattle.place_laws.specs.PlaceTests.{P1, P2, P3, P5, P9};
-ghost use Rattle.place_laws.specs.slot_places.specs.Board.{market_of};
+ghost use Rattle.place_check.specs.PlaceTests.{P1, P2, P3, P5, P9};
+ghost use Rattle.slot_places.specs.Board.{market_of};
 ghost use Rattle.place_check.specs.Shown.{gain_in, CanLower, HasSmallProducts, IsFor};
 
 use crate::amounts::worth;
@@ -16,7 +16,7 @@ use crate::tables::table_holds;
 use cert_check::sums::amounts::is_equal;
 use cert_check::{is_small, sum_paid};
 use place_cert::PlaceCertificate;
-use place_laws::slot_places::{MOST_PLACED, Slots};
+use slot_places::{MOST_PLACED, Slots};
 
 /// Whether P1 holds at a place: the denominator, the value, and their product.
 pub(crate) fn sizes_hold(cert: &PlaceCertificate, place: usize) -> bool

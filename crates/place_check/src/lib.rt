@@ -1,4 +1,10 @@
-//! The checker of the certificates of placements in a band. It takes no memory.
+//! The certificates of placements in a band: what each test of one asks, what a yes says, and the checker. It takes no memory.
+//!
+//! A placement certificate says which bidders are given their bids for a start in a band, in which order all bidders are laid side by
+//! side, what the winners pay, and why. It is a certificate whose tables go over sets of bidders: the entry of a set is what the
+//! bidders outside it can still come to, where those of the set are placed first (Held and Karp, A dynamic programming approach to
+//! sequencing problems, Journal of the Society for Industrial and Applied Mathematics 10, 1962). Beside each choice stands an order
+//! that allows it. So the tests P1 to P9 need no search, and they ask that the choice is one of the greatest, not the first of them.
 //!
 //! The nine tests, in their order, and who makes each at a place:
 //!
@@ -18,6 +24,7 @@ mod checking;
 mod claims;
 mod figures;
 mod heads;
+mod laws;
 mod offers;
 mod parts;
 mod sums;
@@ -26,4 +33,8 @@ mod tables;
 pub use cert_check::{Verdict, sum_paid};
 pub use checking::check_places;
 pub use claims::vickrey;
-pub use place_laws;
+pub use laws::{
+    exact_set_tables, exact_tests, first_entries, one_place_verdict, one_pricing, set_sizes,
+    sound_places,
+};
+pub use slot_places;

@@ -1,12 +1,12 @@
 // The bids that a table over sets is tested for.
 ghost use Rattle.std.specs.Prelude.{◌≡◌, ◌≤◌, ◌<◌, ◌^◌, length, unsigned_abs, ◌*ℤ◌, ◌-ℤ◌};
 ghost use Rattle.cert_check.specs.limits.specs.declared.TheConstants.{MOST_LOTS};
-ghost use Rattle.place_laws.specs.slot_places.specs.Board.{board_without};
-ghost use Rattle.place_laws.specs.slot_places.specs.Slots.{amount_of};
+ghost use Rattle.slot_places.specs.Board.{board_without};
+ghost use Rattle.slot_places.specs.Slots.{amount_of};
 ghost use Rattle.place_check.specs.OfferRules.{worth_with, HasSmallWorths};
 
 use crate::amounts::amount;
-use place_laws::slot_places::Slots;
+use slot_places::Slots;
 
 /// The bids of all bidders but `skip`, each with `den` times its amount less what its bidder gains, times `den`.
 #[derive(Drop)]

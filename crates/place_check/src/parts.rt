@@ -5,9 +5,9 @@ ghost use Rattle.place_cert.specs.CertValues.{place_cert_value};
 ghost use Rattle.place_cert.specs.Parts.{part_value, part_order};
 ghost use Rattle.place_cert.specs.PlaceText.{HasSets};
 ghost use Rattle.cert_check.specs.cert_laws.specs.cert_form.specs.PlaceCert.{order_without};
-ghost use Rattle.place_laws.specs.PlaceTests.{IsPlacedPart, ObeysSets, P4};
-ghost use Rattle.place_laws.specs.slot_places.specs.Board.{board_without};
-ghost use Rattle.place_laws.specs.slot_places.specs.Slots.{amount_of};
+ghost use Rattle.place_check.specs.PlaceTests.{IsPlacedPart, ObeysSets, P4};
+ghost use Rattle.slot_places.specs.Board.{board_without};
+ghost use Rattle.slot_places.specs.Slots.{amount_of};
 ghost use Rattle.place_check.specs.Shown.{IsFor};
 
 use crate::amounts::worth;
@@ -15,7 +15,7 @@ use crate::figures::is_one_of;
 use crate::offers::Offers;
 use crate::tables::{is_at_most, obeys_sets};
 use place_cert::{PlaceCertificate, PlaceWithout};
-use place_laws::slot_places::{MOST_PLACED, Slots};
+use slot_places::{MOST_PLACED, Slots};
 
 /// Whether P4 holds at a place: the part of a winner shows the best choice without it.
 pub(crate) fn part_holds(slots: &Slots, cert: &PlaceCertificate, place: usize) -> bool

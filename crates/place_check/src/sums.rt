@@ -5,7 +5,7 @@ ghost use Rattle.cert_check.specs.auction_model.specs.Prices.{sum_over};
 ghost use Rattle.cert_check.specs.cert_laws.specs.cert_form.specs.Certificate.{is_member};
 ghost use Rattle.cert_check.specs.limits.specs.declared.TheConstants.{MOST_AMOUNT, MOST_PLACED};
 ghost use Rattle.place_cert.specs.Parts.{row_value, AreRows};
-ghost use Rattle.place_laws.specs.slot_places.specs.Board.{market_of};
+ghost use Rattle.slot_places.specs.Board.{market_of};
 ghost use Rattle.place_check.specs.RowSums.{AreRowSums};
 
 use crate::amounts::amount;
@@ -14,7 +14,7 @@ use cert_check::sums::amounts::counted;
 use cert_check::sums::members::is_among;
 use place_cert::PlaceRow;
 use place_cert::cert_text::choices::Choice;
-use place_laws::slot_places::{MOST_PLACED, Slots};
+use slot_places::{MOST_PLACED, Slots};
 
 /// What the bid that the choice gives to bidder `j` is worth, and 0 for a loser.
 pub(crate) fn won(slots: &Slots, choice: &Choice, j: u16) -> i128

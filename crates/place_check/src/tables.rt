@@ -2,14 +2,14 @@
 ghost use Rattle.std.specs.Prelude.{IsTrue, IsFalse, length, ◌≡◌, ◌+◌, ◌-◌, ◌≤◌, ◌<◌, ◌^◌, ◌↔◌, ◌≤ℤ◌, ◌+ℤ◌, pos, unsigned_abs};
 ghost use Rattle.cert_check.specs.auction_model.specs.Table.{entry_at};
 ghost use Rattle.place_cert.specs.PlaceText.{HasSets};
-ghost use Rattle.place_laws.specs.PlaceTests.{ObeysSet, ObeysSets};
-ghost use Rattle.place_laws.specs.slot_places.specs.Board.{board_without};
-ghost use Rattle.place_laws.specs.slot_places.specs.SetTable.{holds};
+ghost use Rattle.place_check.specs.PlaceTests.{ObeysSet, ObeysSets};
+ghost use Rattle.slot_places.specs.Board.{board_without};
+ghost use Rattle.slot_places.specs.SetTable.{holds};
 ghost use Rattle.place_check.specs.OfferRules.{worth_with, KeepsBid, KeepsBidder, SetTableAt};
 
 use crate::offers::Offers;
 use place_cert::cert_text::choices::Grid;
-use place_laws::slot_places::sets::{is_in, weight};
+use slot_places::sets::{is_in, weight};
 
 /// Whether the rules hold at a place of a table, which is a set, or behind all sets the most that the entry of nobody may be.
 pub(crate) fn table_holds(offers: &Offers, table: &Grid, most: i128, place: usize) -> bool

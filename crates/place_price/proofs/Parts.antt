@@ -14,7 +14,7 @@ use Rattle.book_price.specs.choices.specs.Singles.{AreSingles}
 use Rattle.book_price.specs.choices.specs.declared.chooser.Single.{Single}
 use Rattle.place_check.specs.place_cert.specs.Parts.{part_order, part_value}
 use Rattle.place_check.specs.place_cert.specs.declared.certificate.PlaceWithout.{PlaceWithout}
-use Rattle.place_check.specs.place_laws.specs.PlacePriced.{IsBestPlacedPart}
+use Rattle.place_check.specs.PlacePriced.{IsBestPlacedPart}
 use Rattle.place_price.specs.PlacedParts.{ArePartsOf, IsBest, IsPartOf, tables_of}
 use Rattle.place_check.specs.slot_places.specs.Board.{market_of}
 use Rattle.place_check.specs.slot_places.specs.Slots.{SlotList}

@@ -21,10 +21,10 @@ use Rattle.book_price.specs.core_price.specs.declared.priced.Priced.{Priced}
 use Rattle.place_check.specs.place_cert.specs.Parts.{part_order, row_order, row_value}
 use Rattle.place_check.specs.place_cert.specs.declared.certificate.PlaceRow.{PlaceRow}
 use Rattle.place_check.specs.place_cert.specs.declared.certificate.PlaceWithout.{PlaceWithout}
-use Rattle.place_check.specs.place_laws.specs.PlacePriced.{IsBestPlacedPart, IsPricedPlaceCert}
-use Rattle.place_check.specs.place_laws.specs.PlaceTests.{Holds, P1, P4, P6, P8, P9}
-use Rattle.place_check.specs.place_laws.proofs.ExactTests.{head-choice, head-table, lowered-table, part-passes}
-use Rattle.place_check.specs.place_laws.proofs.Sound.{sound}
+use Rattle.place_check.specs.PlacePriced.{IsBestPlacedPart, IsPricedPlaceCert}
+use Rattle.place_check.specs.PlaceTests.{Holds, P1, P4, P6, P8, P9}
+use Rattle.place_check.proofs.ExactTests.{head-choice, head-table, lowered-table, part-passes}
+use Rattle.place_check.proofs.Sound.{sound}
 use Rattle.place_price.specs.Found.{AreFound}
 use Rattle.place_price.specs.Ones.{ones}
 use Rattle.place_price.specs.PlacedParts.{tables_of}

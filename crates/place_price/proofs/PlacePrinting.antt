@@ -10,12 +10,12 @@ use Rattle.outcome.specs.auction_model.specs.Lowered.{of_bidder}
 use Rattle.outcome.specs.auction_model.specs.Market.{Market, number_of, uses}
 use Rattle.outcome.specs.cert_form.specs.Certificate.{CertValue}
 use Rattle.outcome.specs.cert_laws.specs.MarketTests.{vickrey_in}
-use Rattle.place_check.specs.place_laws.specs.PlaceSound.{prices_in}
+use Rattle.place_check.specs.PlaceSound.{prices_in}
 use Rattle.outcome.specs.print_form.specs.Fractions.{IsFractionText}
 use Rattle.outcome.specs.auction_model.specs.Prices.{Point, everyone, sum_over}
 use Rattle.place_check.specs.place_cert.specs.CertValues.{place_cert_value}
 use Rattle.place_check.specs.place_cert.specs.declared.certificate.PlaceCertificate.{PlaceCertificate}
-use Rattle.place_check.specs.place_laws.specs.PlaceTests.{Holds}
+use Rattle.place_check.specs.PlaceTests.{Holds}
 use Rattle.place_check.specs.slot_places.specs.Board.{board_of, is_known, joined, nobody}
 use Rattle.place_check.specs.slot_places.specs.Orders.{are_new, gives, is_order}
 use Rattle.place_check.specs.slot_places.specs.Slots.{SlotList, bid_of, bidder_of}

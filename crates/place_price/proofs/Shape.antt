@@ -25,9 +25,9 @@ use Rattle.place_check.specs.place_cert.specs.Parts.{part_order, part_value, pla
 use Rattle.place_check.specs.place_cert.specs.PlaceText.{AreOrderedRows, AreOrderedWithouts, HasSets, IsOrderedWithout, IsPlaceCertificate}
 use Rattle.place_check.specs.place_cert.specs.declared.certificate.PlaceRow.{PlaceRow}
 use Rattle.place_check.specs.place_cert.specs.declared.certificate.PlaceWithout.{PlaceWithout}
-use Rattle.place_check.specs.place_laws.specs.PlaceTests.{lowered_in}
-use Rattle.place_check.specs.place_laws.proofs.Exact.{lowered-obeys, plain-obeys}
-use Rattle.place_check.specs.place_laws.proofs.FirstEntry.{whole-entry}
+use Rattle.place_check.specs.PlaceTests.{lowered_in}
+use Rattle.place_check.proofs.Exact.{lowered-obeys, plain-obeys}
+use Rattle.place_check.proofs.FirstEntry.{whole-entry}
 use Rattle.place_price.specs.Found.{AreFound}
 use Rattle.place_price.specs.PlacedParts.{IsBest, tables_of}
 use Rattle.place_price.specs.PlacedRows.{IsPlacedRow}

@@ -9,11 +9,11 @@ use Rattle.book_price.proofs.Shapes.{not_negative-small}
 use Rattle.book_price.specs.cert_laws.specs.cert_form.specs.Certificate.{WithoutValue}
 use Rattle.book_price.specs.cert_laws.specs.cert_form.specs.CertText.{AllInRange, InRange}
 use Rattle.place_check.specs.place_cert.specs.PlaceText.{HasSets}
-use Rattle.place_check.specs.place_laws.specs.PlacePriced.{IsBestPlacedPart}
-use Rattle.place_check.specs.place_laws.specs.PlaceTests.{ObeysSets}
-use Rattle.place_check.specs.place_laws.proofs.Exact.{without-obeys}
-use Rattle.place_check.specs.place_laws.proofs.FirstEntry.{without-entry}
-use Rattle.place_check.specs.place_laws.proofs.SetSizes.{entry-least, entry-most}
+use Rattle.place_check.specs.PlacePriced.{IsBestPlacedPart}
+use Rattle.place_check.specs.PlaceTests.{ObeysSets}
+use Rattle.place_check.proofs.Exact.{without-obeys}
+use Rattle.place_check.proofs.FirstEntry.{without-entry}
+use Rattle.place_check.proofs.SetSizes.{entry-least, entry-most}
 use Rattle.place_check.specs.slot_places.specs.Board.{Board, board_without, market_of}
 use Rattle.place_check.specs.slot_places.specs.Kept.{AreSlots}
 use Rattle.place_check.specs.slot_places.specs.SetTable.{IsSetTable}

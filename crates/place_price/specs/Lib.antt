@@ -10,4 +10,4 @@ pub use Rattle.book_price.specs.cert_laws
 pub use Rattle.book_price.specs.core_price
 pub use Rattle.book_price.specs.row_laws
 pub use Rattle.outcome
-pub use Rattle.place_check.specs.place_laws
+pub use Rattle.place_check

@@ -5,7 +5,7 @@ use Rattle.book_price.specs.choices.specs.declared.chooser.Single.{Single}
 use Rattle.book_price.specs.Made.{parts_from}
 use Rattle.place_check.specs.place_cert.specs.Parts.{part_value}
 use Rattle.place_check.specs.place_cert.specs.declared.certificate.PlaceWithout.{PlaceWithout}
-use Rattle.place_check.specs.place_laws.specs.PlacePriced.{IsBestPlacedPart}
+use Rattle.place_check.specs.PlacePriced.{IsBestPlacedPart}
 use Rattle.place_check.specs.slot_places.specs.Slots.{SlotList}
 
 -- the first of the greatest choices without its winner, with the placement and the exact table

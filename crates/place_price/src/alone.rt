@@ -10,7 +10,7 @@ ghost use Rattle.place_check.specs.slot_places.specs.Board.{market_of};
 use crate::placing::placement;
 use place_cert::cert_text::choices::{Chooser, Single};
 use place_cert::{PlaceWithout, PlaceWithouts};
-use place_check::place_laws::slot_places::SlotChooser;
+use place_check::slot_places::SlotChooser;
 use std::alloc::{AllocError, Global};
 
 /// All winners in order, each alone, with the parts of the certificate without each of them.

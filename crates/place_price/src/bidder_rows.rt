@@ -9,7 +9,7 @@ use crate::placing::placement;
 use book_price::core_price::{PricedRow, members_of};
 use place_cert::cert_text::choices::Choice;
 use place_cert::{PlaceRow, PlaceRows};
-use place_check::place_laws::slot_places::Slots;
+use place_check::slot_places::Slots;
 use std::alloc::{AllocError, Global};
 
 /// The rows with their members, multipliers, choices and placements, in order.

@@ -8,7 +8,7 @@ ghost use Rattle.book_price.specs.core_price.specs.Turns.{point_of};
 ghost use Rattle.book_price.specs.row_laws.specs.Winners;
 ghost use Rattle.place_check.specs.place_cert.specs.CertValues.{place_cert_value};
 ghost use Rattle.place_check.specs.place_cert.specs.Parts.{row_value};
-ghost use Rattle.place_check.specs.place_laws.specs.PlacePriced.{IsPricedPlaceCert};
+ghost use Rattle.place_check.specs.PlacePriced.{IsPricedPlaceCert};
 ghost use Rattle.place_check.specs.slot_places.specs.Board.{market_of};
 ghost use Rattle.place_check.specs.slot_places.specs.Orders.{IsPlacement};
 ghost use Rattle.place_price.specs.Found.{AreFound};
@@ -21,7 +21,7 @@ use book_price::core_price::{Priced, for_bidders};
 use place_cert::cert_text::choices::bid_book::line_text::wide_num::NumList;
 use place_cert::cert_text::choices::{Choice, Found, Grid, Numbers};
 use place_cert::{PlaceCertificate, PlaceRows, PlaceWithouts};
-use place_check::place_laws::slot_places::Slots;
+use place_check::slot_places::Slots;
 use std::alloc::{AllocError, Global};
 
 /// What the certificate has beside what was found: the placement of its choice, what each bidder pays, and its rows.

@@ -4,7 +4,7 @@ ghost use Rattle.place_check.specs.slot_places.specs.Board.{market_of};
 ghost use Rattle.place_check.specs.slot_places.specs.Orders.{IsPlacement};
 
 use place_cert::cert_text::choices::{Choice, Numbers};
-use place_check::place_laws::slot_places::Slots;
+use place_check::slot_places::Slots;
 use std::alloc::{AllocError, Global};
 
 /// The placement of an allowed choice: the first order that allows it. The only error is want of memory.

@@ -13,7 +13,7 @@ ghost use Rattle.book_price.specs.core_price.specs.Priced.{IsPriced};
 ghost use Rattle.book_price.specs.core_price.specs.Turns.{IsPointOfTurn, turns_of};
 ghost use Rattle.book_price.specs.core_price.specs.declared.priced.PriceStop.TheVariants.{Memory};
 ghost use Rattle.place_check.specs.place_cert.specs.CertValues.{place_cert_value};
-ghost use Rattle.place_check.specs.place_laws.specs.PlacePriced.{IsPricedPlaceCert};
+ghost use Rattle.place_check.specs.PlacePriced.{IsPricedPlaceCert};
 ghost use Rattle.place_price.specs.Found.{AreFound};
 ghost use Rattle.place_price.specs.Ones.{ones};
 ghost use Rattle.book_price.specs.row_laws.specs.Surplus.{surpluses_of};
@@ -28,7 +28,7 @@ use crate::certificate::certificate;
 use book_price::core_price::{PriceStop, Priced, TurnList, price};
 use place_cert::cert_text::choices::{Found, Grid, Single};
 use place_cert::{PlaceCertificate, PlaceWithouts};
-use place_check::place_laws::slot_places::{SlotChooser, Slots, place_best};
+use place_check::slot_places::{SlotChooser, Slots, place_best};
 use std::alloc::{AllocError, Global};
 
 /// The prices of slots: the certificate that shows them, and the turns that led to them.

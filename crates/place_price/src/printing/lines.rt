@@ -8,7 +8,7 @@ ghost use Rattle.outcome.specs.cert_laws.specs.Sound.{cert_point};
 ghost use Rattle.outcome.specs.Fractions.{IsFractionOf};
 ghost use Rattle.outcome.specs.print_form.specs.Fractions.{IsFractionText};
 ghost use Rattle.place_check.specs.place_cert.specs.CertValues.{place_cert_value};
-ghost use Rattle.place_check.specs.place_laws.specs.PlaceSound.{prices_in};
+ghost use Rattle.place_check.specs.PlaceSound.{prices_in};
 ghost use Rattle.place_check.specs.slot_places.specs.Board.{market_of};
 ghost use Rattle.place_check.specs.slot_places.specs.Slots.{bid_of, bidder_of};
 ghost use Rattle.place_price.specs.PlaceText.{ArePricedLines, placed_line, placed_lines};
@@ -18,7 +18,7 @@ use outcome::{Fraction, add_fraction};
 use place_cert::PlaceCertificate;
 use place_cert::cert_text::choices::bid_book::line_text::wide_num::Text;
 use place_cert::cert_text::choices::bid_book::line_text::{add_decimal, add_number, add_signed};
-use place_check::place_laws::slot_places::Slots;
+use place_check::slot_places::Slots;
 use place_check::vickrey;
 use std::alloc::AllocError;
 

@@ -3,8 +3,8 @@ ghost use Rattle.std.specs.Prelude.{◌≡◌, ◌++◌, codes, IfOk, OnOk, leng
 ghost use Rattle.outcome.specs.auction_model.specs.Prices.{paid};
 ghost use Rattle.outcome.specs.cert_laws.specs.Sound.{cert_point};
 ghost use Rattle.place_check.specs.place_cert.specs.CertValues.{place_cert_value};
-ghost use Rattle.place_check.specs.place_laws.specs.PlaceSound.{prices_in};
-ghost use Rattle.place_check.specs.place_laws.specs.PlaceTests.{Holds};
+ghost use Rattle.place_check.specs.PlaceSound.{prices_in};
+ghost use Rattle.place_check.specs.PlaceTests.{Holds};
 ghost use Rattle.outcome.specs.print_form.specs.Fractions.{IsFractionText};
 ghost use Rattle.place_check.specs.slot_places.specs.Board.{market_of};
 ghost use Rattle.place_price.specs.PlaceText.{IsPlaceText, value_line};
@@ -15,7 +15,7 @@ use outcome::{Fraction, add_fraction};
 use place_cert::PlaceCertificate;
 use place_cert::cert_text::choices::bid_book::line_text::add_signed;
 use place_cert::cert_text::choices::bid_book::line_text::wide_num::Text;
-use place_check::place_laws::slot_places::Slots;
+use place_check::slot_places::Slots;
 use place_check::sum_paid;
 use std::alloc::{AllocError, Global};
 

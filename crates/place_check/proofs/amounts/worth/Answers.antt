@@ -3,7 +3,7 @@ use Rattle.std.proofs.lemmas.Int.{ints, to_z-of_z}
 use Rattle.std.proofs.lemmas.List.{drop_all}
 use Rattle.cert_check.specs.auction_model.specs.Market.{sum_after}
 use Rattle.cert_check.specs.auction_model.proofs.ChoiceLaws.{sum-step}
-use Rattle.place_laws.specs.slot_places.specs.Slots.{amount_of}
+use Rattle.slot_places.specs.Slots.{amount_of}
 use mir.Val.{SFits, to_z}
 use mir.Syntax.{w128}
 use Rattle.place_check.proofs.amounts.worth.Goals as goal

@@ -1,6 +1,6 @@
 use Rattle.std.proofs.Common.{◌≡◌, ◌≤◌, ◌*◌, ◌^◌, ◌+ℤ◌, ◌≤ℤ◌, pos, drop, unsigned_abs}
 use Rattle.cert_check.specs.auction_model.specs.Market.{sum_after}
-use Rattle.place_laws.specs.slot_places.specs.Slots.{amount_of}
+use Rattle.slot_places.specs.Slots.{amount_of}
 use Rattle.place_check.proofs.amounts.worth.Given as goal
 
 abbrev pub invariant-loop-k : goal.invariant-loop-k

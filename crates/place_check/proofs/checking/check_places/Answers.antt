@@ -1,7 +1,7 @@
 use Rattle.std.proofs.Common.{◌≡◌, None, ◌∙◌, subst, arith, rules}
 use Rattle.cert_check.specs.Places.{IsFirstFailing}
 use Rattle.place_cert.specs.CertValues.{place_cert_value}
-use Rattle.place_laws.specs.PlaceTests.{Asks}
+use Rattle.place_check.specs.PlaceTests.{Asks}
 use Rattle.place_check.proofs.VerdictLaws.{asks-none, held-next, held-all, fails-first}
 use Rattle.place_check.proofs.checking.check_places.Goals as goal
 

@@ -1,6 +1,6 @@
 use Rattle.std.proofs.Common.{◌≡◌, true, arith, rules}
 use Rattle.place_cert.specs.CertValues.{place_cert_value}
-use Rattle.place_laws.specs.PlaceTests.{Asks}
+use Rattle.place_check.specs.PlaceTests.{Asks}
 use Rattle.cert_check.proofs.PlaceTests.{before-next, fails-here, holds-everywhere}
 use Rattle.place_check.proofs.checking.first_failing.Goals as goal
 

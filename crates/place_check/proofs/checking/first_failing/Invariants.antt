@@ -1,6 +1,6 @@
 use Rattle.cert_check.specs.Head.{HoldsBefore}
 use Rattle.place_cert.specs.CertValues.{place_cert_value}
-use Rattle.place_laws.specs.PlaceTests.{Asks}
+use Rattle.place_check.specs.PlaceTests.{Asks}
 use Rattle.place_check.proofs.checking.first_failing.Given as goal
 
 abbrev pub invariant-loop-place : goal.invariant-loop-place

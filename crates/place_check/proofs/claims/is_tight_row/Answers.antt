@@ -4,7 +4,7 @@ use Rattle.std.proofs.lemmas.Bool.{false≢true}
 use Rattle.cert_check.specs.auction_model.specs.Market.{number_of, uses}
 use Rattle.cert_check.specs.cert_laws.specs.cert_form.specs.CertText.{AreMembers}
 use Rattle.cert_check.specs.cert_laws.specs.cert_form.specs.Certificate.{is_member}
-use Rattle.place_laws.specs.slot_places.specs.Orders.{allows}
+use Rattle.slot_places.specs.Orders.{allows}
 use Rattle.place_cert.specs.CertValues.{place_cert_value}
 use Rattle.place_cert.specs.Parts.{row_value, row_order}
 use Rattle.place_check.proofs.SetTests.{never}

@@ -1,7 +1,7 @@
 use Rattle.std.proofs.Common.{arith}
 use Rattle.std.proofs.lemmas.Bool.{iff_false}
 use Rattle.place_cert.specs.CertValues.{place_cert_value}
-use Rattle.place_laws.specs.slot_places.specs.Board.{market_of}
+use Rattle.slot_places.specs.Board.{market_of}
 use Rattle.place_check.proofs.PlaceLaws.{first-past}
 use Rattle.place_check.proofs.RowLaws.{count-rows}
 use Rattle.place_check.proofs.SetTests.{always}

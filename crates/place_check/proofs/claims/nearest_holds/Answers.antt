@@ -7,7 +7,7 @@ use Rattle.cert_check.specs.auction_model.specs.Prices.{alike}
 use Rattle.place_cert.specs.CertValues.{place_cert_value}
 use Rattle.place_cert.specs.Parts.{row_value}
 use Rattle.place_cert.specs.declared.certificate.PlaceRow.{PlaceRow}
-use Rattle.place_laws.specs.slot_places.specs.Board.{market_of}
+use Rattle.slot_places.specs.Board.{market_of}
 use Rattle.place_check.proofs.PlaceLaws.{second-sign, second-sum}
 use Rattle.place_check.proofs.RowLaws.{count-rows, row-place}
 use Rattle.place_check.proofs.claims.nearest_holds.Goals as goal

@@ -3,7 +3,7 @@ use Rattle.std.proofs.lemmas.Bool.{iff_false}
 use Rattle.std.proofs.lemmas.Int.{to_z-of_z}
 use mir.Val.{SFits}
 use mir.Syntax.{w128}
-use Rattle.place_laws.specs.slot_places.specs.Board.{market_of}
+use Rattle.slot_places.specs.Board.{market_of}
 use Rattle.place_cert.specs.CertValues.{place_cert_value}
 use Rattle.cert_check.proofs.PartLaws.{wins-some}
 use Rattle.place_check.proofs.PlaceLaws.{pays-past, pays-winner}

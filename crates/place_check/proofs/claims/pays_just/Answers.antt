@@ -7,7 +7,7 @@ use Rattle.cert_check.specs.auction_model.specs.Market.{value_of, worth_in}
 use Rattle.cert_check.specs.auction_model.specs.Prices.{sum_over}
 use Rattle.cert_check.specs.cert_laws.specs.cert_form.specs.Certificate.{is_member}
 use Rattle.cert_check.proofs.TimesLaws.{times-same}
-use Rattle.place_laws.specs.slot_places.specs.Board.{market_of}
+use Rattle.slot_places.specs.Board.{market_of}
 use Rattle.place_check.proofs.PartLaws.{cert-kept}
 use Rattle.place_check.proofs.Small.{less-same}
 use Rattle.place_check.proofs.claims.pays_just.Goals as goal

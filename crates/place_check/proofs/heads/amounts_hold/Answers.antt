@@ -2,7 +2,7 @@ use Rattle.std.proofs.Common.{arith, rules, replicate, pos}
 use Rattle.std.proofs.lemmas.Int.{to_z-of_z}
 use mir.Val.{SFits}
 use mir.Syntax.{w128}
-use Rattle.place_laws.specs.slot_places.specs.Slots.{amount_of}
+use Rattle.slot_places.specs.Slots.{amount_of}
 use Rattle.place_check.specs.OfferRules.{worth_with}
 use Rattle.place_check.proofs.PartLaws.{cert-kept}
 use Rattle.place_check.proofs.SetTests.{whole-table}

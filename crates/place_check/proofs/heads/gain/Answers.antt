@@ -5,7 +5,7 @@ use mir.Val.{SFits}
 use mir.Syntax.{w128}
 use Rattle.cert_check.specs.auction_model.specs.Lowered.{of_bidder}
 use Rattle.cert_check.specs.auction_model.specs.Market.{uses, worth_in}
-use Rattle.place_laws.specs.slot_places.specs.Board.{market_of}
+use Rattle.slot_places.specs.Board.{market_of}
 use Rattle.cert_check.proofs.PartLaws.{wins-some}
 use Rattle.cert_check.proofs.SumLaws.{in-range}
 use Rattle.place_check.proofs.PartLaws.{cert-kept}

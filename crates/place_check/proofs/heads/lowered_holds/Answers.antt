@@ -5,8 +5,8 @@ use mir.Val.{SFits}
 use mir.Syntax.{w128}
 use Rattle.cert_check.specs.auction_model.specs.Lowered.{of_bidder}
 use Rattle.cert_check.specs.auction_model.specs.Prices.{sum_over, everyone}
-use Rattle.place_laws.specs.slot_places.specs.Board.{board_without, market_of}
-use Rattle.place_laws.specs.PlaceTests.{lowered_in}
+use Rattle.slot_places.specs.Board.{board_without, market_of}
+use Rattle.place_check.specs.PlaceTests.{lowered_in}
 use Rattle.place_cert.specs.CertValues.{place_cert_value}
 use Rattle.place_check.specs.OfferRules.{worth_with, SetTableAt, HasSmallWorths}
 use Rattle.place_check.proofs.PartLaws.{cert-kept}

@@ -1,6 +1,6 @@
 use Rattle.std.proofs.Common.{arith, replicate, pos, sym}
-use Rattle.place_laws.specs.slot_places.specs.Board.{board_without}
-use Rattle.place_laws.specs.slot_places.specs.Slots.{amount_of}
+use Rattle.slot_places.specs.Board.{board_without}
+use Rattle.slot_places.specs.Slots.{amount_of}
 use Rattle.place_check.specs.OfferRules.{worth_with}
 use Rattle.place_check.proofs.SetTests.{set-same}
 use Rattle.place_check.proofs.Small.{plain-small, plain-worth}

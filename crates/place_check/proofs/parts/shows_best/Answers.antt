@@ -1,8 +1,8 @@
 use Rattle.std.proofs.Common.{◌∙◌, ◌^◌, sym, subst, length, arith, List, ℕ}
 use Rattle.std.specs.Prelude.{IsTrue}
 use Rattle.std.proofs.lemmas.Bool.{false≢true}
-use Rattle.place_laws.specs.slot_places.specs.Orders.{allows}
-use Rattle.place_laws.specs.slot_places.proofs.SetBits.{power-positive}
+use Rattle.slot_places.specs.Orders.{allows}
+use Rattle.slot_places.proofs.SetBits.{power-positive}
 use Rattle.place_check.proofs.SetTests.{never}
 use Rattle.place_check.proofs.SetTables.{sets-width}
 use Rattle.place_check.proofs.parts.shows_best.Goals as goal

@@ -2,7 +2,7 @@ use Rattle.std.proofs.Common.{◌≡◌, ◌+◌, ◌≤◌, ◌+ℤ◌, ℕ, �
 use Rattle.std.proofs.lemmas.Int.{ints, to_z-of_z}
 use mir.Val.{SFits}
 use mir.Syntax.{w128}
-use Rattle.place_laws.specs.slot_places.specs.Board.{market_of}
+use Rattle.slot_places.specs.Board.{market_of}
 use Rattle.cert_check.specs.auction_model.specs.Market.{worth_in}
 use Rattle.cert_check.specs.cert_laws.specs.cert_form.specs.Certificate.{is_member}
 use Rattle.cert_check.proofs.SumLaws.{over-next, counted-same}

@@ -1,5 +1,5 @@
 use Rattle.std.proofs.Common.{◌≡◌, ◌≤◌, ◌*◌, ◌^◌, ◌≤ℤ◌, pos, not, unsigned_abs}
-use Rattle.place_laws.specs.slot_places.specs.Board.{market_of}
+use Rattle.slot_places.specs.Board.{market_of}
 use Rattle.cert_check.specs.auction_model.specs.Market.{worth_in}
 use Rattle.cert_check.specs.auction_model.specs.Prices.{sum_over}
 use Rattle.cert_check.specs.cert_laws.specs.cert_form.specs.Certificate.{is_member}

@@ -3,7 +3,7 @@ use Rattle.std.proofs.lemmas.Int.{ints, to_z-of_z}
 use mir.Val.{SFits}
 use mir.Syntax.{w128}
 use Rattle.cert_check.specs.auction_model.specs.Table.{entry_at}
-use Rattle.place_laws.specs.slot_places.proofs.SetBits.{joined-small}
+use Rattle.slot_places.proofs.SetBits.{joined-small}
 use Rattle.place_check.proofs.SetTables.{sets-width, sets-range}
 use Rattle.place_check.proofs.tables.keeps_bid.Goals as goal
 

@@ -1,6 +1,6 @@
 use Rattle.std.proofs.Common.{◌^◌, length, arith, rules}
-use Rattle.place_laws.specs.slot_places.specs.Board.{board_without}
-use Rattle.place_laws.specs.slot_places.proofs.SetBits.{joined-small}
+use Rattle.slot_places.specs.Board.{board_without}
+use Rattle.slot_places.proofs.SetBits.{joined-small}
 use Rattle.place_check.specs.OfferRules.{worth_with}
 use Rattle.place_check.proofs.SetTests.{always, bids-next, inside-keeps}
 use Rattle.place_check.proofs.SetTables.{sets-width}

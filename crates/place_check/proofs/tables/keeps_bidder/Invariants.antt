@@ -1,4 +1,4 @@
-use Rattle.place_laws.specs.slot_places.specs.Board.{board_without}
+use Rattle.slot_places.specs.Board.{board_without}
 use Rattle.place_check.specs.OfferRules.{worth_with}
 use Rattle.place_check.proofs.SetTests.{KeepsBids}
 use Rattle.place_check.proofs.tables.keeps_bidder.Given as goal

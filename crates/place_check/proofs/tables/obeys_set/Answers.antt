@@ -1,6 +1,6 @@
 use Rattle.std.proofs.Common.{◌≡◌, true, arith, rules}
 use Rattle.std.proofs.lemmas.Bool.{iff_false}
-use Rattle.place_laws.specs.slot_places.specs.Board.{board_without}
+use Rattle.slot_places.specs.Board.{board_without}
 use Rattle.place_check.specs.OfferRules.{worth_with}
 use Rattle.place_check.proofs.SetTests.{always, never, keeps-next, obeys-all, obeys-one}
 use Rattle.place_check.proofs.tables.obeys_set.Goals as goal

@@ -1,7 +1,7 @@
 use Rattle.std.proofs.Common.{◌≡◌, ◌≤◌, ◌^◌, ℕ, length, ap, true, arith, rules}
 use Rattle.std.proofs.lemmas.Bool.{iff_false}
-use Rattle.place_laws.specs.slot_places.specs.Board.{board_without}
-use Rattle.place_laws.specs.slot_places.proofs.SetBits.{power-most}
+use Rattle.slot_places.specs.Board.{board_without}
+use Rattle.slot_places.proofs.SetBits.{power-most}
 use Rattle.place_check.specs.OfferRules.{worth_with}
 use Rattle.place_check.proofs.SetTests.{always, never, sets-next}
 use Rattle.place_check.proofs.tables.obeys_sets.Goals as goal

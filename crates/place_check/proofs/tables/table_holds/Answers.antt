@@ -1,6 +1,6 @@
 use Rattle.std.proofs.Common.{◌≡◌, ◌≤◌, ◌^◌, ℕ, length, ap, arith}
-use Rattle.place_laws.specs.slot_places.specs.Board.{board_without}
-use Rattle.place_laws.specs.slot_places.proofs.SetBits.{power-most}
+use Rattle.slot_places.specs.Board.{board_without}
+use Rattle.slot_places.proofs.SetBits.{power-most}
 use Rattle.place_check.specs.OfferRules.{worth_with}
 use Rattle.place_check.proofs.SetTests.{table-set}
 use Rattle.place_check.proofs.tables.table_holds.Goals as goal

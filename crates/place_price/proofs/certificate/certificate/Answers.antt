@@ -3,7 +3,7 @@ use Rattle.std.proofs.lemmas.Int.{to_z-of_z}
 use Rattle.std.specs.Int.{w128}
 use Rattle.book_price.specs.core_price.specs.declared.priced.PricedRow.{PricedRow}
 use Rattle.book_price.specs.Made.{row_from}
-use Rattle.place_check.specs.place_laws.specs.PlacePriced.{IsPricedPlaceCert}
+use Rattle.place_check.specs.PlacePriced.{IsPricedPlaceCert}
 use Rattle.place_price.proofs.Passes.{long, priced_passes}
 use Rattle.place_price.proofs.RowOrders.{kept-allowed}
 use Rattle.place_price.proofs.Shape.{made_is, made_shape}

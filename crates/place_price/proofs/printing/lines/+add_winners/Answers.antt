@@ -2,7 +2,7 @@ use Rattle.std.proofs.Common.{rules}
 use Rattle.std.proofs.lemmas.Result.{on_ok_weaker}
 use Rattle.outcome.specs.cert_laws.specs.Sound.{cert_point}
 use Rattle.place_check.specs.place_cert.specs.CertValues.{place_cert_value}
-use Rattle.place_check.specs.place_laws.specs.PlaceSound.{prices_in}
+use Rattle.place_check.specs.PlaceSound.{prices_in}
 use Rattle.place_check.specs.slot_places.specs.Board.{market_of}
 use Rattle.place_price.proofs.PlacePrinting.{slice-lines, slice-rest}
 use Rattle.place_price.proofs.printing.lines.+add_winners.Goals as goal

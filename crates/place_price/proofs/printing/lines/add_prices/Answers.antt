@@ -4,7 +4,7 @@ use Rattle.std.proofs.lemmas.Int.{to_z-of_z}
 use Rattle.std.specs.Fmt.{signed_decimal}
 use Rattle.outcome.specs.Fractions.{fraction_text}
 use Rattle.place_check.specs.place_cert.specs.CertValues.{place_cert_value}
-use Rattle.place_check.specs.place_laws.specs.PlaceSound.{prices_in}
+use Rattle.place_check.specs.PlaceSound.{prices_in}
 use Rattle.place_check.specs.slot_places.specs.Board.{market_of}
 use Rattle.place_price.proofs.PlacePrinting.{price-of}
 use Rattle.place_price.proofs.printing.lines.add_prices.Goals as goal

@@ -4,7 +4,7 @@ use Rattle.outcome.specs.cert_laws.specs.Sound.{cert_point}
 use Rattle.outcome.specs.auction_model.specs.Market.{number_of}
 use Rattle.outcome.proofs.LineLaws.{regroup}
 use Rattle.place_check.specs.place_cert.specs.CertValues.{place_cert_value}
-use Rattle.place_check.specs.place_laws.specs.PlaceSound.{prices_in}
+use Rattle.place_check.specs.PlaceSound.{prices_in}
 use Rattle.place_check.specs.slot_places.specs.Board.{market_of}
 use Rattle.place_check.specs.slot_places.specs.Slots.{bid_of, bidder_of}
 use Rattle.place_price.proofs.PlacePrinting.{winner-line}
