@@ -349,7 +349,7 @@ class ByTheGate(Both, Case):
     def proofs(self, *words):
         """The status of a call of `bench/proofs` at the top of the repository, and what it prints where it is called wrongly."""
         how = {"cwd": self.root, "env": {"PATH": f"{self.kit / 'bin'}:/usr/bin:/bin"}, "stdout": subprocess.DEVNULL, "stderr": subprocess.PIPE, "text": True}
-        done = subprocess.run([sys.executable, self.root / "bench" / "proofs", *words], **how)
+        done = subprocess.run([sys.executable, self.root / "bench" / "proofs", *words], timeout=40, **how)
         return done.returncode, done.stderr
 
     def test_an_edit_waits_for_its_tests(self):
