@@ -8,6 +8,7 @@ def path():
 
 
 def tool():
+    """The command, as it runs here, as a module."""
     sys.path.insert(0, os.path.dirname(path()))
     sys.dont_write_bytecode = True
     loader = importlib.machinery.SourceFileLoader("rt", path())

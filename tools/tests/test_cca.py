@@ -5,9 +5,10 @@ ROOT = pathlib.Path(__file__).resolve().parents[2]
 USES = {"low": "", "left": "low", "right": "low", "top": "left right", "cca": "top", "more_tests": "top"}
 PROGRAM = ["low", "left", "right", "top", "cca"]
 
-# `rt` with no words, `rt ci`, `rt all check`, `rt run`, and what `bench/libraries` and `bench/proofs` call of its inside, over crates of one file. One that says
-# `fault` is not proved, one that says `slow` takes a minute, and one that says `waits` as long unless there is a file `go`; `dies` makes a
-# program that a signal ends, and `odd` one that prints something else than it should. What is proved is kept in the folder `kept`, as the kit does.
+# `rt` with no words, `rt ci`, `rt all check`, `rt run`, and what `bench/libraries` and `bench/proofs` call of its inside, over crates of one
+# file. One that says `fault` is not proved, one that says `slow` takes a minute, and one that says `waits` as long unless there is a file `go`;
+# `dies` makes a program that a signal ends, and `odd` one that prints something else than it should. What is proved is kept in the folder
+# `kept`, as the kit does.
 TOOL = '''#!%s
 import hashlib, os, pathlib, sys, time, types
 kit = pathlib.Path(__file__).resolve().parents[1]
@@ -348,8 +349,8 @@ class ByTheGate(Both, Case):
 
     def proofs(self, *words):
         """The status of a call of `bench/proofs` at the top of the repository, and what it prints where it is called wrongly."""
-        how = {"cwd": self.root, "env": {"PATH": f"{self.kit / 'bin'}:/usr/bin:/bin"}, "stdout": subprocess.DEVNULL, "stderr": subprocess.PIPE, "text": True}
-        done = subprocess.run([sys.executable, self.root / "bench" / "proofs", *words], timeout=40, **how)
+        how = {"env": {"PATH": f"{self.kit / 'bin'}:/usr/bin:/bin"}, "stdout": subprocess.DEVNULL, "stderr": subprocess.PIPE, "text": True}
+        done = subprocess.run([sys.executable, self.root / "bench" / "proofs", *words], cwd=self.root, timeout=40, **how)
         return done.returncode, done.stderr
 
     def test_an_edit_waits_for_its_tests(self):
