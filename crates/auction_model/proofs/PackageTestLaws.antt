@@ -1,8 +1,8 @@
 -- The tests of packages, by the words of auction_model, and the order of packages.
 use Rattle.std.proofs.Common.{◌≡◌, ℕ, suc, ◌<◌, true, false, List, [], ◌∷◌, Some, None, length, refl, sym, subst, ◌∙◌, inl, inr, arith}
 use Rattle.std.specs.Prelude.{nat_lt, nat_le, ◌==◌, ◌&&◌}
-use Rattle.std.proofs.lemmas.Bool.{cases_Bool, eqb-true, eq-eqb, ne_eqb, ltb-true, lt-ltb, and_parts, or_cases, or_parts, cases_order, and_from, or_left}
-use Rattle.std.proofs.lemmas.Bool.{or_right}
+use Rattle.std.proofs.lemmas.Bool.{and_from, and_parts, cases_Bool, cases_order, eq-eqb, eqb-true, lt-ltb, ltb-true, ne_eqb, or_cases, or_left}
+use Rattle.std.proofs.lemmas.Bool.{or_parts, or_right}
 use Rattle.auction_model.specs.Package.{is_within, ComesBefore}
 use Rattle.auction_model.specs.PackageTests.{first_over, is_same, is_before}
 

@@ -1,6 +1,6 @@
 -- Winning choices and Vickrey prices are there and are one, the core isn't empty, and there is at most one core outcome.
-use Rattle.std.specs.Prelude.{◌≡◌, ◌⊎◌, ℕ, zero, suc, ◌+◌, ◌-◌, ◌≤◌, ◌<◌, Bool, true, false, cond, not, ◌==◌, IsTrue, IsFalse, List, [], ◌∷◌, ◌++◌, length}
-use Rattle.std.specs.Prelude.{take, replicate, get_or, refl, ℤ, pos, ◌+ℤ◌, ◌-ℤ◌, ◌*ℤ◌, ◌≤ℤ◌, ◌<ℤ◌}
+use Rattle.std.specs.Prelude.{Bool, IsFalse, IsTrue, List, [], cond, false, get_or, length, not, pos, refl, replicate, suc, take, true, zero, ℕ, ℤ}
+use Rattle.std.specs.Prelude.{◌*ℤ◌, ◌++◌, ◌+ℤ◌, ◌+◌, ◌-ℤ◌, ◌-◌, ◌<ℤ◌, ◌<◌, ◌==◌, ◌∷◌, ◌≡◌, ◌≤ℤ◌, ◌≤◌, ◌⊎◌}
 use Rattle.std.proofs.Common.{inl, inr, sym, ◌∙◌, ap, arith, subst}
 use Rattle.std.proofs.lemmas.Bool.{false≢true, and_parts, and_from, not_from_false, not_from_true, eq-eqb, ne_eqb, cases_Bool, cases_lt}
 use Rattle.std.proofs.lemmas.List.{get_or-replicate, get_or_past, length-replicate, take_more, take_all, length-take}
@@ -9,8 +9,8 @@ use Rattle.auction_model.specs.Market.{Market, sum_after, value_of, number_of, w
 use Rattle.auction_model.specs.Greatest.{IsGreatestValue, IsWinning}
 use Rattle.auction_model.specs.Lawful.{IsMarket}
 use Rattle.auction_model.specs.Lowered.{of_bidder}
-use Rattle.auction_model.specs.Prices.{Point, sum_over, everyone, paid, offer, IsBlocking, IsUnblocked, IsCorePoint, allowed_without, IsVickreyPrice}
-use Rattle.auction_model.specs.Prices.{AreVickreyPrices, SamePoint, square_distance, IsCoreOutcome}
+use Rattle.auction_model.specs.Prices.{AreVickreyPrices, IsBlocking, IsCoreOutcome, IsCorePoint, IsUnblocked, IsVickreyPrice, Point, SamePoint}
+use Rattle.auction_model.specs.Prices.{allowed_without, everyone, offer, paid, square_distance, sum_over}
 use Rattle.auction_model.proofs.OrderLaws.{one-first}
 use Rattle.auction_model.proofs.FirstLaws.{HasFirst, has-first}
 

@@ -1,6 +1,6 @@
 -- A bid's box in the mixed radix, block by block.
-use Rattle.std.specs.Prelude.{◌≡◌, ℕ, suc, ◌+◌, ◌-◌, ◌*◌, ◌/◌, ◌%◌, ◌≤◌, ◌<◌, nat_le, List, [], ◌∷◌, length, get_or, take, drop, ℤ, pos, ◌+ℤ◌, refl}
-use Rattle.std.specs.Prelude.{unsigned_abs}
+use Rattle.std.specs.Prelude.{List, [], drop, get_or, length, nat_le, pos, refl, suc, take, unsigned_abs, ℕ, ℤ, ◌%◌, ◌*◌, ◌+ℤ◌, ◌+◌, ◌-◌, ◌/◌, ◌<◌}
+use Rattle.std.specs.Prelude.{◌∷◌, ◌≡◌, ◌≤◌}
 use Rattle.std.specs.Int.{int_max}
 use Rattle.std.proofs.Common.{sym, ◌∙◌, ap, arith, inl, inr}
 use Rattle.std.proofs.lemmas.Bool.{cond-false, and_left, lt-leb, le-leb, cases_lt}
@@ -54,7 +54,7 @@ raised-low (u ∷ supply) (a ∷ p) below worth q r old some few h low =
     rw (div-mul-add q (states_of supply) r h, mod-mul-add q (states_of supply) r h)
     (cond-false _ _ old (and_left (nat_le a q) (is_within p (left_at supply r)) (lt-leb a q low)))
 
--- a place of another block: the rest of the bid is counted in that block, from the part of the line that lies so many blocks before
+-- a place of another block: the rest of the bid is counted in that block, from the part of the line that lies that many blocks before
 pub raised-high : (supply p : List ℕ) (below part : List ℤ) (worth : ℤ) (q r : ℕ) (old : ℤ) → 0 < length p → length p ≤ length supply
     → r < states_of (drop 1 supply) → get_or p 0 0 ≤ q
     → ((i : ℕ) → i < states_of (drop 1 supply) → get_or part i (pos 0) ≡ get_or below ((q - get_or p 0 0) * states_of (drop 1 supply) + i) (pos 0))

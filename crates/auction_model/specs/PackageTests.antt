@@ -19,7 +19,7 @@ is_same [] (b ∷ q) = false
 is_same (a ∷ p) [] = false
 is_same (a ∷ p) (b ∷ q) = (a == b) && is_same p q
 
--- p comes before q in the order of packages: at the first category where they differ its count is smaller. A front of a list
+-- p comes before q in the order of packages: at the first category where they differ its count is smaller. A prefix of a list
 -- comes before the list
 abbrev pub is_before : List ℕ → List ℕ → Bool
 is_before [] [] = false

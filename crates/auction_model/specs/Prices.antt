@@ -86,7 +86,7 @@ weight_of weights j = slice_index_or weights (j - 1) 0
 abbrev pub alike : ℕ → ℕ
 alike j = 1
 
--- one part in so many as the weight says, of the least number that 1 to 20 all divide
+-- one part in as many as the weight says, of the least number that 1 to 20 all divide
 abbrev pub share : ℕ → ℤ
 share weight = pos (232792560 / weight)
 

@@ -1,4 +1,4 @@
--- The steps by which a table is filled and gone through: words of private contracts.
+-- The steps by which a table is filled and visited: words of private contracts.
 use Rattle.std.specs.Prelude.{◌≡◌, ℕ, ◌≤◌, List, slice_index_or, ℤ, pos, ◌+ℤ◌, ◌<ℤ◌, IsTrue, if◌then◌else◌}
 use Rattle.std.specs.Int.{int_max}
 use Rattle.auction_model.specs.Package.{is_within, less}

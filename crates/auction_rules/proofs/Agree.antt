@@ -1,6 +1,6 @@
 -- What is held in rounds 1 to n decides the prices, eligibilities and rounds after n closes.
 use Rattle.std.proofs.Common.{◌≡◌, ℕ, zero, suc, ◌-◌, ◌<◌, ◌≤◌, List, Option, Some, None, refl, ap, inl, inr, arith, length}
-use Rattle.lots.specs.auction_model.specs.Package.{is_within, cost_of}
+use Rattle.auction_model.specs.Package.{cost_of, is_within}
 use Rattle.auction_rules.specs.Terms.{Terms, no_lots}
 use Rattle.auction_rules.specs.Rounds.{sum_of, demand, prices_after, eligibility_after, final_round, own_rounds}
 use Rattle.std.specs.Prelude.{if◌then◌else◌, ◌⊎◌}

@@ -1,18 +1,18 @@
 -- The bids of a book are within their caps over themselves.
-use Rattle.std.proofs.Common.{◌≡◌, ℕ, suc, ◌+◌, ◌-◌, ◌<◌, ◌≤◌, max, min, Bool, true, false, not, ◌||◌, List, [], ◌∷◌, ◌++◌, Option, Some, None, refl, sym}
-use Rattle.std.proofs.Common.{◌∙◌, ap, inl, inr, arith, map}
+use Rattle.std.proofs.Common.{Bool, List, None, Option, Some, [], ap, arith, false, inl, inr, map, max, min, not, refl, suc, sym, true, ℕ, ◌++◌, ◌+◌}
+use Rattle.std.proofs.Common.{◌-◌, ◌<◌, ◌||◌, ◌∙◌, ◌∷◌, ◌≡◌, ◌≤◌}
 use Rattle.std.specs.Prelude.{if◌then◌else◌, filter, nat_le, ◌==◌}
 use Rattle.std.proofs.lemmas.Bool.{cases_Bool, cond-true, cond-false, leb-true, leb-false, le-leb, eqb-true, and_parts}
-use Rattle.lots.specs.auction_model.specs.Book.{BookBid}
-use Rattle.lots.specs.auction_model.specs.Package.{cost_of}
-use Rattle.lots.specs.auction_model.specs.PackageTests.{is_empty, is_same, is_before}
+use Rattle.auction_model.specs.Book.{BookBid}
+use Rattle.auction_model.specs.Package.{cost_of}
+use Rattle.auction_model.specs.PackageTests.{is_before, is_empty, is_same}
 use Rattle.auction_rules.specs.Step.{last_or}
 use Rattle.auction_rules.specs.Rounds.{OwnRound}
-use Rattle.auction_rules.specs.Caps.{no_round, last_round, enough, constraining, clock_bid, greatest, highest, cap_by, cap_among, cap_of, excess_cap}
-use Rattle.auction_rules.specs.Caps.{excess_or, first_excess, list_fault}
+use Rattle.auction_rules.specs.Caps.{cap_among, cap_by, cap_of, clock_bid, constraining, enough, excess_cap, excess_or, first_excess, greatest}
+use Rattle.auction_rules.specs.Caps.{highest, last_round, list_fault, no_round}
 use Rattle.auction_rules.specs.Lines.{placed, in_order, priced}
 use Rattle.auction_rules.specs.BookOfLog.{bid_lots, best_bids}
-use Rattle.lots.specs.auction_model.proofs.PackageTestLaws.{is_same-true, is_same-refl}
+use Rattle.auction_model.proofs.PackageTestLaws.{is_same-refl, is_same-true}
 use Rattle.auction_rules.proofs.Agree.{Some-injective}
 
 -- the greatest amount for a package over two lists is the greater of those over each
@@ -20,7 +20,7 @@ pub greatest-append : (lots : List ℕ) (xs ys : List BookBid) → greatest lots
 greatest-append lots [] ys = omega arith
 greatest-append lots (b ∷ xs) ys = omega (arith, greatest-append lots xs ys)
 
--- the package stands among the packages
+-- the package is among the packages
 abbrev pub among : List ℕ → List (List ℕ) → Bool
 among lots [] = false
 among lots (p ∷ ps) = is_same p lots || among lots ps
@@ -50,7 +50,7 @@ among-placed lots x (p ∷ ps) =
       | inr apart ↦ ap (among lots) (cond-false (is_same x p) (p ∷ ps) _ apart) ∙ placed-apart lots x p ps (is_before x p) (among-placed lots x ps)
     ]
 
--- a package stands among packages put in order exactly where it stands among these packages
+-- a package is among packages put in order exactly where it is among these packages
 pub among-in_order : (lots : List ℕ) (ps : List (List ℕ)) → among lots (in_order ps) ≡ among lots ps
 among-in_order lots [] = refl
 among-in_order lots (p ∷ ps) = among-placed lots p (in_order ps) ∙ ap (λ (b : Bool). is_same p lots || b) (among-in_order lots ps)
@@ -73,7 +73,7 @@ absent-step : (lots q : List ℕ) (rest : List (List ℕ)) (empty : Bool) → is
 absent-step lots q rest true apart h = h
 absent-step lots q rest false apart h = rw apart at h
 
--- a package that is not empty and stands in no bid has no amount
+-- a package that is not empty and is in no bid has no amount
 greatest-absent : (lots : List ℕ) (bids : List BookBid) → is_empty lots ≡ false → among lots (filter (λ lots. not (is_empty lots)) (map bid_lots bids)) ≡
     false → greatest lots bids ≡ 0
 greatest-absent lots [] some none = refl
@@ -340,7 +340,7 @@ within-first_excess cap_at amount entry (p ∷ ps) within =
     (within-excess (cap_at p) (amount p) (within p))
     ∙ within-first_excess cap_at amount (suc entry) ps within
 
--- The bids of a book are a valid list: each is at most its cap over the book's own bids, but for what is held in the final round.
+-- The bids of a book are a valid list: each is at most its cap over the book's own bids, except for what is held in the final round.
 pub list_fault-best_bids : (final_cap : Bool) (points : List ℕ) (rounds : List OwnRound) (list : List BookBid) → AreRising rounds → AreEligible points rounds
     → list_fault final_cap points rounds list ≡ None → list_fault final_cap points rounds (best_bids (map clock_bid rounds ++ list)) ≡ None
 list_fault-best_bids final_cap points rounds list rising eligible valid =

@@ -1,9 +1,9 @@
 -- The book of a log: its bidders, the order of their bids, and the book that a desk makes of its state.
 use Rattle.std.proofs.Common.{◌≡◌, ℕ, zero, suc, ◌≤◌, List, [], ◌∷◌, ◌++◌, Some, refl, sym, ap, subst, arith, length, map}
 use Rattle.std.specs.Prelude.{filter, not}
-use Rattle.lots.specs.auction_model.specs.Book.{BookBid, Bidder, Book, no_bidder, bidder_of}
+use Rattle.auction_model.specs.Book.{Bidder, Book, BookBid, bidder_of, no_bidder}
 use Rattle.auction_rules.specs.declared.Event.{Event}
-use Rattle.lots.specs.auction_model.specs.PackageTests.{is_empty, InOrder}
+use Rattle.auction_model.specs.PackageTests.{InOrder, is_empty}
 use Rattle.auction_rules.specs.Terms.{Terms, entrant}
 use Rattle.auction_rules.specs.Caps.{clock_bid, greatest}
 use Rattle.auction_rules.specs.Lines.{in_order, priced}
@@ -30,12 +30,12 @@ InOrder-bids_in_book terms log j =
     let s : Standing = standing terms (admitted terms log) j in
     InOrder-best_bids (map clock_bid s.rounds ++ s.submitted)
 
--- each bidder of the award stands in the book
+-- each bidder of the award is in the book
 pub bidders-book_of_log : (terms : Terms) (log : List Event) → length (book_of_log terms log).bidders ≡ length terms.bidders
 unfolding book_of_log
 bidders-book_of_log terms log = length-listing (book_bidder terms (bids_in_book terms log)) (length terms.bidders)
 
--- bidder j of the award stands in the book of a log at its place, with its name and its bids
+-- bidder j of the award is in the book of a log at its place, with its name and its bids
 pub bidder-book_of_log :
     (terms : Terms) (log : List Event) (j : ℕ) → 1 ≤ j → j ≤ length terms.bidders
     → bidder_of (book_of_log terms log) j ≡ book_bidder terms (bids_in_book terms log) j

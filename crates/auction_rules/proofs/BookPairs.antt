@@ -1,18 +1,18 @@
--- What stands in the book of a log: the packages of a bidder's pairs, each with its greatest amount there.
-use Rattle.std.proofs.Common.{◌≡◌, ℕ, zero, suc, ◌≤◌, Bool, true, false, not, ◌&&◌, ◌||◌, List, [], ◌∷◌, Some, refl, sym, ◌∙◌, ap, subst, inl, inr, arith}
-use Rattle.std.proofs.Common.{length, map}
+-- What is in the book of a log: the packages of a bidder's pairs, each with its greatest amount there.
+use Rattle.std.proofs.Common.{Bool, List, Some, [], ap, arith, false, inl, inr, length, map, not, refl, subst, suc, sym, true, zero, ℕ, ◌&&◌, ◌||◌}
+use Rattle.std.proofs.Common.{◌∙◌, ◌∷◌, ◌≡◌, ◌≤◌}
 use Rattle.std.specs.Prelude.{if◌then◌else◌, filter, Contains}
 use Rattle.std.specs.List.{AllByRecursion}
 use Rattle.std.proofs.lemmas.Bool.{cases_Bool, cases_lt, cond-true, cond-false, or_left, or_right}
-use Rattle.lots.specs.auction_model.specs.Book.{BookBid}
+use Rattle.auction_model.specs.Book.{BookBid}
 use Rattle.auction_rules.specs.declared.Event.{Event}
-use Rattle.lots.specs.auction_model.specs.PackageTests.{is_empty, is_same, is_before}
+use Rattle.auction_model.specs.PackageTests.{is_before, is_empty, is_same}
 use Rattle.auction_rules.specs.Terms.{Terms}
 use Rattle.auction_rules.specs.Caps.{greatest}
 use Rattle.auction_rules.specs.Lines.{placed, in_order, priced}
 use Rattle.auction_rules.specs.Replies.{has_entry, admitted, standing}
 use Rattle.auction_rules.specs.BookOfLog.{bid_lots, best_bids, pairs_of, bids_in_book, IsGreatestFor}
-use Rattle.lots.specs.auction_model.proofs.PackageTestLaws.{is_same-true, is_same-refl}
+use Rattle.auction_model.proofs.PackageTestLaws.{is_same-refl, is_same-true}
 use Rattle.auction_rules.proofs.BookCaps.{among, among-in_order}
 use Rattle.auction_rules.proofs.BookLaws.{lots-priced}
 use Rattle.auction_rules.proofs.LawfulBids.{each-weaker, each-some, each-in_order, each-priced}
@@ -28,7 +28,7 @@ among-if : (lots p : List ℕ) (rest : List (List ℕ)) (empty : Bool) → among
 among-if lots p rest true = refl
 among-if lots p rest false = refl
 
--- the test of emptiness before or behind the search
+-- the test of emptiness before or after the search
 either_way : (empty_p empty same later : Bool) → (same ≡ true → empty_p ≡ empty) → ((not empty_p && same) || (not empty && later)) ≡
     (not empty && (same || later))
 either_way true true same later agree = refl
@@ -59,7 +59,7 @@ has_entry-best_bids lots bids =
     ∙ among-some lots (map bid_lots bids)
     ∙ ap (λ (there : Bool). not (is_empty lots) && there) (sym (has_entry-among lots bids))
 
--- a package stands in the book where it isn't empty and stands among the pairs
+-- a package is in the book where it isn't empty and is among the pairs
 pub has_entry-bids_in_book : (terms : Terms) (log : List Event) (j : ℕ) (lots : List ℕ)
     → has_entry lots (bids_in_book terms log j) ≡ (not (is_empty lots) && has_entry lots (pairs_of (standing terms (admitted terms log) j)))
 has_entry-bids_in_book terms log j lots = has_entry-best_bids lots (pairs_of (standing terms (admitted terms log) j))

@@ -1,13 +1,13 @@
 -- What an admitted close changes of the state.
-use Rattle.std.proofs.Common.{◌≡◌, ℕ, zero, suc, ◌-◌, ◌≤◌, true, false, List, [], ◌∷◌, ◌++◌, Option, Some, None, refl, sym, ◌∙◌, ap, subst, inl, inr, arith}
-use Rattle.std.proofs.Common.{length, map}
+use Rattle.std.proofs.Common.{List, None, Option, Some, [], ap, arith, false, inl, inr, length, map, refl, subst, suc, sym, true, zero, ℕ, ◌++◌, ◌-◌}
+use Rattle.std.proofs.Common.{◌∙◌, ◌∷◌, ◌≡◌, ◌≤◌}
 use Rattle.std.specs.Prelude.{nat_eq, slice_index_or}
 use Rattle.std.proofs.lemmas.Bool.{cases_Bool, ne_eqb, eq-eqb, cond-true, cond-false}
 use Rattle.std.proofs.lemmas.List.{map-append}
 use Rattle.auction_rules.specs.declared.Event.{Event}
 use Rattle.auction_rules.specs.declared.Event.TheVariants.{Close}
-use Rattle.lots.specs.auction_model.specs.Book.{BookBid}
-use Rattle.lots.specs.auction_model.specs.Package.{is_within, cost_of}
+use Rattle.auction_model.specs.Book.{BookBid}
+use Rattle.auction_model.specs.Package.{cost_of, is_within}
 use Rattle.auction_rules.specs.Terms.{Terms, no_lots}
 use Rattle.auction_rules.specs.Rounds.{sum_of, demand, raised_prices, prices_after, eligibility_after, final_round, stage_by, round_by, closed_by, listing}
 use Rattle.auction_rules.specs.Lines.{closes, held_in, draft_list, submitted_list}

@@ -2,14 +2,14 @@
 use Rattle.std.proofs.Common.{◌≡◌, ℕ, true, false, List, [], ◌∷◌, Option, Some, None, refl, sym, ◌∙◌, ap, inl, inr}
 use Rattle.std.specs.Prelude.{if◌then◌else◌, filter_map, ◌==◌}
 use Rattle.std.proofs.lemmas.Bool.{cases_Bool, cond-true, cond-false}
-use Rattle.lots.specs.auction_model.specs.Book.{BookBid}
+use Rattle.auction_model.specs.Book.{BookBid}
 use Rattle.auction_rules.specs.declared.Event.{Event}
 use Rattle.auction_rules.specs.declared.Event.TheVariants.{Bid, Draft, Drop, Submit, Close}
-use Rattle.lots.specs.auction_model.specs.PackageTests.{is_same, is_before, AllAfter, InOrder}
-use Rattle.lots.specs.auction_model.proofs.PackageTestLaws.{is_same-true, is_same-refl, is_before-not_same, is_before-trans, is_before-total}
-use Rattle.auction_rules.specs.Lines.{draft_word, drafted, draft_of, placed, in_order, entry_before, priced, draft_list, submitted_list, is_submit}
-use Rattle.auction_rules.specs.Lines.{drafts_after}
-use Rattle.lots.specs.auction_model.specs.Entries.{with_entry, without_entry}
+use Rattle.auction_model.specs.PackageTests.{AllAfter, InOrder, is_before, is_same}
+use Rattle.auction_model.proofs.PackageTestLaws.{is_before-not_same, is_before-total, is_before-trans, is_same-refl, is_same-true}
+use Rattle.auction_rules.specs.Lines.{draft_list, draft_of, draft_word, drafted, drafts_after, entry_before, in_order, is_submit, placed, priced}
+use Rattle.auction_rules.specs.Lines.{submitted_list}
+use Rattle.auction_model.specs.Entries.{with_entry, without_entry}
 use Rattle.auction_rules.specs.Replies.{is_of}
 
 -- where p is before q, packages that all come after q all come after p

@@ -1,28 +1,28 @@
 -- What the rounds and the lists of every standing after a log keep.
-use Rattle.std.proofs.Common.{◌≡◌, ℕ, zero, suc, ◌<◌, ◌≤◌, Bool, true, false, not, ◌&&◌, List, [], ◌∷◌, ◌++◌, Option, Some, None, refl, sym, ◌∙◌, ap, subst}
-use Rattle.std.proofs.Common.{inl, inr, arith, length, map, length-append}
+use Rattle.std.proofs.Common.{Bool, List, None, Option, Some, [], ap, arith, false, inl, inr, length, length-append, map, not, refl, subst, suc, sym}
+use Rattle.std.proofs.Common.{true, zero, ℕ, ◌&&◌, ◌++◌, ◌<◌, ◌∙◌, ◌∷◌, ◌≡◌, ◌≤◌}
 use Rattle.std.specs.Prelude.{if◌then◌else◌, filter_map, nat_le, nat_eq}
 use Rattle.std.specs.List.{AllByRecursion}
 use Rattle.std.proofs.lemmas.Bool.{cases_Bool, leb-false}
-use Rattle.lots.specs.auction_model.specs.Book.{BookBid}
-use Rattle.lots.specs.auction_model.specs.Package.{is_within, cost_of}
+use Rattle.auction_model.specs.Book.{BookBid}
+use Rattle.auction_model.specs.Package.{cost_of, is_within}
 use Rattle.auction_rules.specs.declared.Event.{Event}
 use Rattle.auction_rules.specs.declared.Event.TheVariants.{Bid, Draft, Drop, Submit, Close}
 use Rattle.auction_rules.specs.declared.Reply.{Reply}
 use Rattle.auction_rules.specs.declared.Reply.TheVariants as reply
-use Rattle.lots.specs.auction_model.specs.PackageTests.{is_same, is_before, AllAfter, InOrder}
+use Rattle.auction_model.specs.PackageTests.{AllAfter, InOrder, is_before, is_same}
 use Rattle.auction_rules.specs.Terms.{Terms, entrant}
 use Rattle.auction_rules.specs.Rounds.{OwnRound, demand, prices_after, final_round, stage_by, stage_after, closed_by, closed_after, own_round, own_rounds}
 use Rattle.auction_rules.specs.Caps.{clock_bid, no_round, round_at}
-use Rattle.auction_rules.specs.Lines.{is_close, is_submit, closes, held_in, in_order, entry_before, priced, draft_of, drafted, draft_list, submitted_list}
-use Rattle.auction_rules.specs.Lines.{drafts_after}
-use Rattle.lots.specs.auction_model.specs.Entries.{with_entry, without_entry}
-use Rattle.auction_rules.specs.Replies.{Standing, is_clock, is_closed, is_ok_reply, first_reply, when, has_entry, price_top, has_excess, own_reply}
-use Rattle.auction_rules.specs.Replies.{reply_after, admitted, standing}
+use Rattle.auction_rules.specs.Lines.{closes, draft_list, draft_of, drafted, drafts_after, entry_before, held_in, in_order, is_close, is_submit}
+use Rattle.auction_rules.specs.Lines.{priced, submitted_list}
+use Rattle.auction_model.specs.Entries.{with_entry, without_entry}
+use Rattle.auction_rules.specs.Replies.{Standing, admitted, first_reply, has_entry, has_excess, is_clock, is_closed, is_ok_reply, own_reply}
+use Rattle.auction_rules.specs.Replies.{price_top, reply_after, standing, when}
 use Rattle.auction_rules.specs.View.{posted}
 use Rattle.auction_rules.specs.BookOfLog.{bid_lots, pairs_of, bids_in_book}
 use Rattle.auction_rules.specs.Lawful.{HasCategories, NeverRises, AreDrafts}
-use Rattle.lots.specs.auction_model.proofs.PackageTestLaws.{is_same-true, is_same-refl, is_before-not_same, not_same-sym}
+use Rattle.auction_model.proofs.PackageTestLaws.{is_before-not_same, is_same-refl, is_same-true, not_same-sym}
 use Rattle.auction_rules.proofs.Drafts.{AllAfter-trans, InOrder-in_order}
 use Rattle.auction_rules.proofs.Standings.{IsFinal, stopped, IsFinal-final_round, after_own, after_close, own_now, standing-own, standing-other, standing-close}
 use Rattle.auction_rules.proofs.States.{get_or-listing}

@@ -1,31 +1,31 @@
 -- Each bid of the book of a log has the award's categories, is within the supply, and is at least its reserve and at most the greatest amount.
-use Rattle.std.proofs.Common.{◌≡◌, ℕ, zero, suc, ◌+◌, ◌-◌, ◌*◌, ◌^◌, ◌≤◌, Bool, true, false, not, ◌&&◌, List, [], ◌∷◌, ◌++◌, Option, Some, None, refl, sym}
-use Rattle.std.proofs.Common.{◌∙◌, ap, subst, inl, inr, arith, map, length}
+use Rattle.std.proofs.Common.{Bool, List, None, Option, Some, [], ap, arith, false, inl, inr, length, map, not, refl, subst, suc, sym, true, zero, ℕ}
+use Rattle.std.proofs.Common.{◌&&◌, ◌*◌, ◌++◌, ◌+◌, ◌-◌, ◌^◌, ◌∙◌, ◌∷◌, ◌≡◌, ◌≤◌}
 use Rattle.std.specs.Prelude.{if◌then◌else◌, ◌==◌, filter, nat_le, nat_lt, nat_eq, sum}
 use Rattle.std.specs.List.{AllByRecursion}
 use Rattle.std.specs.Option.{option_or}
 use Rattle.std.proofs.lemmas.Bool.{cases_Bool, cases_eq, cond-true, cond-false, leb-true, le-leb, ltb-false, eqb-true, and_parts}
 use Rattle.std.proofs.lemmas.List.Sums.{sum_by-cons}
 use Rattle.std.proofs.Math.Nat.{mul-le-mul, mul-le-mul_left}
-use Rattle.lots.specs.auction_model.specs.Book.{BookBid}
-use Rattle.lots.specs.auction_model.specs.Package.{is_within, cost_of}
-use Rattle.lots.specs.auction_model.proofs.ListLaws.{each-push}
+use Rattle.auction_model.specs.Book.{BookBid}
+use Rattle.auction_model.specs.Package.{cost_of, is_within}
+use Rattle.auction_model.proofs.ListLaws.{each-push}
 use Rattle.auction_rules.specs.declared.Event.{Event}
 use Rattle.auction_rules.specs.declared.Event.TheVariants.{Bid, Draft, Drop, Submit, Close}
 use Rattle.auction_rules.specs.declared.Reply.TheVariants as reply
-use Rattle.lots.specs.auction_model.specs.PackageTests.{is_empty, first_over, is_same, is_before}
+use Rattle.auction_model.specs.PackageTests.{first_over, is_before, is_empty, is_same}
 use Rattle.auction_rules.specs.Terms.{Terms, no_lots, entrant, broken_cap}
 use Rattle.auction_rules.specs.Rounds.{OwnRound, demand, prices_after, final_round, stage_by, stage_after, closed_after, own_round, own_rounds}
 use Rattle.auction_rules.specs.Caps.{clock_bid, greatest}
-use Rattle.auction_rules.specs.Lines.{is_close, line_bidder, bid_by, is_submit, closes, held_in, placed, in_order, priced, draft_list, submitted_list}
-use Rattle.auction_rules.specs.Lines.{drafts_after}
-use Rattle.lots.specs.auction_model.specs.Entries.{with_entry, without_entry}
-use Rattle.auction_rules.specs.Replies.{Standing, is_of, is_clock, is_sealed, is_closed, is_ok_reply, first_reply, when, supply_reply, spectrum_reply}
-use Rattle.auction_rules.specs.Replies.{has_entry, price_top, has_excess, own_reply, close_reply, reply_after, admitted, standing}
+use Rattle.auction_rules.specs.Lines.{bid_by, closes, draft_list, drafts_after, held_in, in_order, is_close, is_submit, line_bidder, placed, priced}
+use Rattle.auction_rules.specs.Lines.{submitted_list}
+use Rattle.auction_model.specs.Entries.{with_entry, without_entry}
+use Rattle.auction_rules.specs.Replies.{Standing, admitted, close_reply, first_reply, has_entry, has_excess, is_clock, is_closed, is_of, is_ok_reply}
+use Rattle.auction_rules.specs.Replies.{is_sealed, own_reply, price_top, reply_after, spectrum_reply, standing, supply_reply, when}
 use Rattle.auction_rules.specs.View.{posted}
 use Rattle.auction_rules.specs.BookOfLog.{bid_lots, best_bids, bids_in_book}
 use Rattle.auction_rules.specs.Lawful.{AreBelowTop, AreLimited, HasCategories, IsLawfulBid, IsDraft}
-use Rattle.lots.specs.auction_model.proofs.PackageTestLaws.{is_same-refl, first_over-within}
+use Rattle.auction_model.proofs.PackageTestLaws.{first_over-within, is_same-refl}
 use Rattle.auction_rules.proofs.Agree.{Some-injective}
 use Rattle.auction_rules.proofs.Held.{held_in-elsewhere, held_in-no_bid, held_in-bid}
 use Rattle.auction_rules.proofs.Drafts.{draft_list-other, draft_list-own}

@@ -1,25 +1,25 @@
 -- What holds of every bidder's standing after a log: the rounds are rising and eligible, and the submitted list is valid.
-use Rattle.std.proofs.Common.{◌≡◌, ℕ, zero, suc, ◌-◌, ◌*◌, ◌≤◌, Bool, true, false, not, List, [], ◌∷◌, ◌++◌, Option, Some, None, refl, sym, ◌∙◌, ap, subst}
-use Rattle.std.proofs.Common.{inl, inr, arith, map, length}
+use Rattle.std.proofs.Common.{Bool, List, None, Option, Some, [], ap, arith, false, inl, inr, length, map, not, refl, subst, suc, sym, true, zero, ℕ}
+use Rattle.std.proofs.Common.{◌*◌, ◌++◌, ◌-◌, ◌∙◌, ◌∷◌, ◌≡◌, ◌≤◌}
 use Rattle.std.specs.Prelude.{if◌then◌else◌, ◌&&◌, ◌==◌, nat_lt, nat_le, nat_eq, unwrap_or}
 use Rattle.std.specs.Option.{option_or}
 use Rattle.std.proofs.lemmas.Bool.{cases_Bool, ltb-false}
 use Rattle.std.proofs.Math.Nat.{mul-le-mul_left}
-use Rattle.lots.specs.auction_model.specs.Package.{cost_of, is_within}
-use Rattle.lots.specs.auction_model.specs.PackageTests.{first_over}
+use Rattle.auction_model.specs.Package.{cost_of, is_within}
+use Rattle.auction_model.specs.PackageTests.{first_over}
 use Rattle.auction_rules.specs.declared.Event.{Event}
 use Rattle.auction_rules.specs.declared.Stage.{Stage}
 use Rattle.auction_rules.specs.declared.Stage.TheVariants.{Clock, Sealed, Closed}
 use Rattle.auction_rules.specs.Terms.{Terms, final_cap, broken_cap}
 use Rattle.auction_rules.specs.Step.{stepped}
-use Rattle.auction_rules.specs.Rounds.{OwnRound, raised_prices, demand, prices_after, own_round, own_rounds}
+use Rattle.auction_rules.specs.Rounds.{OwnRound, closed_after, demand, final_round, own_round, own_rounds, prices_after, raised_prices, stage_after}
+use Rattle.auction_rules.specs.Rounds.{stage_by}
 use Rattle.auction_rules.specs.declared.Event.TheVariants.{Bid, Draft, Drop, Submit, Close}
 use Rattle.auction_rules.specs.declared.Reply.TheVariants as reply
-use Rattle.auction_rules.specs.Rounds.{closed_after, final_round, stage_by, stage_after}
 use Rattle.auction_rules.specs.Caps.{list_fault}
 use Rattle.auction_rules.specs.Lines.{is_close, is_submit, closes, held_in}
-use Rattle.auction_rules.specs.Replies.{Standing, is_clock, is_sealed, is_ok_reply, first_reply, when, supply_reply, spectrum_reply, cap_reply, own_reply}
-use Rattle.auction_rules.specs.Replies.{reply_after, admitted, standing}
+use Rattle.auction_rules.specs.Replies.{Standing, admitted, cap_reply, first_reply, is_clock, is_ok_reply, is_sealed, own_reply, reply_after}
+use Rattle.auction_rules.specs.Replies.{spectrum_reply, standing, supply_reply, when}
 use Rattle.auction_rules.specs.View.{posted}
 use Rattle.auction_rules.specs.BookOfLog.{bids_in_book}
 use Rattle.auction_rules.proofs.Standings.{after_own, after_close, own_now, stage_stopped, standing-own, standing-other, standing-close}

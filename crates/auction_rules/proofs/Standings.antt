@@ -7,14 +7,14 @@ use Rattle.auction_rules.specs.declared.Event.{Event}
 use Rattle.auction_rules.specs.declared.Event.TheVariants.{Bid, Draft, Drop, Submit, Close}
 use Rattle.auction_rules.specs.declared.Stage.{Stage}
 use Rattle.auction_rules.specs.declared.Stage.TheVariants.{Clock, Sealed, Closed}
-use Rattle.lots.specs.auction_model.specs.Package.{is_within, cost_of}
+use Rattle.auction_model.specs.Package.{cost_of, is_within}
 use Rattle.auction_rules.specs.Terms.{Terms, no_lots}
 use Rattle.auction_rules.specs.Rounds.{OwnRound, demand, prices_after, eligibility_after, final_round, own_rounds, stage_by, round_by, closed_by}
 use Rattle.auction_rules.specs.Lines.{is_close, bid_by, is_submit, closes, held_in, draft_list, submitted_list, drafts_after}
 use Rattle.auction_rules.specs.Replies.{Standing, is_of, is_clock, standing, standing_by}
 use Rattle.auction_rules.specs.View.{posted}
 use Rattle.auction_rules.proofs.Held.{closes-line, held_in-elsewhere, held_in-no_bid, held_in-bid, held_in-later}
-use Rattle.lots.specs.auction_model.specs.Book.{BookBid}
+use Rattle.auction_model.specs.Book.{BookBid}
 use Rattle.auction_rules.proofs.Drafts.{draft_list-other, draft_list-own, submitted_list-other}
 use Rattle.auction_rules.proofs.Agree.{Agree, Agree-fewer, prices_after-same, eligibility_after-same, final_round-same, own_rounds-same, final_round-bounds}
 

@@ -1,6 +1,6 @@
 -- A desk that stands for a log answers by the rules and then stands for the log with the line.
-use Rattle.std.proofs.Common.{◌≡◌, ℕ, zero, suc, ◌-◌, ◌<◌, ◌≤◌, Bool, true, false, not, ◌&&◌, List, [], ◌∷◌, Option, Some, None, refl, sym, ◌∙◌, ap, subst}
-use Rattle.std.proofs.Common.{inl, inr, arith, length, set, get_or}
+use Rattle.std.proofs.Common.{Bool, List, None, Option, Some, [], ap, arith, false, get_or, inl, inr, length, not, refl, set, subst, suc, sym, true}
+use Rattle.std.proofs.Common.{zero, ℕ, ◌&&◌, ◌-◌, ◌<◌, ◌∙◌, ◌∷◌, ◌≡◌, ◌≤◌}
 use Rattle.std.specs.Prelude.{if◌then◌else◌, nat_lt, nat_le, nat_eq}
 use Rattle.std.proofs.lemmas.Bool.{cases_Bool, cond-true, cond-false, eq-eqb, leb-true, and_parts, eqb-true, false≢true}
 use Rattle.auction_rules.specs.declared.Event.{Event}
@@ -12,7 +12,7 @@ use Rattle.auction_rules.specs.Lines.{is_close, line_bidder, closes, held_in, dr
 use Rattle.auction_rules.specs.Replies.{Standing, is_of, is_clock, is_sealed, is_ok_reply, own_reply, close_reply, reply_after, reply_to, admitted, standing}
 use Rattle.auction_rules.specs.State.{DeskState, round_of, state_after, state_of, asked, standing_in, close_reply_in, reply_in, taken, state_with}
 use Rattle.auction_rules.proofs.Views.{is_close-true, with_line-ok, with_line-refused}
-use Rattle.lots.specs.auction_model.specs.Book.{BookBid}
+use Rattle.auction_model.specs.Book.{BookBid}
 use Rattle.auction_rules.proofs.Standings.{IsFinal, IsFinal-final_round, after_own}
 use Rattle.auction_rules.proofs.States.{with_standing, length-listing, standing_in-state_after, state_after-own}
 use Rattle.auction_rules.proofs.Closing.{state_at, asked-listing, state_after-close}
@@ -95,7 +95,7 @@ pub same_either : (b : Bool) (x : List ℕ) → (if b then x else x) ≡ x
 same_either true x = refl
 same_either false x = refl
 
--- a write of what stands there already
+-- a write of what is there already
 set_again : {A : Type 0} (xs : List A) (k : ℕ) (d : A) → k < length xs → set xs k (get_or xs k d) ≡ xs
 set_again [] k d h = absurd (omega arith)
 set_again (x ∷ xs) zero d h = refl

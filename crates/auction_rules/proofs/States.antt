@@ -1,11 +1,11 @@
 -- The state of a desk and the standings in it.
-use Rattle.std.proofs.Common.{◌≡◌, ℕ, zero, suc, ◌-◌, ◌<◌, ◌≤◌, true, false, List, [], ◌∷◌, ◌++◌, Option, Some, None, refl, sym, ◌∙◌, ap, inl, inr, arith}
-use Rattle.std.proofs.Common.{length, get_or, set, map, length-append}
+use Rattle.std.proofs.Common.{List, None, Option, Some, [], ap, arith, false, get_or, inl, inr, length, length-append, map, refl, set, suc, sym, true}
+use Rattle.std.proofs.Common.{zero, ℕ, ◌++◌, ◌-◌, ◌<◌, ◌∙◌, ◌∷◌, ◌≡◌, ◌≤◌}
 use Rattle.std.proofs.lemmas.Bool.{cases_eq, ne_eqb}
 use Rattle.std.proofs.lemmas.List.{set-append_left, get_or_append_left, map-append}
 use Rattle.std.proofs.Math.Seq.{set-append_seam, get_or-append_seam}
 use Rattle.auction_rules.specs.declared.Event.{Event}
-use Rattle.lots.specs.auction_model.specs.Book.{BookBid}
+use Rattle.auction_model.specs.Book.{BookBid}
 use Rattle.auction_rules.specs.Terms.{Terms}
 use Rattle.auction_rules.specs.declared.Stage.{Stage}
 use Rattle.auction_rules.specs.Rounds.{OwnRound, own_rounds, prices_after, eligibility_after, round_after, closed_after, closed_by, final_round, listing}

@@ -1,4 +1,4 @@
--- What the state after a log tells of the auction is what the whole log says.
+-- What the state after a log says of the auction is what the whole log says.
 use Rattle.std.proofs.Common.{◌≡◌, ℕ, suc, List, Option, Some, None, refl, ◌∙◌, ap, inl, inr, length}
 use Rattle.std.specs.Prelude.{if◌then◌else◌, nat_eq}
 use Rattle.std.proofs.lemmas.Bool.{cases_Bool}
@@ -20,7 +20,7 @@ pub prices-state_of : (terms : Terms) (log : List Event) → (state_of terms log
 unfolding state_of log_prices
 prices-state_of terms log = refl
 
--- the closed rounds and the stage tell which round is posted
+-- the closed rounds and the stage say which round is posted
 closed-round_by : (n : ℕ) (final : Option ℕ) → (if is_clock (stage_by n final) then suc (closed_by n final) else closed_by n final) ≡ round_by n final
 closed-round_by n None = refl
 closed-round_by n (Some final) = elim (cases_Bool (nat_eq n final)) [ inl last ↦ rw last refl | inr past ↦ rw past refl ]

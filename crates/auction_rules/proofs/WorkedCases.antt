@@ -5,7 +5,7 @@ use Rattle.auction_rules.specs.declared.Event.TheVariants.{Bid, Draft, Drop, Sub
 use Rattle.auction_rules.specs.declared.Reply.TheVariants as reply
 use Rattle.auction_rules.specs.Terms.{Terms}
 use Rattle.auction_rules.specs.Step.{ticks_of, stepped}
-use Rattle.lots.specs.auction_model.specs.Book.{BookBid}
+use Rattle.auction_model.specs.Book.{BookBid}
 use Rattle.auction_rules.specs.Replies.{reply_to, admitted, price_top, drafts_full, close_reply, log_stage}
 use Rattle.auction_rules.specs.BookOfLog.{bids_in_book, book_of_log, is_complete}
 use Rattle.auction_rules.specs.Rounds.{OwnRound, raised_prices}

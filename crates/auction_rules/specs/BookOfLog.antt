@@ -3,8 +3,8 @@
 use Rattle.std.specs.Prelude.{◌≡◌, ℕ, ◌≤◌, Bool, not, List, Some, ◌++◌, filter, map, length, Contains}
 use Rattle.std.specs.List.{AllByRecursion}
 use Rattle.auction_rules.specs.declared.Event.{Event}
-use Rattle.lots.specs.auction_model.specs.Book.{BookBid, Bidder, Book}
-use Rattle.lots.specs.auction_model.specs.PackageTests.{is_empty}
+use Rattle.auction_model.specs.Book.{Bidder, Book, BookBid}
+use Rattle.auction_model.specs.PackageTests.{is_empty}
 use Rattle.auction_rules.specs.Terms.{Terms, entrant}
 use Rattle.auction_rules.specs.Rounds.{listing}
 use Rattle.auction_rules.specs.Caps.{clock_bid, greatest}
@@ -26,7 +26,7 @@ pairs_of s = map clock_bid s.rounds ++ s.submitted
 abbrev pub book_bids : Standing → List BookBid
 book_bids s = best_bids (pairs_of s)
 
--- the bid stands among the pairs, and none of them has a greater amount for its package
+-- the bid is among the pairs, and none of them has a greater amount for its package
 pub record IsGreatestFor (pairs : List BookBid) (b : BookBid) : Type 0 where
   pub there : Contains pairs b
   pub most : AllByRecursion (λ p. p.lots ≡ b.lots → p.amount ≤ b.amount) pairs
@@ -39,7 +39,7 @@ bids_in_book terms log j = book_bids (standing terms (admitted terms log) j)
 abbrev pub book_bidder : Terms → (ℕ → List BookBid) → ℕ → Bidder
 book_bidder terms bids j = record { name = (entrant terms j).name; bids = bids j }
 
--- the book of the award with these bids of each bidder; a bidder without bids stands in it too
+-- the book of the award with these bids of each bidder; a bidder without bids is in it too
 abbrev pub book_by : Terms → (ℕ → List BookBid) → Book
 book_by terms bids = record { supply = terms.supply; reserves = terms.reserves; bidders = listing (book_bidder terms bids) (length terms.bidders) }
 

@@ -1,8 +1,8 @@
 -- Relative caps, over the clock rounds of one bidder.
 use Rattle.std.specs.Prelude.{ℕ, zero, suc, ◌+◌, ◌-◌, ◌≤◌, ◌<◌, max, min, Bool, true, false, List, [], ◌∷◌, ◌++◌, Option, Some, None, map, length, slice_index_or, nat_le, if◌then◌else◌}
-use Rattle.lots.specs.auction_model.specs.Book.{BookBid}
-use Rattle.lots.specs.auction_model.specs.Package.{cost_of}
-use Rattle.lots.specs.auction_model.specs.PackageTests.{is_empty, is_same}
+use Rattle.auction_model.specs.Book.{BookBid}
+use Rattle.auction_model.specs.Package.{cost_of}
+use Rattle.auction_model.specs.PackageTests.{is_empty, is_same}
 use Rattle.auction_rules.specs.Step.{last_or}
 use Rattle.auction_rules.specs.Rounds.{OwnRound}
 
@@ -29,7 +29,7 @@ enough_numbers points number [] = []
 enough_numbers points number (r ∷ rounds) =
     if nat_le points r.eligibility then number ∷ enough_numbers points (suc number) rounds else enough_numbers points (suc number) rounds
 
--- the number of the constraining round, and 0 where there is none
+-- the number of the constraining round, and 0 if there is none
 abbrev pub constraining_number : ℕ → List OwnRound → ℕ
 constraining_number points rounds = last_or 0 (enough_numbers points 1 rounds)
 
@@ -49,7 +49,7 @@ pub record IsLastEnough (points : ℕ) (rounds : List OwnRound) (number : ℕ) :
 abbrev pub clock_bid : OwnRound → BookBid
 clock_bid r = record { lots = r.held; amount = cost_of r.prices r.held }
 
--- the greatest amount for the package in the list, and 0 where there is none
+-- the greatest amount for the package in the list, and 0 if there is none
 abbrev pub greatest : List ℕ → List BookBid → ℕ
 greatest lots [] = 0
 greatest lots (b ∷ bids) = max (if is_same b.lots lots then b.amount else 0) (greatest lots bids)

@@ -1,12 +1,12 @@
 -- What an award and the lines of a log keep, and what follows for each bid of the book.
 use Rattle.std.specs.Prelude.{◌≡◌, ℕ, ◌≤◌, IsTrue, false, List, [], ◌∷◌, length, map, sum}
 use Rattle.std.specs.List.{AllByRecursion}
-use Rattle.lots.specs.limits.specs.declared.TheConstants.{MOST_AMOUNT, MOST_DRAFTS, MOST_LOTS, MOST_PRICE}
-use Rattle.lots.specs.auction_model.specs.Book.{BookBid}
-use Rattle.lots.specs.auction_model.specs.Package.{is_within, cost_of}
+use Rattle.limits.specs.declared.TheConstants.{MOST_AMOUNT, MOST_DRAFTS, MOST_LOTS, MOST_PRICE}
+use Rattle.auction_model.specs.Book.{BookBid}
+use Rattle.auction_model.specs.Package.{cost_of, is_within}
 use Rattle.auction_rules.specs.declared.Event.{Event}
 use Rattle.auction_rules.specs.declared.Event.TheVariants.{Bid, Draft, Drop, Submit, Close}
-use Rattle.lots.specs.auction_model.specs.PackageTests.{is_empty, InOrder}
+use Rattle.auction_model.specs.PackageTests.{InOrder, is_empty}
 use Rattle.auction_rules.specs.Terms.{Terms, entrant}
 use Rattle.auction_rules.specs.Rounds.{OwnRound}
 use Rattle.auction_rules.specs.BookOfLog.{bid_lots}
@@ -28,7 +28,7 @@ HasCategories terms (Drop k lots) = length lots ≡ length terms.supply
 HasCategories terms (Submit k) = Unit {0}
 HasCategories terms Close = Unit {0}
 
--- a bid that may stand in a book of the award
+-- a bid that may be in a book of the award
 pub record IsLawfulBid (terms : Terms) (b : BookBid) : Type 0 where
   pub categories : length b.lots ≡ length terms.supply
   pub within : IsTrue (is_within b.lots terms.supply)

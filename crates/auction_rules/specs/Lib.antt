@@ -8,5 +8,3 @@ pub mod View
 pub mod State
 pub mod BookOfLog
 pub mod Lawful
-pub use Rattle.lots.specs.limits
-pub use Rattle.lots

@@ -2,9 +2,9 @@
 use Rattle.std.specs.Prelude.{ℕ, suc, Bool, true, false, ◌&&◌, List, [], ◌∷◌, Option, Some, None, filter_map, unwrap_or, ◌==◌, if◌then◌else◌}
 use Rattle.auction_rules.specs.declared.Event.{Event}
 use Rattle.auction_rules.specs.declared.Event.TheVariants.{Bid, Draft, Drop, Submit, Close}
-use Rattle.lots.specs.auction_model.specs.Book.{BookBid}
-use Rattle.lots.specs.auction_model.specs.PackageTests.{is_same, is_before}
-use Rattle.lots.specs.auction_model.specs.Entries.{with_entry, without_entry}
+use Rattle.auction_model.specs.Book.{BookBid}
+use Rattle.auction_model.specs.PackageTests.{is_before, is_same}
+use Rattle.auction_model.specs.Entries.{with_entry, without_entry}
 use Rattle.auction_rules.specs.Terms.{Terms, no_lots}
 
 abbrev pub is_close : Event → Bool
@@ -61,7 +61,7 @@ abbrev pub section : ℕ → List Event → List Event
 section r [] = []
 section r (e ∷ earlier) = if suc (closes earlier) == r then e ∷ section r earlier else section r earlier
 
--- the package of the newest bid of bidder j in section r, and the empty package where there is none
+-- the package of the newest bid of bidder j in section r, and the empty package if there is none
 abbrev pub held_in : Terms → List Event → ℕ → ℕ → List ℕ
 held_in terms lines r j = unwrap_or (newest (filter_map (bid_by j) (section r lines))) (no_lots terms)
 
@@ -69,7 +69,7 @@ held_in terms lines r j = unwrap_or (newest (filter_map (bid_by j) (section r li
 abbrev pub draft_of : ℕ → List Event → List ℕ → Option ℕ
 draft_of j lines lots = unwrap_or (newest (filter_map (draft_word j lots) lines)) None
 
--- the package set in its place among packages in order, each of which stands once
+-- the package set in its place among packages in order, each of which occurs once
 abbrev pub placed : List ℕ → List (List ℕ) → List (List ℕ)
 placed lots [] = lots ∷ []
 placed lots (p ∷ rest) = if is_same lots p then p ∷ rest else if is_before lots p then lots ∷ p ∷ rest else p ∷ placed lots rest
@@ -100,7 +100,7 @@ is_submit j (Draft k lots amount) = false
 is_submit j (Drop k lots) = false
 is_submit j Close = false
 
--- the draft list at the newest submit line of bidder j, and the empty list where there is none
+-- the draft list at the newest submit line of bidder j, and the empty list if there is none
 abbrev pub submitted_list : ℕ → List Event → List BookBid
 submitted_list j [] = []
 submitted_list j (e ∷ earlier) = if is_submit j e then draft_list j earlier else submitted_list j earlier

@@ -1,16 +1,16 @@
 -- The reply to a line. A list of lines has the newest line first; a line is admitted when its reply, after the lines before it,
 -- is Ok.
 use Rattle.std.specs.Prelude.{ℕ, suc, ◌-◌, Bool, true, false, not, ◌&&◌, ◌||◌, List, [], ◌∷◌, Option, Some, None, map, length, nat_le, nat_lt, ◌==◌, if◌then◌else◌}
-use Rattle.lots.specs.limits.specs.declared.TheConstants.{MOST_AMOUNT, MOST_DRAFTS, MOST_PRICE, MOST_ROUNDS}
+use Rattle.limits.specs.declared.TheConstants.{MOST_AMOUNT, MOST_DRAFTS, MOST_PRICE, MOST_ROUNDS}
 use Rattle.auction_rules.specs.declared.Event.{Event}
 use Rattle.auction_rules.specs.declared.Event.TheVariants.{Bid, Draft, Drop, Submit, Close}
 use Rattle.auction_rules.specs.declared.Reply.{Reply}
 use Rattle.auction_rules.specs.declared.Reply.TheVariants as reply
 use Rattle.auction_rules.specs.declared.Stage.{Stage}
 use Rattle.auction_rules.specs.declared.Stage.TheVariants.{Clock, Sealed, Closed}
-use Rattle.lots.specs.auction_model.specs.Book.{BookBid}
-use Rattle.lots.specs.auction_model.specs.Package.{is_within, cost_of}
-use Rattle.lots.specs.auction_model.specs.PackageTests.{first_over, is_empty, is_same}
+use Rattle.auction_model.specs.Book.{BookBid}
+use Rattle.auction_model.specs.Package.{cost_of, is_within}
+use Rattle.auction_model.specs.PackageTests.{first_over, is_empty, is_same}
 use Rattle.auction_rules.specs.Terms.{Terms, final_cap, entrant, broken_cap}
 use Rattle.auction_rules.specs.Rounds.{OwnRound, prices_after, eligibility_after, stage_after, round_after, closed_after, own_rounds, demand}
 use Rattle.auction_rules.specs.Caps.{clock_bid, greatest, list_fault}

@@ -4,7 +4,7 @@ use Rattle.std.specs.Prelude.{ℕ, zero, suc, ◌-◌, List, [], ◌∷◌, ◌+
 use Rattle.std.specs.Option.{option_or}
 use Rattle.auction_rules.specs.declared.Stage.{Stage}
 use Rattle.auction_rules.specs.declared.Stage.TheVariants.{Clock, Sealed, Closed}
-use Rattle.lots.specs.auction_model.specs.Package.{together, is_within, cost_of}
+use Rattle.auction_model.specs.Package.{cost_of, is_within, together}
 use Rattle.auction_rules.specs.Terms.{Terms, entrant, no_lots}
 use Rattle.auction_rules.specs.Step.{stepped}
 

@@ -4,14 +4,14 @@ use Rattle.auction_rules.specs.declared.Event.{Event}
 use Rattle.auction_rules.specs.declared.Event.TheVariants.{Bid, Draft, Drop, Submit, Close}
 use Rattle.auction_rules.specs.declared.Reply.{Reply}
 use Rattle.auction_rules.specs.declared.Stage.{Stage}
-use Rattle.lots.specs.auction_model.specs.Book.{BookBid, Book}
+use Rattle.auction_model.specs.Book.{Book, BookBid}
 use Rattle.auction_rules.specs.declared.Stage.TheVariants.{Clock, Sealed, Closed}
-use Rattle.lots.specs.auction_model.specs.Package.{is_within, cost_of}
+use Rattle.auction_model.specs.Package.{cost_of, is_within}
 use Rattle.auction_rules.specs.Terms.{Terms, no_lots}
 use Rattle.auction_rules.specs.BookOfLog.{book_bids, book_by}
 use Rattle.auction_rules.specs.Rounds.{OwnRound, listing, sum_of, raised_prices, prices_after, eligibility_after, stage_after, round_after, closed_after}
 use Rattle.auction_rules.specs.Lines.{is_close, line_bidder, closes, held_in, draft_list, submitted_list}
-use Rattle.lots.specs.auction_model.specs.Entries.{with_entry, without_entry}
+use Rattle.auction_model.specs.Entries.{with_entry, without_entry}
 use Rattle.auction_rules.specs.Replies.{Standing, is_clock, is_closed, is_ok_reply, closing_reply, own_reply, admitted}
 
 -- one closed clock round: the prices, and of each bidder its eligibility at the start and its package

@@ -1,6 +1,6 @@
 -- The terms of an award.
 use Rattle.std.specs.Prelude.{ℕ, suc, ◌-◌, Bool, ◌==◌, List, [], ◌∷◌, map, slice_index_or, Option, Some, None, nat_le, if◌then◌else◌}
-use Rattle.lots.specs.auction_model.specs.Package.{together, cost_of}
+use Rattle.auction_model.specs.Package.{cost_of, together}
 
 -- the weighted lots of a bidder, with its holding, are at most the limit
 pub record SpectrumCap : Type 0 where

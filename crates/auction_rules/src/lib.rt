@@ -12,10 +12,10 @@
 
 ghost use Rattle.std.specs.Prelude.{◌≡◌, ℕ, suc, ◌+◌, ◌*◌, ◌≤◌, List, ◌∷◌, None, IsTrue, true, false, not, ◌&&◌, length, map};
 ghost use Rattle.std.specs.List.{AllByRecursion};
-ghost use Rattle.lots.specs.limits.specs.declared.TheConstants.{MOST_BIDS, MOST_ROUNDS};
-ghost use Rattle.lots.specs.auction_model.specs.Book.{bidder_of};
-ghost use Rattle.lots.specs.auction_model.specs.Package.{ComesBefore, is_within, cost_of};
-ghost use Rattle.lots.specs.auction_model.specs.PackageTests.{first_over, is_empty, is_same, is_before, InOrder};
+ghost use Rattle.limits.specs.declared.TheConstants.{MOST_BIDS, MOST_ROUNDS};
+ghost use Rattle.auction_model.specs.Book.{bidder_of};
+ghost use Rattle.auction_model.specs.Package.{ComesBefore, cost_of, is_within};
+ghost use Rattle.auction_model.specs.PackageTests.{InOrder, first_over, is_before, is_empty, is_same};
 ghost use Rattle.auction_rules.specs.Terms.{Terms, entrant, final_cap};
 ghost use Rattle.auction_rules.specs.Step.{AreRisingFrom, IsRaise, IsReachedShare, permille_at, ticks_of};
 ghost use Rattle.auction_rules.specs.Rounds.{OwnRound, prices_after};
@@ -82,13 +82,13 @@ pub enum Reply {
     NoDraft,
     /// This entry of the draft list that is to be submitted is above its relative cap, the first such one, with its cap.
     RelativeCap { entry: u32, limit: u64 },
-    /// There are so many drafts already and the package has none, or so many rounds and there still is excess demand.
+    /// There are that many drafts already and the package has none, or that many rounds and there still is excess demand.
     Full(u64),
     /// The amount of a draft is above the greatest amount, which is this.
     AmountTop(u64),
     /// A close would raise the price of this category to this, which is above the greatest price; the first such category.
     PriceTop { category: u16, price: u64 },
-    /// There was no memory. The rules never give this reply; it may come in place of theirs.
+    /// There was no memory. The rules never give this reply; it may come instead of theirs.
     Memory,
 }
 
@@ -124,7 +124,7 @@ pub fn greatest_threshold()
         → IsReachedShare (first ∷ later) excess (permille_at (first ∷ later) excess) }
 {}
 
-/// A raise is the least multiple of the tick that is at least the tick and at least so many thousandths of the price, and there
+/// A raise is the least multiple of the tick that is at least the tick and at least that many thousandths of the price, and there
 /// is no other.
 pub fn raise_is_least()
     ensures least { (tick price permille : ℕ) → 1 ≤ tick
@@ -204,7 +204,7 @@ pub fn desk_step()
         → state_with (state_of terms log) line ≡ state_of terms (line ∷ log) }
 {}
 
-/// What the state after a log tells is what the whole log says: how far the auction is, the number of the posted round, and its
+/// What the state after a log says is what the whole log says: how far the auction is, the number of the posted round, and its
 /// prices.
 pub fn desk_tells()
     ensures stage { (terms : Terms) (log : List Event) → (state_of terms log).stage ≡ log_stage terms log }
@@ -217,14 +217,14 @@ pub fn desk_book()
     ensures { (terms : Terms) (log : List Event) → book_in (state_of terms log) ≡ book_of_log terms log }
 {}
 
-/// Each bidder of the award stands in the book of a log at its place, with its name and its bids, also one without bids.
+/// Each bidder of the award is in the book of a log at its place, with its name and its bids, also one without bids.
 pub fn bidders_of_book()
     ensures count { (terms : Terms) (log : List Event) → length (book_of_log terms log).bidders ≡ length terms.bidders }
     ensures each { (terms : Terms) (log : List Event) (j : ℕ) → 1 ≤ j → j ≤ length terms.bidders
         → bidder_of (book_of_log terms log) j ≡ book_bidder terms (bids_in_book terms log) j }
 {}
 
-/// What stands in the book of a log. A package has a bid of the bidder exactly where it isn't empty and stands among the bidder's
+/// What is in the book of a log. A package has a bid of the bidder exactly where it isn't empty and is among the bidder's
 /// clock bids or in its submitted list. Each bid is one of these, and none of them has a greater amount for its package. No bid
 /// is for the empty package, and there are no more than a book allows.
 pub fn bids_of_book()

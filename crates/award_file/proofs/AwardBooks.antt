@@ -1,6 +1,6 @@
 -- The book of a log on an award keeps the rules and the limits of a book.
-use Rattle.std.proofs.Common.{◌≡◌, ◌≢◌, ℕ, zero, suc, ◌-◌, ◌<◌, ◌≤◌, true, false, List, [], ◌∷◌, ◌++◌, length, map, get_or, replicate, sym, subst, ◌∙◌, inl}
-use Rattle.std.proofs.Common.{inr, arith, append_assoc}
+use Rattle.std.proofs.Common.{List, [], append_assoc, arith, false, get_or, inl, inr, length, map, replicate, subst, suc, sym, true, zero, ℕ, ◌++◌}
+use Rattle.std.proofs.Common.{◌-◌, ◌<◌, ◌∙◌, ◌∷◌, ◌≡◌, ◌≢◌, ◌≤◌}
 use Rattle.std.specs.Prelude.{◌==◌}
 use Rattle.std.specs.List.{AllByRecursion}
 use Rattle.std.specs.Str.{bytes_eq}
@@ -9,13 +9,13 @@ use Rattle.std.proofs.lemmas.List.{append-nil, length-map}
 use Rattle.std.proofs.lemmas.List.Elements.{recursion_from_All}
 use Rattle.std.proofs.lemmas.Map.Keys.{apart_from_distinct}
 use Rattle.std.proofs.lemmas.Slice.Eq.{bytes_eq-Decides}
-use Rattle.auction_rules.specs.lots.specs.auction_model.specs.Book.{BookBid, Bidder}
-use Rattle.auction_rules.specs.lots.specs.auction_model.specs.Package.{ComesBefore}
-use Rattle.auction_rules.specs.lots.specs.auction_model.proofs.ListLaws.{each-push}
-use Rattle.bid_book.specs.book_form.specs.BookForm.{AreBids, IsBidder, AreBidders, IsName, empty_package}
-use Rattle.bid_book.specs.book_form.specs.BookLines.{IsBookWithinLimits}
+use Rattle.auction_model.specs.Book.{Bidder, BookBid}
+use Rattle.auction_model.specs.Package.{ComesBefore}
+use Rattle.auction_model.proofs.ListLaws.{each-push}
+use Rattle.book_grammar.specs.BookForm.{AreBidders, AreBids, IsBidder, IsName, empty_package}
+use Rattle.book_grammar.specs.BookLines.{IsBookWithinLimits}
 use Rattle.auction_rules.specs.declared.Event.{Event}
-use Rattle.auction_rules.specs.lots.specs.auction_model.specs.PackageTests.{is_empty, is_before, AllAfter, InOrder}
+use Rattle.auction_model.specs.PackageTests.{AllAfter, InOrder, is_before, is_empty}
 use Rattle.auction_rules.specs.Terms.{Terms, Entrant, entrant}
 use Rattle.auction_rules.specs.Rounds.{listing}
 use Rattle.auction_rules.specs.Lawful.{AreLimited, IsLawfulBid}

@@ -8,10 +8,10 @@ use Rattle.std.proofs.lemmas.Bool.Decides.{nat_tests}
 use Rattle.std.proofs.lemmas.List.{length-map}
 use Rattle.std.proofs.lemmas.List.Elements.{All-from_recursion}
 use Rattle.toml.specs.Data.{Members, get_member}
-use Rattle.bid_book.specs.book_form.specs.BookForm.{IsOffer}
+use Rattle.book_grammar.specs.BookForm.{IsOffer}
 use Rattle.auction_rules.specs.Step.{last_or}
 use Rattle.auction_rules.specs.Terms.{Terms}
-use Rattle.auction_rules.specs.lots.specs.Limits.{IsSupply}
+use Rattle.lots.specs.Limits.{IsSupply}
 use Rattle.bid_book.proofs.SupplyLaws.{none_first, none_second}
 use Rattle.award_file.specs.Award.{IsAward, IsSteps, IsEntrant, IsCap, AreThresholds, RiseAbove, AreNamedApart, steps_of}
 use Rattle.award_file.specs.Reading.{IsStated}

@@ -2,7 +2,7 @@
 use Rattle.std.proofs.Common.{◌≡◌, ℕ, ◌+◌, ◌*◌, ◌<◌, List, length, drop, get_or, sym, ap, subst, ◌∙◌, arith}
 use Rattle.std.specs.List.{All}
 use Rattle.std.proofs.lemmas.List.{drop_more, get_or-map, length-map}
-use Rattle.auction_rules.specs.lots.specs.auction_model.specs.Package.{together, cost_of}
+use Rattle.auction_model.specs.Package.{cost_of, together}
 use Rattle.award_file.specs.declared.caps.SpectrumCap.{SpectrumCap as KeptCap}
 use Rattle.award_file.specs.Award.{IsCap}
 use Rattle.award_file.specs.Fields.{cap_value, cap_values}

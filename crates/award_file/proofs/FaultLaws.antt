@@ -7,7 +7,7 @@ use Rattle.std.proofs.lemmas.Bool.Decides.{nat_tests}
 use Rattle.std.proofs.lemmas.List.{length-replicate}
 use Rattle.std.proofs.lemmas.List.Elements.{All-replicate, recursion_from_All}
 use Rattle.toml.specs.Data.{Data, array, Items, no_items, item, Members, get_member, as_integer}
-use Rattle.bid_book.specs.book_form.specs.BookForm.{IsName}
+use Rattle.book_grammar.specs.BookForm.{IsName}
 use Rattle.award_file.specs.Stated.{where_passes, in_range, whole_of, number_at, before_others, numbers_of, row_of, is_name, string_at, name_at}
 use Rattle.award_file.specs.Walk.{Fault, unless, first_fault, is_new, name_or_none, holding_in, list_fault}
 use Rattle.award_file.proofs.FieldLaws.{name-is}
@@ -66,7 +66,7 @@ number-in low high key t h = found-in low high (get_member key t) h
 
 -- ---- rows
 
--- so many numbers, none above high
+-- that many numbers, none above high
 abbrev pub IsRow : ℕ → ℕ → List ℕ → Type 0
 IsRow count high ns = (length ns ≡ count) × AllByRecursion (λ n. n ≤ high) ns
 
@@ -95,12 +95,12 @@ row-from : (count high : ℕ) (found : Option (List ℕ)) → AreLow high found 
 row-from count high None all h = absurd (false≢true h)
 row-from count high (Some ns) all h = counted count high ns (length ns == count) refl all h
 
--- a value that is a row is so many numbers, none above high
+-- a value that is a row is that many numbers, none above high
 pub row-in : (count high : ℕ) (d : Data) → is_some (row_of count high d) ≡ true → IsRow count high (unwrap_or (row_of count high d) [])
 row-in count high (array ds) h = row-from count high (numbers_of high ds) (all-low high ds) h
 row-in count high _ h = absurd (false≢true h)
 
--- a row that a key states is so many numbers, none above high
+-- a row that a key states is that many numbers, none above high
 pub row-at : (count high : ℕ) (found : Option Data) → is_some (option_and_then (row_of count high) found) ≡ true
     → IsRow count high (unwrap_or (option_and_then (row_of count high) found) [])
 row-at count high None h = absurd (false≢true h)
@@ -137,7 +137,7 @@ count-kept : (allowed : ℕ → Bool) (ts : List Members) (b : Bool) → b ≡ a
 count-kept allowed ts true is h = sym is
 count-kept allowed ts false is h = absurd (false≢true h)
 
--- the tables of a list that is allowed are so many
+-- the tables of a list that is allowed are that many
 pub list-count : (allowed : ℕ → Bool) (found : Option (List Members)) → is_some (option_and_then (where_passes (λ ts. allowed (length ts))) found) ≡ true
     → allowed (length (unwrap_or (option_and_then (where_passes (λ ts. allowed (length ts))) found) [])) ≡ true
 list-count allowed None h = absurd (false≢true h)

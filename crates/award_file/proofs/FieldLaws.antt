@@ -8,7 +8,7 @@ use Rattle.toml.specs.Data.{Data, table, Items, item}
 use Rattle.toml.specs.Text.{are_tables}
 use Rattle.toml.specs.View.{view, items_view}
 use Rattle.toml.specs.declared.value.Value.{Value}
-use Rattle.bid_book.specs.book_form.specs.BookForm.{IsLetter, IsNameByte, IsName}
+use Rattle.book_grammar.specs.BookForm.{IsLetter, IsName, IsNameByte}
 use Rattle.award_file.specs.Stated.{is_letter, is_name_byte, is_name, where_passes, tables_of}
 
 -- ---- names

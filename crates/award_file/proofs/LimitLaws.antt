@@ -4,13 +4,13 @@ use Rattle.std.specs.Prelude.{sum, nat_le, nat_lt, ◌&&◌, if◌then◌else◌
 use Rattle.std.specs.Option.{option_or}
 use Rattle.std.proofs.lemmas.Bool.Decides.{nat_tests}
 use Rattle.std.proofs.lemmas.Option.{same_Some}
-use Rattle.auction_rules.specs.lots.specs.auction_model.specs.Place.{states_of}
-use Rattle.bid_book.specs.book_form.specs.BookForm.{IsOffer}
-use Rattle.bid_book.specs.book_form.specs.BookLines.{Excess, supply_excess}
-use Rattle.auction_rules.specs.limits.specs.declared.LimitKind.TheVariants.{Categories, Lots, States}
-use Rattle.auction_rules.specs.lots.specs.declared.LotStop.{LotStop}
-use Rattle.auction_rules.specs.lots.specs.declared.LotStop.TheVariants as lots
-use Rattle.auction_rules.specs.lots.specs.Limits.{IsSupply, categories_stop, lots_stop, states_stop, supply_stop}
+use Rattle.auction_model.specs.Place.{states_of}
+use Rattle.book_grammar.specs.BookForm.{IsOffer}
+use Rattle.book_grammar.specs.BookLines.{Excess, supply_excess}
+use Rattle.limits.specs.declared.LimitKind.TheVariants.{Categories, Lots, States}
+use Rattle.lots.specs.declared.LotStop.{LotStop}
+use Rattle.lots.specs.declared.LotStop.TheVariants as lots
+use Rattle.lots.specs.Limits.{IsSupply, categories_stop, lots_stop, states_stop, supply_stop}
 use Rattle.bid_book.proofs.SupplyLaws.{zero_none}
 use Rattle.award_file.specs.Reading.{IsLimit, limit_stop}
 

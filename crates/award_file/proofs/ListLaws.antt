@@ -1,6 +1,6 @@
 -- A list of tables, read table by table.
-use Rattle.std.proofs.Common.{◌≡◌, ℕ, ◌+◌, ◌<◌, List, [], ◌∷◌, ◌++◌, length, get_or, drop, map, Option, None, String, BTreeMap, Global, sym, ap, subst, ◌∙◌}
-use Rattle.std.proofs.Common.{append_assoc, rules}
+use Rattle.std.proofs.Common.{BTreeMap, Global, List, None, Option, String, [], ap, append_assoc, drop, get_or, length, map, rules, subst, sym, ℕ}
+use Rattle.std.proofs.Common.{◌++◌, ◌+◌, ◌<◌, ◌∙◌, ◌∷◌, ◌≡◌}
 use Rattle.std.specs.Option.{option_or}
 use Rattle.std.proofs.lemmas.List.{map-append}
 use Rattle.toml.specs.Data.{Data, table, item, Members}
@@ -28,7 +28,7 @@ first-stops f g (Field number entry) h = rw h
 first-stops f g (Limit kind count) h = absurd h
 first-stops f g Memory h = tt
 
--- the table at an index, and those behind it
+-- the table at an index, and those after it
 pub table-here : (vs : List Value) (i : ℕ) (v : Value) (m : BTreeMap (String Global) Value) → i < length vs → v ≡ get_or vs i v → v ≡ Table m
     → tables_of (items_view (drop i vs)) ≡ table_view m ∷ tables_of (items_view (drop (i + 1) vs))
 table-here vs i v m lt at is =

@@ -1,6 +1,6 @@
 -- Names, and the keys of a map.
-use Rattle.std.proofs.Common.{◌≡◌, ℕ, zero, suc, ◌+◌, ◌-◌, ◌<◌, ◌≤◌, List, [], ◌∷◌, ◌++◌, Bool, true, false, not, map, length, get_or, refl, ap, subst, ◌∙◌}
-use Rattle.std.proofs.Common.{sym, arith, Option, Some, None, String, string_bytes}
+use Rattle.std.proofs.Common.{Bool, List, None, Option, Some, String, [], ap, arith, false, get_or, length, map, not, refl, string_bytes, subst, suc}
+use Rattle.std.proofs.Common.{sym, true, zero, ℕ, ◌++◌, ◌+◌, ◌-◌, ◌<◌, ◌∙◌, ◌∷◌, ◌≡◌, ◌≤◌}
 use Rattle.std.specs.List.{position, position_or_len, prefix_len, list_any, IsDistinct}
 use Rattle.std.proofs.lemmas.List.{length-map, map-append, get_or-map}
 use Rattle.std.proofs.lemmas.List.Quantifiers.{position-Some}
@@ -26,7 +26,7 @@ prefix_len-map : {A B : Type 0} (p : B → Bool) (f : A → B) (xs : List A) →
 prefix_len-map p f [] = refl
 prefix_len-map p f (x ∷ xs) = rw (prefix_len-map p f xs)
 
--- the first image that passes a test stands at the place of the first element whose image passes it
+-- the first image that passes a test is at the place of the first element whose image passes it
 pub position-map : {A B : Type 0} (p : B → Bool) (f : A → B) (xs : List A) → position p (map f xs) ≡ position (λ x. p (f x)) xs
 position-map p f xs = rw (prefix_len-map (λ b. not (p b)) f xs, length-map xs f)
 
@@ -57,11 +57,11 @@ pub pushed : {S : Type 0} (m n : IndexMap (String Global) Entered S) (name : Str
     ++ entrant_value (name, entered) ∷ []
 pushed m n name entered none is = ap (map entrant_value) (is ∙ insert_entry-new string_eq m name entered none) ∙ view-more m.entries (name, entered)
 
--- no bidder is named as another where there is none
+-- no bidder is named as another if there is none
 pub apart-none : (bidders : List Entrant) → [] ≡ bidders → AreNamedApart bidders
 apart-none bidders none = subst AreNamedApart none (IsDistinct-from_apart bytes_eq [] (λ i j d less inside. absurd (omega arith)))
 
--- bidders stay named apart with a stranger behind them
+-- bidders stay named apart with a stranger after them
 pub apart-more : (bidders : List Entrant) (e : Entrant) → AreNamedApart bidders → is_stranger e.name (names_of bidders) ≡ true
     → AreNamedApart (bidders ++ e ∷ [])
 apart-more bidders e apart new =
@@ -86,7 +86,7 @@ pub number-found : (bidders : List Entrant) (name : List ℕ) → 0 < number_amo
     → (bidder_at bidders (number_among name (names_of bidders))).name ≡ name
 number-found bidders name some = number_found-by (position (bytes_eq name) (names_of bidders)) bidders name refl some
 
--- where names stand once, a name has the number of its bidder
+-- where names occur once, a name has the number of its bidder
 pub number-only : (bidders : List Entrant) (name : List ℕ) (j : ℕ) → AreNamedApart bidders → 1 ≤ j → j ≤ length bidders → (bidder_at bidders j).name ≡ name
     → number_among name (names_of bidders) ≡ j
 number-only bidders name zero apart low high is = absurd (omega arith)

@@ -2,8 +2,8 @@
 use Rattle.std.proofs.Common.{◌≡◌, ℕ, ◌≤◌, ◌<◌, List, [], ◌∷◌, map, Option, Some, None, refl, sym, ap, ◌∙◌, arith}
 use Rattle.std.specs.Option.{option_or}
 use Rattle.std.proofs.lemmas.Bool.Decides.{nat_tests}
-use Rattle.bid_book.specs.book_form.specs.BookLines.{Excess}
-use Rattle.auction_rules.specs.limits.specs.declared.LimitKind.TheVariants.{Bidders}
+use Rattle.book_grammar.specs.BookLines.{Excess}
+use Rattle.limits.specs.declared.LimitKind.TheVariants.{Bidders}
 use Rattle.auction_rules.specs.Terms.{Entrant, SpectrumCap}
 use Rattle.award_file.specs.Walk.{Category, terms_from}
 use Rattle.award_file.specs.declared.read.AwardStop.{AwardStop}

@@ -42,21 +42,21 @@ fault-stops fault terms Memory h = tt
 abbrev top_fault : Bool → Bool → Option Fault → Option Fault → Option Fault → Option Fault → Bool → Option Fault
 top_fault a b f g h i c = first_fault (unless a 1 0 ∷ unless b 2 0 ∷ f ∷ g ∷ h ∷ i ∷ unless c 18 0 ∷ [])
 
--- the stop at the third list, behind two without a fault
+-- the stop at the third list, after two without a fault
 pub third-stops : (a b : Bool) (f g h i : Option Fault) (c : Bool) (stop : AwardStop) → a ≡ true → b ≡ true → f ≡ None → g ≡ None → IsFault h stop
     → IsFault (top_fault a b f g h i c) stop
 third-stops a b f g h i c stop first second third fourth stops =
     let here : IsFault (option_or h (option_or i (first_fault (unless c 18 0 ∷ [])))) stop = first-stops h _ stop stops in
     rw (first, second, third, fourth) here
 
--- the stop at the fourth list, behind three without a fault
+-- the stop at the fourth list, after three without a fault
 pub fourth-stops : (a b : Bool) (f g h i : Option Fault) (c : Bool) (stop : AwardStop) → a ≡ true → b ≡ true → f ≡ None → g ≡ None → h ≡ None → IsFault i stop
     → IsFault (top_fault a b f g h i c) stop
 fourth-stops a b f g h i c stop first second third fourth fifth stops =
     let here : IsFault (option_or i (first_fault (unless c 18 0 ∷ []))) stop = first-stops i _ stop stops in
     rw (first, second, third, fourth, fifth) here
 
--- behind four lists without a fault the last rule decides
+-- after four lists without a fault the last rule decides
 pub last-decides : (a b : Bool) (f g h i : Option Fault) (c : Bool) → a ≡ true → b ≡ true → f ≡ None → g ≡ None → h ≡ None → i ≡ None
     → top_fault a b f g h i c ≡ unless c 18 0
 last-decides a b f g h i true first second third fourth fifth sixth = rw (first, second, third, fourth, fifth, sixth)

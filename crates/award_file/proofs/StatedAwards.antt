@@ -9,11 +9,11 @@ use Rattle.std.proofs.lemmas.List.{append-nil}
 use Rattle.std.proofs.lemmas.Map.Keys.{IsDistinct-push, IsDistinct-from_apart}
 use Rattle.std.specs.Cmp.Lexicographic.{nat_list_eq_equiv}
 use Rattle.toml.specs.Data.{Members}
-use Rattle.bid_book.specs.book_form.specs.BookLines.{Excess, supply_excess}
+use Rattle.book_grammar.specs.BookLines.{Excess, supply_excess}
 use Rattle.bid_book.proofs.SupplyLaws.{none_first, none_second, supply_kept}
 use Rattle.auction_rules.specs.Terms.{Terms}
 use Rattle.award_file.specs.Award.{AreNamedApart, IsAward, is_stranger, names_of}
-use Rattle.award_file.specs.Reading.{IsStated, bidders_excess, reading, reading_after, reading_of, reading_within, stated_table, states, terms_excess}
+use Rattle.award_file.specs.Reading.{IsStated, bidders_excess, reading, reading_after, reading_of, reading_within, stated_table, stated_terms, terms_excess}
 use Rattle.award_file.specs.Stated.{has_other, name_at}
 use Rattle.award_file.specs.Walk as walk
 use Rattle.award_file.specs.Walk.{Fault, award_fault, bidder_fault, entry_behind, is_new, name_or_none, tables_fault, terms_of}
@@ -26,7 +26,7 @@ new-name : (before : List (List ℕ)) (found : Option (List ℕ)) → is_new bef
 new-name before None h = absurd (false≢true h)
 new-name before (Some name) h = h
 
--- where each name of tables is new, no name stands twice
+-- where each name of tables is new, no name occurs twice
 names-apart : (n : ℕ) (before : List (List ℕ)) (ts : List Members) → IsDistinct bytes_eq before
     → tables_fault (bidder_fault n) name_or_none before ts ≡ None → IsDistinct bytes_eq (before ++ map name_or_none ts)
 names-apart n before [] apart h = subst (λ names. IsDistinct bytes_eq names) (sym (append-nil before)) apart
@@ -75,21 +75,21 @@ award-stated terms h within =
 
 -- ---- readings
 
-within-states : (excess : Option Excess) (t terms : Terms) → reading_within excess t ≡ states terms → (excess ≡ None) × (t ≡ terms)
+within-states : (excess : Option Excess) (t terms : Terms) → reading_within excess t ≡ stated_terms terms → (excess ≡ None) × (t ≡ terms)
 within-states None t terms h = (refl, cc h)
 within-states (Some excess) t terms h = absurd (cc h)
 
-after-states : (fault : Option Fault) (t terms : Terms) → reading_after fault t ≡ states terms
+after-states : (fault : Option Fault) (t terms : Terms) → reading_after fault t ≡ stated_terms terms
     → (fault ≡ None) × (terms_excess t ≡ None) × (t ≡ terms)
 after-states None t terms h = let rest = within-states (terms_excess t) t terms h in (refl, rest.0, rest.1)
 after-states (Some fault) t terms h = absurd (cc h)
 
-table-states : (found : Option Members) (terms : Terms) → reading_of found ≡ states terms → IsAward terms
+table-states : (found : Option Members) (terms : Terms) → reading_of found ≡ stated_terms terms → IsAward terms
 table-states None terms h = absurd (cc h)
 table-states (Some t) terms h =
     let parts = after-states (award_fault t) (terms_of t) terms h in
     subst IsAward parts.2 (award-of_table t parts.0 parts.1)
 
 -- bytes that state terms state a lawful award
-pub award-read : (bytes : List ℕ) (terms : Terms) → reading bytes ≡ states terms → IsAward terms
+pub award-read : (bytes : List ℕ) (terms : Terms) → reading bytes ≡ stated_terms terms → IsAward terms
 award-read bytes terms h = table-states (stated_table bytes) terms h

@@ -2,11 +2,11 @@
 use Rattle.std.specs.Prelude.{◌≡◌, ℕ, ◌+◌, ◌-◌, ◌≤◌, ◌<◌, Bool, not, List, [], ◌∷◌, length, map, Option, Some, None, position, slice_index_or}
 use Rattle.std.specs.List.{All, IsDistinct, list_any}
 use Rattle.std.specs.Str.{bytes_eq}
-use Rattle.auction_rules.specs.limits.specs.declared.TheConstants.{MOST_BIDDERS, MOST_COUNT, MOST_ELIGIBILITY, MOST_POINTS, MOST_PRICE}
-use Rattle.auction_rules.specs.limits.specs.declared.TheConstants.{MOST_CAP_LIMIT, MOST_CAP_WEIGHT, MOST_CAPS, MOST_EXCESS, MOST_PERMILLE, MOST_STEPS}
+use Rattle.limits.specs.declared.TheConstants.{MOST_BIDDERS, MOST_CAPS, MOST_CAP_LIMIT, MOST_CAP_WEIGHT, MOST_COUNT, MOST_ELIGIBILITY, MOST_EXCESS}
+use Rattle.limits.specs.declared.TheConstants.{MOST_PERMILLE, MOST_POINTS, MOST_PRICE, MOST_STEPS}
 use Rattle.auction_rules.specs.Terms.{SpectrumCap, Entrant, Terms}
-use Rattle.bid_book.specs.book_form.specs.BookForm.{IsName}
-use Rattle.auction_rules.specs.lots.specs.Limits.{IsSupply}
+use Rattle.book_grammar.specs.BookForm.{IsName}
+use Rattle.lots.specs.Limits.{IsSupply}
 
 -- how prices rise: the tick, and the thresholds, each an excess with its permille
 pub record Steps : Type 0 where
@@ -36,14 +36,14 @@ pub record IsSteps (steps : Steps) : Type 0 where
   pub few : length steps.thresholds ≤ MOST_STEPS
   pub thresholds : AreThresholds steps.thresholds
 
--- a bidder of an award with so many categories
+-- a bidder of an award with that many categories
 pub record IsEntrant (categories : ℕ) (e : Entrant) : Type 0 where
   pub name : IsName e.name
   pub eligibility : e.eligibility ≤ MOST_ELIGIBILITY
   pub holding : length e.holding ≡ categories
   pub most_held : All (λ n. n ≤ MOST_COUNT) e.holding
 
--- a spectrum cap of an award with so many categories
+-- a spectrum cap of an award with that many categories
 pub record IsCap (categories : ℕ) (r : SpectrumCap) : Type 0 where
   pub weights : length r.weights ≡ categories
   pub most_weight : All (λ w. w ≤ MOST_CAP_WEIGHT) r.weights
@@ -55,7 +55,7 @@ name_of e = e.name
 abbrev pub names_of : List Entrant → List (List ℕ)
 names_of bidders = map name_of bidders
 
--- no name stands twice
+-- no name occurs twice
 abbrev pub AreNamedApart : List Entrant → Type 0
 AreNamedApart bidders = IsDistinct bytes_eq (names_of bidders)
 
@@ -99,7 +99,7 @@ abbrev pub from_one : Option ℕ → ℕ
 from_one (Some i) = i + 1
 from_one None = 0
 
--- the number of the first of the names that is this one, and 0 where there is none
+-- the number of the first of the names that is this one, and 0 if there is none
 abbrev pub number_among : List ℕ → List (List ℕ) → ℕ
 number_among name names = from_one (position (bytes_eq name) names)
 

@@ -5,8 +5,3 @@ pub mod Stated
 pub mod Walk
 pub mod Reading
 pub mod Parts
-pub use Rattle.auction_rules.specs.lots.specs.auction_model
-pub use Rattle.auction_rules
-pub use Rattle.bid_book
-pub use Rattle.auction_rules.specs.limits
-pub use Rattle.auction_rules.specs.lots

@@ -2,15 +2,15 @@
 use Rattle.std.specs.Prelude.{◌≡◌, ℕ, ◌-◌, ◌^◌, min, List, length, Option, Some, None, nat_le, if◌then◌else◌}
 use Rattle.std.specs.Str.{is_utf8}
 use Rattle.std.specs.Option.{option_or}
-use Rattle.auction_rules.specs.limits.specs.declared.TheConstants.{MOST_BIDDERS}
+use Rattle.limits.specs.declared.TheConstants.{MOST_BIDDERS}
 use Rattle.toml.specs.Data.{Members}
 use Rattle.toml.specs.Parse.{parse_document}
-use Rattle.bid_book.specs.book_form.specs.BookLines.{Excess, supply_excess}
-use Rattle.auction_rules.specs.limits.specs.declared.LimitKind.{LimitKind}
-use Rattle.auction_rules.specs.limits.specs.declared.LimitKind.TheVariants.{Categories, Lots, States, Bidders}
+use Rattle.book_grammar.specs.BookLines.{Excess, supply_excess}
+use Rattle.limits.specs.declared.LimitKind.{LimitKind}
+use Rattle.limits.specs.declared.LimitKind.TheVariants.{Bidders, Categories, Lots, States}
 use Rattle.auction_rules.specs.Terms.{Terms}
-use Rattle.auction_rules.specs.lots.specs.declared.LotStop.{LotStop}
-use Rattle.auction_rules.specs.lots.specs.declared.LotStop.TheVariants as lots
+use Rattle.lots.specs.declared.LotStop.{LotStop}
+use Rattle.lots.specs.declared.LotStop.TheVariants as lots
 use Rattle.award_file.specs.Walk.{Fault, award_fault, terms_of}
 use Rattle.award_file.specs.declared.read.AwardStop.{AwardStop}
 use Rattle.award_file.specs.declared.read.AwardStop.TheVariants.{Text, Field, Limit, Memory}
@@ -34,11 +34,11 @@ pub data Reading : Type 0 where
   broken : ℕ → ℕ → Reading
   -- no rule is broken, but a limit is exceeded
   too_many : LimitKind → ℕ → Reading
-  states : Terms → Reading
+  stated_terms : Terms → Reading
 
 -- what is said of terms that exceed this limit, or none
 abbrev pub reading_within : Option Excess → Terms → Reading
-reading_within None terms = states terms
+reading_within None terms = stated_terms terms
 reading_within (Some excess) terms = too_many excess.0 excess.1
 
 -- what is said of terms whose table has this fault, or none
@@ -55,7 +55,7 @@ reading_of (Some t) = reading_after (award_fault t) (terms_of t)
 abbrev pub reading : List ℕ → Reading
 reading bytes = reading_of (stated_table bytes)
 
--- the stop is the one that the reading says; want of memory is free
+-- the stop is the one that the reading says; out of memory is free
 abbrev pub IsStop : Reading → AwardStop → Type 0
 IsStop r Text = r ≡ no_toml
 IsStop r (Field number entry) = r ≡ broken number entry

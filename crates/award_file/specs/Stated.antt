@@ -1,9 +1,9 @@
 -- What the keys of a table state, each where it follows its rule.
-use Rattle.std.specs.Prelude.{ℕ, ℤ, pos, negsuc, ◌&&◌, ◌||◌, not, ◌==◌, Bool, false, if◌then◌else◌, List, [], ◌∷◌, codes, length, nat_le, nat_lt}
-use Rattle.std.specs.Prelude.{Option, Some, None, option_map, option_and_then}
+use Rattle.std.specs.Prelude.{Bool, List, None, Option, Some, [], codes, false, if◌then◌else◌, length, nat_le, nat_lt, negsuc, not, option_and_then}
+use Rattle.std.specs.Prelude.{option_map, pos, ℕ, ℤ, ◌&&◌, ◌==◌, ◌||◌, ◌∷◌}
 use Rattle.std.specs.List.{list_all, list_any}
 use Rattle.std.specs.Str.{bytes_eq}
-use Rattle.auction_rules.specs.limits.specs.declared.TheConstants.{MOST_NAME_BYTES}
+use Rattle.limits.specs.declared.TheConstants.{MOST_NAME_BYTES}
 use Rattle.toml.specs.Data.{Data, array, table, Items, no_items, item, Members, no_members, member, get_member, as_str, as_integer}
 use Rattle.toml.specs.Text.{are_tables}
 
@@ -36,7 +36,7 @@ abbrev pub numbers_of : ℕ → Items → Option (List ℕ)
 numbers_of high no_items = Some []
 numbers_of high (item d ds) = before_others (whole_of 0 high d) (numbers_of high ds)
 
--- so many whole numbers, none above high
+-- that many whole numbers, none above high
 abbrev pub row_of : ℕ → ℕ → Data → Option (List ℕ)
 row_of count high (array ds) = option_and_then (where_passes (λ ns. length ns == count)) (numbers_of high ds)
 row_of count high _ = None

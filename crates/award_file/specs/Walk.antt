@@ -1,8 +1,8 @@
 -- The walk over the rules of an award: the first that a table breaks, and the terms of a table that breaks none.
 use Rattle.std.specs.Prelude.{ℕ, ◌+◌, ◌-◌, ◌^◌, min, ◌&&◌, not, ◌==◌, Bool, true, false, if◌then◌else◌, List, [], ◌∷◌, ◌++◌, map, codes, Option, Some, None, is_some, option_and_then, unwrap_or, length, replicate, nat_le, nat_lt}
 use Rattle.std.specs.Option.{option_or}
-use Rattle.auction_rules.specs.limits.specs.declared.TheConstants.{MOST_COUNT, MOST_ELIGIBILITY, MOST_POINTS, MOST_PRICE}
-use Rattle.auction_rules.specs.limits.specs.declared.TheConstants.{MOST_CAP_LIMIT, MOST_CAP_WEIGHT, MOST_CAPS, MOST_EXCESS, MOST_PERMILLE, MOST_STEPS}
+use Rattle.limits.specs.declared.TheConstants.{MOST_CAPS, MOST_CAP_LIMIT, MOST_CAP_WEIGHT, MOST_COUNT, MOST_ELIGIBILITY, MOST_EXCESS, MOST_PERMILLE}
+use Rattle.limits.specs.declared.TheConstants.{MOST_POINTS, MOST_PRICE, MOST_STEPS}
 use Rattle.toml.specs.Data.{Data, Members, get_member}
 use Rattle.auction_rules.specs.Step.{last_or}
 use Rattle.auction_rules.specs.Terms.{Terms, Entrant, SpectrumCap}
@@ -22,7 +22,7 @@ abbrev pub first_fault : List (Option Fault) → Option Fault
 first_fault [] = None
 first_fault (f ∷ fs) = option_or f (first_fault fs)
 
--- the number of the table behind so many, which stands still at 2^32 - 1
+-- the number of the table after that many, which stops at 2^32 - 1
 abbrev pub entry_behind : ℕ → ℕ
 entry_behind done = min (done + 1) (2 ^ 32 - 1)
 
@@ -64,7 +64,7 @@ points_at t = number_at 0 MOST_POINTS (codes "points") t
 abbrev pub reserve_at : Members → Option ℕ
 reserve_at t = number_at 0 MOST_PRICE (codes "reserve") t
 
--- the first fault of a category behind those of these names
+-- the first fault of a category after those of these names
 abbrev pub category_fault : List (List ℕ) → Members → Option Fault
 category_fault before t = first_fault (
     unless (is_new before (name_at t)) 4 (entry_behind (length before))
@@ -101,7 +101,7 @@ holding_in categories (Some d) = row_of categories MOST_COUNT d
 abbrev pub holding_at : ℕ → Members → Option (List ℕ)
 holding_at categories t = holding_in categories (get_member (codes "holding") t)
 
--- the first fault of a bidder behind those of these names
+-- the first fault of a bidder after those of these names
 abbrev pub bidder_fault : ℕ → List (List ℕ) → Members → Option Fault
 bidder_fault categories before t = first_fault (
     unless (is_new before (name_at t)) 9 (entry_behind (length before))
@@ -132,7 +132,7 @@ excess_at t = number_at 1 MOST_EXCESS (codes "excess") t
 abbrev pub permille_at : Members → Option ℕ
 permille_at t = number_at 1 MOST_PERMILLE (codes "permille") t
 
--- the excess behind these: the first is 1, and each other one is greater than that before it
+-- the excess after these: the first is 1, and each other one is greater than that before it
 abbrev pub comes_next : List ℕ → Option ℕ → Bool
 comes_next before None = false
 comes_next [] (Some excess) = excess == 1
@@ -142,7 +142,7 @@ comes_next (e ∷ es) (Some excess) = nat_lt (last_or e es) excess
 abbrev pub excess_or_none : Members → ℕ
 excess_or_none t = unwrap_or (excess_at t) 0
 
--- the first fault of a step behind those of these excesses
+-- the first fault of a step after those of these excesses
 abbrev pub step_fault : List ℕ → Members → Option Fault
 step_fault before t = first_fault (
     unless (comes_next before (excess_at t)) 13 (entry_behind (length before))
@@ -176,7 +176,7 @@ limit_at t = number_at 0 MOST_CAP_LIMIT (codes "limit") t
 abbrev pub limit_or_none : Members → ℕ
 limit_or_none t = unwrap_or (limit_at t) 0
 
--- the first fault of a cap behind those of these limits
+-- the first fault of a cap after those of these limits
 abbrev pub cap_fault : ℕ → List ℕ → Members → Option Fault
 cap_fault categories before t = first_fault (
     unless (is_some (weights_at categories t)) 16 (entry_behind (length before))

@@ -1,6 +1,6 @@
 // Awards, and the calls that read them.
 ghost use Rattle.std.specs.Prelude.{◌≡◌, ℕ, ◌≤◌, ◌<◌, length, option_map};
-ghost use Rattle.auction_rules.specs.limits.specs.declared.TheConstants.{MOST_BIDDERS, MOST_ELIGIBILITY};
+ghost use Rattle.limits.specs.declared.TheConstants.{MOST_BIDDERS, MOST_ELIGIBILITY};
 ghost use Rattle.auction_rules.specs.Terms.{broken_cap, entrant, final_cap};
 ghost use Rattle.award_file.specs.Award.{IsAward, number_of, steps_of, terms_with};
 ghost use Rattle.award_file.specs.Fields.{fault_value, cap_values};
@@ -8,7 +8,7 @@ ghost use Rattle.award_file.specs.Fields.{fault_value, cap_values};
 use crate::caps::{CapFault, SpectrumCap, first_exceeded};
 use crate::entrants::Entrants;
 use crate::steps::StepTable;
-use bid_book::lots::{Package, Supply};
+use lots::{Package, Supply};
 use std::marker::Model;
 
 /// The settings of an award. Bidders are numbered from 1, in the order of the award.

@@ -1,7 +1,7 @@
 // Spectrum caps.
 ghost use Rattle.std.specs.Prelude.{◌≡◌, ◌≤◌, length, All, option_map};
-ghost use Rattle.auction_rules.specs.limits.specs.declared.TheConstants.{MOST_CAP_WEIGHT, MOST_CAPS, MOST_CATEGORIES};
-ghost use Rattle.auction_rules.specs.lots.specs.auction_model.specs.Package.{together, cost_of};
+ghost use Rattle.limits.specs.declared.TheConstants.{MOST_CAPS, MOST_CAP_WEIGHT, MOST_CATEGORIES};
+ghost use Rattle.auction_model.specs.Package.{cost_of, together};
 ghost use Rattle.auction_rules.specs.Terms.{first_broken};
 ghost use Rattle.award_file.specs.Award.{IsCap};
 ghost use Rattle.award_file.specs.Fields.{fault_value, cap_values};

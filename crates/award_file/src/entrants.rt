@@ -43,7 +43,7 @@ impl Entrants {
         }
     }
 
-    /// Puts a bidder behind the others, unless one of them has its name: then nothing changes, and the answer is false.
+    /// Puts a bidder after the others, unless one of them has its name: then nothing changes, and the answer is false.
     pub fn push(
         &mut self,
         name: String,
@@ -86,7 +86,7 @@ impl Entrants {
         self.by_name.len()
     }
 
-    /// The number of the bidder of this name, and 0 where there is none.
+    /// The number of the bidder of this name, and 0 if there is none.
     pub fn number_of(&self, name: &str) -> u16
         requires { length self.now < 65535 }
         ensures { result ≡ number_among name.now (names_of self.now) }

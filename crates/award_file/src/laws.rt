@@ -1,13 +1,13 @@
 // Laws of awards.
 ghost use Rattle.std.specs.Prelude.{◌≡◌, List, ℕ};
 ghost use Rattle.std.specs.List.{AllByRecursion};
-ghost use Rattle.bid_book.specs.book_form.specs.BookLines.{IsBookWithinLimits};
+ghost use Rattle.book_grammar.specs.BookLines.{IsBookWithinLimits};
 ghost use Rattle.auction_rules.specs.declared.Event.{Event};
 ghost use Rattle.auction_rules.specs.BookOfLog.{book_of_log};
 ghost use Rattle.auction_rules.specs.Lawful.{HasCategories};
 ghost use Rattle.auction_rules.specs.Terms.{Terms};
 ghost use Rattle.award_file.specs.Award.{IsAward};
-ghost use Rattle.award_file.specs.Reading.{reading, states};
+ghost use Rattle.award_file.specs.Reading.{reading, stated_terms};
 
 use auction_rules::{bids_of_book, book_in_order, lawful_bids, package_tests};
 
@@ -25,5 +25,5 @@ pub fn book_of_award()
 
 /// What the bytes of an award file state keeps all rules and limits of an award.
 pub fn stated_award()
-    ensures { (bytes : List ℕ) (terms : Terms) → reading bytes ≡ states terms → IsAward terms }
+    ensures { (bytes : List ℕ) (terms : Terms) → reading bytes ≡ stated_terms terms → IsAward terms }
 {}

@@ -9,11 +9,9 @@ mod laws;
 mod read;
 mod steps;
 
-pub use auction_rules;
 pub use award::Award;
-pub use bid_book;
-pub use bid_book::lots::limits::LimitKind;
 pub use caps::CapFault;
 pub use laws::{book_of_award, stated_award};
+pub use limits::LimitKind;
 pub use read::{AwardStop, read_award};
 pub use steps::StepTable;

@@ -1,11 +1,12 @@
 // The reader of award files.
-ghost use Rattle.std.specs.Prelude.{◌≡◌, IfErr, IfOk, None, Some, map};
+ghost use Rattle.std.specs.Prelude.{◌≡◌, ◌⊎◌, IfErr, IfOk, None, Some, map};
+ghost use Rattle.toml.specs.Errors.{IsMemory};
 ghost use Rattle.toml.specs.View.{table_view};
-ghost use Rattle.bid_book.specs.book_form.specs.BookForm.{IsOffer};
-ghost use Rattle.bid_book.specs.book_form.specs.BookLines.{supply_excess};
+ghost use Rattle.book_grammar.specs.BookForm.{IsOffer};
+ghost use Rattle.book_grammar.specs.BookLines.{supply_excess};
 ghost use Rattle.award_file.specs.Award.{IsAward};
 ghost use Rattle.award_file.specs.Parts.{award_value, counts, terms_value};
-ghost use Rattle.award_file.specs.Reading.{IsFault, IsLimit, IsStated, IsStop, limit_stop, reading, reading_of, states, terms_excess};
+ghost use Rattle.award_file.specs.Reading.{IsFault, IsLimit, IsStated, IsStop, limit_stop, reading, reading_of, stated_terms, terms_excess};
 ghost use Rattle.award_file.specs.Walk.{award_fault, terms_of};
 ghost use Rattle.award_file.specs.declared.read.AwardStop.TheVariants.{Memory};
 
@@ -18,14 +19,15 @@ mod spectrum_caps;
 use crate::caps::SpectrumCap;
 use crate::entrants::Entrants;
 use crate::{Award, StepTable};
-use bid_book::lots::limits::{LimitKind, MOST_BIDDERS, MOST_PRICE};
-use bid_book::lots::{LotStop, Supply};
 use bidders::read_bidders;
 use categories::{Category, read_categories};
 use fields::{broken_top, has_other, number_at};
+use limits::{LimitKind, MOST_BIDDERS, MOST_PRICE};
+use lots::{LotStop, Supply};
 use price_steps::read_steps;
 use spectrum_caps::read_caps;
 use std::alloc::{AllocError, AllocFailed, Global};
+use toml::de::Error;
 use toml::value::Table;
 
 /// The keys of the top.
@@ -51,7 +53,7 @@ pub enum AwardStop {
         /// 10 `eligibility` and 11 `holding`, 12 `step` with 13 `excess` and 14 `permille`, 15 `cap` with 16 `weight` and 17 `limit`,
         /// 18 a key that has no rule.
         number: u8,
-        /// The number of the table, which stands still at the end of its type.
+        /// The number of the table, which stops at the end of its type.
         entry: u32,
     },
     /// A quantity that exceeds its limit, with its count, in an award that breaks no rule.
@@ -116,24 +118,30 @@ struct Made {
 /// Reads an award: TOML text that breaks no rule and exceeds no limit. The rules are tested in the order of their fields, each
 /// table whole before the next, and the limits after them: categories, lots, states, bidders.
 pub fn read_award(alloc: Global, bytes: &[u8]) -> Result<Award, AwardStop>
-    ensures ok { IfOk result (λ award. reading bytes.now ≡ states award) }
+    ensures ok { IfOk result (λ award. reading bytes.now ≡ stated_terms award) }
     ensures err { IfErr result (IsStop (reading bytes.now)) }
 {
     match toml::table_from_slice(alloc, bytes) {
         Ok(table) => read_table(alloc, &table),
-        Err(error) => {
-            if error.is_memory() {
-                Err(AwardStop::Memory)
-            } else {
-                Err(AwardStop::Text)
-            }
-        }
+        Err(error) => Err(stop_of(&error)),
+    }
+}
+
+/// Why bytes are no award for which the reader of TOML has this error. It takes no memory.
+fn stop_of(error: &Error) -> AwardStop
+    ensures { ((result ≡ AwardStop.Memory) × IsMemory error.now)
+        ⊎ ((result ≡ AwardStop.Text) × (IsMemory error.now → ⊥)) }
+{
+    if error.is_memory() {
+        AwardStop::Memory
+    } else {
+        AwardStop::Text
     }
 }
 
 /// Reads the award that a table states.
 fn read_table(alloc: Global, table: &Table) -> Result<Award, AwardStop>
-    ensures ok { IfOk result (λ award. reading_of (Some (table_view table.now)) ≡ states award) }
+    ensures ok { IfOk result (λ award. reading_of (Some (table_view table.now)) ≡ stated_terms award) }
     ensures err { IfErr result (IsStop (reading_of (Some (table_view table.now)))) }
 {
     let parts = read_parts(alloc, table)?;

@@ -1,6 +1,6 @@
 // The price step of an award.
 ghost use Rattle.std.specs.Prelude.{◌≡◌, ◌≤◌, All, IfOk};
-ghost use Rattle.auction_rules.specs.limits.specs.declared.TheConstants.{MOST_PERMILLE};
+ghost use Rattle.limits.specs.declared.TheConstants.{MOST_PERMILLE};
 ghost use Rattle.award_file.specs.Award.{IsSteps, steps_with};
 
 use std::alloc::{AllocError, Global};

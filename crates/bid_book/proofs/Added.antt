@@ -4,7 +4,7 @@ use Rattle.std.specs.Prelude.{map}
 use Rattle.std.specs.List.{All}
 use Rattle.std.proofs.lemmas.List.{map-append}
 use Rattle.std.proofs.lemmas.List.Elements.{All-nil, All-push}
-use Rattle.lots.specs.auction_model.specs.Book.{Book, BookBid, Bidder, bids_of, bidder_with, with_bidders}
+use Rattle.auction_model.specs.Book.{Bidder, Book, BookBid, bidder_with, bids_of, with_bidders}
 use Rattle.bid_book.specs.declared.book.Entry.{Entry}
 use Rattle.bid_book.specs.declared.book.BookBidder.{BookBidder}
 use Rattle.bid_book.specs.declared.book.BidBook.TheInside.{Inside}
@@ -13,8 +13,8 @@ use Rattle.bid_book.specs.Stages.{with_bid}
 use Rattle.bid_book.specs.Better.{AreBetter, BeatsAmong, BettersAreKept}
 use Rattle.bid_book.specs.Changes.{with_bids}
 use Rattle.bid_book.proofs.BookReads.{bidders-read}
-use Rattle.bid_book.proofs.Changed.{with_fields, changed, own_nets, own_betters, own_bids, bids_same, bids_are, changed_nets, same_nets, changed_betters}
-use Rattle.bid_book.proofs.Changed.{same_betters}
+use Rattle.bid_book.proofs.Changed.{bids_are, bids_same, changed, changed_betters, changed_nets, own_betters, own_bids, own_nets, same_betters}
+use Rattle.bid_book.proofs.Changed.{same_nets, with_fields}
 use Rattle.bid_book.proofs.BetterLaws.{better-push}
 
 -- fields with one bidder more who has no bids are the book with that bidder at the end
@@ -72,7 +72,7 @@ module _ (b : Inside) (last : ℕ) (last_is : last ≡ length b.bidders.items) (
   pub none_nets : bids.items ≡ old.bids.items → NetsAreKept b → NetsAreKept (changed b last last_some last_known old read bids)
   none_nets = same_nets b last last_some last_known old read bids
 
-  -- a bid more of the last bidder that stands with its net amount leaves the net amounts right
+  -- a bid more of the last bidder that is kept with its net amount leaves the net amounts right
   pub pushed_nets : (entry : Entry) → bids.items ≡ old.bids.items ++ entry ∷ [] → NetsAreKept b → HasNet b.reserves.items entry
       → NetsAreKept (changed b last last_some last_known old read bids)
   pushed_nets entry pushed nets net =

@@ -1,11 +1,11 @@
--- What stands with each entry as better, and what it says of the book.
+-- What is kept with each entry as better, and what it says of the book.
 use Rattle.std.specs.Prelude.{◌≡◌, ℕ, ◌-◌, ◌≤◌, ◌<◌, IsTrue, List, [], ◌∷◌, ◌++◌, length, get_or, ◌≤ℤ◌}
 use Rattle.std.proofs.Common.{inl, inr, sym, ◌∙◌, ap, subst, arith}
 use Rattle.std.proofs.lemmas.Bool.{cases_lt}
 use Rattle.std.proofs.lemmas.List.{get_or_default, get_or_append_left, length-append}
 use Rattle.std.proofs.Math.Seq.{get_or-append_seam}
-use Rattle.lots.specs.auction_model.specs.Book.{Book, BookBid, bid_of, lots_of, net_of}
-use Rattle.lots.specs.auction_model.specs.Package.{is_within}
+use Rattle.auction_model.specs.Book.{Book, BookBid, bid_of, lots_of, net_of}
+use Rattle.auction_model.specs.Package.{is_within}
 use Rattle.bid_book.specs.declared.book.Entry.{Entry}
 use Rattle.bid_book.specs.declared.book.BookBidder.{BookBidder}
 use Rattle.bid_book.specs.declared.book.BidBook.TheInside.{Inside}
@@ -52,7 +52,7 @@ better-push bids e kept own i d inside some =
 
 module _ (b : Inside) (book : Book) (is : book_value b ≡ book) (j : ℕ) (known : j ≤ length b.bidders.items) (some : 0 < j) (bidder : BookBidder)
     (read : bidder ≡ get_or b.bidders.items (j - 1) bidder) where
-  -- the better bid that stands with bid i of bidder j makes it needless in the book
+  -- the better bid that is kept with bid i of bidder j makes it needless in the book
   pub better-at : (i : ℕ) (e : Entry) → BettersAreKept b → NetsAreKept b → 0 < i → i ≤ length bidder.bids.items → e ≡ get_or bidder.bids.items (i - 1) e
       → 0 < e.better → IsBetter book j i e.better
   better-at i e kept nets p q r more =

@@ -4,13 +4,13 @@ use Rattle.std.specs.Prelude.{codes}
 use Rattle.std.specs.List.{AllByRecursion}
 use Rattle.std.proofs.lemmas.Bool.{cases_eq}
 use Rattle.std.proofs.lemmas.List.{append_cancel_left}
-use Rattle.lots.specs.auction_model.specs.Book.{BookBid, Bidder, Book, bidder_with, with_bidders}
-use Rattle.lots.specs.auction_model.specs.Package.{is_within, cost_of, ComesBefore}
-use Rattle.lots.specs.limits.specs.declared.TheConstants.{MOST_AMOUNT, MOST_COUNT, MOST_NAME_BYTES, MOST_PRICE}
-use Rattle.book_form.specs.BookForm.{AreReserves, IsBid, IsLetter, IsName, IsNameByte, IsOffer}
-use Rattle.book_form.specs.line_text.specs.Decimals.{decimals_text}
-use Rattle.book_form.specs.line_text.proofs.Decided.{Decided, StepsDecided, after_word, decided_all, decided_as, decided_both, decided_either, decided_le}
-use Rattle.book_form.specs.line_text.proofs.Decided.{decided_lt, decided_not, decided_same, decided_three, decided_true, some_fields}
+use Rattle.auction_model.specs.Book.{Bidder, Book, BookBid, bidder_with, with_bidders}
+use Rattle.auction_model.specs.Package.{ComesBefore, cost_of, is_within}
+use Rattle.limits.specs.declared.TheConstants.{MOST_AMOUNT, MOST_COUNT, MOST_NAME_BYTES, MOST_PRICE}
+use Rattle.book_grammar.specs.BookForm.{AreReserves, IsBid, IsLetter, IsName, IsNameByte, IsOffer}
+use Rattle.line_format.specs.Decimals.{decimals_text}
+use Rattle.line_format.proofs.Decided.{Decided, StepsDecided, after_word, decided_all, decided_as, decided_both, decided_either, decided_le, decided_lt}
+use Rattle.line_format.proofs.Decided.{decided_not, decided_same, decided_three, decided_true, some_fields}
 use Rattle.bid_book.specs.declared.read.Stage.{Stage}
 use Rattle.bid_book.specs.declared.read.Stage.TheVariants.{Start, Headed, Supplied, Listing, Ended}
 use Rattle.bid_book.specs.Stages.{AddsBid, AddsBidder, Step, lots_before, opened, with_bid}

@@ -5,7 +5,7 @@ use Rattle.std.specs.Vec.{with_item}
 use Rattle.std.specs.List.{All}
 use Rattle.std.proofs.lemmas.List.{map-set, get_or-map, get_or_default, set-get_or}
 use Rattle.std.proofs.lemmas.List.Elements.{All-set}
-use Rattle.lots.specs.auction_model.specs.Book.{Book, BookBid, Bidder, bidder_of, bids_of, bidder_with, with_bidders}
+use Rattle.auction_model.specs.Book.{Bidder, Book, BookBid, bidder_of, bidder_with, bids_of, with_bidders}
 use Rattle.bid_book.specs.declared.book.Entry.{Entry}
 use Rattle.bid_book.specs.declared.book.BookBidder.{BookBidder}
 use Rattle.bid_book.specs.declared.book.BidBook.TheInside.{Inside}
@@ -33,7 +33,7 @@ module _ (b : Inside) (j : ℕ) (some : 0 < j) (known : j ≤ length b.bidders.i
   pub own_betters : BettersAreKept b → AreBetter old.bids.items
   own_betters betters = subst (λ (x : BookBidder). AreBetter x.bids.items) (sym read) (betters (j - 1) old (omega arith))
 
-  -- the bids of bidder j in the book are those that stood in its fields
+  -- the bids of bidder j in the book are those that was in its fields
   pub own_bids : (book : Book) → book_value b ≡ book → bids_of book j ≡ map bid_value old.bids.items
   own_bids book is = bids-read b book is j known some old read
 

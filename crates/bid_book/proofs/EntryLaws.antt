@@ -1,6 +1,6 @@
 -- What the lines of bidders and bids say.
-use Rattle.std.proofs.Common.{inl, inr, ◌≡◌, ◌≢◌, ℕ, ◌+◌, ◌≤◌, ◌<◌, ◌^◌, Option, Some, None, Result, Ok, Err, List, [], ◌∷◌, ◌++◌, length, get_or, take, refl}
-use Rattle.std.proofs.Common.{sym, ap, subst, ◌∙◌, arith, length-append}
+use Rattle.std.proofs.Common.{Err, List, None, Ok, Option, Result, Some, [], ap, arith, get_or, inl, inr, length, length-append, refl, subst, sym}
+use Rattle.std.proofs.Common.{take, ℕ, ◌++◌, ◌+◌, ◌<◌, ◌^◌, ◌∙◌, ◌∷◌, ◌≡◌, ◌≢◌, ◌≤◌}
 use Rattle.std.specs.Prelude.{IfNone, IsTrue, MatchResult, codes, sum, pos, ◌-ℤ◌}
 use mir.Syntax.{w128}
 use mir.Val.{to_z, of_z}
@@ -13,19 +13,19 @@ use Rattle.std.proofs.lemmas.List.{take_more}
 use Rattle.std.proofs.lemmas.List.Sums.{sum_by-cons}
 use Rattle.std.proofs.lemmas.Str.{IsUtf8-from_ascii}
 use Rattle.std.proofs.lemmas.Str.Ascii.{IsAscii-from_all}
-use Rattle.lots.specs.auction_model.specs.Book.{Book, BookBid, Bidder, no_bidder, bidder_of, bidder_with, with_bidders}
-use Rattle.lots.specs.auction_model.specs.Package.{is_within}
-use Rattle.book_form.specs.BookForm.{IsNameByte, IsName, IsBid}
-use Rattle.book_form.specs.BookLines.{bid_excess, bidder_excess, bid_line}
-use Rattle.book_form.specs.line_text.specs.Decimals.{decimals_text}
-use Rattle.lots.specs.limits.specs.declared.LimitKind.TheVariants.{Bidders, Bids}
+use Rattle.auction_model.specs.Book.{Bidder, Book, BookBid, bidder_of, bidder_with, no_bidder, with_bidders}
+use Rattle.auction_model.specs.Package.{is_within}
+use Rattle.book_grammar.specs.BookForm.{IsNameByte, IsName, IsBid}
+use Rattle.book_grammar.specs.BookLines.{bid_excess, bidder_excess, bid_line}
+use Rattle.line_format.specs.Decimals.{decimals_text}
+use Rattle.limits.specs.declared.LimitKind.TheVariants.{Bidders, Bids}
 use Rattle.lots.specs.Limits.{IsSupply}
 use Rattle.bid_book.specs.declared.read.Stage.{Stage}
 use Rattle.bid_book.specs.declared.read.Stage.TheVariants.{Listing}
 use Rattle.bid_book.specs.Stages.{Step, Adds, AddsBidder, AddsBid, with_bid, last_bids, lots_before, last_excess}
 use Rattle.bid_book.specs.Stops.{AreNumbers}
 use Rattle.bid_book.proofs.Numbers.{snoc_one}
-use Rattle.lots.specs.auction_model.proofs.ListLaws.{each-push}
+use Rattle.auction_model.proofs.ListLaws.{each-push}
 use Rattle.bid_book.proofs.FieldReads.{each_all}
 use Rattle.bid_book.proofs.Spelled.{within_parts}
 use Rattle.bid_book.proofs.Growth.{parts_of, last_of, with_last, last_excess-push, bids_excess-push}

@@ -1,16 +1,16 @@
--- The fields of a line, read from its front.
+-- The fields of a line, read from its start.
 use Rattle.std.proofs.Common.{◌≡◌, ℕ, ◌≤◌, ◌<◌, ◌^◌, ◌-◌, List, [], ◌∷◌, ◌++◌, length, take, drop, refl, sym, ap, ◌∙◌, arith, append_assoc}
 use Rattle.std.proofs.lemmas.List.{take-append-drop, take_all, length-drop}
 use Rattle.std.specs.List.{AllByRecursion, All}
 use Rattle.std.specs.Fmt.{decimal}
 use Rattle.std.proofs.lemmas.List.Elements.{All-nil, All-cons, All-head, All-tail}
-use Rattle.book_form.specs.line_text.specs.wide_num.proofs.Decimal.{decimal_one}
-use Rattle.book_form.specs.line_text.specs.Decimals.{decimals_text}
-use Rattle.book_form.specs.line_text.specs.Fields as line
-use Rattle.book_form.specs.line_text.proofs.Decimals.{decimal_numeral}
-use Rattle.book_form.proofs.TextLaws.{numbers-push}
+use Rattle.wide_num.proofs.Decimal.{decimal_one}
+use Rattle.line_format.specs.Decimals.{decimals_text}
+use Rattle.line_format.specs.Fields as line
+use Rattle.line_format.proofs.Decimals.{decimal_numeral}
+use Rattle.book_grammar.proofs.TextLaws.{numbers-push}
 use Rattle.bid_book.specs.Stops.{AreNumbers, IsField}
-use Rattle.book_form.specs.line_text.proofs.DecimalFields.{one_field, number_own, decimals_stop}
+use Rattle.line_format.proofs.DecimalFields.{decimals_stop, number_own, one_field}
 
 -- what holds of each item by recursion holds at every place of the list
 pub each_all : {X : Type 0} (P : X → Type 0) (xs : List X) → AllByRecursion P xs → All P xs
@@ -48,7 +48,7 @@ first_number text field more (n ∷ ns) is text_is small =
     let parts = one_field field (decimal n) more (decimals_text ns) is.own (number_own n (omega (arith, small.0))) is.stops (decimals_stop ns) tails in
     record { number = n; later = ns; whole = refl; small = small.0; later_small = small.1; field_is = parts.0; more_is = parts.1 }
 
--- after a field that spells n, n is read too, and the rest spells the numbers behind it
+-- after a field that spells n, n is read too, and the rest spells the numbers after it
 pub goes_further : (had rest field more ns : List ℕ) (n : ℕ) → IsField rest field more → field ≡ decimal n → n ≤ 2 ^ 42 → GoesOn had rest ns
     → GoesOn (had ++ n ∷ []) more ns
 goes_further had rest field more ns n is spelled small on =
@@ -74,7 +74,7 @@ pub not_spaced : (rest : List ℕ) (ns : List ℕ) → 0 < length rest → ((beh
 not_spaced rest [] long other is = omega (arith, ap length is)
 not_spaced rest (n ∷ ns) long other is = other (decimal n ++ decimals_text ns) is
 
--- a number at the front of what follows a space is the first field, and the rest follows it
+-- a number at the start of what follows a space is the first field, and the rest follows it
 pub short_found : (text behind : List ℕ) (n stop : ℕ) → text ≡ 32 ∷ behind → line.IsField behind n stop → n ≤ 2 ^ 42
     → IsField text (decimal n) (take (length behind - stop) (drop stop behind))
 short_found text behind n stop is field small =

@@ -1,11 +1,11 @@
 -- What a line of a book adds: one bidder more, or one bid more of the last bidder.
-use Rattle.std.proofs.Common.{⊎_elim, ◌≡◌, ℕ, suc, ◌+◌, ◌-◌, ◌<◌, Option, List, [], ◌∷◌, ◌++◌, length, get_or, set, take, refl, sym, ap, subst, ◌∙◌, arith}
-use Rattle.std.proofs.Common.{append_assoc, length-append}
+use Rattle.std.proofs.Common.{List, Option, [], ap, append_assoc, arith, get_or, length, length-append, refl, set, subst, suc, sym, take, ℕ, ⊎_elim}
+use Rattle.std.proofs.Common.{◌++◌, ◌+◌, ◌-◌, ◌<◌, ◌∙◌, ◌∷◌, ◌≡◌}
 use Rattle.std.specs.Prelude.{codes}
 use Rattle.std.proofs.lemmas.List.{append-nil, take_all, take_more, get_or_at, set_at}
-use Rattle.lots.specs.auction_model.specs.Book.{BookBid, Bidder, Book, no_bidder, bidder_of, bidder_with, with_bidders}
-use Rattle.book_form.specs.BookForm.{IsBid, AreBids, empty_package, IsBidder, AreBidders, IsBook}
-use Rattle.book_form.specs.BookLines.{Excess, Line, bid_excess, bid_line, bid_lines, bidder_line, bidder_lines, head_lines}
+use Rattle.auction_model.specs.Book.{Bidder, Book, BookBid, bidder_of, bidder_with, no_bidder, with_bidders}
+use Rattle.book_grammar.specs.BookForm.{IsBid, AreBids, empty_package, IsBidder, AreBidders, IsBook}
+use Rattle.book_grammar.specs.BookLines.{Excess, Line, bid_excess, bid_line, bid_lines, bidder_line, bidder_lines, head_lines}
 use Rattle.bid_book.specs.Stages.{with_bid, last_lots, AddsBidder, AddsBid, Adds, bids_excess, last_excess}
 
 -- all lines of a book but the last
@@ -55,7 +55,7 @@ pub bids_push : (supply reserves before : List ℕ) (bs : List BookBid) (b : Boo
 bids_push supply reserves before [] b all is = (is, tt)
 bids_push supply reserves before (c ∷ bs) b all is = (all.0, bids_push supply reserves c.lots bs b all.1 is)
 
--- valid bidders and one more that is valid behind them are valid bidders
+-- valid bidders and one more that is valid after them are valid bidders
 pub bidders_push :
     (supply reserves : List ℕ) (earlier bs : List Bidder) (b : Bidder) → AreBidders supply reserves earlier bs
     → IsBidder supply reserves (earlier ++ bs) b → AreBidders supply reserves earlier (bs ++ b ∷ [])
@@ -140,7 +140,7 @@ pub record Parts (bidders : List Bidder) : Type 0 where
   pub bidder : Bidder
   pub whole : bidders ≡ front ++ bidder ∷ []
 
--- where there is a bidder, the list of bidders is a front and a last one
+-- where there is a bidder, the list of bidders is a prefix and a last one
 pub parts_of : (bidders : List Bidder) → 0 < length bidders → Parts bidders
 parts_of bidders some =
     let all : take (length bidders - 1 + 1) bidders ≡ bidders = take_all (length bidders - 1 + 1) bidders (omega arith) in
@@ -154,13 +154,13 @@ parts_of bidders some =
 last_place : (front : List Bidder) (bidder : Bidder) → length front ≡ length (front ++ bidder ∷ []) - 1
 last_place front bidder = omega (arith, length-append front (bidder ∷ []))
 
--- the bidder whose number is the count of the bidders is the one behind the front
+-- the bidder whose number is the count of the bidders is the one after the prefix
 pub last_of : (book : Book) (front : List Bidder) (bidder : Bidder) → book.bidders ≡ front ++ bidder ∷ [] → bidder_of book (length book.bidders) ≡ bidder
 last_of book front bidder whole =
     ap (λ (bs : List Bidder). get_or bs (length bs - 1) no_bidder) whole ∙ get_or_at front bidder [] no_bidder (length (front ++ bidder ∷ []) - 1)
     (last_place front bidder)
 
--- the book with a bid more has the front as before, and the last bidder with that bid
+-- the book with a bid more has the prefix as before, and the last bidder with that bid
 pub with_last : (book : Book) (front : List Bidder) (bidder : Bidder) (bid : BookBid) → book.bidders ≡ front ++ bidder ∷ []
     → with_bid book bid ≡ with_bidders book (front ++ bidder_with bidder.name (bidder.bids ++ bid ∷ []) ∷ [])
 with_last book front bidder bid whole =
@@ -170,7 +170,7 @@ with_last book front bidder bid whole =
     ∙ ap (with_bidders book) (set_at front bidder [] (bidder_with bidder.name (bidder.bids ++ bid ∷ [])) (length (front ++ bidder ∷ []) - 1)
     (last_place front bidder))
 
--- with a line that adds a bid a valid book stays valid, and that line comes behind the old ones
+-- with a line that adds a bid a valid book stays valid, and that line comes after the old ones
 pub adds_bid : (old new : Book) (line : List ℕ) → IsBook old → AddsBid old new line
     → IsBook new × (listed new ≡ listed old ++ (line, last_excess 0 new.bidders) ∷ [])
 adds_bid old new line valid adds =
@@ -188,7 +188,7 @@ adds_bid old new line valid adds =
     (sym (adds.new_is ∙ with_last old parts.front parts.bidder adds.bid parts.whole))
     (subst (λ (l : List ℕ). IsBook book × (listed book ≡ listed old ++ (l, last_excess 0 book.bidders) ∷ [])) (sym adds.spelled) here)
 
--- a line that adds anything to a valid book leaves it valid, and comes behind the old lines
+-- a line that adds anything to a valid book leaves it valid, and comes after the old lines
 pub adds_one : (old new : Book) (line : List ℕ) → IsBook old → Adds old new line
     → IsBook new × (listed new ≡ listed old ++ (line, last_excess 0 new.bidders) ∷ [])
 adds_one old new line valid adds = ⊎_elim (adds_bidder old new line valid) (adds_bid old new line valid) adds

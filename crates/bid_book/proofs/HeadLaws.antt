@@ -4,16 +4,16 @@ use Rattle.std.specs.Prelude.{codes, nat_eq}
 use Rattle.std.specs.List.{AllByRecursion, list_any}
 use Rattle.std.proofs.lemmas.List.{append_cancel_left}
 use Rattle.std.proofs.lemmas.Bool.Decides.{nat_tests}
-use Rattle.book_form.specs.BookForm.{IsOffer, AreReserves}
-use Rattle.book_form.specs.BookLines.{supply_line, reserve_line}
-use Rattle.book_form.specs.line_text.specs.Decimals.{decimals_text}
-use Rattle.lots.specs.limits.specs.declared.LimitKind.{LimitKind}
+use Rattle.book_grammar.specs.BookForm.{IsOffer, AreReserves}
+use Rattle.book_grammar.specs.BookLines.{supply_line, reserve_line}
+use Rattle.line_format.specs.Decimals.{decimals_text}
+use Rattle.limits.specs.declared.LimitKind.{LimitKind}
 use Rattle.lots.specs.declared.LotStop.{LotStop}
 use Rattle.lots.specs.declared.LotStop.TheVariants as lots
 use Rattle.lots.specs.Limits.{supply_stop}
 use Rattle.bid_book.specs.declared.read.Stage.{Stage}
 use Rattle.bid_book.specs.declared.read.Stage.TheVariants.{Headed, Supplied}
-use Rattle.book_form.specs.line_text.specs.declared.stop.LineStop.TheVariants.{Form, Limit}
+use Rattle.line_format.specs.declared.stop.LineStop.TheVariants.{Form, Limit}
 use Rattle.bid_book.specs.Stages.{Step, excess}
 use Rattle.bid_book.specs.Stops.{AreNumbers, line_stop}
 use Rattle.bid_book.proofs.Numbers.{AreSmall, numbers_one}
@@ -32,7 +32,7 @@ numbers_small : (ns : List ℕ) → AreNumbers ns → AreSmall ns
 numbers_small [] all = tt
 numbers_small (n ∷ ns) all = (omega (arith, all.0), numbers_small ns all.1)
 
--- behind its word a line has one list of numbers
+-- after its word a line has one list of numbers
 pub one_list : (line word ms ns : List ℕ) → line ≡ word ++ decimals_text ms → AreNumbers ms → line ≡ word ++ decimals_text ns → AreNumbers ns → ms ≡ ns
 one_list line word ms ns a are_ms b are_ns =
     numbers_one ms ns (numbers_small ms are_ms) (numbers_small ns are_ns) (append_cancel_left word (decimals_text ms) (decimals_text ns) (sym a ∙ b))
@@ -63,7 +63,7 @@ each_low [] all = tt
 each_low (n ∷ ns) all = (all.0.1, each_low ns all.1)
 
 module _ (line counts : List ℕ) (spelled : line ≡ (supply_line counts).0) (offer : IsOffer counts) (stop : LotStop) where
-  -- a limit that stops the making of a supply is one that the stage behind the supply's line exceeds
+  -- a limit that stops the making of a supply is one that the stage after the supply's line exceeds
   pub supply_limit : (stop ≡ lots.Memory) ⊎ (supply_stop counts ≡ Some stop) → (kind : LimitKind) (count : ℕ) → line_stop stop ≡ Limit (kind, count)
       → (t : Stage) × Step Headed line t × (excess t ≡ Some (kind, count))
   supply_limit (inl memory) kind count is = let e : line_stop lots.Memory ≡ Limit (kind, count) = ap line_stop (sym memory) ∙ is in absurd (cc e)

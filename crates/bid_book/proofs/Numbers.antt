@@ -2,9 +2,9 @@
 use Rattle.std.proofs.Common.{◌≡◌, ℕ, ◌<◌, ◌^◌, List, [], ◌∷◌, ◌++◌, refl}
 use Rattle.std.specs.List.{AllByRecursion}
 use Rattle.std.specs.Fmt.{decimal}
-use Rattle.book_form.specs.line_text.specs.wide_num.proofs.Decimal.{decimal_one}
-use Rattle.book_form.specs.line_text.specs.Decimals.{decimals_text}
-use Rattle.book_form.specs.line_text.proofs.DecimalFields.{one_field, decimals_stop, number_own}
+use Rattle.wide_num.proofs.Decimal.{decimal_one}
+use Rattle.line_format.specs.Decimals.{decimals_text}
+use Rattle.line_format.proofs.DecimalFields.{decimals_stop, number_own, one_field}
 
 abbrev pub AreSmall : List ℕ → Type 0
 AreSmall ns = AllByRecursion (λ n. n < 2 ^ 120) ns

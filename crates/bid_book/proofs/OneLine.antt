@@ -2,10 +2,10 @@
 use Rattle.std.proofs.Common.{inl, inr, ◌≡◌, ℕ, List, [], ◌∷◌, ◌++◌, get_or, refl, sym, ap, ◌∙◌, arith}
 use Rattle.std.specs.Prelude.{codes}
 use Rattle.std.specs.Fmt.{decimal}
-use Rattle.lots.specs.auction_model.specs.Book.{BookBid, Book, bidder_with, with_bidders}
-use Rattle.book_form.specs.BookForm.{IsOffer, AreReserves}
-use Rattle.book_form.specs.BookLines.{bid_line}
-use Rattle.book_form.specs.line_text.specs.Decimals.{decimals_text}
+use Rattle.auction_model.specs.Book.{Book, BookBid, bidder_with, with_bidders}
+use Rattle.book_grammar.specs.BookForm.{IsOffer, AreReserves}
+use Rattle.book_grammar.specs.BookLines.{bid_line}
+use Rattle.line_format.specs.Decimals.{decimals_text}
 use Rattle.bid_book.specs.Stages.{with_bid, AddsBidder, AddsBid, Adds}
 use Rattle.bid_book.proofs.Numbers.{AreSmall, numbers_one, snoc_one}
 use Rattle.bid_book.proofs.Spelled.{small_supply, small_reserves, small_counts}

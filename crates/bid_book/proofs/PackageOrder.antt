@@ -1,14 +1,14 @@
 -- The order of packages as a test, and the package after which the next bid's has to come.
-use Rattle.std.proofs.Common.{inl, inr, ◌⊎◌, ⊎_elim, ◌≡◌, ℕ, zero, suc, ◌-◌, ◌<◌, Bool, true, false, List, [], ◌∷◌, length, get_or, replicate, refl, sym, ap}
-use Rattle.std.proofs.Common.{◌∙◌, arith}
+use Rattle.std.proofs.Common.{Bool, List, [], ap, arith, false, get_or, inl, inr, length, refl, replicate, suc, sym, true, zero, ℕ, ⊎_elim, ◌-◌, ◌<◌}
+use Rattle.std.proofs.Common.{◌∙◌, ◌∷◌, ◌≡◌, ◌⊎◌}
 use Rattle.std.specs.Prelude.{IsTrue, nat_lt, ◌&&◌, ◌||◌, ◌==◌}
 use Rattle.std.proofs.lemmas.Bool.Decides.{nat_tests}
-use Rattle.lots.specs.auction_model.specs.Book.{Book, BookBid, no_bid, bids_of, lots_of}
-use Rattle.lots.specs.auction_model.specs.Package.{ComesBefore, is_within}
-use Rattle.book_form.specs.BookForm.{empty_package}
+use Rattle.auction_model.specs.Book.{Book, BookBid, bids_of, lots_of, no_bid}
+use Rattle.auction_model.specs.Package.{ComesBefore, is_within}
+use Rattle.book_grammar.specs.BookForm.{empty_package}
 use Rattle.bid_book.specs.Stages.{last_lots, last_bids, lots_before}
 
--- the first list comes first, also where it is a front of the other
+-- the first list comes first, also where it is a prefix of the other
 abbrev pub is_before : List ℕ → List ℕ → Bool
 is_before [] [] = false
 is_before [] (y ∷ ys) = true
@@ -36,13 +36,13 @@ comes_before (a ∷ p) (b ∷ q) (inr eq) = grind (arith, nat_tests, eq.0, comes
 
 -- the empty package comes before each that isn't empty
 
--- a package with some lot comes behind that of as many categories without any
+-- a package with some lot comes after that of as many categories without any
 pub empty_comes : (p : List ℕ) → is_within p [] ≡ false → ComesBefore (replicate (length p) 0) p
 empty_comes [] some = let e : true ≡ false = some in absurd (cc e)
 empty_comes (zero ∷ p) some = inr (refl, empty_comes p some)
 empty_comes (suc n ∷ p) some = inl (omega arith)
 
--- a package behind one without lots has some lot
+-- a package after one without lots has some lot
 pub comes_some : (n : ℕ) (p : List ℕ) → ComesBefore (replicate n 0) p → is_within p [] ≡ false
 comes_some zero p comes = absurd comes
 comes_some (suc n) [] comes = absurd comes
@@ -70,12 +70,12 @@ pub lots_at : (book : Book) (j i : ℕ) → 0 < i → lots_of book j i ≡ (get_
 lots_at book j zero some = absurd (omega arith)
 lots_at book j (suc i) some = ap (λ (k : ℕ). (get_or (bids_of book j) k no_bid).lots) (omega arith)
 
--- where the last bidder, of number n, has so many bids
+-- where the last bidder, of number n, has that many bids
 pub lots_none : (book : Book) (n last : ℕ) → n ≡ length book.bidders → last ≡ length (bids_of book n) → last ≡ 0 → lots_before book ≡ empty_package book.supply
 lots_none book n last is count none = last_lots-none (empty_package book.supply) (last_bids book)
     (ap (λ (k : ℕ). length (bids_of book k)) (sym is) ∙ sym count ∙ none)
 
--- where the last bidder has bids, the next bid's package has to come behind that of the last one
+-- where the last bidder has bids, the next bid's package has to come after that of the last one
 pub lots_some : (book : Book) (n last : ℕ) → n ≡ length book.bidders → last ≡ length (bids_of book n) → 0 < last → lots_before book ≡ lots_of book n last
 lots_some book n last is count some =
     let own : last ≡ length (last_bids book) = count ∙ ap (λ (k : ℕ). length (bids_of book k)) is in

@@ -3,12 +3,12 @@ use Rattle.std.specs.Prelude.{◌≡◌, ℕ, zero, suc, ◌≤◌, ◌<◌, tru
 use Rattle.std.proofs.Common.{inl, inr, set, sym, ◌∙◌, ap, subst, arith}
 use Rattle.std.specs.List.{insert}
 use Rattle.std.proofs.lemmas.Bool.{cases_Bool, cases_order, false≢true}
-use Rattle.lots.specs.auction_model.specs.Book.{BookBid, no_bid}
-use Rattle.lots.specs.auction_model.specs.Package.{ComesBefore}
-use Rattle.lots.specs.auction_model.specs.Entries.{with_entry}
-use Rattle.lots.specs.auction_model.specs.PackageTests.{is_before, is_same}
-use Rattle.lots.specs.auction_model.proofs.PackageTestLaws.{not_same-sym}
-use Rattle.lots.specs.auction_model.proofs.PackageTestLaws.{is_before-comes, is_before-not_same, is_before-total, is_before-trans, is_same-refl, is_same-true}
+use Rattle.auction_model.specs.Book.{BookBid, no_bid}
+use Rattle.auction_model.specs.Package.{ComesBefore}
+use Rattle.auction_model.specs.Entries.{with_entry}
+use Rattle.auction_model.specs.PackageTests.{is_before, is_same}
+use Rattle.auction_model.proofs.PackageTestLaws.{is_before-comes, is_before-not_same, is_before-total, is_before-trans, is_same-refl, is_same-true}
+use Rattle.auction_model.proofs.PackageTestLaws.{not_same-sym}
 use Rattle.bid_book.specs.Changes.{InPackageOrder, IsPlaceIn}
 
 -- a package doesn't come before itself
@@ -69,7 +69,7 @@ put-free (b ∷ bids) lots amount (suc place) before last behind other =
     (put-free bids lots amount place (λ k low. before (suc k) (omega (arith, low))) (omega (arith, last)) (λ inside. behind (omega (arith, inside)))
     (λ there. other (omega (arith, there.0), there.1))))
 
--- where a bid is for these lots, it stands at their place
+-- where a bid is for these lots, it is at their place
 pub place-there : (bids : List BookBid) (lots : List ℕ) (place i : ℕ) → InPackageOrder bids → IsPlaceIn bids lots place → i < length bids
     → (get_or bids i no_bid).lots ≡ lots → (place < length bids) × ((get_or bids place no_bid).lots ≡ lots)
 place-there bids lots place i order at inside own =

@@ -8,16 +8,16 @@ use Rattle.std.proofs.lemmas.Bool.{cases_Bool}
 use Rattle.std.proofs.lemmas.Bool.Decides.{nat_tests}
 use Rattle.std.proofs.lemmas.List.{get_or-set_same}
 use Rattle.std.proofs.lemmas.List.Edits.{length-remove}
-use Rattle.book_form.specs.line_text.specs.LineText.{first_excess}
-use Rattle.book_form.specs.line_text.proofs.Lines.{first_excess-append}
-use Rattle.lots.specs.auction_model.specs.Book.{Book, BookBid, Bidder, no_bid, no_bidder, bidder_of, bids_of, bidder_with}
-use Rattle.lots.specs.auction_model.specs.Package.{ComesBefore}
-use Rattle.lots.specs.auction_model.specs.Entries.{with_entry}
-use Rattle.lots.specs.auction_model.specs.PackageTests.{is_before, is_same}
-use Rattle.lots.specs.auction_model.proofs.PackageTestLaws.{comes-is_before, is_before-comes, is_before-total, is_same-true}
-use Rattle.book_form.specs.BookForm.{AreBids, AreBidders, IsBid, empty_package}
-use Rattle.book_form.specs.BookLines.{Excess, supply_excess, bid_excess, bidder_excess, bid_lines, bidder_line, bidder_lines, head_lines, lines}
-use Rattle.book_form.specs.BookLines.{IsBookWithinLimits}
+use Rattle.line_format.specs.LineText.{first_excess}
+use Rattle.line_format.proofs.Lines.{first_excess-append}
+use Rattle.auction_model.specs.Book.{Bidder, Book, BookBid, bidder_of, bidder_with, bids_of, no_bid, no_bidder}
+use Rattle.auction_model.specs.Package.{ComesBefore}
+use Rattle.auction_model.specs.Entries.{with_entry}
+use Rattle.auction_model.specs.PackageTests.{is_before, is_same}
+use Rattle.auction_model.proofs.PackageTestLaws.{comes-is_before, is_before-comes, is_before-total, is_same-true}
+use Rattle.book_grammar.specs.BookForm.{AreBids, AreBidders, IsBid, empty_package}
+use Rattle.book_grammar.specs.BookLines.{Excess, IsBookWithinLimits, bid_excess, bid_lines, bidder_excess, bidder_line, bidder_lines, book_lines}
+use Rattle.book_grammar.specs.BookLines.{head_lines, supply_excess}
 use Rattle.bid_book.specs.Changes.{CanPut, InPackageOrder, with_bids, with_put, without_bid}
 use Rattle.bid_book.specs.Kept.{IsBidBook}
 use Rattle.bid_book.specs.Sound.{IsSoundBid, IsSoundBidder}
@@ -56,7 +56,7 @@ module _ (supply reserves : List ℕ) where
   bids-order before (b ∷ bids) are (suc k) zero low inside = absurd (omega (arith, low))
   bids-order before (b ∷ bids) are (suc k) (suc i) low inside = bids-order b.lots bids are.1 k i (omega (arith, low)) (omega (arith, inside))
 
-  -- behind a package that comes earlier they are bids too
+  -- after a package that comes earlier they are bids too
   bids-earlier : (first before : List ℕ) (bids : List BookBid) → ComesBefore first before → AreBids supply reserves before bids
       → AreBids supply reserves first bids
   bids-earlier first before [] comes are = tt
@@ -185,7 +185,7 @@ bidders-few before (b ∷ bidders) few each =
 
 -- no line of a book exceeds a limit where its supply and its counts don't
 pub lines-within : (book : Book) → supply_excess book.supply ≡ None → length book.bidders ≤ 16 → AllByRecursion HasFew book.bidders
-    → first_excess (lines book) ≡ None
+    → first_excess (book_lines book) ≡ None
 lines-within book supply few each =
     let head : first_excess (head_lines book) ≡ None = rw supply refl in
     first_excess-append (head_lines book ++ bidder_lines 0 book.bidders) ((codes "end", None) ∷ [])
@@ -230,7 +230,7 @@ module _ (book : Book) (j : ℕ) (is : IsBookWithinLimits book) (some : 0 < j) (
         (few-set book.bidders (j - 1) (bidder_with (bidder_of book j).name bids) few (few-each book.supply book.reserves book.bidders (sound book is)));
   }
 
--- so many bids there are
+-- that many bids there are
 entry-count : (lots : List ℕ) (amount : ℕ) (bids : List BookBid) → length (with_entry lots amount bids) ≤ length bids + 1
 entry-count lots amount [] = omega arith
 entry-count lots amount (b ∷ bids) =
@@ -294,7 +294,7 @@ entry-holds P lots amount (b ∷ bids) all =
       ]
     ]
 
--- where a book keeps its rules with a bid put in, that bid keeps them, whatever bids stand before it
+-- where a book keeps its rules with a bid put in, that bid keeps them, whatever bids come before it
 pub put-sound : (book : Book) (j : ℕ) (bid : BookBid) → 0 < j → j ≤ length book.bidders → IsBookWithinLimits (with_put book j bid)
     → IsSoundBid book.supply book.reserves bid
 put-sound book j bid some known is =

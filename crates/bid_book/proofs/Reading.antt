@@ -1,23 +1,23 @@
 -- The stages read the form of a book.
-use Rattle.std.proofs.Common.{inl, inr, ◌≡◌, ℕ, zero, suc, ◌+◌, ◌≤◌, ◌^◌, None, List, [], ◌∷◌, ◌++◌, length, replicate, refl, sym, ap, subst, ◌∙◌, arith}
-use Rattle.std.proofs.Common.{append_assoc, length-append}
+use Rattle.std.proofs.Common.{List, None, [], ap, append_assoc, arith, inl, inr, length, length-append, refl, replicate, subst, suc, sym, zero, ℕ}
+use Rattle.std.proofs.Common.{◌++◌, ◌+◌, ◌^◌, ◌∙◌, ◌∷◌, ◌≡◌, ◌≤◌}
 use Rattle.std.specs.Prelude.{codes}
 use Rattle.std.specs.List.{AllByRecursion}
 use Rattle.std.proofs.lemmas.List.{append-nil, take_at, take_all, length-replicate}
-use Rattle.book_form.specs.line_text.specs.Reading.{Runs}
-use Rattle.book_form.specs.line_text.proofs.Runs.{FrontOf, Reads, StepsBehind, StepsOnce, front_reached, runs_append}
-use Rattle.lots.specs.auction_model.specs.Book.{BookBid, Bidder, Book, bidder_with, with_bidders}
-use Rattle.book_form.specs.BookForm.{IsOffer, IsBid, AreBids, empty_package, IsBidder, AreBidders, IsBook}
-use Rattle.book_form.specs.BookLines.{Line, bidder_excess, bid_excess, bid_line, bid_lines, bidder_line, bidder_lines, supply_line, reserve_line, head_lines}
-use Rattle.book_form.specs.BookLines.{lines}
-use Rattle.book_form.specs.line_text.specs.Decimals.{decimals_text}
+use Rattle.line_format.specs.Reading.{Runs}
+use Rattle.line_format.proofs.Runs.{FrontOf, Reads, StepsBehind, StepsOnce, front_reached, runs_append}
+use Rattle.auction_model.specs.Book.{Bidder, Book, BookBid, bidder_with, with_bidders}
+use Rattle.book_grammar.specs.BookForm.{IsOffer, IsBid, AreBids, empty_package, IsBidder, AreBidders, IsBook}
+use Rattle.book_grammar.specs.BookLines.{Line, bid_excess, bid_line, bid_lines, bidder_excess, bidder_line, bidder_lines, book_lines, head_lines}
+use Rattle.book_grammar.specs.BookLines.{reserve_line, supply_line}
+use Rattle.line_format.specs.Decimals.{decimals_text}
 use Rattle.bid_book.specs.declared.read.Stage.{Stage}
 use Rattle.bid_book.specs.declared.read.Stage.TheVariants.{Start, Headed, Supplied, Listing, Ended}
 use Rattle.bid_book.specs.Stages.{last_lots, opened, AddsBid, Step, last_excess, excess}
 use Rattle.bid_book.proofs.Numbers.{AreSmall}
-use Rattle.book_form.specs.line_text.proofs.Lines.{line_append}
-use Rattle.bid_book.proofs.Spelled.{numbers_line, name_line, small_supply, small_reserves, small_counts, book_word, supply_word, reserve_word, bidder_word}
-use Rattle.bid_book.proofs.Spelled.{bid_word, end_word}
+use Rattle.line_format.proofs.Lines.{line_append}
+use Rattle.bid_book.proofs.Spelled.{bid_word, bidder_word, book_word, end_word, name_line, numbers_line, reserve_word, small_counts, small_reserves}
+use Rattle.bid_book.proofs.Spelled.{small_supply, supply_word}
 use Rattle.bid_book.proofs.Growth.{listed, last_excess-push, bids_excess-push, last_lots-push, last_of, with_last, adds_one}
 use Rattle.bid_book.proofs.OneLine.{end_adds_none, supplies_one, reserves_one, new_one}
 
@@ -27,13 +27,13 @@ begin = Start
 abbrev pub finish : Book → Stage
 finish book = Ended book
 
--- the lines that a stage has behind it
+-- the lines that a stage has after it
 abbrev pub behind : Stage → List Line
 behind Start = []
 behind Headed = (codes "book 1", None) ∷ []
 behind (Supplied supply) = (codes "book 1", None) ∷ supply_line supply ∷ []
 behind (Listing book) = listed book
-behind (Ended book) = lines book
+behind (Ended book) = book_lines book
 
 abbrev pub IsSound : Stage → Type 0
 IsSound Start = Unit {0}
@@ -42,7 +42,7 @@ IsSound (Supplied supply) = IsOffer supply
 IsSound (Listing book) = IsBook book
 IsSound (Ended book) = IsBook book
 
--- a step keeps a stage sound, and its line stands behind the next stage
+-- a step keeps a stage sound, and its line comes after the next stage
 step_behind : StepsBehind IsSound Step excess behind
 step_behind s t l = by_stage s
   where
@@ -62,7 +62,7 @@ step_behind s t l = by_stage s
     by_stage (Listing book) sound (inr step) = move (listed book) l (Listing step.0) refl step.2 (adds_one book step.0 l sound step.1)
     by_stage (Ended book) sound step = absurd step
 
--- each stage has the front of a text behind it: a book with as much as is read, and nothing else
+-- each stage has the prefix of a text after it: a book with as much as is read, and nothing else
 
 zeros_small : (n : ℕ) → AllByRecursion (λ n. n ≤ 2 ^ 36) (replicate n 0)
 zeros_small zero = tt
@@ -74,7 +74,7 @@ free_book supply is = record { supply = is; reserves = record { count = length-r
 one_lot : IsOffer (1 ∷ [])
 one_lot = record { some = omega arith; each = ((omega arith, omega arith), tt) }
 
-front_of : (s : Stage) → IsSound s → FrontOf IsBook lines (behind s)
+front_of : (s : Stage) → IsSound s → FrontOf IsBook book_lines (behind s)
 front_of Start sound = record { value = opened (1 ∷ []) (empty_package (1 ∷ [])); count = 0; valid = free_book (1 ∷ []) one_lot; same = refl }
 front_of Headed sound = record { value = opened (1 ∷ []) (empty_package (1 ∷ [])); count = 1; valid = free_book (1 ∷ []) one_lot; same = refl }
 front_of (Supplied supply) sound = record { value = opened supply (empty_package supply); count = 2; valid = free_book supply sound; same = refl }
@@ -87,10 +87,10 @@ front_of (Listing book) sound = record {
 }
 front_of (Ended book) sound = record {
   value = book;
-  count = length (lines book);
+  count = length (book_lines book);
   valid = sound;
   same =
-      take_all (length (lines book)) (lines book) (omega arith);
+      take_all (length (book_lines book)) (book_lines book) (omega arith);
 }
 
 -- the stages go over the lines of a book
@@ -168,7 +168,7 @@ bidders_run book front (b ∷ bs) supply all =
     (Listing (with_bidders book (front ++ b ∷ bs))) (bidder_line (length front) b.name ∷ bid_lines 0 b.bids)
     (bidder_lines (length front + 1) bs) first moved
 
-complete : (book : Book) → IsBook book → Runs Step excess begin (lines book) (finish book)
+complete : (book : Book) → IsBook book → Runs Step excess begin (book_lines book) (finish book)
 complete book valid =
     let free = opened book.supply book.reserves in
     let head : Runs Step excess begin (head_lines book) (Listing free) = (
@@ -213,10 +213,10 @@ one_value : (v w : Book) → finish v ≡ finish w → v ≡ w
 one_value v w is = cc
 
 -- the reader that goes from stage to stage reads the form of books, line by line
-pub reads : Reads IsSound Step excess begin finish IsBook lines
+pub reads : Reads IsSound Step excess begin finish IsBook book_lines
 reads = record {
   complete = complete;
-  sound = front_reached IsSound Step excess behind IsBook lines step_behind front_of begin tt refl;
+  sound = front_reached IsSound Step excess behind IsBook book_lines step_behind front_of begin tt refl;
   begins = tt;
   keeps = λ s t l sound step. (step_behind s t l sound step).0;
   one_step = one_step;

@@ -4,8 +4,8 @@ use Rattle.std.proofs.Common.{set, sym, ◌∙◌, ap, subst, arith}
 use Rattle.std.specs.List.{All, insert, remove}
 use Rattle.std.proofs.lemmas.List.{get_or-map, map-append, map-set, set-get_or, take_more_set, take_all, take-map, drop-map, length-map}
 use Rattle.std.proofs.lemmas.List.Elements.{All-append, All-cons, All-drop, All-set, All-take}
-use Rattle.lots.specs.auction_model.specs.Book.{BookBid, no_bid}
-use Rattle.lots.specs.auction_model.specs.Entries.{with_entry}
+use Rattle.auction_model.specs.Book.{BookBid, no_bid}
+use Rattle.auction_model.specs.Entries.{with_entry}
 use Rattle.bid_book.specs.declared.book.Entry.{Entry}
 use Rattle.bid_book.specs.Better.{AreBetter, BeatsAmong}
 use Rattle.bid_book.specs.Changes.{IsPlaceIn}
@@ -44,7 +44,7 @@ settled-more from to i better e inside is was beats =
 pub settled-all : (from to : List Entry) (i : ℕ) → length to ≤ i → AreSettledTo from to i → AreSettled from to
 settled-all from to i all was = record { same = was.same; betters = subst AreBetter (take_all i to all) was.done }
 
--- the net amounts are those that stood there
+-- the net amounts are those that was there
 pub nets-same : (reserves : List ℕ) (from to : List Entry) → map bare to ≡ map bare from → All (HasNet reserves) from → All (HasNet reserves) to
 nets-same reserves from to same nets k d inside =
     let count : length to ≡ length from = sym (length-map to bare) ∙ ap (λ (l : List Entry). length l) same ∙ length-map from bare in

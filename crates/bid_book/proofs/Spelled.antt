@@ -4,12 +4,12 @@ use Rattle.std.specs.Prelude.{codes, IsTrue}
 use Rattle.std.specs.List.{AllByRecursion}
 use Rattle.std.proofs.lemmas.Bool.Decides.{nat_tests}
 use Rattle.std.specs.Fmt.{decimal}
-use Rattle.book_form.specs.line_text.specs.wide_num.proofs.Decimal.{numeral_decimal, AreDigits}
-use Rattle.book_form.specs.line_text.specs.LineText.{IsLine}
-use Rattle.book_form.specs.line_text.proofs.Lines.{line_append}
-use Rattle.lots.specs.auction_model.specs.Package.{is_within}
-use Rattle.book_form.specs.BookForm.{IsNameByte, IsName}
-use Rattle.book_form.specs.line_text.specs.Decimals.{decimals_text}
+use Rattle.wide_num.proofs.Decimal.{AreDigits, numeral_decimal}
+use Rattle.line_format.specs.LineText.{IsLine}
+use Rattle.line_format.proofs.Lines.{line_append}
+use Rattle.auction_model.specs.Package.{is_within}
+use Rattle.book_grammar.specs.BookForm.{IsNameByte, IsName}
+use Rattle.line_format.specs.Decimals.{decimals_text}
 use Rattle.bid_book.proofs.Numbers.{AreSmall}
 
 -- no digits have a line feed among them

@@ -5,15 +5,15 @@ use Rattle.std.specs.Option.{option_or}
 use Rattle.std.specs.List.{AllByRecursion, position_or_len}
 use Rattle.std.proofs.lemmas.Bool.Decides.{nat_tests, leb_tells}
 use Rattle.std.proofs.lemmas.List.Sums.{sum_by-cons}
-use Rattle.lots.specs.auction_model.specs.Place.{states_of}
-use Rattle.book_form.specs.BookForm.{IsOffer}
-use Rattle.book_form.specs.BookLines.{Excess, supply_excess}
-use Rattle.lots.specs.limits.specs.declared.LimitKind.{LimitKind}
-use Rattle.lots.specs.limits.specs.declared.LimitKind.TheVariants.{Categories, Lots, States}
+use Rattle.auction_model.specs.Place.{states_of}
+use Rattle.book_grammar.specs.BookForm.{IsOffer}
+use Rattle.book_grammar.specs.BookLines.{Excess, supply_excess}
+use Rattle.limits.specs.declared.LimitKind.{LimitKind}
+use Rattle.limits.specs.declared.LimitKind.TheVariants.{Categories, Lots, States}
 use Rattle.lots.specs.declared.LotStop.{LotStop}
 use Rattle.lots.specs.declared.LotStop.TheVariants as lots
 use Rattle.lots.specs.Limits.{IsSupply, categories_stop, zero_stop, lots_stop, states_stop, supply_stop}
-use Rattle.book_form.specs.line_text.specs.declared.stop.LineStop.TheVariants.{Limit}
+use Rattle.line_format.specs.declared.stop.LineStop.TheVariants.{Limit}
 use Rattle.bid_book.specs.Stops.{line_stop}
 
 -- where one value or else another is none, the one is none
@@ -26,7 +26,7 @@ pub none_second : {O : Type 0} (a b : Option O) → option_or a b ≡ None → b
 none_second None b is = is
 none_second (Some x) b is = absurd (cc)
 
--- what a supply of so many categories, lots and states exceeds
+-- what a supply of that many categories, lots and states exceeds
 abbrev excess_of : ℕ → ℕ → ℕ → Option Excess
 excess_of l m t = if nat_lt 6 l then Some (Categories, l) else if nat_lt 40 m then Some (Lots, m) else if nat_lt 16384 t then Some (States, t) else None
 

@@ -5,7 +5,7 @@ use Rattle.std.proofs.Common.{refl, sym, ap, subst, ◌∙◌, arith, append_ass
 use Rattle.std.proofs.lemmas.List.{map-append, append-nil}
 use Rattle.std.proofs.lemmas.List.Elements.{All-nil, All-push}
 use Rattle.lots.specs.declared.package.Bid.{Bid}
-use Rattle.lots.specs.auction_model.specs.Book.{BookBid, Bidder}
+use Rattle.auction_model.specs.Book.{Bidder, BookBid}
 use Rattle.bid_book.specs.declared.book.Entry.{Entry}
 use Rattle.bid_book.specs.declared.book.BookBidder.{BookBidder}
 use Rattle.bid_book.specs.declared.bidders.BidderBids.{BidderBids}

@@ -5,13 +5,13 @@ use Rattle.std.specs.Option.{option_or}
 use Rattle.std.specs.List.{AllByRecursion}
 use Rattle.std.proofs.lemmas.Int.{ints}
 use Rattle.std.proofs.lemmas.Bool.Decides.{nat_tests}
-use Rattle.book_form.specs.line_text.specs.LineText.{first_excess}
-use Rattle.book_form.specs.line_text.proofs.Lines.{first_excess-append}
-use Rattle.lots.specs.auction_model.specs.Book.{BookBid, Bidder, Book, no_bid, no_bidder, bidder_of, bids_of, bid_of, lots_of, net_of}
-use Rattle.lots.specs.auction_model.specs.Package.{cost_of}
-use Rattle.book_form.specs.BookForm.{AreReserves, AreBids, empty_package, AreBidders}
-use Rattle.book_form.specs.BookLines.{Excess, Line, supply_excess, bid_excess, bidder_excess, bid_lines, bidder_line, bidder_lines, head_lines}
-use Rattle.book_form.specs.BookLines.{IsBookWithinLimits}
+use Rattle.line_format.specs.LineText.{first_excess}
+use Rattle.line_format.proofs.Lines.{first_excess-append}
+use Rattle.auction_model.specs.Book.{Bidder, Book, BookBid, bid_of, bidder_of, bids_of, lots_of, net_of, no_bid, no_bidder}
+use Rattle.auction_model.specs.Package.{cost_of}
+use Rattle.book_grammar.specs.BookForm.{AreReserves, AreBids, empty_package, AreBidders}
+use Rattle.book_grammar.specs.BookLines.{Excess, IsBookWithinLimits, Line, bid_excess, bid_lines, bidder_excess, bidder_line, bidder_lines, head_lines}
+use Rattle.book_grammar.specs.BookLines.{supply_excess}
 use Rattle.lots.specs.Limits.{IsSupply}
 use Rattle.bid_book.specs.Kept.{IsBidBook}
 use Rattle.bid_book.specs.Sound.{IsSoundBid, IsSoundBidder}

@@ -3,20 +3,20 @@ use Rattle.std.specs.Prelude.{◌≡◌, ℕ, suc, ◌+◌, ◌<◌, List, [], �
 use Rattle.std.specs.Fmt.{decimal}
 use Rattle.std.proofs.Common.{refl, sym, ap, ◌∙◌, arith, append_assoc}
 use Rattle.std.proofs.lemmas.List.{append-nil}
-use Rattle.book_form.specs.line_text.specs.LineText.{text_of, Says, stated}
-use Rattle.book_form.specs.line_text.proofs.Lines.{text_of-append}
-use Rattle.lots.specs.auction_model.specs.Book.{Book, BookBid, Bidder, no_bid, no_bidder, bidder_of, bids_of, bid_of, lots_of}
-use Rattle.book_form.specs.BookForm.{IsBook}
-use Rattle.book_form.specs.BookLines.{bid_line, bid_lines, bidder_line, bidder_lines, lines}
-use Rattle.book_form.specs.line_text.specs.Decimals.{decimals_text}
-use Rattle.book_form.specs.line_text.proofs.NumberRuns.{one_more}
-use Rattle.book_form.proofs.TextLaws.{numbers-append}
+use Rattle.line_format.specs.LineText.{Says, stated, text_of}
+use Rattle.line_format.proofs.Lines.{text_of-append}
+use Rattle.auction_model.specs.Book.{Bidder, Book, BookBid, bid_of, bidder_of, bids_of, lots_of, no_bid, no_bidder}
+use Rattle.book_grammar.specs.BookForm.{IsBook}
+use Rattle.book_grammar.specs.BookLines.{bid_line, bid_lines, bidder_line, bidder_lines, book_lines}
+use Rattle.line_format.specs.Decimals.{decimals_text}
+use Rattle.line_format.proofs.NumberRuns.{one_more}
+use Rattle.book_grammar.proofs.TextLaws.{numbers-append}
 use Rattle.lots.specs.declared.package.Bid.{Bid}
 use Rattle.bid_book.specs.Kept.{IsBidBook}
 use Rattle.bid_book.specs.Lists as given
 use Rattle.bid_book.specs.Written.{bid_text, bidder_text, bidders_text}
 
--- the text of bids doesn't depend on how many stand before them
+-- the text of bids doesn't depend on how many come before them
 bids_text : (m n : ℕ) (bs : List BookBid) → text_of (bid_lines m bs) ≡ text_of (bid_lines n bs)
 bids_text m n [] = refl
 bids_text m n (b ∷ bs) = ap (λ (t : List ℕ). (bid_line 0 b).0 ++ 10 ∷ t) (bids_text (m + 1) (n + 1) bs)
@@ -77,7 +77,7 @@ whole_bidder bidder a b c d e one two three four = rw (four, three, two, one) (s
 -- the whole text, piece by piece
 pub whole_text : (book : Book) (a b c d e f g : List ℕ) → a ≡ codes "book 1\nsupply" → b ≡ a ++ decimals_text book.supply → c ≡ b ++ codes "\nreserve"
     → d ≡ c ++ decimals_text book.reserves → e ≡ d ++ codes "\n" → f ≡ e ++ bidders_text book.bidders → g ≡ f ++ codes "end\n"
-    → IsBidBook book → Says IsBook lines g (stated book)
+    → IsBidBook book → Says IsBook book_lines g (stated book)
 whole_text book a b c d e f g one two three four five six seven kept =
     record {
       valid = kept.rules.form;
@@ -88,5 +88,5 @@ whole_text book a b c d e f g one two three four five six seven kept =
     tail : text_of (bidder_lines 0 book.bidders ++ (codes "end", None) ∷ []) ≡ bidders_text book.bidders ++ codes "end\n"
     tail = text_of-append (bidder_lines 0 book.bidders) ((codes "end", None) ∷ [])
 
-    spelled : g ≡ text_of (lines book)
+    spelled : g ≡ text_of (book_lines book)
     spelled = rw (seven, six, five, four, three, two, one, tail) (simp append_assoc)

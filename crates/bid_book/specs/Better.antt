@@ -1,8 +1,8 @@
 -- Bids that another bid of the same bidder makes needless: it is no larger in any category and worth at least as much.
 use Rattle.std.specs.Prelude.{ℕ, ◌-◌, ◌≤◌, ◌<◌, IsTrue, List, length, slice_index_or, ◌≤ℤ◌}
 use Rattle.std.specs.List.{All}
-use Rattle.lots.specs.auction_model.specs.Book.{Book, lots_of, net_of}
-use Rattle.lots.specs.auction_model.specs.Package.{is_within}
+use Rattle.auction_model.specs.Book.{Book, lots_of, net_of}
+use Rattle.auction_model.specs.Package.{is_within}
 use Rattle.bid_book.specs.declared.book.Entry.{Entry}
 use Rattle.bid_book.specs.declared.book.BidBook.TheInside.{Inside}
 
@@ -21,7 +21,7 @@ pub record Beats (bids : List Entry) (entry : Entry) (h : ℕ) : Type 0 where
 abbrev pub BeatsAmong : List Entry → Entry → ℕ → Type 0
 BeatsAmong bids entry h = 0 < h → Beats bids entry h
 
--- what stands with each entry as better comes before it
+-- what is kept with each entry as better comes before it
 abbrev pub AreBetter : List Entry → Type 0
 AreBetter bids = (i : ℕ) (d : Entry) → i < length bids → 0 < (slice_index_or bids i d).better
     → ((slice_index_or bids i d).better ≤ i) × Beats bids (slice_index_or bids i d) (slice_index_or bids i d).better

@@ -1,11 +1,11 @@
 -- A book in which one bidder has other bids: one more, one with another amount, or one less.
 use Rattle.std.specs.Prelude.{◌≡◌, ◌⊎◌, ℕ, ◌-◌, ◌<◌, ◌≤◌, true, false, IsTrue, IsFalse, List, [], length, slice_index_or, slice_set}
 use Rattle.std.specs.List.{remove}
-use Rattle.lots.specs.auction_model.specs.Book.{Book, BookBid, no_bid, bidder_of, bids_of, lots_of, bidder_with, with_bidders}
-use Rattle.lots.specs.auction_model.specs.Package.{is_within, cost_of}
-use Rattle.lots.specs.auction_model.specs.Entries.{with_entry}
-use Rattle.lots.specs.auction_model.specs.PackageTests.{is_before}
-use Rattle.lots.specs.limits.specs.declared.TheConstants.{MOST_AMOUNT, MOST_BIDS}
+use Rattle.auction_model.specs.Book.{Book, BookBid, bidder_of, bidder_with, bids_of, lots_of, no_bid, with_bidders}
+use Rattle.auction_model.specs.Package.{cost_of, is_within}
+use Rattle.auction_model.specs.Entries.{with_entry}
+use Rattle.auction_model.specs.PackageTests.{is_before}
+use Rattle.limits.specs.declared.TheConstants.{MOST_AMOUNT, MOST_BIDS}
 
 -- the book in which bidder j has these bids
 abbrev pub with_bids : Book → ℕ → List BookBid → Book

@@ -1,8 +1,8 @@
 -- The book that the fields hold.
 use Rattle.std.specs.Prelude.{◌≡◌, ℕ, List, map, pos, ◌-ℤ◌}
 use Rattle.std.specs.List.{All}
-use Rattle.lots.specs.auction_model.specs.Package.{cost_of}
-use Rattle.lots.specs.auction_model.specs.Book.{Book, BookBid, Bidder}
+use Rattle.auction_model.specs.Package.{cost_of}
+use Rattle.auction_model.specs.Book.{Bidder, Book, BookBid}
 use Rattle.bid_book.specs.declared.book.Entry.{Entry}
 use Rattle.bid_book.specs.declared.book.BookBidder.{BookBidder}
 use Rattle.bid_book.specs.declared.book.BidBook.TheInside.{Inside}
@@ -16,7 +16,7 @@ bidder_value b = record { name = b.name; bids = map bid_value b.bids.items }
 abbrev pub book_value : Inside → Book
 book_value b = record { supply = b.supply; reserves = b.reserves.items; bidders = map bidder_value b.bidders.items }
 
--- the net amount that stands with each bid
+-- the net amount that is kept with each bid
 abbrev pub HasNet : List ℕ → Entry → Type 0
 HasNet reserves e = e.net ≡ pos e.bid.amount -ℤ pos (cost_of reserves e.bid.package)
 

@@ -1,7 +1,7 @@
 -- Bids and bidders as a book keeps them.
 use Rattle.std.specs.Prelude.{◌≡◌, ℕ, List, map}
 use Rattle.std.specs.List.{All}
-use Rattle.lots.specs.auction_model.specs.Book.{BookBid, Bidder}
+use Rattle.auction_model.specs.Book.{Bidder, BookBid}
 use Rattle.bid_book.specs.declared.book.Entry.{Entry}
 use Rattle.bid_book.specs.declared.book.BookBidder.{BookBidder}
 use Rattle.bid_book.specs.Fields.{bid_value, bidder_value, HasNet}

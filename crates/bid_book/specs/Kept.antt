@@ -1,9 +1,9 @@
 -- What each book of the program keeps.
 use Rattle.std.specs.Prelude.{◌≡◌, ℕ, suc, ◌≤◌, ◌<◌, IsTrue, length, pos, ◌≤ℤ◌}
-use Rattle.lots.specs.auction_model.specs.Book.{Book, bids_of, lots_of, net_of}
-use Rattle.lots.specs.auction_model.specs.Package.{is_within}
-use Rattle.book_form.specs.BookLines.{IsBookWithinLimits}
-use Rattle.lots.specs.limits.specs.declared.TheConstants.{MOST_AMOUNT, MOST_BIDDERS, MOST_BIDS}
+use Rattle.auction_model.specs.Book.{Book, bids_of, lots_of, net_of}
+use Rattle.auction_model.specs.Package.{is_within}
+use Rattle.book_grammar.specs.BookLines.{IsBookWithinLimits}
+use Rattle.limits.specs.declared.TheConstants.{MOST_AMOUNT, MOST_BIDDERS, MOST_BIDS}
 use Rattle.lots.specs.Limits.{IsSupply}
 
 pub record IsBidBook (book : Book) : Type 0 where

@@ -1,5 +1,5 @@
 -- What a list of bidders holds.
-use Rattle.lots.specs.auction_model.specs.Book.{Bidder}
+use Rattle.auction_model.specs.Book.{Bidder}
 use Rattle.bid_book.specs.declared.bidders.BidderBids.{BidderBids}
 
 abbrev pub bidder_of : BidderBids → Bidder

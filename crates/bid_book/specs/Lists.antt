@@ -1,6 +1,6 @@
 -- What a list of bids holds, and the book of lists.
 use Rattle.std.specs.Prelude.{ℕ, List}
-use Rattle.lots.specs.auction_model.specs.Book.{Book, BookBid, Bidder}
+use Rattle.auction_model.specs.Book.{Bidder, Book, BookBid}
 use Rattle.lots.specs.declared.package.Bid.{Bid}
 
 abbrev pub bid_of : Bid → BookBid

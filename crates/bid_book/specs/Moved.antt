@@ -1,16 +1,16 @@
 -- What putting a bid in, or taking one out, makes of the entries of a bidder.
 use Rattle.std.specs.Prelude.{◌≡◌, ℕ, List, map}
 use Rattle.std.specs.List.{All}
-use Rattle.lots.specs.auction_model.specs.Entries.{with_entry}
+use Rattle.auction_model.specs.Entries.{with_entry}
 use Rattle.bid_book.specs.declared.book.Entry.{Entry}
 use Rattle.bid_book.specs.Fields.{bid_value, HasNet}
 use Rattle.bid_book.specs.Better.{AreBetter}
 
--- an entry without what stands with it as better
+-- an entry without what is kept with it as better
 abbrev pub bare : Entry → Entry
 bare e = record { bid = e.bid; net = e.net; better = 0 }
 
--- the same bids with their net amounts, and what stands with each as better is right
+-- the same bids with their net amounts, and what is kept with each as better is right
 pub record AreSettled (from to : List Entry) : Type 0 where
   pub same : map bare to ≡ map bare from
   pub betters : AreBetter to

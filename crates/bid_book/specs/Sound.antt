@@ -1,9 +1,9 @@
 -- A bid and a bidder that keep the rules of a book, apart from those before them.
 use Rattle.std.specs.Prelude.{◌≡◌, ℕ, ◌≤◌, IsTrue, List, length}
 use Rattle.std.specs.List.{AllByRecursion}
-use Rattle.lots.specs.auction_model.specs.Book.{BookBid, Bidder}
-use Rattle.lots.specs.auction_model.specs.Package.{is_within, cost_of}
-use Rattle.lots.specs.limits.specs.declared.TheConstants.{MOST_AMOUNT, MOST_BIDS}
+use Rattle.auction_model.specs.Book.{Bidder, BookBid}
+use Rattle.auction_model.specs.Package.{cost_of, is_within}
+use Rattle.limits.specs.declared.TheConstants.{MOST_AMOUNT, MOST_BIDS}
 
 pub record IsSoundBid (supply reserves : List ℕ) (bid : BookBid) : Type 0 where
   pub categories : length bid.lots ≡ length supply

@@ -2,9 +2,9 @@
 -- contracts; what bytes say of a book is said without them.
 use Rattle.std.specs.Prelude.{◌≡◌, ◌≢◌, ◌⊎◌, ℕ, ◌+◌, ◌-◌, ◌<◌, Option, None, List, [], ◌∷◌, ◌++◌, codes, length, slice_set}
 use Rattle.std.specs.List.{AllByRecursion}
-use Rattle.lots.specs.auction_model.specs.Book.{BookBid, Bidder, Book, bidder_of, bidder_with, bids_of, with_bidders}
-use Rattle.book_form.specs.BookForm.{IsName, IsOffer, AreReserves, IsBid, empty_package}
-use Rattle.book_form.specs.BookLines.{Excess, supply_excess, bidder_excess, bid_excess, supply_line, reserve_line, bidder_line, bid_line}
+use Rattle.auction_model.specs.Book.{Bidder, Book, BookBid, bidder_of, bidder_with, bids_of, with_bidders}
+use Rattle.book_grammar.specs.BookForm.{IsName, IsOffer, AreReserves, IsBid, empty_package}
+use Rattle.book_grammar.specs.BookLines.{Excess, supply_excess, bidder_excess, bid_excess, supply_line, reserve_line, bidder_line, bid_line}
 use Rattle.bid_book.specs.declared.read.Stage.{Stage}
 use Rattle.bid_book.specs.declared.read.Stage.TheVariants.{Start, Headed, Supplied, Listing, Ended}
 

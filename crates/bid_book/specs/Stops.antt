@@ -1,14 +1,14 @@
 -- Why a line is not taken, and what the numbers of a line are.
 use Rattle.std.specs.Prelude.{◌≡◌, ◌≢◌, ℕ, ◌≤◌, List, ◌∷◌, ◌++◌}
 use Rattle.std.specs.List.{AllByRecursion}
-use Rattle.lots.specs.limits.specs.declared.TheConstants.{MOST_AMOUNT}
-use Rattle.lots.specs.limits.specs.declared.LimitKind.TheVariants.{Categories, Lots, States}
-use Rattle.book_form.specs.line_text.specs.Fields.{FieldEnds}
+use Rattle.limits.specs.declared.TheConstants.{MOST_AMOUNT}
+use Rattle.limits.specs.declared.LimitKind.TheVariants.{Categories, Lots, States}
+use Rattle.line_format.specs.Fields.{FieldEnds}
 use Rattle.lots.specs.declared.LotStop.{LotStop}
 use Rattle.lots.specs.declared.LotStop.TheVariants as lots
-use Rattle.book_form.specs.BookLines.{Excess}
-use Rattle.book_form.specs.line_text.specs.declared.stop.LineStop.{LineStop}
-use Rattle.book_form.specs.line_text.specs.declared.stop.LineStop.TheVariants.{Form, Limit, Memory}
+use Rattle.book_grammar.specs.BookLines.{Excess}
+use Rattle.line_format.specs.declared.stop.LineStop.{LineStop}
+use Rattle.line_format.specs.declared.stop.LineStop.TheVariants.{Form, Limit, Memory}
 
 -- the numbers of a book's lines: none is above the greatest amount
 abbrev pub AreNumbers : List ℕ → Type 0

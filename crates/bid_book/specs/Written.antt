@@ -1,8 +1,8 @@
 -- The bytes of the lines of bids and of bidders.
 use Rattle.std.specs.Prelude.{ℕ, List, [], ◌∷◌}
-use Rattle.book_form.specs.line_text.specs.LineText.{text_of}
-use Rattle.lots.specs.auction_model.specs.Book.{BookBid, Bidder}
-use Rattle.book_form.specs.BookLines.{bid_line, bid_lines, bidder_line, bidder_lines}
+use Rattle.line_format.specs.LineText.{text_of}
+use Rattle.auction_model.specs.Book.{Bidder, BookBid}
+use Rattle.book_grammar.specs.BookLines.{bid_line, bid_lines, bidder_line, bidder_lines}
 
 abbrev pub bid_text : BookBid → List ℕ
 bid_text b = text_of (bid_line 0 b ∷ [])

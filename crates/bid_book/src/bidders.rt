@@ -23,7 +23,7 @@ pub struct Bidders {
 
 impl Model for Bidders {
     ghost use Rattle.std.specs.Prelude.{List, map};
-    ghost use Rattle.lots.specs.auction_model.specs.Book.{Bidder};
+    ghost use Rattle.auction_model.specs.Book.{Bidder};
     ghost use Rattle.bid_book.specs.Listed.{bidder_of};
 
     ghost Value = { List Bidder };
@@ -41,7 +41,7 @@ impl Bidders {
         }
     }
 
-    /// Appends one bidder. For want of memory the list stays as it is.
+    /// Appends one bidder. If memory runs out, the list stays as it is.
     pub fn push(&mut self, item: BidderBids) -> Result<(), AllocError>
         ensures pushed { OnOk result (self.new ≡ self.old ++ bidder_of item ∷ []) }
         ensures unchanged { OnErr result (self.new ≡ self.old) }

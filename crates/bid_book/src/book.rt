@@ -1,8 +1,8 @@
 // Books, and the calls that read them.
 ghost use Rattle.std.specs.Prelude.{◌≡◌, ℕ, ◌≤◌, ◌<◌, [], ◌∷◌, ◌++◌, IfOk, IsOk, OnErr, OnOk, length};
-ghost use Rattle.lots.specs.auction_model.specs.Book.{bidder_of, bids_of, bid_of, lots_of, net_of, bidder_with, with_bidders};
+ghost use Rattle.auction_model.specs.Book.{bid_of, bidder_of, bidder_with, bids_of, lots_of, net_of, with_bidders};
 ghost use Rattle.bid_book.specs.Kept.{IsBidBook};
-ghost use Rattle.lots.specs.limits.specs.declared.TheConstants.{MOST_BIDDERS, MOST_BIDS};
+ghost use Rattle.limits.specs.declared.TheConstants.{MOST_BIDDERS, MOST_BIDS};
 
 pub(crate) mod better;
 pub(crate) mod changes;
@@ -54,7 +54,7 @@ pub struct BidBook {
 }
 
 impl Model for BidBook {
-    ghost use Rattle.lots.specs.auction_model.specs.Book.{Book};
+    ghost use Rattle.auction_model.specs.Book.{Book};
 
     ghost Value = { Book };
 
@@ -68,8 +68,8 @@ impl Model for BidBook {
 }
 
 impl BidBook {
-    ghost use Rattle.book_form.specs.BookForm.{AreReserves};
-    ghost use Rattle.book_form.specs.BookLines.{IsBookWithinLimits};
+    ghost use Rattle.book_grammar.specs.BookForm.{AreReserves};
+    ghost use Rattle.book_grammar.specs.BookLines.{IsBookWithinLimits};
     ghost use Rattle.bid_book.specs.Fields.{HasNet, bid_value};
     ghost use Rattle.lots.specs.Limits.{IsSupply};
     ghost use Rattle.bid_book.specs.Stages.{opened, with_bid};
@@ -79,7 +79,7 @@ impl BidBook {
 
     /// The book of this supply, these reserves and these bidders. The condition is that they keep the rules of a book's text and
     /// all limits: a reserve for each category, names that differ, and the bids of each bidder in the order of their packages,
-    /// each within the supply and at least at the reserve. The only error is want of memory.
+    /// each within the supply and at least at the reserve. The only error is out of memory.
     pub fn from_lists(
         alloc: Global,
         supply: Supply,
@@ -111,7 +111,7 @@ impl BidBook {
         }
     }
 
-    /// Puts a bidder without bids behind the others.
+    /// Puts a bidder without bids after the others.
     pub(crate) fn add_bidder(&mut self, alloc: Global, name: Name) -> Result<(), AllocError>
         requires { IsBookWithinLimits (with_bidders self.old (self.old.bidders ++ bidder_with name [] ∷ [])) }
         ensures { OnOk result (self.new ≡ with_bidders self.old (self.old.bidders ++ bidder_with name [] ∷ [])) }
@@ -121,7 +121,7 @@ impl BidBook {
         Ok(())
     }
 
-    /// Puts a bid behind those of the last bidder. The rival is a number that may make it needless, or any other number.
+    /// Puts a bid after those of the last bidder. The rival is a number that may make it needless, or any other number.
     pub(crate) fn add_bid(&mut self, entry: Entry, rival: u16) -> Result<(), AllocError>
         requires some { 0 < length self.old.bidders }
         requires kept { IsBookWithinLimits (with_bid self.old (bid_value entry)) }
@@ -239,7 +239,7 @@ impl BidBook {
     }
 
     /// An earlier bid of bidder `j` that is no larger than its bid `i` in any category and worth at least as much, and 0 where
-    /// none was found. Whoever looks for the first of the greatest choices can leave such a bid `i` out.
+    /// none was found. Anyone who looks for the first of the greatest choices can leave such a bid `i` out.
     pub fn better(&self, j: u16, i: u16) -> u16
         requires bidder { (0 < j) × (j ≤ length self.now.bidders) }
         requires bid { (0 < i) × (i ≤ length (bids_of self.now j)) }

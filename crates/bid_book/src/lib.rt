@@ -12,11 +12,10 @@ mod write;
 
 pub use bidders::{BidderBids, Bidders};
 pub use book::BidBook;
-pub use book_form::{Excess, line_text};
+pub use book_grammar::Excess;
 pub use laws::{one_book, one_text, rules_with_bid, some_book};
+pub use limits::LimitKind;
 pub use lists::{BidList, Reserves};
-pub use lots;
-pub use lots::limits::LimitKind;
 pub use name::Name;
 pub use read::entries::name_text;
 pub use read::fields::is_name;

@@ -1,6 +1,6 @@
 // Names.
 ghost use Rattle.std.specs.Prelude.{◌≡◌, IfOk};
-ghost use Rattle.book_form.specs.BookForm.{IsName};
+ghost use Rattle.book_grammar.specs.BookForm.{IsName};
 
 use std::alloc::{AllocError, Global};
 use std::marker::Model;
@@ -13,7 +13,7 @@ pub struct Name {
 
 impl Model for Name {
     ghost use Rattle.std.specs.Prelude.{List, ℕ, string_bytes};
-    ghost use Rattle.book_form.specs.BookForm.{IsName};
+    ghost use Rattle.book_grammar.specs.BookForm.{IsName};
 
     ghost Value = { List ℕ };
 

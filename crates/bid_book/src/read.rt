@@ -1,10 +1,10 @@
 // The reader of a book's text.
 ghost use Rattle.std.specs.Prelude.{IfOk, None, Some, ℕ, ◌≡◌};
 ghost use Rattle.bid_book.specs.declared.read.Stage.TheVariants.{Ended};
-ghost use Rattle.book_form.specs.BookForm.{IsBook};
-ghost use Rattle.book_form.specs.BookLines.{lines};
+ghost use Rattle.book_grammar.specs.BookForm.{IsBook};
+ghost use Rattle.book_grammar.specs.BookLines.{book_lines};
 ghost use Rattle.bid_book.specs.Stages.{Step, excess};
-ghost use Rattle.book_form.specs.line_text.specs.LineText.{Says, beyond, faulty, stated};
+ghost use Rattle.line_format.specs.LineText.{Says, beyond, faulty, stated};
 
 pub(crate) mod entries;
 pub(crate) mod fields;
@@ -14,8 +14,8 @@ use crate::book::rivals::Rivals;
 use crate::read::entries::take_entry;
 use crate::read::head::{take_first, take_reserve, take_supply};
 use crate::{BidBook, BookStop, LimitKind};
-use book_form::Excess;
-use book_form::line_text::{LineReader, LineStop, TextStop, read_lines};
+use book_grammar::Excess;
+use line_format::{LineReader, LineStop, TextStop, read_lines};
 use lots::Supply;
 use std::alloc::Global;
 use std::marker::Model;
@@ -43,7 +43,7 @@ pub struct OpenBook {
 }
 
 impl Model for OpenBook {
-    ghost use Rattle.lots.specs.auction_model.specs.Book.{Book};
+    ghost use Rattle.auction_model.specs.Book.{Book};
 
     ghost Value = { Book };
 
@@ -82,10 +82,10 @@ impl LineReader for BookReader {
 /// The book that the bytes state. The first faulty line, or the first limit that a line exceeds, stops it; within one line a
 /// fault of form comes before a limit.
 pub fn read_book(alloc: Global, bytes: &[u8]) -> Result<BidBook, BookStop>
-    ensures text { IfOk result (λ book. Says IsBook lines bytes.now (stated book)) }
-    ensures form { (place : ℕ) → result ≡ Err (BookStop.Form place) → Says IsBook lines bytes.now (faulty place) }
+    ensures text { IfOk result (λ book. Says IsBook book_lines bytes.now (stated book)) }
+    ensures form { (place : ℕ) → result ≡ Err (BookStop.Form place) → Says IsBook book_lines bytes.now (faulty place) }
     ensures limit { (kind : LimitKind) (count : ℕ) → result ≡ Err (BookStop.Limit kind count)
-        → Says IsBook lines bytes.now (beyond (kind, count)) }
+        → Says IsBook book_lines bytes.now (beyond (kind, count)) }
 {
     match read_lines(alloc, &BookReader, Stage::Start, bytes) {
         Ok(book) => Ok(book),

@@ -1,14 +1,14 @@
 // Why a line is not taken.
 ghost use Rattle.std.specs.Prelude.{◌≡◌};
 ghost use Rattle.bid_book.specs.Stops.{line_stop};
-ghost use Rattle.book_form.specs.line_text.specs.declared.stop.LineStop.TheVariants.{Form};
+ghost use Rattle.line_format.specs.declared.stop.LineStop.TheVariants.{Form};
 
 use crate::LimitKind;
-use book_form::Excess;
-use book_form::line_text::LineStop;
+use book_grammar::Excess;
+use line_format::LineStop;
 use lots::LotStop;
 
-/// A text has no number at its front. It is a fault of form.
+/// A text has no number at its start. It is a fault of form.
 #[derive(Clone, Copy, Debug, PartialEq, Eq)]
 pub struct NoNumber;
 

@@ -1,21 +1,21 @@
 // From a book to its text.
 ghost use Rattle.std.specs.Prelude.{◌≡◌, ◌≤◌, ◌<◌, ◌++◌, IfOk, OnOk, length};
-ghost use Rattle.book_form.specs.line_text.specs.LineText.{Says, stated};
-ghost use Rattle.lots.specs.auction_model.specs.Book.{bidder_of};
-ghost use Rattle.book_form.specs.BookForm.{IsBook};
-ghost use Rattle.book_form.specs.BookLines.{lines};
+ghost use Rattle.line_format.specs.LineText.{Says, stated};
+ghost use Rattle.auction_model.specs.Book.{bidder_of};
+ghost use Rattle.book_grammar.specs.BookForm.{IsBook};
+ghost use Rattle.book_grammar.specs.BookLines.{book_lines};
 ghost use Rattle.bid_book.specs.Lists.{bid_of};
 ghost use Rattle.bid_book.specs.Written.{bid_text, bidder_text, bidders_text};
 
 use crate::BidBook;
-use book_form::line_text::wide_num::Text;
-use book_form::line_text::{add_amounts, add_number, add_numbers};
+use line_format::{add_amounts, add_number, add_numbers};
 use lots::Bid;
 use std::alloc::{AllocError, Global};
+use wide_num::Text;
 
-/// The one text of a book, which states it. The only error is want of memory.
+/// The one text of a book, which states it. The only error is out of memory.
 pub fn write_book(alloc: Global, book: &BidBook) -> Result<Text, AllocError>
-    ensures { IfOk result (λ text. Says IsBook lines text (stated book.now)) }
+    ensures { IfOk result (λ text. Says IsBook book_lines text (stated book.now)) }
 {
     let mut text = Text::new(alloc);
     text.add(b"book 1\nsupply")?;

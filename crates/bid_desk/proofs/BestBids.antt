@@ -3,18 +3,17 @@ use Rattle.std.proofs.Common.{◌≡◌, ℕ, max, true, false, not, List, [], �
 use Rattle.std.specs.Prelude.{filter}
 use Rattle.std.specs.List.{AllByRecursion}
 use Rattle.std.proofs.lemmas.Bool.{cases_Bool, cond-true, cond-false}
-use Rattle.relative_cap.specs.auction_model.specs.Book.{BookBid}
-use Rattle.relative_cap.specs.auction_model.specs.PackageTests.{is_empty, is_same, AllAfter, InOrder}
-use Rattle.relative_cap.specs.auction_rules.specs.Caps.{greatest}
-use Rattle.relative_cap.specs.auction_rules.specs.Lines.{in_order, priced}
-use Rattle.relative_cap.specs.auction_model.specs.Entries.{with_entry}
-use Rattle.relative_cap.specs.auction_rules.specs.BookOfLog.{bid_lots, best_bids}
-use Rattle.relative_cap.specs.auction_model.proofs.PackageTestLaws.{is_same-true, is_same-refl, is_before-not_same}
-use Rattle.relative_cap.specs.auction_rules.proofs.Drafts.{InOrder-in_order, priced-placed}
-use Rattle.relative_cap.specs.auction_rules.proofs.BookCaps.{greatest-best_bids}
-use Rattle.relative_cap.specs.auction_rules.proofs.LawfulBids.{each-in_order}
-use Rattle.relative_cap.specs.auction_rules.proofs.BookPairs.{some-some}
-use Rattle.relative_cap.specs.auction_model.proofs.PackageTestLaws.{not_same-sym}
+use Rattle.auction_model.specs.Book.{BookBid}
+use Rattle.auction_model.specs.PackageTests.{AllAfter, InOrder, is_empty, is_same}
+use Rattle.auction_rules.specs.Caps.{greatest}
+use Rattle.auction_rules.specs.Lines.{in_order, priced}
+use Rattle.auction_model.specs.Entries.{with_entry}
+use Rattle.auction_rules.specs.BookOfLog.{best_bids, bid_lots}
+use Rattle.auction_model.proofs.PackageTestLaws.{is_before-not_same, is_same-refl, is_same-true, not_same-sym}
+use Rattle.auction_rules.proofs.Drafts.{InOrder-in_order, priced-placed}
+use Rattle.auction_rules.proofs.BookCaps.{greatest-best_bids}
+use Rattle.auction_rules.proofs.LawfulBids.{each-in_order}
+use Rattle.auction_rules.proofs.BookPairs.{some-some}
 use Rattle.bid_desk.specs.BookBids.{with_most}
 
 -- the packages of the bids that are not empty
@@ -83,7 +82,7 @@ greatest-before x [] after = refl
 greatest-before x (b ∷ list) after =
     greatest-other b list x (not_same-sym x b.lots (is_before-not_same x b.lots after.0)) ∙ greatest-before x list after.1
 
--- and its entry goes to the front
+-- and its entry goes to the start
 with_entry-before : (x : List ℕ) (a : ℕ) (list : List BookBid) → AllAfter x (map bid_lots list) → with_entry x a list ≡ record { lots = x; amount = a } ∷ list
 with_entry-before x a [] after = refl
 with_entry-before x a (b ∷ list) after = rw (is_before-not_same x b.lots after.0, after.0) refl

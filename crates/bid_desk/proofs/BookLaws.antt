@@ -1,22 +1,22 @@
 -- The bids of a bidder in the book, made from its submitted list and its clock bids.
-use Rattle.std.proofs.Common.{◌≡◌, ℕ, suc, ◌+◌, ◌-◌, ◌≤◌, ◌<◌, ◌^◌, max, List, [], ◌∷◌, ◌++◌, refl, sym, ◌∙◌, ap, subst, inl, inr, arith, length, map, get_or}
-use Rattle.std.proofs.Common.{drop}
+use Rattle.std.proofs.Common.{List, [], ap, arith, drop, get_or, inl, inr, length, map, max, refl, subst, suc, sym, ℕ, ◌++◌, ◌+◌, ◌-◌, ◌<◌, ◌^◌, ◌∙◌}
+use Rattle.std.proofs.Common.{◌∷◌, ◌≡◌, ◌≤◌}
 use Rattle.std.specs.List.{All, AllByRecursion}
 use Rattle.std.proofs.lemmas.Bool.{cases_Bool}
 use Rattle.std.proofs.lemmas.List.{drop_more, drop_all, get_or-map, length-map}
-use Rattle.relative_cap.specs.auction_model.specs.Book.{BookBid, Bidder}
-use Rattle.relative_cap.specs.auction_model.specs.PackageTests.{is_same, is_before, InOrder}
-use Rattle.relative_cap.specs.auction_rules.specs.Caps.{clock_bid, greatest}
-use Rattle.relative_cap.specs.auction_rules.specs.Lines.{placed}
-use Rattle.relative_cap.specs.auction_model.specs.Entries.{with_entry}
-use Rattle.relative_cap.specs.auction_rules.specs.Rounds.{listing}
-use Rattle.relative_cap.specs.auction_rules.specs.State.{Round, own_of}
-use Rattle.relative_cap.specs.auction_rules.specs.Terms.{Terms, entrant}
-use Rattle.relative_cap.specs.auction_rules.specs.BookOfLog.{bid_lots, best_bids, book_bidder}
-use Rattle.relative_cap.specs.auction_model.proofs.PackageTestLaws.{is_same-true}
-use Rattle.relative_cap.specs.auction_rules.proofs.Drafts.{InOrder-placed}
-use Rattle.relative_cap.specs.auction_rules.proofs.LawfulBids.{with_entry-each}
-use Rattle.relative_cap.specs.clock_stage.specs.Kept.{IsHeld, no_round}
+use Rattle.auction_model.specs.Book.{Bidder, BookBid}
+use Rattle.auction_model.specs.PackageTests.{InOrder, is_before, is_same}
+use Rattle.auction_rules.specs.Caps.{clock_bid, greatest}
+use Rattle.auction_rules.specs.Lines.{placed}
+use Rattle.auction_model.specs.Entries.{with_entry}
+use Rattle.auction_rules.specs.Rounds.{listing}
+use Rattle.auction_rules.specs.State.{Round, own_of}
+use Rattle.auction_rules.specs.Terms.{Terms, entrant}
+use Rattle.auction_rules.specs.BookOfLog.{best_bids, bid_lots, book_bidder}
+use Rattle.auction_model.proofs.PackageTestLaws.{is_same-true}
+use Rattle.auction_rules.proofs.Drafts.{InOrder-placed}
+use Rattle.auction_rules.proofs.LawfulBids.{with_entry-each}
+use Rattle.clock_stage.specs.Kept.{IsHeld, no_round}
 use Rattle.relative_cap.specs.OwnRounds.{own_in, rounds_of}
 use Rattle.bid_desk.specs.Lists.{IsKept, IsKeptEntry, Lists}
 use Rattle.bid_desk.specs.BookBids.{IsBooked, bids_by, submitted_in, with_most}
@@ -66,11 +66,11 @@ put-kept categories held amount list new is_held most made kept =
 
 -- ---- from the last round to the first
 
--- the bids of the clock behind the first k rounds, and of the list
+-- the bids of the clock after the first k rounds, and of the list
 abbrev pub bids_from : List Round → ℕ → List BookBid → ℕ → List BookBid
 bids_from history j list k = best_bids (map clock_bid (rounds_of j (drop k history)) ++ list)
 
--- behind the last round the list alone is left
+-- after the last round the list alone is left
 pub bids-none : (history : List Round) (j : ℕ) (categories k : ℕ) (list bids : List BookBid) → IsBooked categories list → bids ≡ list → k ≡ length history
     → bids ≡ bids_from history j list k
 bids-none history j categories k list bids booked is all =

@@ -3,29 +3,29 @@ use Rattle.std.proofs.Common.{◌≡◌, ℕ, suc, ◌-◌, ◌≤◌, ◌<◌, 
 use Rattle.std.specs.Prelude.{sum}
 use Rattle.std.specs.List.{All, AllByRecursion}
 use Rattle.std.proofs.lemmas.List.{get_or_default}
-use Rattle.relative_cap.specs.auction_model.specs.Book.{BookBid, Book}
-use Rattle.relative_cap.specs.book_form.specs.BookLines.{IsBookWithinLimits}
-use Rattle.relative_cap.specs.auction_rules.specs.declared.Event.{Event}
-use Rattle.relative_cap.specs.auction_rules.specs.declared.Stage.TheVariants.{Closed}
-use Rattle.relative_cap.specs.auction_rules.specs.BookOfLog.{book_by, book_of_log}
-use Rattle.relative_cap.specs.auction_rules.specs.Lawful.{HasCategories, IsDraft}
-use Rattle.relative_cap.specs.auction_rules.specs.Lines.{closes, held_in}
-use Rattle.relative_cap.specs.auction_model.specs.PackageTests.{is_empty}
-use Rattle.relative_cap.specs.auction_rules.specs.Replies.{admitted, is_clock}
-use Rattle.relative_cap.specs.auction_rules.specs.Rounds.{closed_after, own_round}
-use Rattle.relative_cap.specs.auction_rules.specs.State.{DeskState, Round, book_in, round_of, state_of}
-use Rattle.relative_cap.specs.auction_rules.specs.Terms.{Terms}
-use Rattle.relative_cap.specs.auction_rules.proofs.KeptStandings.{rounds-some}
-use Rattle.relative_cap.specs.auction_rules.proofs.LawfulBids.{each-weaker}
-use Rattle.relative_cap.specs.auction_rules.proofs.States.{length-listing}
-use Rattle.relative_cap.specs.clock_stage.specs.award_file.specs.Award.{IsAward}
-use Rattle.relative_cap.specs.clock_stage.specs.Kept.{bidders_in, categories_in}
+use Rattle.auction_model.specs.Book.{Book, BookBid}
+use Rattle.book_grammar.specs.BookLines.{IsBookWithinLimits}
+use Rattle.auction_rules.specs.declared.Event.{Event}
+use Rattle.auction_rules.specs.declared.Stage.TheVariants as stage
+use Rattle.auction_rules.specs.BookOfLog.{book_by, book_of_log}
+use Rattle.auction_rules.specs.Lawful.{HasCategories, IsDraft}
+use Rattle.auction_rules.specs.Lines.{closes, held_in}
+use Rattle.auction_model.specs.PackageTests.{is_empty}
+use Rattle.auction_rules.specs.Replies.{admitted, is_clock}
+use Rattle.auction_rules.specs.Rounds.{closed_after, own_round}
+use Rattle.auction_rules.specs.State.{DeskState, Round, book_in, round_of, state_of}
+use Rattle.auction_rules.specs.Terms.{Terms}
+use Rattle.auction_rules.proofs.KeptStandings.{rounds-some}
+use Rattle.auction_rules.proofs.LawfulBids.{each-weaker}
+use Rattle.auction_rules.proofs.States.{length-listing}
+use Rattle.award_file.specs.Award.{IsAward}
+use Rattle.clock_stage.specs.Kept.{bidders_in, categories_in}
 use Rattle.bid_desk.specs.BookBids.{AreBooked, IsBooked, bids_by}
 use Rattle.bid_desk.specs.Known.{IsKnown, submitted_of}
 use Rattle.bid_desk.specs.Reached.{IsReached}
 use Rattle.bid_desk.proofs.ReachedLaws.{known-reached, submitted-count}
 
--- what a bidder submitted may stand in a book
+-- what a bidder submitted may be in a book
 known-booked : (terms : Terms) (desk : DeskState) (j : ℕ) → IsKnown terms desk j → IsBooked (length terms.supply) (submitted_of desk j)
 known-booked terms desk j known = record {
   kept = known.kept_last;
@@ -36,7 +36,7 @@ known-booked terms desk j known = record {
 lists-count : (desk : DeskState) → IsReached desk → length desk.submitted ≡ length desk.terms.bidders
 lists-count desk reached = ap (λ (s : DeskState). length s.submitted) reached.stands ∙ submitted-count desk.terms reached.log
 
--- and each may stand in a book
+-- and each may be in a book
 lists-booked : (desk : DeskState) → sum desk.terms.supply ≤ 40 → IsReached desk → All (IsBooked (length desk.terms.supply)) desk.submitted
 lists-booked desk few reached k d inside =
     let place : suc k - 1 ≡ k = omega arith in
@@ -58,13 +58,13 @@ round-closed terms log over =
       length-listing (round_of terms (held_in terms lines)) n,
     )
 
-rounds-there : (desk : DeskState) → IsReached desk → desk.stage ≡ Closed → 1 ≤ length desk.rounds
+rounds-there : (desk : DeskState) → IsReached desk → desk.stage ≡ stage.Closed → 1 ≤ length desk.rounds
 rounds-there desk reached closed =
     subst (λ (s : DeskState). is_clock s.stage ≡ false → 1 ≤ length s.rounds) (sym reached.stands) (round-closed desk.terms reached.log) (ap is_clock closed)
 
 -- a closed desk has what a book is made of
 pub desk-booked : (desk : DeskState) (rounds : List Round) (lists : List (List BookBid)) (bidders categories : ℕ) → IsReached desk → IsAward desk.terms
-    → desk.stage ≡ Closed
+    → desk.stage ≡ stage.Closed
     → rounds ≡ desk.rounds → lists ≡ desk.submitted
     → (0 < length desk.rounds → bidders_in rounds ≡ bidders) → bidders ≡ length desk.terms.bidders
     → (0 < length desk.rounds → categories_in rounds ≡ categories) → categories ≡ length desk.terms.supply

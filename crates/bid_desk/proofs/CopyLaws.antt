@@ -1,12 +1,12 @@
 -- A list that is made another entry by entry.
 use Rattle.std.proofs.Common.{◌≡◌, ℕ, ◌+◌, ◌<◌, ◌≤◌, List, [], ◌∷◌, ◌++◌, length, map, take, get_or, set, sym, ap, ◌∙◌, arith}
-use Rattle.std.proofs.lemmas.List.{length-append, length-map, length-take, length-take-le, map-append, map-set, get_or-map, take_all, take_more}
-use Rattle.std.proofs.lemmas.List.{take_more_set, take-map}
-use Rattle.relative_cap.specs.auction_model.specs.Book.{BookBid}
-use Rattle.relative_cap.specs.lots.specs.declared.«package».Bid.{Bid}
+use Rattle.std.proofs.lemmas.List.{get_or-map, length-append, length-map, length-take, length-take-le, map-append, map-set, take-map, take_all}
+use Rattle.std.proofs.lemmas.List.{take_more, take_more_set}
+use Rattle.auction_model.specs.Book.{BookBid}
+use Rattle.lots.specs.declared.«package».Bid.{Bid}
 use Rattle.relative_cap.specs.OwnRounds.{bid_value}
 
--- so many entries are those of the other list
+-- that many entries are those of the other list
 pub record IsCopied (place : ℕ) (from list : List Bid) : Type 0 where
   pub room : place ≤ length list
   pub same : take place (map bid_value list) ≡ take place (map bid_value from)
@@ -19,7 +19,7 @@ copied-over list place e bid inside is =
     ∙ take_more_set (map bid_value list) place (bid_value e) (omega (arith, inside, length-map list bid_value))
     ∙ ap (λ (b : BookBid). take place (map bid_value list) ++ (b ∷ [])) is
 
--- an entry is put behind those before the place
+-- an entry is put after those before the place
 pub copied-behind : (list cut new : List Bid) (place : ℕ) (e bid : Bid) → place ≤ length list → cut ≡ take place list → new ≡ cut ++ (e ∷ [])
     → bid_value e ≡ bid_value bid
     → take (place + 1) (map bid_value new) ≡ take place (map bid_value list) ++ (bid_value bid ∷ [])

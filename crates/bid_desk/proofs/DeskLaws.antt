@@ -1,25 +1,26 @@
 -- What bids and closes make of the fields of a desk they make of its state, and a desk that stands for a log stands for one more line.
 use Rattle.std.proofs.Common.{◌≡◌, ℕ, zero, suc, ◌+◌, Bool, true, false, List, ◌∷◌, ◌++◌, refl, sym, ap, subst, ◌∙◌, inl, inr, map, length, []}
-use Rattle.std.specs.Prelude.{replicate}
+use Rattle.std.specs.Prelude.{replicate, if◌then◌else◌}
 use Rattle.std.specs.List.{AllByRecursion}
-use Rattle.std.proofs.lemmas.Bool.{cases_Bool}
-use Rattle.relative_cap.specs.auction_model.specs.Book.{BookBid}
-use Rattle.relative_cap.specs.auction_model.specs.Package.{is_within}
-use Rattle.relative_cap.specs.auction_rules.specs.Rounds.{listing}
-use Rattle.relative_cap.specs.auction_rules.specs.declared.Event.{Event}
-use Rattle.relative_cap.specs.auction_rules.specs.declared.Event.TheVariants.{Bid, Close}
-use Rattle.relative_cap.specs.auction_rules.specs.declared.Reply.{Reply}
-use Rattle.relative_cap.specs.auction_rules.specs.declared.Stage.TheVariants as stage
-use Rattle.relative_cap.specs.auction_rules.specs.Terms.{Terms}
-use Rattle.relative_cap.specs.auction_rules.specs.Lawful.{HasCategories}
-use Rattle.relative_cap.specs.auction_rules.specs.Replies.{is_ok_reply}
-use Rattle.relative_cap.specs.auction_rules.specs.State.{Round, DeskState, state_of, asked, reply_in, state_with}
-use Rattle.relative_cap.specs.auction_rules.proofs.Stands.{state_with-state_of}
-use Rattle.relative_cap.specs.clock_stage.specs.ClockState.{ClockState, clock_with, clock_of, reply_to_bid, after_bid, reply_to_close, after_close}
-use Rattle.relative_cap.specs.clock_stage.specs.declared.closes.Closed.{Closed}
-use Rattle.relative_cap.specs.clock_stage.specs.declared.closes.Closed.TheVariants.{NextRound, StageEnds, Full, PriceTop, Memory}
-use Rattle.relative_cap.specs.clock_stage.specs.Closings.{Tells}
-use Rattle.relative_cap.specs.clock_stage.proofs.Demands.{listing-same_each}
+use Rattle.std.proofs.lemmas.Bool.{cases_Bool, false≢true}
+use Rattle.auction_model.specs.Book.{BookBid}
+use Rattle.auction_model.specs.Package.{is_within}
+use Rattle.auction_rules.specs.Rounds.{listing}
+use Rattle.auction_rules.specs.declared.Event.{Event}
+use Rattle.auction_rules.specs.declared.Event.TheVariants.{Close}
+use Rattle.auction_rules.specs.declared.Event.TheVariants as event_kind
+use Rattle.auction_rules.specs.declared.Reply.{Reply}
+use Rattle.auction_rules.specs.declared.Stage.TheVariants as stage
+use Rattle.auction_rules.specs.Terms.{Terms}
+use Rattle.auction_rules.specs.Lawful.{HasCategories}
+use Rattle.auction_rules.specs.Replies.{is_clock, is_ok_reply}
+use Rattle.auction_rules.specs.State.{DeskState, Round, asked, reply_in, state_of, state_with}
+use Rattle.auction_rules.proofs.Stands.{state_with-state_of}
+use Rattle.clock_stage.specs.ClockState.{ClockState, after_bid, after_close, clock_of, clock_with, reply_to_bid, reply_to_close}
+use Rattle.clock_stage.specs.declared.closes.Closed.{Closed}
+use Rattle.clock_stage.specs.declared.closes.Closed.TheVariants.{Full, Memory, NextRound, PriceTop, StageEnds}
+use Rattle.clock_stage.specs.Closings.{Tells}
+use Rattle.clock_stage.proofs.Demands.{listing-same_each}
 use Rattle.bid_desk.specs.Lists.{Lists, lists_with}
 use Rattle.bid_desk.specs.Closes.{reply_value}
 use Rattle.bid_desk.specs.DeskValue.{desk_value, stage_value}
@@ -39,21 +40,29 @@ sealed-stage true false is = cc
 sealed-stage true true is = cc
 sealed-stage false true is = cc
 
+-- the number of the clock's round is that of the desk
+pub round-same : (running closed : Bool) (n : ℕ) → (closed ≡ true → running ≡ false)
+    → (if running then suc n else n) ≡ (if is_clock (stage_value running closed) then suc n else n)
+round-same true false n ended = refl
+round-same false false n ended = refl
+round-same false true n ended = refl
+round-same true true n ended = absurd (false≢true (sym (ended refl)))
+
 -- a fact of a running clock
 runs : (P : ClockState → Type 0) (clock : ClockState) → clock.running ≡ true → P (clock_with true clock.rounds clock.posted) → P clock
 runs P clock running = subst P (sym (ap (λ (b : Bool). clock_with b clock.rounds clock.posted) running))
 
 -- the reply to a bid
 pub bid-reply : (terms : Terms) (clock : ClockState) (closed : Bool) (bidders : List Lists) (j : ℕ) (lots : List ℕ) → clock.running ≡ true → closed ≡ false
-    → reply_to_bid terms clock j lots ≡ reply_in (desk_value terms clock closed bidders) (Bid j lots)
+    → reply_to_bid terms clock j lots ≡ reply_in (desk_value terms clock closed bidders) (event_kind.Bid j lots)
 bid-reply terms clock closed bidders j lots running unclosed =
-    subst (λ (b : Bool). reply_to_bid terms clock j lots ≡ reply_in (desk_value terms clock b bidders) (Bid j lots)) (sym unclosed)
-    (runs (λ (c : ClockState). reply_to_bid terms c j lots ≡ reply_in (desk_value terms c false bidders) (Bid j lots)) clock running refl)
+    subst (λ (b : Bool). reply_to_bid terms clock j lots ≡ reply_in (desk_value terms clock b bidders) (event_kind.Bid j lots)) (sym unclosed)
+    (runs (λ (c : ClockState). reply_to_bid terms c j lots ≡ reply_in (desk_value terms c false bidders) (event_kind.Bid j lots)) clock running refl)
 
 -- the state after a bid, while the clock runs
 bid-running : (terms : Terms) (rounds : List Round) (posted : Round) (bidders : List Lists) (j : ℕ) (lots : List ℕ)
     → desk_value terms (after_bid terms (clock_with true rounds posted) j lots) false bidders ≡ state_with
-    (desk_value terms (clock_with true rounds posted) false bidders) (Bid j lots)
+    (desk_value terms (clock_with true rounds posted) false bidders) (event_kind.Bid j lots)
 bid-running terms rounds posted bidders j lots =
     elim (cases_Bool (is_ok_reply (reply_to_bid terms (clock_with true rounds posted) j lots))) [
       | inl ok ↦ rw ok refl
@@ -62,12 +71,12 @@ bid-running terms rounds posted bidders j lots =
 
 -- the state after a bid
 pub bid-state : (terms : Terms) (clock new : ClockState) (closed : Bool) (bidders : List Lists) (j : ℕ) (lots : List ℕ) → clock.running ≡ true → closed ≡ false
-    → new ≡ after_bid terms clock j lots → desk_value terms new closed bidders ≡ state_with (desk_value terms clock closed bidders) (Bid j lots)
+    → new ≡ after_bid terms clock j lots → desk_value terms new closed bidders ≡ state_with (desk_value terms clock closed bidders) (event_kind.Bid j lots)
 bid-state terms clock new closed bidders j lots running unclosed is =
     ap (λ (c : ClockState). desk_value terms c closed bidders) is
-    ∙ subst (λ (b : Bool). desk_value terms (after_bid terms clock j lots) b bidders ≡ state_with (desk_value terms clock b bidders) (Bid j lots))
+    ∙ subst (λ (b : Bool). desk_value terms (after_bid terms clock j lots) b bidders ≡ state_with (desk_value terms clock b bidders) (event_kind.Bid j lots))
     (sym unclosed)
-    (runs (λ (c : ClockState). desk_value terms (after_bid terms c j lots) false bidders ≡ state_with (desk_value terms c false bidders) (Bid j lots)) clock
+    (runs (λ (c : ClockState). desk_value terms (after_bid terms c j lots) false bidders ≡ state_with (desk_value terms c false bidders) (event_kind.Bid j lots)) clock
     running
     (bid-running terms clock.rounds clock.posted bidders j lots))
 
@@ -100,7 +109,7 @@ close-state terms clock new closed bidders running unclosed is =
     (runs (λ (c : ClockState). desk_value terms (after_close terms c) false bidders ≡ state_with (desk_value terms c false bidders) Close) clock running
     (close-running terms clock.rounds clock.posted bidders))
 
--- what a clock tells is the reply
+-- what a clock says is the reply
 pub told-reply : (closed : Closed) (r : Reply) (new : ClockState) → Tells closed r new → reply_value closed ≡ r
 told-reply (NextRound n) r new tells = sym tells.0
 told-reply StageEnds r new tells = sym tells.0

@@ -1,10 +1,10 @@
--- Lists that are the same but for one amount.
+-- Lists that are the same except for one amount.
 use Rattle.std.proofs.Common.{◌≡◌, ℕ, zero, suc, ◌<◌, List, [], ◌∷◌, length, map, get_or, set, refl, sym, ap, subst, ◌∙◌, arith}
 use Rattle.std.proofs.lemmas.List.{get_or-map, length-map, map-set}
-use Rattle.relative_cap.specs.auction_model.specs.Book.{BookBid}
+use Rattle.auction_model.specs.Book.{BookBid}
 use Rattle.bid_desk.specs.Differences.{IsSameButAt, SetsAmount}
 use Rattle.bid_desk.specs.Slots.{entry_of, IsTakenAt}
-use Rattle.relative_cap.specs.lots.specs.declared.«package».Bid.{Bid}
+use Rattle.lots.specs.declared.«package».Bid.{Bid}
 use Rattle.relative_cap.specs.OwnRounds.{bid_value}
 
 -- a list is the same as itself
@@ -35,7 +35,7 @@ pub but-again : (list others new : List BookBid) (place amount : ℕ) → IsSame
 but-again list others new place amount but sets =
     subst (λ (l : List BookBid). IsSameButAt place l others) (sym sets.set) (but-set list others place amount sets.entry but sets.was)
 
--- the place stands in both
+-- the place is in both
 pub but-inside : (list others : List BookBid) (place : ℕ) → IsSameButAt place list others → (place < length list) × (place < length others)
 but-inside [] others place but = absurd but
 but-inside (b ∷ list) [] place but = absurd but

@@ -3,19 +3,18 @@ use Rattle.std.proofs.Common.{◌≡◌, ℕ, zero, suc, ◌<◌, ◌≤◌, tru
 use Rattle.std.specs.List.{All, AllByRecursion, insert, remove}
 use Rattle.std.proofs.lemmas.Bool.{cases_Bool, false≢true}
 use Rattle.std.proofs.lemmas.List.{length-map, map-set}
-use Rattle.relative_cap.specs.auction_model.specs.Book.{BookBid}
-use Rattle.relative_cap.specs.auction_model.specs.Package.{cost_of}
-use Rattle.relative_cap.specs.auction_rules.specs.BookOfLog.{bid_lots}
-use Rattle.relative_cap.specs.auction_model.specs.Entries.{with_entry, without_entry}
-use Rattle.relative_cap.specs.auction_model.specs.PackageTests.{is_same, is_before, AllAfter, InOrder}
-use Rattle.relative_cap.specs.auction_rules.specs.Replies.{has_entry}
-use Rattle.relative_cap.specs.auction_rules.proofs.Drafts.{AllAfter-trans}
-use Rattle.relative_cap.specs.auction_model.proofs.PackageTestLaws.{is_same-true, is_same-refl, is_before-not_same, is_before-trans, is_before-total}
-use Rattle.relative_cap.specs.auction_rules.proofs.KeptStandings.{absent-before}
-use Rattle.relative_cap.specs.auction_model.proofs.PackageTestLaws.{not_same-sym}
-use Rattle.relative_cap.specs.bid_book.proofs.PlaceLaws.{not-before}
-use Rattle.relative_cap.specs.bid_book.proofs.SettleLaws.{map-insert, map-remove}
-use Rattle.relative_cap.specs.lots.specs.declared.«package».Bid.{Bid}
+use Rattle.auction_model.specs.Book.{BookBid}
+use Rattle.auction_model.specs.Package.{cost_of}
+use Rattle.auction_rules.specs.BookOfLog.{bid_lots}
+use Rattle.auction_model.specs.Entries.{with_entry, without_entry}
+use Rattle.auction_model.specs.PackageTests.{AllAfter, InOrder, is_before, is_same}
+use Rattle.auction_rules.specs.Replies.{has_entry}
+use Rattle.auction_rules.proofs.Drafts.{AllAfter-trans}
+use Rattle.auction_model.proofs.PackageTestLaws.{is_before-not_same, is_before-total, is_before-trans, is_same-refl, is_same-true, not_same-sym}
+use Rattle.auction_rules.proofs.KeptStandings.{absent-before}
+use Rattle.bid_book.proofs.PlaceLaws.{not-before}
+use Rattle.bid_book.proofs.SettleLaws.{map-insert, map-remove}
+use Rattle.lots.specs.declared.«package».Bid.{Bid}
 use Rattle.relative_cap.specs.Asked.{IsEntry}
 use Rattle.relative_cap.specs.OwnRounds.{bid_value, entry_lots}
 use Rattle.relative_cap.specs.Place.{lots_at, IsPlace}
@@ -24,13 +23,13 @@ use Rattle.bid_desk.specs.Slots.{entry_of, IsTakenAt, IsFreeAt}
 
 -- ---- the conditions of a search, by the values
 
--- entries that are kept are entries of so many categories
+-- entries that are kept are entries of that many categories
 entries-each : (categories : ℕ) (list : List Bid) → AllByRecursion (IsKeptEntry categories) (map bid_value list) → All (IsEntry categories) list
 entries-each categories [] each k d inside = absurd (omega arith)
 entries-each categories (b ∷ list) each zero d inside = record { held = record { count = each.0.count; few = each.0.few }; amount = each.0.amount }
 entries-each categories (b ∷ list) each (suc k) d inside = entries-each categories list each.1 k d (omega arith)
 
--- what a bidder's list keeps are entries of so many categories
+-- what a bidder's list keeps are entries of that many categories
 pub kept-entries : (categories : ℕ) (list : List Bid) → IsKept categories (map bid_value list) → All (IsEntry categories) list
 kept-entries categories list kept = entries-each categories list kept.each
 
@@ -51,7 +50,7 @@ same-sym p q same = subst (λ (x : List ℕ). is_same x p ≡ true) (is_same-tru
 
 -- ---- the entry at a place, and the place of one that is put in
 
--- the entry for the package stands here, and those before come before it
+-- the entry for the package is here, and those before come before it
 abbrev IsThere : List BookBid → List ℕ → ℕ → Type 0
 IsThere [] lots place = ⊥
 IsThere (b ∷ list) lots zero = is_same b.lots lots ≡ true
@@ -87,7 +86,7 @@ there-own [] lots place there d = absurd there
 there-own (b ∷ list) lots zero there d = is_same-true b.lots lots there
 there-own (b ∷ list) lots (suc place) there d = there-own list lots place there.1 d
 
--- a list of packages behind this one has none
+-- a list of packages after this one has none
 behind-without : (lots : List ℕ) (list : List BookBid) → AllAfter lots (map bid_lots list) → without_entry lots list ≡ list
 behind-without lots [] after = refl
 behind-without lots (b ∷ list) after = rw (is_before-not_same lots b.lots after.0) (ap (λ (l : List BookBid). b ∷ l) (behind-without lots list after.1))
@@ -144,7 +143,7 @@ gap-from (b ∷ list) lots zero before last own = own (omega arith)
 gap-from (b ∷ list) lots (suc place) before last own =
     (before 0 (omega arith), gap-from list lots place (λ k low. before (suc k) (omega arith)) (omega arith) (λ inside. own (omega arith)))
 
--- the package stands at its place
+-- the package is at its place
 pub slot-taken :
     (categories : ℕ) (list : List Bid) (lots : List ℕ) (place : ℕ) → IsKept categories (map bid_value list) → IsPlace list lots place
     → place < length list
@@ -168,7 +167,7 @@ free-by categories list lots place kept gap = record {
   same = gap-same (map bid_value list) lots place kept.order gap;
 }
 
--- another package stands at its place, or its place is the end of the list
+-- another package is at its place, or its place is the end of the list
 pub slot-free :
     (categories : ℕ) (list : List Bid) (lots : List ℕ) (place : ℕ) → IsKept categories (map bid_value list) → IsPlace list lots place
     → (place < length list → is_same (lots_at list place) lots ≡ false) → IsFreeAt (map bid_value list) lots place

@@ -3,20 +3,20 @@ use Rattle.std.proofs.Common.{◌≡◌, ℕ, zero, suc, ◌≤◌, false, List,
 use Rattle.std.specs.Prelude.{sum}
 use Rattle.std.specs.List.{AllByRecursion}
 use Rattle.std.proofs.lemmas.List.{length-map}
-use Rattle.relative_cap.specs.auction_model.specs.Book.{BookBid}
-use Rattle.relative_cap.specs.auction_model.specs.Package.{cost_of}
-use Rattle.relative_cap.specs.auction_rules.specs.declared.Event.{Event}
-use Rattle.relative_cap.specs.auction_rules.specs.Terms.{Terms, entrant, final_cap}
-use Rattle.relative_cap.specs.auction_rules.specs.Caps as caps
-use Rattle.relative_cap.specs.auction_rules.specs.Caps.{list_fault}
-use Rattle.relative_cap.specs.auction_rules.specs.Lawful.{HasCategories, IsDraft, AreDrafts}
-use Rattle.relative_cap.specs.auction_rules.specs.Lines.{draft_list, submitted_list}
-use Rattle.relative_cap.specs.auction_rules.specs.Replies.{Standing, is_clock, admitted, standing}
-use Rattle.relative_cap.specs.auction_rules.specs.State.{Round, DeskState, own_of, state_of, standing_in}
-use Rattle.relative_cap.specs.auction_rules.proofs.KeptStandings.{AreDrafts-drafts, AreDrafts-submitted, rounds-first, rounds-some}
-use Rattle.relative_cap.specs.auction_rules.proofs.LawfulBids.{each-weaker}
-use Rattle.relative_cap.specs.auction_rules.proofs.Sound.{IsSound-standing}
-use Rattle.relative_cap.specs.auction_rules.proofs.States.{length-listing, standing_in-state_after}
+use Rattle.auction_model.specs.Book.{BookBid}
+use Rattle.auction_model.specs.Package.{cost_of}
+use Rattle.auction_rules.specs.declared.Event.{Event}
+use Rattle.auction_rules.specs.Terms.{Terms, entrant, final_cap}
+use Rattle.auction_rules.specs.Caps as caps
+use Rattle.auction_rules.specs.Caps.{list_fault}
+use Rattle.auction_rules.specs.Lawful.{AreDrafts, HasCategories, IsDraft}
+use Rattle.auction_rules.specs.Lines.{draft_list, submitted_list}
+use Rattle.auction_rules.specs.Replies.{Standing, admitted, is_clock, standing}
+use Rattle.auction_rules.specs.State.{DeskState, Round, own_of, standing_in, state_of}
+use Rattle.auction_rules.proofs.KeptStandings.{AreDrafts-drafts, AreDrafts-submitted, rounds-first, rounds-some}
+use Rattle.auction_rules.proofs.LawfulBids.{each-weaker}
+use Rattle.auction_rules.proofs.Sound.{IsSound-standing}
+use Rattle.auction_rules.proofs.States.{length-listing, standing_in-state_after}
 use Rattle.relative_cap.specs.OwnRounds.{eligibility_in}
 use Rattle.bid_desk.specs.Lists.{IsKept, IsKeptEntry}
 use Rattle.bid_desk.specs.Known.{IsKnown}

@@ -3,18 +3,18 @@ use Rattle.std.proofs.Common.{◌≡◌, ℕ, ◌-◌, ◌<◌, ◌≤◌, Bool,
 use Rattle.std.proofs.lemmas.Bool.{cond-true}
 use Rattle.std.proofs.lemmas.List.{length-map, get_or-map, map-set}
 use Rattle.std.proofs.Math.Seq.{map-set_same}
-use Rattle.relative_cap.specs.auction_model.specs.Book.{BookBid}
-use Rattle.relative_cap.specs.auction_rules.specs.declared.Event.{Event}
-use Rattle.relative_cap.specs.auction_rules.specs.declared.Event.TheVariants.{Draft, Drop, Submit}
-use Rattle.relative_cap.specs.auction_rules.specs.declared.Reply.TheVariants as reply
-use Rattle.relative_cap.specs.auction_model.specs.Entries.{with_entry, without_entry}
-use Rattle.relative_cap.specs.auction_rules.specs.declared.Stage.{Stage}
-use Rattle.relative_cap.specs.auction_rules.specs.declared.Stage.TheVariants as stages
-use Rattle.relative_cap.specs.auction_rules.specs.Replies.{is_clock, is_ok_reply, is_sealed}
-use Rattle.relative_cap.specs.auction_rules.specs.State.{Round, DeskState, drafts_of, reply_in, state_with, taken}
-use Rattle.relative_cap.specs.auction_rules.specs.Terms.{Terms}
-use Rattle.relative_cap.specs.clock_stage.specs.ClockState.{ClockState}
-use Rattle.relative_cap.specs.clock_stage.specs.Kept.{IsFor, categories_in}
+use Rattle.auction_model.specs.Book.{BookBid}
+use Rattle.auction_rules.specs.declared.Event.{Event}
+use Rattle.auction_rules.specs.declared.Event.TheVariants.{Draft, Drop, Submit}
+use Rattle.auction_rules.specs.declared.Reply.TheVariants as reply
+use Rattle.auction_model.specs.Entries.{with_entry, without_entry}
+use Rattle.auction_rules.specs.declared.Stage.{Stage}
+use Rattle.auction_rules.specs.declared.Stage.TheVariants as stages
+use Rattle.auction_rules.specs.Replies.{is_clock, is_ok_reply, is_sealed}
+use Rattle.auction_rules.specs.State.{DeskState, Round, drafts_of, reply_in, state_with, taken}
+use Rattle.auction_rules.specs.Terms.{Terms}
+use Rattle.clock_stage.specs.ClockState.{ClockState}
+use Rattle.clock_stage.specs.Kept.{IsFor, categories_in}
 use Rattle.bid_desk.specs.DeskValue.{desk_value}
 use Rattle.bid_desk.specs.Known.{IsKnown}
 use Rattle.bid_desk.specs.Lists.{Lists, lists_with}

@@ -1,15 +1,15 @@
 -- What a desk that answers and takes a line by its state does with the log that it stands for.
 use Rattle.std.proofs.Common.{◌≡◌, ◌≢◌, ◌⊎◌, ℕ, Bool, true, false, List, [], ◌∷◌, Option, Some, None, refl, ap, ◌∙◌, inl, inr}
 use Rattle.std.specs.Prelude.{◌&&◌}
-use Rattle.relative_cap.specs.auction_rules.specs.declared.Event.{Event}
-use Rattle.relative_cap.specs.auction_rules.specs.declared.Reply.{Reply}
-use Rattle.relative_cap.specs.auction_rules.specs.declared.Reply.TheVariants as reply
-use Rattle.relative_cap.specs.auction_rules.specs.declared.Stage.TheVariants as stage
-use Rattle.relative_cap.specs.auction_rules.specs.Replies.{first_reply, is_of, reply_to, when, supply_reply, spectrum_reply}
-use Rattle.relative_cap.specs.auction_rules.specs.State.{DeskState, reply_in, state_of, state_with, taken}
-use Rattle.relative_cap.specs.auction_rules.specs.View.{view}
-use Rattle.relative_cap.specs.auction_rules.proofs.Stands.{reply_in-state_of, state_with-state_of}
-use Rattle.relative_cap.specs.auction_rules.proofs.Views.{reply_to-same_view}
+use Rattle.auction_rules.specs.declared.Event.{Event}
+use Rattle.auction_rules.specs.declared.Reply.{Reply}
+use Rattle.auction_rules.specs.declared.Reply.TheVariants as reply
+use Rattle.auction_rules.specs.declared.Stage.TheVariants as stage
+use Rattle.auction_rules.specs.Replies.{first_reply, is_of, reply_to, spectrum_reply, supply_reply, when}
+use Rattle.auction_rules.specs.State.{DeskState, reply_in, state_of, state_with, taken}
+use Rattle.auction_rules.specs.View.{view}
+use Rattle.auction_rules.proofs.Stands.{reply_in-state_of, state_with-state_of}
+use Rattle.auction_rules.proofs.Views.{reply_to-same_view}
 use Rattle.bid_desk.specs.Reached.{IsBidOrDrop, IsTakenOrMemory, StandsNext, Takes}
 
 -- a desk that stood for a log stands for the log with the line

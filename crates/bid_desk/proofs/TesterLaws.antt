@@ -1,13 +1,13 @@
 -- The testers that a desk keeps.
-use Rattle.std.proofs.Common.{◌≡◌, ℕ, ◌+◌, ◌-◌, ◌<◌, ◌≤◌, Bool, true, false, List, Option, Some, None, length, get_or, set, refl, sym, subst, ap, ◌∙◌, inl}
-use Rattle.std.proofs.Common.{inr, arith}
+use Rattle.std.proofs.Common.{Bool, List, None, Option, Some, ap, arith, false, get_or, inl, inr, length, refl, set, subst, sym, true, ℕ, ◌+◌, ◌-◌}
+use Rattle.std.proofs.Common.{◌<◌, ◌∙◌, ◌≡◌, ◌≤◌}
 use Rattle.std.specs.Prelude.{replicate}
 use Rattle.std.proofs.lemmas.Bool.{cases_order}
 use Rattle.std.proofs.lemmas.List.{length-set, length-replicate, get_or-set_same, get_or-set_other, get_or-replicate, get_or_default}
-use Rattle.relative_cap.specs.auction_rules.specs.State.{DeskState, Round, drafts_of}
-use Rattle.relative_cap.specs.auction_rules.specs.Terms.{Terms}
-use Rattle.relative_cap.specs.auction_model.specs.Book.{BookBid}
-use Rattle.relative_cap.specs.clock_stage.specs.ClockState.{ClockState}
+use Rattle.auction_rules.specs.State.{DeskState, Round, drafts_of}
+use Rattle.auction_rules.specs.Terms.{Terms}
+use Rattle.auction_model.specs.Book.{BookBid}
+use Rattle.clock_stage.specs.ClockState.{ClockState}
 use Rattle.relative_cap.specs.Tested.{Tester, IsTester}
 use Rattle.bid_desk.specs.DeskValue.{desk_value}
 use Rattle.bid_desk.specs.Lists.{Lists}

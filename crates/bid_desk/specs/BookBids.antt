@@ -1,14 +1,14 @@
 -- The bids of a bidder in the book, one bid after the other, and what the book is made of.
 use Rattle.std.specs.Prelude.{◌≡◌, ℕ, ◌-◌, ◌≤◌, max, false, List, [], ◌++◌, length, map, slice_index_or, if◌then◌else◌}
 use Rattle.std.specs.List.{All, AllByRecursion}
-use Rattle.relative_cap.specs.auction_model.specs.Book.{BookBid}
-use Rattle.relative_cap.specs.auction_rules.specs.BookOfLog.{best_bids}
-use Rattle.relative_cap.specs.auction_rules.specs.Caps.{clock_bid, greatest}
-use Rattle.relative_cap.specs.auction_model.specs.Entries.{with_entry}
-use Rattle.relative_cap.specs.auction_model.specs.PackageTests.{is_empty}
-use Rattle.relative_cap.specs.auction_rules.specs.State.{Round}
-use Rattle.relative_cap.specs.auction_rules.specs.Terms.{Terms}
-use Rattle.relative_cap.specs.clock_stage.specs.Kept.{bidders_in, categories_in}
+use Rattle.auction_model.specs.Book.{BookBid}
+use Rattle.auction_rules.specs.BookOfLog.{best_bids}
+use Rattle.auction_rules.specs.Caps.{clock_bid, greatest}
+use Rattle.auction_model.specs.Entries.{with_entry}
+use Rattle.auction_model.specs.PackageTests.{is_empty}
+use Rattle.auction_rules.specs.State.{Round}
+use Rattle.auction_rules.specs.Terms.{Terms}
+use Rattle.clock_stage.specs.Kept.{bidders_in, categories_in}
 use Rattle.relative_cap.specs.OwnRounds.{rounds_of}
 use Rattle.bid_desk.specs.Lists.{IsKept, Lists}
 
@@ -20,7 +20,7 @@ with_greater lots amount list = with_entry lots (max amount (greatest lots list)
 abbrev pub with_most : BookBid → List BookBid → List BookBid
 with_most b list = if is_empty b.lots then list else with_greater b.lots b.amount list
 
--- a list of so many categories that may stand in a book: no entry is for the empty package
+-- a list of that many categories that may be in a book: no entry is for the empty package
 pub record IsBooked (categories : ℕ) (list : List BookBid) : Type 0 where
   pub kept : IsKept categories list
   pub some : AllByRecursion (λ b. is_empty b.lots ≡ false) list

@@ -1,13 +1,13 @@
 -- What holds of the book that a desk makes, whichever log led to the desk's state. A list of lines has its newest line first.
 use Rattle.std.specs.Prelude.{◌≡◌, ℕ, ◌≤◌, List, None, length}
-use Rattle.relative_cap.specs.auction_model.specs.Book.{Book, bids_of}
-use Rattle.relative_cap.specs.auction_rules.specs.declared.Event.{Event}
-use Rattle.relative_cap.specs.auction_rules.specs.BookOfLog.{bids_in_book}
-use Rattle.relative_cap.specs.auction_rules.specs.Caps.{list_fault}
-use Rattle.relative_cap.specs.auction_rules.specs.Replies.{admitted, standing}
-use Rattle.relative_cap.specs.auction_rules.specs.State.{DeskState, state_of}
-use Rattle.relative_cap.specs.auction_rules.specs.Terms.{final_cap}
-use Rattle.relative_cap.specs.auction_rules.specs.View.{view}
+use Rattle.auction_model.specs.Book.{Book, bids_of}
+use Rattle.auction_rules.specs.declared.Event.{Event}
+use Rattle.auction_rules.specs.BookOfLog.{bids_in_book}
+use Rattle.auction_rules.specs.Caps.{list_fault}
+use Rattle.auction_rules.specs.Replies.{admitted, standing}
+use Rattle.auction_rules.specs.State.{DeskState, state_of}
+use Rattle.auction_rules.specs.Terms.{final_cap}
+use Rattle.auction_rules.specs.View.{view}
 
 -- each bid of the book, but one for the bidder's package of the final round, is at most its cap over the book's own bids
 abbrev pub AreCapped : DeskState → Book → Type 0

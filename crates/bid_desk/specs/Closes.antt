@@ -1,8 +1,8 @@
 -- What the answer of a clock to a close says as a reply.
-use Rattle.relative_cap.specs.auction_rules.specs.declared.Reply.{Reply}
-use Rattle.relative_cap.specs.auction_rules.specs.declared.Reply.TheVariants as reply
-use Rattle.relative_cap.specs.clock_stage.specs.declared.closes.Closed.{Closed}
-use Rattle.relative_cap.specs.clock_stage.specs.declared.closes.Closed.TheVariants.{NextRound, StageEnds, Full, PriceTop, Memory}
+use Rattle.auction_rules.specs.declared.Reply.{Reply}
+use Rattle.auction_rules.specs.declared.Reply.TheVariants as reply
+use Rattle.clock_stage.specs.declared.closes.Closed.{Closed}
+use Rattle.clock_stage.specs.declared.closes.Closed.TheVariants.{Full, Memory, NextRound, PriceTop, StageEnds}
 
 abbrev pub reply_value : Closed → Reply
 reply_value (NextRound r) = reply.Ok

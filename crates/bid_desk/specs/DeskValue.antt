@@ -1,15 +1,16 @@
 -- The state that the fields of a desk hold.
 use Rattle.std.specs.Prelude.{Bool, List, map, if◌then◌else◌}
-use Rattle.relative_cap.specs.auction_rules.specs.declared.Stage.{Stage}
-use Rattle.relative_cap.specs.auction_rules.specs.declared.Stage.TheVariants.{Clock, Sealed, Closed}
-use Rattle.relative_cap.specs.auction_rules.specs.Terms.{Terms}
-use Rattle.relative_cap.specs.auction_rules.specs.State.{DeskState}
-use Rattle.relative_cap.specs.clock_stage.specs.ClockState.{ClockState}
+use Rattle.auction_rules.specs.declared.Stage.{Stage}
+use Rattle.auction_rules.specs.declared.Stage.TheVariants.{Clock, Sealed}
+use Rattle.auction_rules.specs.declared.Stage.TheVariants as stage
+use Rattle.auction_rules.specs.Terms.{Terms}
+use Rattle.auction_rules.specs.State.{DeskState}
+use Rattle.clock_stage.specs.ClockState.{ClockState}
 use Rattle.bid_desk.specs.Lists.{Lists}
 
 -- rounds are posted while the clock runs, and then lists are drafted until the sealed round is closed
 abbrev pub stage_value : Bool → Bool → Stage
-stage_value running closed = if closed then Closed else if running then Clock else Sealed
+stage_value running closed = if closed then stage.Closed else if running then Clock else Sealed
 
 abbrev pub desk_value : Terms → ClockState → Bool → List Lists → DeskState
 desk_value terms clock closed bidders = record {

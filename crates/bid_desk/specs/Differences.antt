@@ -1,11 +1,11 @@
 -- How the draft list of a bidder differs from its submitted list.
 use Rattle.std.specs.Prelude.{◌≡◌, ℕ, zero, suc, ◌<◌, List, [], ◌∷◌, length, slice_index_or, slice_set}
-use Rattle.relative_cap.specs.auction_model.specs.Book.{BookBid}
+use Rattle.auction_model.specs.Book.{BookBid}
 use Rattle.bid_desk.specs.Slots.{entry_of}
 use Rattle.bid_desk.specs.declared.difference.Difference.{Difference}
 use Rattle.bid_desk.specs.declared.difference.Difference.TheVariants.{Nothing, AmountAt, Anything}
 
--- two lists are the same but for the amount of the entry at this place
+-- two lists are the same except for the amount of the entry at this place
 abbrev pub IsSameButAt : ℕ → List BookBid → List BookBid → Type 0
 IsSameButAt place [] others = ⊥
 IsSameButAt place (b ∷ list) [] = ⊥

@@ -1,18 +1,18 @@
 -- What a desk has for each bidder of the award.
 use Rattle.std.specs.Prelude.{◌≡◌, ℕ, ◌-◌, ◌≤◌, ◌<◌, false, List, [], ◌∷◌, Option, None, length, nat_lt, slice_index_or}
 use Rattle.std.specs.List.{AllByRecursion}
-use Rattle.relative_cap.specs.limits.specs.declared.TheConstants.{MOST_AMOUNT}
-use Rattle.relative_cap.specs.auction_model.specs.Book.{BookBid}
-use Rattle.relative_cap.specs.auction_model.specs.Package.{cost_of}
-use Rattle.relative_cap.specs.auction_rules.specs.Caps.{list_fault}
-use Rattle.relative_cap.specs.auction_rules.specs.Lawful.{AreDrafts}
-use Rattle.relative_cap.specs.auction_rules.specs.Replies.{below_clock, below_reserve, drafts_full, first_reply, is_clock, when}
-use Rattle.relative_cap.specs.auction_rules.specs.Rounds.{OwnRound}
-use Rattle.relative_cap.specs.auction_model.specs.PackageTests.{is_empty}
-use Rattle.relative_cap.specs.auction_rules.specs.declared.Reply.{Reply}
-use Rattle.relative_cap.specs.auction_rules.specs.declared.Reply.TheVariants as reply
-use Rattle.relative_cap.specs.auction_rules.specs.State.{DeskState, drafts_of}
-use Rattle.relative_cap.specs.auction_rules.specs.Terms.{Terms, entrant, final_cap}
+use Rattle.limits.specs.declared.TheConstants.{MOST_AMOUNT}
+use Rattle.auction_model.specs.Book.{BookBid}
+use Rattle.auction_model.specs.Package.{cost_of}
+use Rattle.auction_rules.specs.Caps.{list_fault}
+use Rattle.auction_rules.specs.Lawful.{AreDrafts}
+use Rattle.auction_rules.specs.Replies.{below_clock, below_reserve, drafts_full, first_reply, is_clock, when}
+use Rattle.auction_rules.specs.Rounds.{OwnRound}
+use Rattle.auction_model.specs.PackageTests.{is_empty}
+use Rattle.auction_rules.specs.declared.Reply.{Reply}
+use Rattle.auction_rules.specs.declared.Reply.TheVariants as reply
+use Rattle.auction_rules.specs.State.{DeskState, drafts_of}
+use Rattle.auction_rules.specs.Terms.{Terms, entrant, final_cap}
 use Rattle.relative_cap.specs.OwnRounds.{eligibility_in, rounds_of}
 use Rattle.bid_desk.specs.Lists.{IsKept}
 

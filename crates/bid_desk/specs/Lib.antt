@@ -8,4 +8,3 @@ pub mod BookBids
 pub mod BookClaims
 pub mod Known
 pub mod Testers
-pub use Rattle.relative_cap.specs.clock_stage

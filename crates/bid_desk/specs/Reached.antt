@@ -1,13 +1,14 @@
 -- What each desk keeps, and what a line makes of it.
 use Rattle.std.specs.Prelude.{◌≡◌, ◌≢◌, ◌⊎◌, ◌∷◌, List}
 use Rattle.std.specs.List.{AllByRecursion}
-use Rattle.relative_cap.specs.auction_rules.specs.declared.Event.{Event}
-use Rattle.relative_cap.specs.auction_rules.specs.declared.Event.TheVariants.{Bid, Draft, Drop, Submit, Close}
-use Rattle.relative_cap.specs.auction_rules.specs.declared.Reply.{Reply}
-use Rattle.relative_cap.specs.auction_rules.specs.declared.Reply.TheVariants as reply
-use Rattle.relative_cap.specs.auction_rules.specs.Lawful.{HasCategories}
-use Rattle.relative_cap.specs.auction_rules.specs.Replies.{reply_to}
-use Rattle.relative_cap.specs.auction_rules.specs.State.{DeskState, state_of, reply_in, state_with}
+use Rattle.auction_rules.specs.declared.Event.{Event}
+use Rattle.auction_rules.specs.declared.Event.TheVariants.{Close, Draft, Drop, Submit}
+use Rattle.auction_rules.specs.declared.Event.TheVariants as event_kind
+use Rattle.auction_rules.specs.declared.Reply.{Reply}
+use Rattle.auction_rules.specs.declared.Reply.TheVariants as reply
+use Rattle.auction_rules.specs.Lawful.{HasCategories}
+use Rattle.auction_rules.specs.Replies.{reply_to}
+use Rattle.auction_rules.specs.State.{DeskState, reply_in, state_of, state_with}
 
 -- the desk stands for a log whose packages have the award's number of categories
 pub record IsReached (desk : DeskState) : Type 0 where
@@ -27,7 +28,7 @@ pub record IsRefusedMemory (old : DeskState) (answer : Reply) (new : DeskState) 
 
 -- the line is a clock bid or a drop
 abbrev pub IsBidOrDrop : Event → Type 0
-IsBidOrDrop (Bid k lots) = Unit {0}
+IsBidOrDrop (event_kind.Bid k lots) = Unit {0}
 IsBidOrDrop (Drop k lots) = Unit {0}
 IsBidOrDrop (Draft k lots amount) = ⊥
 IsBidOrDrop (Submit k) = ⊥

@@ -1,8 +1,8 @@
 -- The testers of the bidders' lists: of each bidder the one that is kept for it, if there is one.
 use Rattle.std.specs.Prelude.{◌≡◌, ℕ, ◌+◌, ◌<◌, false, List, Option, Some, None, length, slice_index_or}
-use Rattle.relative_cap.specs.auction_rules.specs.State.{Round}
-use Rattle.relative_cap.specs.auction_rules.specs.Terms.{Terms}
-use Rattle.relative_cap.specs.clock_stage.specs.ClockState.{ClockState}
+use Rattle.auction_rules.specs.State.{Round}
+use Rattle.auction_rules.specs.Terms.{Terms}
+use Rattle.clock_stage.specs.ClockState.{ClockState}
 use Rattle.relative_cap.specs.Tested.{Tester, IsTester}
 
 -- what is kept of bidder j is a tester of its lists over these rounds

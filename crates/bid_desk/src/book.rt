@@ -1,11 +1,11 @@
 // The book.
 ghost use Rattle.std.specs.Prelude.{◌≡◌, ◌≤◌, ◌++◌, IfOk, OnOk, length, map};
-ghost use Rattle.relative_cap.specs.book_form.specs.BookLines.{IsBookWithinLimits};
-ghost use Rattle.relative_cap.specs.auction_rules.specs.BookOfLog.{best_bids, book_bidder, book_by};
-ghost use Rattle.relative_cap.specs.auction_rules.specs.Caps.{clock_bid};
-ghost use Rattle.relative_cap.specs.auction_rules.specs.Rounds.{listing};
-ghost use Rattle.relative_cap.specs.auction_rules.specs.Terms.{entrant};
-ghost use Rattle.relative_cap.specs.clock_stage.specs.Kept.{categories_in};
+ghost use Rattle.book_grammar.specs.BookLines.{IsBookWithinLimits};
+ghost use Rattle.auction_rules.specs.BookOfLog.{best_bids, book_bidder, book_by};
+ghost use Rattle.auction_rules.specs.Caps.{clock_bid};
+ghost use Rattle.auction_rules.specs.Rounds.{listing};
+ghost use Rattle.auction_rules.specs.Terms.{entrant};
+ghost use Rattle.clock_stage.specs.Kept.{categories_in};
 ghost use Rattle.relative_cap.specs.Asked.{IsBidderOf};
 ghost use Rattle.relative_cap.specs.OwnRounds.{bid_value, own_in, rounds_of};
 ghost use Rattle.bid_desk.specs.BookBids.{AreBooked, IsBooked, bids_by, submitted_in, with_greater, with_most};
@@ -14,14 +14,14 @@ ghost use Rattle.bid_desk.specs.Lists.{IsKept};
 use crate::lists::BidderLists;
 use crate::slots::{copied_entries, put_entry};
 use award_file::Award;
-use award_file::bid_book::lots::{Bid, Package, Supply};
-use award_file::bid_book::{BidBook, BidList, BidderBids, Bidders, Name, Reserves};
+use bid_book::{BidBook, BidList, BidderBids, Bidders, Name, Reserves};
+use clock_stage::History;
+use lots::{Bid, Package, Supply};
 use relative_cap::amount_listed;
-use relative_cap::clock_stage::History;
 use std::alloc::{AllocError, Global};
 
 /// Sets the amount for the package in a list, or leaves the list's own where that is greater.
-fn put_most(
+fn raise_to(
     alloc: Global,
     list: &mut Vec<Bid>,
     package: &Package,
@@ -57,7 +57,7 @@ fn put_clock_bid(
     if held.is_empty() {
         return Ok(());
     }
-    put_most(alloc, list, held, held.cost(history.prices(r)))?;
+    raise_to(alloc, list, held, held.cost(history.prices(r)))?;
     Ok(())
 }
 
@@ -72,7 +72,7 @@ fn listed(alloc: Global, bids: Vec<Bid>) -> Result<BidList, AllocError>
     Ok(list)
 }
 
-/// The bids of bidder `j` in the book: for each package that isn't empty and stands among its clock bids or in its submitted list
+/// The bids of bidder `j` in the book: for each package that isn't empty and is among its clock bids or in its submitted list
 /// the greatest amount there, in the order of packages.
 fn bids_of(
     alloc: Global,
@@ -134,7 +134,7 @@ fn bidders_of(
     Ok(bidders)
 }
 
-/// The same supply once more. Its counts keep all rules of a supply, so only memory can be wanting.
+/// A copy of the supply. Its counts obey all rules of a supply, so the only error is out of memory.
 fn supply_copied(alloc: Global, supply: &Supply) -> Result<Supply, AllocError>
     ensures { IfOk result (λ s. s ≡ supply.now) }
 {
@@ -144,7 +144,7 @@ fn supply_copied(alloc: Global, supply: &Supply) -> Result<Supply, AllocError>
     }
 }
 
-/// The same reserves once more.
+/// A copy of the reserves.
 fn reserves_copied(alloc: Global, reserves: &[u64]) -> Result<Reserves, AllocError>
     ensures { IfOk result (λ r. r ≡ reserves.now) }
 {
@@ -155,7 +155,7 @@ fn reserves_copied(alloc: Global, reserves: &[u64]) -> Result<Reserves, AllocErr
     Ok(copies)
 }
 
-/// The book of the award with the clock bids of the closed rounds and with the submitted lists. The only error is want of memory.
+/// The book of the award with the clock bids of the closed rounds and with the submitted lists. The only error is out of memory.
 pub fn book_of(
     alloc: Global,
     award: &Award,

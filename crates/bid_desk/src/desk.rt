@@ -1,20 +1,20 @@
 // The desk.
 ghost use Rattle.std.specs.Prelude.{◌≡◌, ◌≢◌, ◌⊎◌, ◌∷◌, ◌&&◌, [], Err, IfOk, IsTrue, List, None, ℕ, length, map, nat_le, nat_lt, not, option_map, replicate, true, false};
-ghost use Rattle.relative_cap.specs.limits.specs.declared.TheConstants.{MOST_DRAFTS};
-ghost use Rattle.relative_cap.specs.auction_model.specs.Package.{cost_of};
-ghost use Rattle.relative_cap.specs.auction_rules.specs.declared.Event.{Event};
-ghost use Rattle.relative_cap.specs.auction_rules.specs.declared.Reply.{Reply};
-ghost use Rattle.relative_cap.specs.auction_rules.specs.declared.Stage.{Stage};
-ghost use Rattle.relative_cap.specs.auction_rules.specs.BookOfLog.{book_of_log};
-ghost use Rattle.relative_cap.specs.auction_rules.specs.Caps.{clock_bid, greatest};
-ghost use Rattle.relative_cap.specs.auction_rules.specs.Lawful.{HasCategories};
-ghost use Rattle.relative_cap.specs.auction_model.specs.PackageTests.{is_empty};
-ghost use Rattle.relative_cap.specs.auction_rules.specs.Replies.{has_entry, is_of, is_sealed, reply_to};
-ghost use Rattle.relative_cap.specs.auction_rules.specs.State.{book_in, drafts_of, reply_in, round_in, state_of, state_with};
-ghost use Rattle.relative_cap.specs.auction_rules.specs.View.{view};
-ghost use Rattle.relative_cap.specs.clock_stage.specs.award_file.specs.Award.{IsAward};
-ghost use Rattle.relative_cap.specs.clock_stage.specs.ClockState.{clock_of};
-ghost use Rattle.relative_cap.specs.clock_stage.specs.Kept.{IsFor, IsHeld};
+ghost use Rattle.limits.specs.declared.TheConstants.{MOST_DRAFTS};
+ghost use Rattle.auction_model.specs.Package.{cost_of};
+ghost use Rattle.auction_rules.specs.declared.Event.{Event};
+ghost use Rattle.auction_rules.specs.declared.Reply.{Reply};
+ghost use Rattle.auction_rules.specs.declared.Stage.{Stage};
+ghost use Rattle.auction_rules.specs.BookOfLog.{book_of_log};
+ghost use Rattle.auction_rules.specs.Caps.{clock_bid, greatest};
+ghost use Rattle.auction_rules.specs.Lawful.{HasCategories};
+ghost use Rattle.auction_model.specs.PackageTests.{is_empty};
+ghost use Rattle.auction_rules.specs.Replies.{has_entry, is_of, is_sealed, reply_to};
+ghost use Rattle.auction_rules.specs.State.{book_in, drafts_of, reply_in, round_in, state_of, state_with};
+ghost use Rattle.auction_rules.specs.View.{view};
+ghost use Rattle.award_file.specs.Award.{IsAward};
+ghost use Rattle.clock_stage.specs.ClockState.{clock_of};
+ghost use Rattle.clock_stage.specs.Kept.{IsFor, IsHeld};
 ghost use Rattle.relative_cap.specs.Answer.{excess_value};
 ghost use Rattle.relative_cap.specs.OwnRounds.{bid_value, rounds_of};
 ghost use Rattle.bid_desk.specs.BookClaims.{AreCapped, AreOwn};
@@ -26,14 +26,14 @@ ghost use Rattle.bid_desk.specs.Reached.{IsBidOrDrop, IsTaken, IsTakenOrMemory, 
 use crate::book::book_of;
 use crate::lists::{BidderLists, empty_lists};
 use crate::testers::{no_testers, test_list};
-use award_file::auction_rules::{
+use auction_rules::{
     Event, Reply, Stage, bidders_of_book, book_within_caps, desk_book, interleaving,
 };
-use award_file::bid_book::BidBook;
-use award_file::bid_book::lots::Package;
-use award_file::bid_book::lots::limits::{MOST_AMOUNT, MOST_DRAFTS};
 use award_file::{Award, book_of_award};
-use relative_cap::clock_stage::{Clock, Closed, reply_to_package};
+use bid_book::BidBook;
+use clock_stage::{Clock, Closed, reply_to_package};
+use limits::{MOST_AMOUNT, MOST_DRAFTS};
+use lots::Package;
 use relative_cap::{ListTester, OverCap, highest};
 use std::alloc::{AllocError, Global};
 use std::marker::Model;
@@ -84,10 +84,11 @@ pub struct Desk {
 }
 
 impl Model for Desk {
-    ghost use Rattle.relative_cap.specs.auction_rules.specs.State.{DeskState};
-    ghost use Rattle.relative_cap.specs.clock_stage.specs.Kept.{IsFor};
+    ghost use Rattle.auction_rules.specs.State.{DeskState};
+    ghost use Rattle.clock_stage.specs.Kept.{IsFor};
+    ghost use Rattle.std.specs.Prelude.{◌≡◌, true, false};
     ghost use Rattle.bid_desk.specs.DeskValue.{desk_value};
-    ghost use Rattle.relative_cap.specs.auction_rules.specs.declared.Stage.{Stage};
+    ghost use Rattle.auction_rules.specs.declared.Stage.{Stage};
     ghost use Rattle.bid_desk.specs.BookClaims.{AreCapped, AreOwn};
     ghost use Rattle.bid_desk.specs.Closes.{reply_value};
     ghost use Rattle.bid_desk.specs.Reached.{IsReached};
@@ -98,7 +99,7 @@ impl Model for Desk {
     ghost view = { λ d. desk_value d.award d.clock d.closed d.bidders.items };
 
     ghost invariant = { λ d. IsFor d.award d.clock × IsReached (desk_value d.award d.clock d.closed d.bidders.items)
-        × AreTesters d.award d.clock d.testers.items };
+        × AreTesters d.award d.clock d.testers.items × (d.closed ≡ true → d.clock.running ≡ false) };
 }
 
 impl Desk {
@@ -147,17 +148,13 @@ impl Desk {
     pub fn round(&self) -> u32
         ensures { result ≡ round_in self.now }
     {
-        let closed = self.clock.history().rounds();
-        match self.stage() {
-            Stage::Clock => closed + 1,
-            Stage::Sealed | Stage::Closed => closed,
-        }
+        self.clock.round()
     }
 
     /// Takes a line of a log, whose package has the award's number of categories.
     ///
     /// The reply is that of the rules, and what the line changes is what the rules say; a desk that stands for a log then stands for
-    /// the log with this line. After every reply but Ok the desk is as it was. Memory comes in place of the reply of the rules, and
+    /// the log with this line. After every reply but Ok the desk is as it was. Memory comes instead of the reply of the rules, and
     /// never for a clock bid or a drop. Whatever other bidders do, the reply follows from the line and from what its bidder has seen.
     pub fn take(&mut self, alloc: Global, line: &Event) -> Reply
         requires { HasCategories self.old.terms line.now }
@@ -194,7 +191,7 @@ impl Desk {
     }
 
     /// The book of the log that the desk stands for: the award's supply, reserves and bidders, and for each package that isn't empty
-    /// and stands among a bidder's clock bids or in its submitted list the greatest amount there, reserve included. Each bid, but that for the
+    /// and is among a bidder's clock bids or in its submitted list the greatest amount there, reserve included. Each bid, but that for the
     /// package of the final round, is at most its relative cap over the book's own bids, and a bidder's bids depend on what it has seen alone.
     ///
     /// # Errors
@@ -223,7 +220,7 @@ impl Desk {
         }
     }
 
-    /// The book, once the sealed round is closed. The only error is want of memory.
+    /// The book, once the sealed round is closed. The only error is out of memory.
     fn closed_book(&self, alloc: Global) -> Result<BidBook, AllocError>
         requires { self.now.stage ≡ Stage.Closed }
         ensures { IfOk result (λ book. book ≡ book_in self.now) }
@@ -329,7 +326,7 @@ impl Desk {
         package.cost(self.award.reserves())
     }
 
-    /// The greatest clock bid of the bidder for a package that isn't empty, and 0 where there is none.
+    /// The greatest clock bid of the bidder for a package that isn't empty, and 0 if there is none.
     fn greatest_clock(&self, bidder: u16, package: &Package) -> u64
         requires sealed { is_sealed self.now.stage ≡ true }
         requires known { IsKnown self.now.terms self.now bidder }
@@ -431,7 +428,7 @@ impl Desk {
         reply
     }
 
-    /// Puts the draft list of a bidder, whose submission is admitted, in place of its submitted list.
+    /// Puts the draft list of a bidder, whose submission is admitted, instead of its submitted list.
     fn submit_list(&mut self, alloc: Global, bidder: u16) -> Reply
         requires admitted { reply_in self.old (Event.Submit bidder) ≡ Reply.Ok }
         requires known { IsKnown self.old.terms self.old bidder }
@@ -444,7 +441,7 @@ impl Desk {
         Reply::Ok
     }
 
-    /// The reply to a submission. What the desk stands for stays the same; the only error is want of memory.
+    /// The reply to a submission. What the desk stands for stays the same; the only error is out of memory.
     fn reply_to_submit(&mut self, alloc: Global, bidder: u16) -> Result<Reply, AllocError>
         ensures reply { IfOk result (λ reply. reply ≡ reply_in self.old (Event.Submit bidder)) }
         ensures known { IfOk result (λ reply. reply ≡ Reply.Ok → IsKnown self.old.terms self.old bidder) }
@@ -466,7 +463,7 @@ impl Desk {
     }
 
     /// The first entry of the bidder's draft list that is above its cap. A list that was submitted last has none. What the desk stands
-    /// for stays the same; the only error is want of memory.
+    /// for stays the same; the only error is out of memory.
     fn draft_fault(&mut self, alloc: Global, bidder: u16) -> Result<Option<OverCap>, AllocError>
         requires sealed { is_sealed self.old.stage ≡ true }
         requires known { IsKnown self.old.terms self.old bidder }
@@ -480,7 +477,7 @@ impl Desk {
         self.fault_of(alloc, bidder)
     }
 
-    /// The same by the bidder's tester.
+    /// The first entry of the bidder's draft list above its cap, by the bidder's tester.
     fn fault_of(&mut self, alloc: Global, bidder: u16) -> Result<Option<OverCap>, AllocError>
         requires sealed { is_sealed self.old.stage ≡ true }
         requires known { IsKnown self.old.terms self.old bidder }

@@ -5,7 +5,7 @@
 pub enum Difference {
     /// They are the same.
     Nothing,
-    /// They are the same but for the amount of the entry at this place, counted from 0.
+    /// They are the same except for the amount of the entry at this place, counted from 0.
     AmountAt(usize),
     /// They may differ in any way.
     Anything,

@@ -8,5 +8,5 @@ mod lists;
 mod slots;
 mod testers;
 
-pub use award_file::auction_rules::{Event, Reply, Stage};
+pub use auction_rules::{Event, Reply, Stage};
 pub use desk::{Desk, DeskStop};

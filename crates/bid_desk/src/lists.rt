@@ -1,15 +1,15 @@
 // The lists of one bidder.
 ghost use Rattle.std.specs.Prelude.{◌≡◌, [], ℕ, List, IfOk, Some, OnErr, OnOk, length, map, replicate, true};
-ghost use Rattle.relative_cap.specs.auction_model.specs.Entries.{with_entry, without_entry};
-ghost use Rattle.relative_cap.specs.auction_rules.specs.Replies.{has_entry};
+ghost use Rattle.auction_model.specs.Entries.{with_entry, without_entry};
+ghost use Rattle.auction_rules.specs.Replies.{has_entry};
 ghost use Rattle.relative_cap.specs.OwnRounds.{bid_value};
-ghost use Rattle.relative_cap.specs.auction_model.specs.Book.{BookBid};
+ghost use Rattle.auction_model.specs.Book.{BookBid};
 ghost use Rattle.bid_desk.specs.Differences.{Differs, IsSameButAt, SetsAmount};
 ghost use Rattle.bid_desk.specs.Lists.{IsKept, lists_with};
 
 use crate::difference::Difference;
-use crate::slots::{Slot, copy_entries, has_entry, put_entry, slot_of};
-use award_file::bid_book::lots::{Bid, Package};
+use crate::slots::{Position, copy_entries, has_entry, put_entry, slot_of};
+use lots::{Bid, Package};
 use std::alloc::{AllocError, Global};
 use std::marker::Model;
 use std::mem;
@@ -80,7 +80,7 @@ impl BidderLists {
         has_entry(&self.drafts, package)
     }
 
-    /// Sets the amount for the package in the draft list. For want of memory the lists stay as they are.
+    /// Sets the amount for the package in the draft list. If memory runs out, the lists stay as they are.
     pub fn put(&mut self, alloc: Global, package: &Package, amount: u64) -> Result<(), AllocError>
         requires { IsKept (length «package».now) self.old.drafts }
         ensures put { OnOk result
@@ -97,13 +97,13 @@ impl BidderLists {
         requires { IsKept (length «package».now) self.old.drafts }
         ensures { self.new ≡ lists_with (without_entry «package».now self.old.drafts) self.old.submitted }
     {
-        if let Slot::Taken(place) = slot_of(&self.drafts, package) {
+        if let Position::Taken(place) = slot_of(&self.drafts, package) {
             let _ = self.drafts.remove(place);
             self.difference = Difference::Anything;
         }
     }
 
-    /// The draft list becomes the submitted list. For want of memory the lists stay as they are, and lists that are known to be
+    /// The draft list becomes the submitted list. If memory runs out, the lists stay as they are, and lists that are known to be
     /// alike need none.
     pub fn submit(&mut self, alloc: Global) -> Result<(), AllocError>
         ensures submitted { OnOk result (self.new ≡ lists_with self.old.drafts self.old.drafts) }
@@ -150,7 +150,7 @@ fn with_amount(difference: Difference, place: Option<usize>) -> Difference
     }
 }
 
-/// The lists of so many bidders, all empty.
+/// The lists of that many bidders, all empty.
 pub fn empty_lists(alloc: Global, bidders: usize) -> Result<Vec<BidderLists>, AllocError>
     ensures { IfOk result (λ v. v.items ≡ replicate bidders (lists_with [] [])) }
 {

@@ -1,35 +1,35 @@
 // The places of entries in a list.
 ghost use Rattle.std.specs.Prelude.{◌≡◌, ◌+◌, ◌∷◌, ◌++◌, ◌≤◌, [], ℕ, IfOk, Some, OnErr, OnOk, length, map, take};
-ghost use Rattle.relative_cap.specs.auction_model.specs.Entries.{with_entry};
-ghost use Rattle.relative_cap.specs.auction_rules.specs.Replies.{has_entry};
+ghost use Rattle.auction_model.specs.Entries.{with_entry};
+ghost use Rattle.auction_rules.specs.Replies.{has_entry};
 ghost use Rattle.relative_cap.specs.OwnRounds.{bid_value};
 ghost use Rattle.bid_desk.specs.Lists.{IsKept};
 ghost use Rattle.bid_desk.specs.Differences.{SetsAmount};
 ghost use Rattle.bid_desk.specs.Slots.{IsSlot};
 
-use award_file::bid_book::lots::{Bid, Package};
+use lots::{Bid, Package};
 use relative_cap::{is_same, place_of};
 use std::alloc::{AllocError, Global};
 
-/// Where the entry for a package stands in a list in the order of packages, or would stand. Places are counted from 0.
+/// Where the entry for a package is in a list in the order of packages, or would be. Places are counted from 0.
 #[derive(Clone, Copy)]
-pub enum Slot {
-    /// The entry for the package stands here.
+pub enum Position {
+    /// The entry for the package is here.
     Taken(usize),
-    /// There is none; it would stand before the entry that is here.
+    /// There is none; it would come before the entry that is here.
     Free(usize),
 }
 
 /// The slot of a package in a list. It takes no memory.
-pub fn slot_of(list: &[Bid], package: &Package) -> Slot
+pub fn slot_of(list: &[Bid], package: &Package) -> Position
     requires { IsKept (length «package».now) (map bid_value list.now) }
     ensures { IsSlot (map bid_value list.now) «package».now result }
 {
     let place = place_of(list, package);
     if place < list.len() && is_same(&list[place].package, package) {
-        Slot::Taken(place)
+        Position::Taken(place)
     } else {
-        Slot::Free(place)
+        Position::Free(place)
     }
 }
 
@@ -39,12 +39,12 @@ pub fn has_entry(list: &[Bid], package: &Package) -> bool
     ensures { result ≡ has_entry «package».now (map bid_value list.now) }
 {
     match slot_of(list, package) {
-        Slot::Taken(_) => true,
-        Slot::Free(_) => false,
+        Position::Taken(_) => true,
+        Position::Free(_) => false,
     }
 }
 
-/// Sets the amount for the package in a list, and tells the place of its entry where one was there. For want of memory the list stays
+/// Sets the amount for the package in a list, and gives the place of its entry where one was there. If memory runs out, the list stays
 /// as it is.
 pub fn put_entry(
     alloc: Global,
@@ -60,11 +60,11 @@ pub fn put_entry(
     ensures unchanged { OnErr result (list.new.items ≡ list.old.items) }
 {
     match slot_of(list, package) {
-        Slot::Taken(place) => {
+        Position::Taken(place) => {
             list[place].amount = amount;
             Ok(Some(place))
         }
-        Slot::Free(place) => {
+        Position::Free(place) => {
             let package = package.copied(alloc)?;
             list.insert(place, Bid { package, amount })?;
             Ok(None)
@@ -72,7 +72,7 @@ pub fn put_entry(
     }
 }
 
-/// The same entries once more.
+/// A copy of the entries.
 pub fn copied_entries(alloc: Global, list: &[Bid]) -> Result<Vec<Bid>, AllocError>
     ensures { IfOk result (λ v. map bid_value v.items ≡ map bid_value list.now) }
 {

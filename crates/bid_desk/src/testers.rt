@@ -1,19 +1,19 @@
 // The testers of the bidders' lists.
 ghost use Rattle.std.specs.Prelude.{◌≡◌, ◌-◌, ◌<◌, ◌≤◌, ◌^◌, All, IfOk, None, Option, length, map, option_map, replicate};
-ghost use Rattle.relative_cap.specs.auction_rules.specs.Caps.{list_fault};
-ghost use Rattle.relative_cap.specs.auction_model.specs.PackageTests.{InOrder};
-ghost use Rattle.relative_cap.specs.clock_stage.specs.Kept.{categories_in};
+ghost use Rattle.auction_rules.specs.Caps.{list_fault};
+ghost use Rattle.auction_model.specs.PackageTests.{InOrder};
+ghost use Rattle.clock_stage.specs.Kept.{categories_in};
 ghost use Rattle.relative_cap.specs.Asked.{ArePoints, IsBidderOf, IsEligible, IsEntry};
 ghost use Rattle.relative_cap.specs.Answer.{excess_value};
 ghost use Rattle.relative_cap.specs.OwnRounds.{bid_value, entry_lots, rounds_of};
 ghost use Rattle.bid_desk.specs.Testers.{AreFor, IsTesterOrNew};
 
-use award_file::bid_book::lots::Bid;
-use relative_cap::clock_stage::History;
+use clock_stage::History;
+use lots::Bid;
 use relative_cap::{ListTester, OverCap};
 use std::alloc::{AllocError, Global};
 
-/// No tester yet for each of so many bidders.
+/// No tester yet for each of that many bidders.
 pub fn no_testers(alloc: Global, bidders: usize) -> Result<Vec<Option<ListTester>>, AllocError>
     ensures { IfOk result (λ v. v.items ≡ replicate bidders None) }
 {

@@ -3,10 +3,10 @@ use Rattle.std.proofs.Common.{◌≡◌, ℕ, suc, ◌+◌, ◌-◌, ◌*◌, �
 use Rattle.std.specs.Prelude.{slice_index_or}
 use Rattle.std.specs.List.{AllByRecursion}
 use Rattle.std.proofs.lemmas.List.{get_or-map, length-map}
-use Rattle.clock_stage.specs.award_file.specs.limits.specs.declared.TheConstants.{MOST_PRICE}
-use Rattle.clock_stage.specs.auction_rules.specs.Rounds.{sum_of, demand, prices_after, raised_prices}
-use Rattle.clock_stage.specs.auction_rules.specs.State.{asked}
-use Rattle.clock_stage.specs.auction_rules.proofs.LawfulBids.{each-weaker}
+use Rattle.limits.specs.declared.TheConstants.{MOST_PRICE}
+use Rattle.auction_rules.specs.Rounds.{demand, prices_after, raised_prices, sum_of}
+use Rattle.auction_rules.specs.State.{asked}
+use Rattle.auction_rules.proofs.LawfulBids.{each-weaker}
 use Rattle.big_auction.specs.declared.values.Lots.{Lots}
 use Rattle.big_auction.specs.declared.values.Figures.{Figures}
 use Rattle.big_auction.specs.MadeAward.{made_terms}

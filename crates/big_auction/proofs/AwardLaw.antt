@@ -6,13 +6,13 @@ use Rattle.std.specs.Str.{bytes_eq}
 use Rattle.std.proofs.lemmas.List.Elements.{All-from_recursion}
 use Rattle.std.proofs.lemmas.Bool.{cases_lt, and_parts, not-true}
 use Rattle.std.proofs.lemmas.Fmt.{decimal_digit, decimal_step}
-use Rattle.clock_stage.specs.book_form.specs.BookForm.{IsName}
-use Rattle.clock_stage.specs.award_file.specs.limits.specs.declared.TheConstants.{MOST_COUNT, MOST_POINTS, MOST_PRICE}
-use Rattle.clock_stage.specs.auction_rules.specs.Rounds.{listing}
-use Rattle.clock_stage.specs.award_file.specs.Award.{IsAward, IsEntrant, IsCap, names_of}
+use Rattle.book_grammar.specs.BookForm.{IsName}
+use Rattle.limits.specs.declared.TheConstants.{MOST_COUNT, MOST_POINTS, MOST_PRICE}
+use Rattle.auction_rules.specs.Rounds.{listing}
+use Rattle.award_file.specs.Award.{IsAward, IsCap, IsEntrant, names_of}
 use Rattle.big_auction.specs.MadeAward.{made_entrant, made_terms}
 
--- a number of two digits at most, behind a letter
+-- a number of two digits at most, after a letter
 IsName-digit : (n : ℕ) → n < 10 → IsName (98 ∷ decimal n)
 IsName-digit n few = rw (decimal_digit n few) ((omega arith, omega arith), (inr (inl (omega arith, omega arith)), tt), omega arith)
 

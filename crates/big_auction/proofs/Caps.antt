@@ -4,19 +4,19 @@ use Rattle.std.specs.Prelude.{nat_le}
 use Rattle.std.specs.List.{AllByRecursion}
 use Rattle.std.proofs.lemmas.Bool.{cases_Bool, le-leb}
 use Rattle.std.proofs.lemmas.List.{map-append}
-use Rattle.row_laws.specs.auction_model.specs.Book.{BookBid}
-use Rattle.row_laws.specs.auction_model.specs.Package.{cost_of}
-use Rattle.row_laws.specs.auction_model.specs.PackageTests.{is_empty, is_same, is_before}
-use Rattle.clock_stage.specs.auction_rules.specs.Step.{last_or}
-use Rattle.clock_stage.specs.auction_rules.specs.Rounds.{OwnRound}
-use Rattle.clock_stage.specs.auction_rules.specs.Caps.{no_round, last_round, enough, constraining, clock_bid, greatest, highest, cap_by, cap_of, excess_cap}
-use Rattle.clock_stage.specs.auction_rules.specs.Caps.{first_excess, list_fault}
-use Rattle.row_laws.specs.auction_model.specs.Entries.{with_entry}
-use Rattle.row_laws.specs.auction_model.proofs.PackageTestLaws.{is_same-refl}
-use Rattle.clock_stage.specs.auction_rules.proofs.BookCaps.{cost_of-empty}
+use Rattle.auction_model.specs.Book.{BookBid}
+use Rattle.auction_model.specs.Package.{cost_of}
+use Rattle.auction_model.specs.PackageTests.{is_before, is_empty, is_same}
+use Rattle.auction_rules.specs.Step.{last_or}
+use Rattle.auction_rules.specs.Rounds.{OwnRound}
+use Rattle.auction_rules.specs.Caps.{cap_by, cap_of, clock_bid, constraining, enough, excess_cap, first_excess, greatest, highest, last_round}
+use Rattle.auction_rules.specs.Caps.{list_fault, no_round}
+use Rattle.auction_model.specs.Entries.{with_entry}
+use Rattle.auction_model.proofs.PackageTestLaws.{is_same-refl}
+use Rattle.auction_rules.proofs.BookCaps.{cost_of-empty}
 use Rattle.big_auction.specs.MadeAward.{made_terms}
 
--- the last of a list with one more behind it is that one
+-- the last of a list with one more after it is that one
 pub last_or-append : {A : Type 0} (d : A) (xs : List A) (x : A) → last_or d (xs ++ x ∷ []) ≡ x
 last_or-append d [] x = refl
 last_or-append d (y ∷ xs) x = last_or-append y xs x

@@ -1,19 +1,19 @@
 -- The rounds of the clock in a made auction, over what each bidder holds.
-use Rattle.std.proofs.Common.{◌≡◌, ℕ, suc, ◌-◌, ◌<◌, ◌≤◌, Bool, true, false, not, ◌&&◌, List, [], ◌∷◌, ◌++◌, None, length, replicate, refl, sym, ◌∙◌, subst}
-use Rattle.std.proofs.Common.{arith}
+use Rattle.std.proofs.Common.{Bool, List, None, [], arith, false, length, not, refl, replicate, subst, suc, sym, true, ℕ, ◌&&◌, ◌++◌, ◌-◌, ◌<◌, ◌∙◌}
+use Rattle.std.proofs.Common.{◌∷◌, ◌≡◌, ◌≤◌}
 use Rattle.std.specs.Prelude.{nat_le, nat_lt}
 use Rattle.std.proofs.lemmas.Bool.{le-ltb, lt-leb, cond-true, cond-false}
-use Rattle.row_laws.specs.auction_model.specs.Book.{BookBid}
-use Rattle.row_laws.specs.auction_model.specs.Package.{is_within, cost_of}
-use Rattle.clock_stage.specs.auction_rules.specs.declared.Event.TheVariants.{Bid, Close}
-use Rattle.clock_stage.specs.auction_rules.specs.declared.Reply.TheVariants as reply
-use Rattle.clock_stage.specs.auction_rules.specs.declared.Stage.TheVariants.{Clock, Sealed}
-use Rattle.row_laws.specs.auction_model.specs.PackageTests.{first_over}
-use Rattle.clock_stage.specs.auction_rules.specs.Terms.{no_lots}
-use Rattle.clock_stage.specs.auction_rules.specs.Rounds.{listing, demand, prices_after, eligibility_after}
-use Rattle.clock_stage.specs.auction_rules.specs.Replies.{bid_reply, closing_reply, price_top}
-use Rattle.clock_stage.specs.auction_rules.specs.State.{Round, DeskState, round_of, asked, round_now, next_round, clock_stopped}
-use Rattle.clock_stage.specs.auction_rules.proofs.States.{length-listing}
+use Rattle.auction_model.specs.Book.{BookBid}
+use Rattle.auction_model.specs.Package.{cost_of, is_within}
+use Rattle.auction_rules.specs.declared.Event.TheVariants.{Bid, Close}
+use Rattle.auction_rules.specs.declared.Reply.TheVariants as reply
+use Rattle.auction_rules.specs.declared.Stage.TheVariants.{Clock, Sealed}
+use Rattle.auction_model.specs.PackageTests.{first_over}
+use Rattle.auction_rules.specs.Terms.{no_lots}
+use Rattle.auction_rules.specs.Rounds.{demand, eligibility_after, listing, prices_after}
+use Rattle.auction_rules.specs.Replies.{bid_reply, closing_reply, price_top}
+use Rattle.auction_rules.specs.State.{DeskState, Round, asked, clock_stopped, next_round, round_now, round_of}
+use Rattle.auction_rules.proofs.States.{length-listing}
 use Rattle.big_auction.specs.MadeAward.{made_terms}
 use Rattle.big_auction.proofs.Forward.{Goes, goes-on, goes-one}
 use Rattle.big_auction.proofs.PriceBounds.{prices-small, no_price_top}
@@ -127,7 +127,7 @@ excess-ok within rounds prices over few top = let low : nat_le 300 (suc rounds) 
 no_excess-ok : (within : Bool) (round : ℕ) (prices : List ℕ) → within ≡ true → closing_reply false (not within) round prices ≡ reply.Ok
 no_excess-ok within round prices is = rw is refl
 
--- the state in which the round behind n others is posted
+-- the state in which the round after n others is posted
 unfoldable pub posted : (ℕ → ℕ → List ℕ) → ℕ → DeskState
 posted held n = clock_state (listing (round_of made_terms held) n) (prices_after made_terms held n) (listing (λ j. eligibility_after made_terms held j n) 12)
     none_held

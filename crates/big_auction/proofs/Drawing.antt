@@ -9,7 +9,7 @@ pub drawn-below : (state n bound : ℕ) → 0 < bound → drawn state n bound < 
 unfolding drawn
 drawn-below state n bound some = mod_below (behind state n / 2 ^ 16) bound some
 
--- the state no draws behind one is that one
+-- the state no draws after one is that one
 pub behind-none : (state : ℕ) → behind state 0 ≡ state
 unfolding behind
 behind-none state = refl
@@ -19,13 +19,13 @@ pub behind-more : (state n : ℕ) → behind state (suc n) ≡ turned (behind st
 unfolding behind
 behind-more state n = refl
 
--- so many draws behind another state
+-- that many draws after another state
 pub behind-behind : (state m n : ℕ) → behind (behind state m) n ≡ behind state (m + n)
 unfolding behind
 behind-behind state m zero = let e : m ≡ m + 0 = omega arith in ap (behind state) e
 behind-behind state m (suc n) = let e : suc (m + n) ≡ m + suc n = omega arith in ap turned (behind-behind state m n) ∙ ap (behind state) e
 
--- the n-th draw from the state behind m draws on is the one of number m + n
+-- the n-th draw from the state after m draws on is the one of number m + n
 pub drawn-behind : (state m n bound : ℕ) → drawn (behind state m) n bound ≡ drawn state (m + n) bound
 unfolding drawn
 drawn-behind state m n bound = ap (λ (s : ℕ). s / 2 ^ 16 % bound) (behind-behind state m n)
@@ -63,20 +63,20 @@ pub IsOwn-package_of : (number k : ℕ) → IsOwn (package_of number k)
 unfolding package_of
 IsOwn-package_of number k = IsOwn-drawn _ 2 1 7 4 (omega arith) (omega arith) (omega arith) (omega arith) (omega arith)
 
--- ---- one draw behind the other
+-- ---- one draw after the other
 
 abbrev pub IsNext : ℕ → ℕ → Type 0
 IsNext state next = next ≡ behind state 1
 
--- the state next to the one behind n draws is the one behind n + 1
+-- the state next to the one after n draws is the one after n + 1
 pub next-next : (state first next n : ℕ) → first ≡ behind state n → IsNext first next → next ≡ behind state (n + 1)
 next-next state first next n is then = then ∙ ap (λ (s : ℕ). behind s 1) is ∙ behind-behind state n 1
 
--- the first draw from the state behind n draws on is the one of number n + 1
+-- the first draw from the state after n draws on is the one of number n + 1
 pub drawn-next : (state first n x bound : ℕ) → first ≡ behind state n → x ≡ drawn first 1 bound → x ≡ drawn state (n + 1) bound
 drawn-next state first n x bound is drew = drew ∙ ap (λ (s : ℕ). drawn s 1 bound) is ∙ drawn-behind state n 1 bound
 
--- four states on, each next to the one before, is the state behind four draws
+-- four states on, each next to the one before, is the state after four draws
 pub four-states : (s0 s1 s2 s3 s4 : ℕ) → IsNext s0 s1 → IsNext s1 s2 → IsNext s2 s3 → IsNext s3 s4 → s4 ≡ behind s0 4
 four-states s0 s1 s2 s3 s4 a b c d = next-next s0 s3 s4 3 (next-next s0 s2 s3 2 (next-next s0 s1 s2 1 a b) c) d
 

@@ -1,23 +1,23 @@
 -- At most four bidders win a made auction.
-use Rattle.std.proofs.Common.{◌≡◌, ℕ, zero, suc, ◌-◌, ◌<◌, ◌≤◌, true, false, not, List, [], ◌∷◌, ◌++◌, length, map, reverse, get_or, refl, sym, ◌∙◌, ap}
-use Rattle.std.proofs.Common.{subst, inl, inr, arith}
+use Rattle.std.proofs.Common.{List, [], ap, arith, false, get_or, inl, inr, length, map, not, refl, reverse, subst, suc, sym, true, zero, ℕ, ◌++◌}
+use Rattle.std.proofs.Common.{◌-◌, ◌<◌, ◌∙◌, ◌∷◌, ◌≡◌, ◌≤◌}
 use Rattle.std.specs.Prelude.{IsTrue, nat_le, slice_index, filter}
 use Rattle.std.specs.List.{AllByRecursion}
 use Rattle.std.proofs.lemmas.Bool.{cases_Bool, cases_lt, and_parts, leb-true, false≢true}
 use Rattle.std.proofs.lemmas.List.{get_or_past}
-use Rattle.row_laws.specs.auction_model.specs.Book.{BookBid, Bidder, Book, menu_of, market_of, no_bid, no_bidder}
-use Rattle.row_laws.specs.auction_model.specs.Menu.{Menu, is_known_after, packages_after}
-use Rattle.row_laws.specs.auction_model.specs.Package.{is_within}
-use Rattle.row_laws.specs.auction_model.specs.PackageTests.{is_empty}
-use Rattle.clock_stage.specs.auction_rules.specs.Rounds.{OwnRound, listing}
-use Rattle.clock_stage.specs.auction_rules.specs.Caps.{clock_bid, greatest}
-use Rattle.clock_stage.specs.auction_rules.specs.Lines.{in_order}
-use Rattle.clock_stage.specs.auction_rules.specs.BookOfLog.{bid_lots, best_bids, pairs_of, book_bids, book_bidder, book_of_log}
-use Rattle.clock_stage.specs.auction_rules.specs.State.{Round, DeskState, book_in, round_of, own_of, standing_in}
-use Rattle.clock_stage.specs.auction_rules.proofs.LawfulBids.{each-in_order, each-priced}
-use Rattle.clock_stage.specs.auction_rules.proofs.BookLaws.{book_in-state_of}
-use Rattle.clock_stage.specs.auction_rules.proofs.States.{get_or-listing, length-listing}
-use Rattle.row_laws.specs.Winners.{winners_in}
+use Rattle.auction_model.specs.Book.{Bidder, Book, BookBid, market_of, menu_of, no_bid, no_bidder}
+use Rattle.auction_model.specs.Menu.{Menu, is_known_after, packages_after}
+use Rattle.auction_model.specs.Package.{is_within}
+use Rattle.auction_model.specs.PackageTests.{is_empty}
+use Rattle.auction_rules.specs.Rounds.{OwnRound, listing}
+use Rattle.auction_rules.specs.Caps.{clock_bid, greatest}
+use Rattle.auction_rules.specs.Lines.{in_order}
+use Rattle.auction_rules.specs.BookOfLog.{best_bids, bid_lots, book_bidder, book_bids, book_of_log, pairs_of}
+use Rattle.auction_rules.specs.State.{DeskState, Round, book_in, own_of, round_of, standing_in}
+use Rattle.auction_rules.proofs.LawfulBids.{each-in_order, each-priced}
+use Rattle.auction_rules.proofs.BookLaws.{book_in-state_of}
+use Rattle.auction_rules.proofs.States.{get_or-listing, length-listing}
+use Rattle.core_laws.specs.Winners.{winners_in}
 use Rattle.big_auction.specs.MadeAward.{made_terms}
 use Rattle.big_auction.specs.MadeLog.{package_of, reduced, held_by, made_log}
 use Rattle.big_auction.proofs.ClockRounds.{rounds_to}

@@ -2,16 +2,16 @@
 use Rattle.std.proofs.Common.{◌≡◌, ℕ, zero, suc, ◌<◌, arith, List, [], ◌∷◌, ◌++◌, refl, sym, ◌∙◌, ap, subst, reverse}
 use Rattle.std.proofs.lemmas.Bool.{cond-true}
 use Rattle.std.proofs.lemmas.List.{append-nil, append_assoc, reverse-append}
-use Rattle.clock_stage.specs.auction_rules.specs.declared.Event.{Event}
-use Rattle.clock_stage.specs.auction_rules.specs.declared.Reply.TheVariants.{Ok}
-use Rattle.clock_stage.specs.auction_rules.specs.Terms.{Terms}
-use Rattle.clock_stage.specs.auction_rules.specs.Replies.{is_ok_reply, reply_to}
-use Rattle.clock_stage.specs.auction_rules.specs.Rounds.{listing}
-use Rattle.clock_stage.specs.auction_rules.specs.State.{DeskState, state_of, reply_in, taken, state_with}
-use Rattle.clock_stage.specs.auction_rules.proofs.Stands.{state_with-state_of, reply_in-state_of}
+use Rattle.auction_rules.specs.declared.Event.{Event}
+use Rattle.auction_rules.specs.declared.Reply.TheVariants.{Ok}
+use Rattle.auction_rules.specs.Terms.{Terms}
+use Rattle.auction_rules.specs.Replies.{is_ok_reply, reply_to}
+use Rattle.auction_rules.specs.Rounds.{listing}
+use Rattle.auction_rules.specs.State.{DeskState, reply_in, state_of, state_with, taken}
+use Rattle.auction_rules.proofs.Stands.{reply_in-state_of, state_with-state_of}
 use Rattle.big_auction.specs.Answered.{AreAnsweredOk}
 
--- the state behind the lines
+-- the state after the lines
 abbrev pub after : DeskState → List Event → DeskState
 after st [] = st
 after st (e ∷ es) = after (taken st e) es
@@ -21,22 +21,22 @@ abbrev pub AllPass : DeskState → List Event → Type 0
 AllPass st [] = Unit {0}
 AllPass st (e ∷ es) = (reply_in st e ≡ Ok) × AllPass (taken st e) es
 
--- the state behind lines and more lines is the one behind the latter from that behind the former
+-- the state after lines and more lines is the one after the latter from that after the former
 pub after-append : (st : DeskState) (xs ys : List Event) → after st (xs ++ ys) ≡ after (after st xs) ys
 after-append st [] ys = refl
 after-append st (e ∷ xs) ys = after-append (taken st e) xs ys
 
--- lines and more lines are answered Ok, where the latter are from the state behind the former
+-- lines and more lines are answered Ok, where the latter are from the state after the former
 pub AllPass-append : (st : DeskState) (xs ys : List Event) → AllPass st xs → AllPass (after st xs) ys → AllPass st (xs ++ ys)
 AllPass-append st [] ys pass more = more
 AllPass-append st (e ∷ xs) ys pass more = (pass.0, AllPass-append (taken st e) xs ys pass.1 more)
 
--- from a state the lines are answered Ok, and the state behind them is of this kind
+-- from a state the lines are answered Ok, and the state after them is of this kind
 pub record Goes (st : DeskState) (es : List Event) (To : DeskState → Type 0) : Type 0 where
   pub pass : AllPass st es
   pub to : To (after st es)
 
--- lines that lead to a kind of state, and lines that lead on from each such state, do so one behind the other
+-- lines that lead to a kind of state, and lines that lead on from each such state, do so one after another
 pub goes-on : (st : DeskState) (xs ys : List Event) (Via To : DeskState → Type 0) → Goes st xs Via → ((s : DeskState) → Via s → Goes s ys To)
     → Goes st (xs ++ ys) To
 goes-on st xs ys Via To first next =
@@ -47,7 +47,7 @@ goes-on st xs ys Via To first next =
 pub goes-one : (st : DeskState) (e : Event) (To : DeskState → Type 0) → reply_in st e ≡ Ok → To (taken st e) → Goes st (e ∷ []) To
 goes-one st e To ok to = record { pass = (ok, tt); to = to }
 
--- over a listing, with what holds behind each of its lines
+-- over a listing, with what holds after each of its lines
 pub goes-listing : (f : ℕ → Event) (n : ℕ) (st : DeskState) (At : ℕ → DeskState → Type 0) → At 0 st
     → ((i : ℕ) (s : DeskState) → i < n → At i s → Goes s (f (suc i) ∷ []) (At (suc i))) → Goes st (listing f n) (At n)
 goes-listing f zero st At start step = record { pass = tt; to = start }
@@ -55,7 +55,7 @@ goes-listing f (suc n) st At start step =
     goes-on st (listing f n) (f (suc n) ∷ []) (At n) (At (suc n)) (goes-listing f n st At start (λ i s low at. step i s (omega arith) at))
     (λ s at. step n s (omega arith) at)
 
--- the lines behind a log
+-- the lines after a log
 pub record Stands (terms : Terms) (log : List Event) (st : DeskState) : Type 0 where
   pub answered : AreAnsweredOk terms log
   pub state : state_of terms log ≡ st

@@ -1,9 +1,9 @@
--- Lines that are added to a text, one behind the other.
+-- Lines that are added to a text, one after another.
 use Rattle.std.proofs.Common.{◌≡◌, ℕ, suc, ◌+◌, ◌-◌, ◌*◌, ◌<◌, List, [], ◌∷◌, ◌++◌, length, map, get_or, refl, sym, ◌∙◌, ap, arith}
 use Rattle.std.proofs.lemmas.List.{append-nil, append_assoc}
 use Rattle.std.proofs.lemmas.List.Concat.{flat_map-append}
-use Rattle.clock_stage.specs.auction_rules.specs.declared.Event.{Event}
-use Rattle.clock_stage.specs.auction_rules.specs.declared.Event.TheVariants.{Bid, Draft}
+use Rattle.auction_rules.specs.declared.Event.{Event}
+use Rattle.auction_rules.specs.declared.Event.TheVariants.{Bid, Draft}
 use Rattle.big_auction.specs.declared.values.Lots.{Lots}
 use Rattle.big_auction.specs.Draws.{behind, drawn, drawn_package}
 use Rattle.big_auction.specs.LogText.{event_text, log_text}
@@ -63,7 +63,7 @@ pub no-drafts : (s k : ℕ) (prices own final : List ℕ) → drawn_drafts s pri
 unfolding drawn_drafts
 no-drafts s k prices own final = refl
 
--- one draft more is drawn from the state behind five draws for each before it
+-- one draft more is drawn from the state after five draws for each before it
 pub drafts-more : (s k i : ℕ) (prices own final : List ℕ) → drawn_drafts s prices k own final (i + 1) ≡ drawn_drafts s prices k own final i
     ++ drawn_draft (behind s (5 * i)) prices k own final ∷ []
 unfolding drawn_drafts
@@ -73,7 +73,7 @@ drafts-more s k i prices own final =
     ap (drawn_drafts s prices k own final) next ∙ ap (λ (j : ℕ). drawn_drafts s prices k own final i
     ++ drawn_draft (behind s (5 * j)) prices k own final ∷ []) e
 
--- so many drafts were added, and drawn
+-- that many drafts were added, and drawn
 pub record IsDrafted (s k : ℕ) (prices own final : List ℕ) (i state : ℕ) (old now : List ℕ) : Type 0 where
   pub text : now ≡ old ++ log_text (drawn_drafts s prices k own final i)
   pub drew : state ≡ behind s (5 * i)
@@ -97,7 +97,7 @@ drafted-more s k prices own final i state next old now new d is after =
       drew = after ∙ ap (λ (x : ℕ). behind x 5) d.drew ∙ behind-behind s (5 * i) 5 ∙ ap (behind s) e;
     }
 
--- so many draws behind a bidder's 100 drafts are 500 more from where they began
+-- that many draws after a bidder's 100 drafts are 500 more from where they began
 pub state-behind : (s k state next more : ℕ) (prices own final old now : List ℕ) → IsDrafted s k prices own final 100 state old now → next ≡ behind state more
     → next ≡ behind s (500 + more)
 state-behind s k state next more prices own final old now d after = after ∙ ap (λ (x : ℕ). behind x more) d.drew ∙ behind-behind s 500 more

@@ -1,19 +1,19 @@
 -- The clock of a made auction, and what it leaves to each bidder.
-use Rattle.std.proofs.Common.{◌≡◌, ℕ, zero, suc, ◌+◌, ◌-◌, ◌<◌, ◌≤◌, true, false, ◌&&◌, List, [], ◌∷◌, ◌++◌, map, get_or, refl, sym, ◌∙◌, ap, subst, inl, inr}
-use Rattle.std.proofs.Common.{arith}
+use Rattle.std.proofs.Common.{List, [], ap, arith, false, get_or, inl, inr, map, refl, subst, suc, sym, true, zero, ℕ, ◌&&◌, ◌++◌, ◌+◌, ◌-◌, ◌<◌, ◌∙◌}
+use Rattle.std.proofs.Common.{◌∷◌, ◌≡◌, ◌≤◌}
 use Rattle.std.specs.Prelude.{◌⊎◌, nat_le, slice_index, flat_map}
 use Rattle.std.specs.List.{AllByRecursion}
 use Rattle.std.proofs.lemmas.Bool.{cases_lt, leb-true, le-leb, lt-leb, lt-ltb, and_from, cond-true, cond-false}
 use Rattle.std.proofs.lemmas.List.{append-nil, map-append}
 use Rattle.std.proofs.lemmas.List.Concat.{flat_map-append}
-use Rattle.row_laws.specs.auction_model.specs.Package.{is_within, cost_of, together}
-use Rattle.clock_stage.specs.auction_rules.specs.declared.Event.{Event}
-use Rattle.clock_stage.specs.auction_rules.specs.declared.Event.TheVariants.{Close}
-use Rattle.clock_stage.specs.auction_rules.specs.Terms.{entrant, no_lots}
-use Rattle.clock_stage.specs.auction_rules.specs.Rounds.{OwnRound, listing, sum_of, demand, prices_after, eligibility_after}
-use Rattle.clock_stage.specs.auction_rules.specs.State.{DeskState, round_of, own_of, state_of}
-use Rattle.row_laws.specs.auction_model.proofs.PackageTestLaws.{within-first_over}
-use Rattle.clock_stage.specs.auction_rules.proofs.States.{get_or-listing}
+use Rattle.auction_model.specs.Package.{cost_of, is_within, together}
+use Rattle.auction_rules.specs.declared.Event.{Event}
+use Rattle.auction_rules.specs.declared.Event.TheVariants.{Close}
+use Rattle.auction_rules.specs.Terms.{entrant, no_lots}
+use Rattle.auction_rules.specs.Rounds.{OwnRound, demand, eligibility_after, listing, prices_after, sum_of}
+use Rattle.auction_rules.specs.State.{DeskState, own_of, round_of, state_of}
+use Rattle.auction_model.proofs.PackageTestLaws.{within-first_over}
+use Rattle.auction_rules.proofs.States.{get_or-listing}
 use Rattle.big_auction.specs.MadeAward.{made_entrant, made_terms}
 use Rattle.big_auction.specs.MadeLog.{package_of, reduced, final_package_of, held_by, final_prices, round_lines, bids_of, clock_lines}
 use Rattle.big_auction.proofs.ClockRounds.{MayBid, no_lists, posted, rounds_to, round-goes, last_round-goes, sealed_state}
@@ -23,7 +23,7 @@ use Rattle.big_auction.proofs.Offers.{IsClockRound, IsBidding, last_with, own-wi
 use Rattle.big_auction.proofs.PriceBounds.{cost-rises, prices-small}
 use Rattle.big_auction.proofs.SealedRound.{IsKnown}
 
--- what f gives at 1 to n, one behind the other
+-- what f gives at 1 to n, one after another
 pub goes-flat : (f : ℕ → List Event) (n : ℕ) (st : DeskState) (At : ℕ → DeskState → Type 0) → At 0 st
     → ((i : ℕ) (s : DeskState) → i < n → At i s → Goes s (f (suc i)) (At (suc i))) → Goes st (flat_map f (listing (λ k. k) n)) (At n)
 goes-flat f zero st At start step = record { pass = tt; to = start }
@@ -40,7 +40,7 @@ goes-flat f (suc n) st At start step =
 pub held-early : (number r k : ℕ) → r ≤ 9 → held_by number r k ≡ package_of number k
 held-early number r k few = cond-true (nat_le r 9) (package_of number k) (final_package_of number k) (le-leb r 9 few)
 
--- behind round 9 it holds its last one
+-- after round 9 it holds its last one
 pub held-last : (number r k : ℕ) → 9 < r → held_by number r k ≡ final_package_of number k
 held-last number r k more = cond-false (nat_le r 9) (package_of number k) (final_package_of number k) (lt-leb r 9 more)
 
@@ -189,7 +189,7 @@ pub own-rounds : (held : ℕ → ℕ → List ℕ) (k n : ℕ) → map (own_of k
 unfolding rounds_to
 own-rounds held k n = map-append (own_of k) (listing (round_of made_terms held) n) (round_of made_terms held (suc n) ∷ [])
 
--- what each of the rounds keeps, and one more, each keeps with it behind them
+-- what each of the rounds keeps, and one more, each keeps with it after them
 pub each-push : (P : OwnRound → Type 0) (xs : List OwnRound) (x : OwnRound) → AllByRecursion P xs → P x → AllByRecursion P (xs ++ x ∷ [])
 each-push P [] x each last = (last, tt)
 each-push P (y ∷ xs) x each last = (each.0, each-push P xs x each.1 last)
@@ -252,7 +252,7 @@ bidding-by number k n some few is =
       stays = λ stay. stays number k (leb-true k 4 stay);
     }
 
--- behind the ten rounds each bidder has what its lines of the sealed round need
+-- after the ten rounds each bidder has what its lines of the sealed round need
 pub bidding : (number k : ℕ) → 1 ≤ k → k ≤ 12 → IsBidding (map (own_of k) (rounds_to (held_by number) 10)) (final_prices number) (package_of number k)
     (final_package_of number k) k
 unfolding final_prices

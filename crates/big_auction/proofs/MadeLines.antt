@@ -1,23 +1,23 @@
 -- The lines that the program adds are those of the made log.
-use Rattle.std.proofs.Common.{◌≡◌, ℕ, zero, suc, ◌+◌, ◌-◌, ◌*◌, ◌<◌, ◌≤◌, min, List, [], ◌∷◌, ◌++◌, length, map, get_or, refl, sym, ◌∙◌, ap, subst, inl, inr}
-use Rattle.std.proofs.Common.{arith, length-append}
+use Rattle.std.proofs.Common.{List, [], ap, arith, get_or, inl, inr, length, length-append, map, min, refl, subst, suc, sym, zero, ℕ, ◌*◌, ◌++◌, ◌+◌}
+use Rattle.std.proofs.Common.{◌-◌, ◌<◌, ◌∙◌, ◌∷◌, ◌≡◌, ◌≤◌}
 use Rattle.std.specs.Prelude.{flat_map, nat_le, if◌then◌else◌, slice_index, slice_index_or}
 use Rattle.std.specs.List.{AllByRecursion}
 use Rattle.std.proofs.lemmas.Bool.{cases_Bool, cases_lt, le-leb, lt-leb}
 use Rattle.std.proofs.lemmas.List.{append-nil, map-append}
 use Rattle.std.proofs.lemmas.List.Concat.{flat_map-append}
-use Rattle.clock_stage.specs.auction_rules.specs.declared.Event.{Event}
-use Rattle.clock_stage.specs.auction_rules.specs.declared.Event.TheVariants.{Bid, Submit, Close}
-use Rattle.clock_stage.specs.auction_rules.specs.Rounds.{listing, demand, prices_after, raised_prices}
-use Rattle.clock_stage.specs.auction_rules.specs.Terms.{no_lots}
-use Rattle.clock_stage.specs.auction_rules.proofs.Closing.{sum_of-within}
-use Rattle.clock_stage.specs.auction_rules.proofs.States.{get_or-listing, length-listing}
+use Rattle.auction_rules.specs.declared.Event.{Event}
+use Rattle.auction_rules.specs.declared.Event.TheVariants.{Bid, Close, Submit}
+use Rattle.auction_rules.specs.Rounds.{demand, listing, prices_after, raised_prices}
+use Rattle.auction_rules.specs.Terms.{no_lots}
+use Rattle.auction_rules.proofs.Closing.{sum_of-within}
+use Rattle.auction_rules.proofs.States.{get_or-listing, length-listing}
 use Rattle.big_auction.specs.declared.values.Lots.{Lots}
 use Rattle.big_auction.specs.Draws.{behind, drawn_package, first_state}
 use Rattle.big_auction.specs.LogText.{event_text, log_text}
 use Rattle.big_auction.specs.MadeAward.{made_terms}
-use Rattle.big_auction.specs.MadeLog.{widest, package_of, last_of, held_by, final_prices, draws_before, drawn_draft, drawn_drafts, last_draft, lines_from}
-use Rattle.big_auction.specs.MadeLog.{lines_of, clock_lines, made_log}
+use Rattle.big_auction.specs.MadeLog.{clock_lines, drawn_draft, drawn_drafts, draws_before, final_prices, held_by, last_draft, last_of, lines_from}
+use Rattle.big_auction.specs.MadeLog.{lines_of, made_log, package_of, widest}
 use Rattle.big_auction.specs.Parts.{counts_of, held_from, bids_for, last_bids_for, full_round_for, full_rounds_for, lines_for, sealed_for, packages_from}
 use Rattle.big_auction.proofs.Asking.{package_at, package-is}
 use Rattle.big_auction.proofs.Drawing.{behind-none, behind-behind}
@@ -38,7 +38,7 @@ flat-added f i old now new was more =
 
 -- ---- packages
 
--- so many packages were drawn
+-- that many packages were drawn
 pub record ArePacked (s i state : ℕ) (items : List Lots) : Type 0 where
   pub are : map counts_of items ≡ packages_from s i
   pub some : AllByRecursion (λ p. 0 < p.a) items
@@ -123,7 +123,7 @@ prices-same number = prices-by number 9 (omega arith)
 
 -- ---- the sealed round
 
--- the lines of so many bidders were added
+-- the lines of that many bidders were added
 pub record IsSealed (s : ℕ) (prices : List ℕ) (packages : List (List ℕ)) (i state : ℕ) (old now : List ℕ) : Type 0 where
   pub text : now ≡ old ++ log_text (sealed_for s prices packages i)
   pub drew : state ≡ behind s (500 * i + min 4 i)

@@ -1,17 +1,17 @@
 -- The drafts of a made auction are answered Ok.
-use Rattle.std.proofs.Common.{◌≡◌, ℕ, suc, ◌+◌, ◌-◌, ◌*◌, ◌/◌, ◌<◌, ◌≤◌, min, true, false, ◌||◌, List, [], ◌∷◌, ◌++◌, map, refl, sym, ◌∙◌, subst, inl, inr}
-use Rattle.std.proofs.Common.{arith}
+use Rattle.std.proofs.Common.{List, [], arith, false, inl, inr, map, min, refl, subst, suc, sym, true, ℕ, ◌*◌, ◌++◌, ◌+◌, ◌-◌, ◌/◌, ◌<◌, ◌||◌, ◌∙◌}
+use Rattle.std.proofs.Common.{◌∷◌, ◌≡◌, ◌≤◌}
 use Rattle.std.specs.Prelude.{◌⊎◌, nat_le, slice_index, sum}
 use Rattle.std.specs.List.{AllByRecursion}
 use Rattle.std.proofs.lemmas.Bool.{cases_Bool, le-leb, ne_eqb, or_parts, false≢true}
 use Rattle.std.proofs.Math.Nat.{mul-le-mul_left}
-use Rattle.row_laws.specs.auction_model.specs.Package.{is_within, cost_of}
-use Rattle.clock_stage.specs.auction_rules.specs.declared.Event.TheVariants.{Draft, Submit}
-use Rattle.row_laws.specs.auction_model.specs.PackageTests.{is_empty, is_same}
-use Rattle.clock_stage.specs.auction_rules.specs.Rounds.{OwnRound}
-use Rattle.clock_stage.specs.auction_rules.specs.Caps.{clock_bid}
-use Rattle.clock_stage.specs.auction_rules.specs.State.{Round, DeskState, own_of}
-use Rattle.row_laws.specs.auction_model.proofs.PackageTestLaws.{within-first_over, is_same-true, is_same-refl}
+use Rattle.auction_model.specs.Package.{cost_of, is_within}
+use Rattle.auction_rules.specs.declared.Event.TheVariants.{Draft, Submit}
+use Rattle.auction_model.specs.PackageTests.{is_empty, is_same}
+use Rattle.auction_rules.specs.Rounds.{OwnRound}
+use Rattle.auction_rules.specs.Caps.{clock_bid}
+use Rattle.auction_rules.specs.State.{DeskState, Round, own_of}
+use Rattle.auction_model.proofs.PackageTestLaws.{is_same-refl, is_same-true, within-first_over}
 use Rattle.big_auction.specs.Draws.{behind, drawn, drawn_package}
 use Rattle.big_auction.specs.MadeAward.{made_terms}
 use Rattle.big_auction.specs.MadeLog.{reduced, staying, amount_of, drawn_draft, drawn_drafts, last_draft, lines_from}
@@ -147,7 +147,7 @@ clock-low prices own final lots amount (r ∷ rounds) are of_own of_final = (
 abbrev pub last_with : List ℕ → List ℕ → List ℕ → OwnRound
 last_with prices own final = record { prices = prices; eligibility = cost_of made_terms.points own; held = final }
 
--- what a bidder has behind the clock
+-- what a bidder has after the clock
 pub record IsBidding (rounds : List OwnRound) (prices own final : List ℕ) (k : ℕ) : Type 0 where
   pub kind : IsOwn own
   pub small : AllByRecursion (IsBetween 768000) prices
@@ -231,7 +231,7 @@ last-goes rounds prices eligibility held state q own final k n s few known biddi
       | inr go ↦ rw go (submit-goes rounds prices eligibility held (last_with q own final) k n s known bidding.last within)
     ]
 
--- all lines of a bidder in the sealed round are answered Ok, behind those of the bidder before it
+-- all lines of a bidder in the sealed round are answered Ok, after those of the bidder before it
 pub part-goes : (rounds : List Round) (prices eligibility : List ℕ) (held : List (List ℕ)) (state : ℕ) (q own final : List ℕ) (k : ℕ) (s : DeskState)
     → IsKnown k
     → IsBidding (map (own_of k) rounds) q own final k → Between rounds prices eligibility held (k - 1) s

@@ -1,14 +1,14 @@
--- Pieces of a text, one behind the other.
+-- Pieces of a text, one after another.
 use Rattle.std.proofs.Common.{◌≡◌, ℕ, suc, ◌+◌, List, [], ◌∷◌, ◌++◌, sym, ◌∙◌, ap, arith}
 use Rattle.std.specs.Prelude.{codes, flat_map}
 use Rattle.std.specs.Fmt.{decimal}
 use Rattle.std.proofs.lemmas.List.{append-nil, append_assoc}
 use Rattle.std.proofs.lemmas.List.Concat.{flat_map-append}
-use Rattle.clock_stage.specs.auction_rules.specs.Rounds.{listing}
+use Rattle.auction_rules.specs.Rounds.{listing}
 use Rattle.big_auction.specs.AwardText.{entrant_text, name_line, number_line, table_line}
 use Rattle.big_auction.specs.MadeAward.{made_entrant, made_name}
 
--- a text with one piece behind it, and then another, has both behind it
+-- a text with one piece after it, and then another, has both after it
 pub two : (t0 t1 t2 a b : List ℕ) → t1 ≡ t0 ++ a → t2 ≡ t1 ++ b → t2 ≡ t0 ++ (a ++ b)
 two t0 t1 t2 a b one more = more ∙ ap (λ (t : List ℕ). t ++ b) one ∙ append_assoc t0 a b
 
@@ -28,7 +28,7 @@ first-two t0 t1 t2 a b c one more = two t0 t1 t2 (a ++ b) c one more ∙ ap (λ 
 pub category : (t0 t1 t2 t3 t4 a b c d e : List ℕ) → t1 ≡ t0 ++ (a ++ b) → t2 ≡ t1 ++ c → t3 ≡ t2 ++ d → t4 ≡ t3 ++ e → t4 ≡ t0 ++ (a ++ (b ++ (c ++ (d ++ e))))
 category t0 t1 t2 t3 t4 a b c d e one more next last = first-two t0 t1 t4 a b (c ++ (d ++ e)) one (three t1 t2 t3 t4 c d e more next last)
 
--- four pieces, with nothing behind the last
+-- four pieces, with nothing after the last
 pub categories : (t0 t1 t2 t3 t4 a b c d : List ℕ) → t1 ≡ t0 ++ a → t2 ≡ t1 ++ b → t3 ≡ t2 ++ c → t4 ≡ t3 ++ d → t4 ≡ t0 ++ (a ++ (b ++ (c ++ (d ++ []))))
 categories t0 t1 t2 t3 t4 a b c d one more next last =
     four t0 t1 t2 t3 t4 a b c d one more next last ∙ ap (λ (t : List ℕ). t0 ++ (a ++ (b ++ (c ++ t)))) (sym (append-nil d))

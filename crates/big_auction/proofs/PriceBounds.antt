@@ -5,12 +5,12 @@ use Rattle.std.specs.List.{AllByRecursion}
 use Rattle.std.proofs.lemmas.Bool.{cases_Bool, le-leb}
 use Rattle.std.proofs.lemmas.List.Sums.{sum_by-cons}
 use Rattle.std.proofs.Math.Nat.{mul-le-mul_left, pow-le-pow_right}
-use Rattle.row_laws.specs.auction_model.specs.Package.{cost_of}
-use Rattle.clock_stage.specs.auction_rules.specs.Step.{permille_at, ticks_of, stepped, IsRaise}
-use Rattle.clock_stage.specs.auction_rules.specs.Rounds.{raised_prices, prices_after, demand}
-use Rattle.clock_stage.specs.auction_rules.specs.Replies.{price_top}
-use Rattle.clock_stage.specs.auction_rules.proofs.Steps.{IsRaise-ticks_of}
-use Rattle.clock_stage.specs.auction_rules.proofs.Sound.{prices_after-rises}
+use Rattle.auction_model.specs.Package.{cost_of}
+use Rattle.auction_rules.specs.Step.{IsRaise, permille_at, stepped, ticks_of}
+use Rattle.auction_rules.specs.Rounds.{demand, prices_after, raised_prices}
+use Rattle.auction_rules.specs.Replies.{price_top}
+use Rattle.auction_rules.proofs.Steps.{IsRaise-ticks_of}
+use Rattle.auction_rules.proofs.Sound.{prices_after-rises}
 use Rattle.big_auction.specs.MadeAward.{made_terms}
 
 abbrev thresholds : List (ℕ × ℕ)

@@ -1,23 +1,23 @@
 -- The lines of one bidder in the sealed round of a made auction.
-use Rattle.std.proofs.Common.{◌≡◌, ℕ, suc, ◌-◌, ◌<◌, ◌≤◌, Bool, false, not, ◌&&◌, List, [], ◌∷◌, ◌++◌, Option, None, length, map, get_or, set, refl, sym, ◌∙◌}
-use Rattle.std.proofs.Common.{ap, subst, inl, inr, arith}
+use Rattle.std.proofs.Common.{Bool, List, None, Option, [], ap, arith, false, get_or, inl, inr, length, map, not, refl, set, subst, suc, sym, ℕ, ◌&&◌}
+use Rattle.std.proofs.Common.{◌++◌, ◌-◌, ◌<◌, ◌∙◌, ◌∷◌, ◌≡◌, ◌≤◌}
 use Rattle.std.specs.Prelude.{nat_le, nat_lt, slice_index}
 use Rattle.std.specs.List.{AllByRecursion}
 use Rattle.std.proofs.lemmas.Bool.{cases_eq, le-ltb, lt-leb, and_right}
 use Rattle.std.proofs.lemmas.List.{get_or-set_same, get_or-set_other, length-set}
-use Rattle.clock_stage.specs.award_file.specs.limits.specs.declared.TheConstants.{MOST_AMOUNT}
-use Rattle.row_laws.specs.auction_model.specs.Book.{BookBid}
-use Rattle.row_laws.specs.auction_model.specs.Package.{cost_of}
-use Rattle.clock_stage.specs.auction_rules.specs.declared.Event.TheVariants.{Draft, Submit}
-use Rattle.clock_stage.specs.auction_rules.specs.declared.Reply.{Reply}
-use Rattle.clock_stage.specs.auction_rules.specs.declared.Reply.TheVariants as reply
-use Rattle.row_laws.specs.auction_model.specs.PackageTests.{first_over, is_empty}
-use Rattle.clock_stage.specs.auction_rules.specs.Terms.{entrant}
-use Rattle.clock_stage.specs.auction_rules.specs.Rounds.{OwnRound}
-use Rattle.clock_stage.specs.auction_rules.specs.Caps.{clock_bid, greatest, list_fault}
-use Rattle.row_laws.specs.auction_model.specs.Entries.{with_entry}
-use Rattle.clock_stage.specs.auction_rules.specs.Replies.{first_reply, when, supply_reply, cap_reply, has_entry}
-use Rattle.clock_stage.specs.auction_rules.specs.State.{Round, DeskState, own_of, reply_in, taken}
+use Rattle.limits.specs.declared.TheConstants.{MOST_AMOUNT}
+use Rattle.auction_model.specs.Book.{BookBid}
+use Rattle.auction_model.specs.Package.{cost_of}
+use Rattle.auction_rules.specs.declared.Event.TheVariants.{Draft, Submit}
+use Rattle.auction_rules.specs.declared.Reply.{Reply}
+use Rattle.auction_rules.specs.declared.Reply.TheVariants as reply
+use Rattle.auction_model.specs.PackageTests.{first_over, is_empty}
+use Rattle.auction_rules.specs.Terms.{entrant}
+use Rattle.auction_rules.specs.Rounds.{OwnRound}
+use Rattle.auction_rules.specs.Caps.{clock_bid, greatest, list_fault}
+use Rattle.auction_model.specs.Entries.{with_entry}
+use Rattle.auction_rules.specs.Replies.{cap_reply, first_reply, has_entry, supply_reply, when}
+use Rattle.auction_rules.specs.State.{DeskState, Round, own_of, reply_in, taken}
 use Rattle.big_auction.specs.MadeAward.{made_terms}
 use Rattle.big_auction.proofs.Caps.{IsFair, no-fault, each-with_entry, length-with_entry}
 use Rattle.big_auction.proofs.ClockRounds.{sealed_state}
@@ -66,7 +66,7 @@ pub record Between (rounds : List Round) (prices eligibility : List ℕ) (held :
   pub long_submitted : length submitted ≡ 12
   pub lots_submitted : (j : ℕ) → AllByRecursion HasLot (get_or submitted j [])
 
--- within the part of bidder k, which has so many drafts at most
+-- within the part of bidder k, which has that many drafts at most
 pub record Within (rounds : List Round) (prices eligibility : List ℕ) (held : List (List ℕ)) (last : OwnRound) (k n : ℕ) (s : DeskState) : Type 0 where
   pub drafts : List (List BookBid)
   pub submitted : List (List BookBid)

@@ -3,17 +3,17 @@ use Rattle.std.proofs.Common.{ℕ, zero, suc, ◌+◌, ◌-◌, ◌*◌, ◌<◌
 use Rattle.std.specs.Prelude.{flat_map, nat_le}
 use Rattle.std.specs.List.{AllByRecursion}
 use Rattle.std.proofs.lemmas.Bool.{cases_Bool, cases_lt}
-use Rattle.clock_stage.specs.auction_rules.specs.declared.Event.{Event}
-use Rattle.clock_stage.specs.auction_rules.specs.declared.Event.TheVariants.{Bid, Submit, Close}
-use Rattle.clock_stage.specs.auction_rules.specs.Rounds.{OwnRound, listing}
-use Rattle.clock_stage.specs.auction_rules.specs.Terms.{Entrant, no_lots}
-use Rattle.clock_stage.specs.award_file.proofs.Names.{number-only}
+use Rattle.auction_rules.specs.declared.Event.{Event}
+use Rattle.auction_rules.specs.declared.Event.TheVariants.{Bid, Close, Submit}
+use Rattle.auction_rules.specs.Rounds.{OwnRound, listing}
+use Rattle.auction_rules.specs.Terms.{Entrant, no_lots}
+use Rattle.award_file.proofs.Names.{number-only}
 use Rattle.log_file.specs.LogForm.{AreCounts, IsNameOf}
 use Rattle.log_file.specs.LogText.{IsStatable}
 use Rattle.big_auction.specs.Draws.{behind, drawn, drawn_package, first_state}
 use Rattle.big_auction.specs.MadeAward.{made_name, made_terms}
-use Rattle.big_auction.specs.MadeLog.{bids_of, clock_lines, final_package_of, held_by, made_log, package_of, reduced, round_lines, staying}
-use Rattle.big_auction.specs.MadeLog.{draws_before, drawn_draft, drawn_drafts, final_prices, last_draft, lines_of}
+use Rattle.big_auction.specs.MadeLog.{bids_of, clock_lines, drawn_draft, drawn_drafts, draws_before, final_package_of, final_prices, held_by}
+use Rattle.big_auction.specs.MadeLog.{last_draft, lines_of, made_log, package_of, reduced, round_lines, staying}
 use Rattle.big_auction.proofs.AwardLaw.{IsAward-made_terms, entrant-lawful}
 use Rattle.big_auction.proofs.Drawing.{IsOwn, IsOwn-package_of, drawn-below}
 use Rattle.big_auction.proofs.MadeClock.{bidding, held-early, held-last, is-entrant, leaves, stays}

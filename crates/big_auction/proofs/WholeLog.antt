@@ -4,13 +4,13 @@ use Rattle.std.specs.Prelude.{flat_map}
 use Rattle.std.specs.List.{AllByRecursion}
 use Rattle.std.proofs.lemmas.Bool.{cases_lt}
 use Rattle.std.proofs.lemmas.List.{get_or_past, get_or-replicate}
-use Rattle.clock_stage.specs.auction_rules.specs.declared.Event.TheVariants.{Close}
-use Rattle.clock_stage.specs.auction_rules.specs.declared.Stage.TheVariants.{Closed}
-use Rattle.clock_stage.specs.auction_rules.specs.Rounds.{listing, prices_after}
-use Rattle.clock_stage.specs.auction_rules.specs.Replies.{is_closed}
-use Rattle.clock_stage.specs.auction_rules.specs.BookOfLog.{is_complete}
-use Rattle.clock_stage.specs.auction_rules.specs.State.{DeskState, state_of}
-use Rattle.clock_stage.specs.auction_rules.proofs.Telling.{stage-state_of}
+use Rattle.auction_rules.specs.declared.Event.TheVariants.{Close}
+use Rattle.auction_rules.specs.declared.Stage.TheVariants.{Closed}
+use Rattle.auction_rules.specs.Rounds.{listing, prices_after}
+use Rattle.auction_rules.specs.Replies.{is_closed}
+use Rattle.auction_rules.specs.BookOfLog.{is_complete}
+use Rattle.auction_rules.specs.State.{DeskState, state_of}
+use Rattle.auction_rules.proofs.Telling.{stage-state_of}
 use Rattle.big_auction.specs.Answered.{AreAnsweredOk}
 use Rattle.big_auction.specs.Draws.{behind, first_state}
 use Rattle.big_auction.specs.MadeAward.{made_terms}
@@ -21,7 +21,7 @@ use Rattle.big_auction.proofs.MadeClock.{goes-flat, starts, last_eligibility, la
 use Rattle.big_auction.proofs.Offers.{part-goes}
 use Rattle.big_auction.proofs.SealedRound.{HasLot, Between}
 
--- the state behind the log
+-- the state after the log
 pub record IsEnd (number : ℕ) (s : DeskState) : Type 0 where
   pub terms : s.terms ≡ made_terms
   pub closed : s.stage ≡ Closed

@@ -1,9 +1,9 @@
 -- What the auction makes of a log. A list of lines has its newest line first.
 use Rattle.std.specs.Prelude.{◌≡◌, List, [], ◌∷◌}
-use Rattle.clock_stage.specs.auction_rules.specs.declared.Event.{Event}
-use Rattle.clock_stage.specs.auction_rules.specs.declared.Reply.TheVariants.{Ok}
-use Rattle.clock_stage.specs.auction_rules.specs.Terms.{Terms}
-use Rattle.clock_stage.specs.auction_rules.specs.Replies.{reply_to}
+use Rattle.auction_rules.specs.declared.Event.{Event}
+use Rattle.auction_rules.specs.declared.Reply.TheVariants.{Ok}
+use Rattle.auction_rules.specs.Terms.{Terms}
+use Rattle.auction_rules.specs.Replies.{reply_to}
 
 -- each line is answered Ok, after those before it
 abbrev pub AreAnsweredOk : Terms → List Event → Type 0

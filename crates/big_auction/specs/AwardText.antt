@@ -1,8 +1,8 @@
--- The text of an award in which no bidder holds lots and no spectrum cap stands.
+-- The text of an award in which no bidder holds lots and no spectrum cap is.
 use Rattle.std.specs.Prelude.{ℕ, List, [], ◌∷◌, ◌++◌, codes, flat_map}
 use Rattle.std.specs.Fmt.{decimal}
-use Rattle.clock_stage.specs.auction_rules.specs.Terms.{Entrant, Terms}
-use Rattle.clock_stage.specs.award_file.specs.Walk.{Category}
+use Rattle.auction_rules.specs.Terms.{Entrant, Terms}
+use Rattle.award_file.specs.Walk.{Category}
 use Rattle.big_auction.specs.MadeAward.{made_categories, made_terms}
 
 -- a key with its value, on a line
@@ -12,11 +12,11 @@ key_line key value = key ++ (codes " = " ++ (value ++ 10 ∷ []))
 abbrev pub number_line : List ℕ → ℕ → List ℕ
 number_line key n = key_line key (decimal n)
 
--- a name stands between quotation marks
+-- a name is between quotation marks
 abbrev pub name_line : List ℕ → List ℕ
 name_line name = key_line (codes "name") (34 ∷ (name ++ 34 ∷ []))
 
--- the head of a table, behind a blank line
+-- the head of a table, after a blank line
 abbrev pub table_line : List ℕ → List ℕ
 table_line head = 10 ∷ (head ++ 10 ∷ [])
 

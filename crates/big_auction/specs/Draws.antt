@@ -9,7 +9,7 @@ first_state number = number % 2 ^ 31
 unfoldable pub turned : ℕ → ℕ
 turned state = (1103515245 * state + 12345) % 2 ^ 31
 
--- the state so many draws behind this one
+-- the state that many draws after this one
 unfoldable pub behind : ℕ → ℕ → ℕ
 behind state zero = state
 behind state (suc n) = turned (behind state n)
@@ -18,7 +18,7 @@ behind state (suc n) = turned (behind state n)
 unfoldable pub drawn : ℕ → ℕ → ℕ → ℕ
 drawn state n bound = behind state n / 2 ^ 16 % bound
 
--- the n-th draw and those behind it, one for each count, which is the most that may be drawn
+-- the n-th draw and those after it, one for each count, which is the most that may be drawn
 abbrev pub drawn_counts : ℕ → ℕ → List ℕ → List ℕ
 drawn_counts state n [] = []
 drawn_counts state n (most ∷ counts) = drawn state n (suc most) ∷ drawn_counts state (suc n) counts

@@ -5,8 +5,4 @@ pub mod LogText
 pub mod MadeLog
 pub mod Answered
 pub mod Parts
-pub use Rattle.clock_stage.specs.award_file
-pub use Rattle.clock_stage
-pub use Rattle.log_file
-pub use Rattle.row_laws
 pub mod MadeAuction

@@ -1,6 +1,6 @@
 -- The text of a made log, in which bidders have the names of the made award.
 use Rattle.std.specs.Prelude.{ℕ, List}
-use Rattle.clock_stage.specs.auction_rules.specs.declared.Event.{Event}
+use Rattle.auction_rules.specs.declared.Event.{Event}
 use Rattle.log_file.specs.LogText as text
 use Rattle.big_auction.specs.MadeAward.{made_name}
 

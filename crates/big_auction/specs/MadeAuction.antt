@@ -1,10 +1,10 @@
 -- What a made auction is: a lawful award that its text states, and a log on it that is read as its lines and runs to its end.
 use Rattle.std.specs.Prelude.{◌≡◌, ◌≤◌, ℕ, IsTrue, List, reverse, true}
-use Rattle.row_laws.specs.Winners.{winners_in}
-use Rattle.row_laws.specs.auction_model.specs.Book.{market_of}
-use Rattle.clock_stage.specs.auction_rules.specs.BookOfLog.{book_of_log, is_complete}
-use Rattle.clock_stage.specs.award_file.specs.Award.{IsAward}
-use Rattle.clock_stage.specs.award_file.specs.Reading.{reading, states}
+use Rattle.core_laws.specs.Winners.{winners_in}
+use Rattle.auction_model.specs.Book.{market_of}
+use Rattle.auction_rules.specs.BookOfLog.{book_of_log, is_complete}
+use Rattle.award_file.specs.Award.{IsAward}
+use Rattle.award_file.specs.Reading.{reading, stated_terms}
 use Rattle.log_file.specs.LogReading.{AreLog, log_records}
 use Rattle.big_auction.specs.Answered.{AreAnsweredOk}
 use Rattle.big_auction.specs.AwardText.{made_award_text}
@@ -16,7 +16,7 @@ use Rattle.big_auction.specs.MadeLog.{made_log}
 -- them is answered Ok, the log is complete, and no choice that fits has more than four winners
 pub record IsMadeAuction (number : ℕ) : Type 0 where
   pub lawful : IsAward made_terms
-  pub stated : reading made_award_text ≡ states made_terms
+  pub stated : reading made_award_text ≡ stated_terms made_terms
   pub read : AreLog made_terms (log_records (log_text (made_log number))) (made_log number)
   pub answered : AreAnsweredOk made_terms (reverse (made_log number))
   pub complete : is_complete made_terms (reverse (made_log number)) ≡ true

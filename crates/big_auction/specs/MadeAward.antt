@@ -1,10 +1,10 @@
 -- The award that is made: the same for each number.
 use Rattle.std.specs.Prelude.{ℕ, List, [], ◌∷◌, codes, replicate, length}
 use Rattle.std.specs.Fmt.{decimal}
-use Rattle.clock_stage.specs.auction_rules.specs.Terms.{Entrant, Terms}
-use Rattle.clock_stage.specs.auction_rules.specs.Rounds.{listing}
-use Rattle.clock_stage.specs.award_file.specs.Award.{entrant_with}
-use Rattle.clock_stage.specs.award_file.specs.Walk.{Category, terms_from}
+use Rattle.auction_rules.specs.Terms.{Entrant, Terms}
+use Rattle.auction_rules.specs.Rounds.{listing}
+use Rattle.award_file.specs.Award.{entrant_with}
+use Rattle.award_file.specs.Walk.{Category, terms_from}
 
 abbrev pub category_with : List ℕ → ℕ → ℕ → ℕ → Category
 category_with name supply points reserve = record { name = name; supply = supply; points = points; reserve = reserve }

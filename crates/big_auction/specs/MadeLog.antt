@@ -1,11 +1,11 @@
 -- The log that is made from a number.
 use Rattle.std.specs.Prelude.{ℕ, suc, ◌+◌, ◌-◌, ◌*◌, ◌/◌, min, max, ◌||◌, nat_le, List, [], ◌∷◌, ◌++◌, flat_map, slice_index, if◌then◌else◌}
-use Rattle.row_laws.specs.auction_model.specs.Package.{cost_of}
-use Rattle.clock_stage.specs.auction_rules.specs.declared.Event.{Event}
-use Rattle.clock_stage.specs.auction_rules.specs.declared.Event.TheVariants.{Bid, Draft, Submit, Close}
-use Rattle.row_laws.specs.auction_model.specs.PackageTests.{is_same}
-use Rattle.clock_stage.specs.auction_rules.specs.Terms.{no_lots}
-use Rattle.clock_stage.specs.auction_rules.specs.Rounds.{listing, prices_after}
+use Rattle.auction_model.specs.Package.{cost_of}
+use Rattle.auction_rules.specs.declared.Event.{Event}
+use Rattle.auction_rules.specs.declared.Event.TheVariants.{Bid, Close, Draft, Submit}
+use Rattle.auction_model.specs.PackageTests.{is_same}
+use Rattle.auction_rules.specs.Terms.{no_lots}
+use Rattle.auction_rules.specs.Rounds.{listing, prices_after}
 use Rattle.big_auction.specs.Draws.{first_state, behind, drawn, drawn_package}
 use Rattle.big_auction.specs.MadeAward.{made_bidders, made_terms}
 
@@ -63,7 +63,7 @@ clock_lines number = flat_map (round_lines number) (listing (λ r. r) full_round
 
 -- ---- the lines of the sealed round
 
--- The amount of a draft: what the package costs at the prices of round 10, where it is one of the bidder's own two. Else so many
+-- The amount of a draft: what the package costs at the prices of round 10, where it is one of the bidder's own two. Else that many
 -- thousandths of that, but no less than at the reserves.
 abbrev pub amount_of : List ℕ → List ℕ → List ℕ → List ℕ → ℕ → ℕ
 amount_of prices own final lots permille =
@@ -75,7 +75,7 @@ abbrev pub drawn_draft : ℕ → List ℕ → ℕ → List ℕ → List ℕ → 
 drawn_draft state prices k own final =
     Draft k (drawn_package state own) (amount_of prices own final (drawn_package state own) (500 + drawn state 5 501))
 
--- so many of them, one behind the other
+-- that many of them, one after another
 unfoldable pub drawn_drafts : ℕ → List ℕ → ℕ → List ℕ → List ℕ → ℕ → List Event
 drawn_drafts state prices k own final n = listing (λ i. drawn_draft (behind state (5 * (i - 1))) prices k own final) n
 
@@ -93,7 +93,7 @@ lines_from state prices k own final =
     drawn_drafts state prices k own final draft_count
     ++ (last_draft (behind state (5 * draft_count)) prices k final ++ Submit k ∷ [])
 
--- how many draws stand before bidder k's lines: four for each package, 500 for each bidder before, and one more for each that stays
+-- how many draws come before bidder k's lines: four for each package, 500 for each bidder before, and one more for each that stays
 abbrev pub draws_before : ℕ → ℕ
 draws_before k = 4 * made_bidders + 5 * draft_count * (k - 1) + min staying (k - 1)
 

@@ -1,8 +1,8 @@
 -- What the parts of the program stand for: the same lines over any packages.
 use Rattle.std.specs.Prelude.{ℕ, ◌+◌, ◌-◌, ◌*◌, min, List, [], ◌∷◌, ◌++◌, flat_map, slice_index_or}
-use Rattle.clock_stage.specs.auction_rules.specs.declared.Event.{Event}
-use Rattle.clock_stage.specs.auction_rules.specs.declared.Event.TheVariants.{Bid, Close}
-use Rattle.clock_stage.specs.auction_rules.specs.Rounds.{listing}
+use Rattle.auction_rules.specs.declared.Event.{Event}
+use Rattle.auction_rules.specs.declared.Event.TheVariants.{Bid, Close}
+use Rattle.auction_rules.specs.Rounds.{listing}
 use Rattle.big_auction.specs.Draws.{behind, drawn_package}
 use Rattle.big_auction.specs.MadeAward.{made_bidders}
 use Rattle.big_auction.specs.MadeLog.{draft_count, last_of, lines_from, staying, widest}

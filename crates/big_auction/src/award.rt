@@ -1,13 +1,13 @@
 // The text of the made award.
 ghost use Rattle.std.specs.Prelude.{◌≡◌, ◌++◌, [], ◌∷◌, IfOk, OnOk, codes, flat_map};
-ghost use Rattle.clock_stage.specs.auction_rules.specs.Rounds.{listing};
+ghost use Rattle.auction_rules.specs.Rounds.{listing};
 ghost use Rattle.big_auction.specs.AwardText.{category_text, entrant_text, key_line, made_award_text, name_line, number_line, step_text, table_line};
 ghost use Rattle.big_auction.specs.MadeAward.{category_with, made_bidders, made_categories, made_entrant, made_name};
 
 use crate::values::{BIDDERS, RESERVES, SUPPLY};
-use log_file::award_file::bid_book::line_text::add_decimal;
-use log_file::award_file::bid_book::line_text::wide_num::Text;
+use line_format::add_decimal;
 use std::alloc::{AllocError, Global};
+use wide_num::Text;
 
 /// The points that each bidder may bid for in round 1.
 const ELIGIBILITY: u64 = 73;
@@ -23,7 +23,7 @@ fn add_number_line(text: &mut Text, key: &[u8], n: u64) -> Result<(), AllocError
     Ok(())
 }
 
-/// Adds the head of a table behind a blank line, and the name in it.
+/// Adds the head of a table after a blank line, and the name in it.
 fn add_table(text: &mut Text, head: &[u8], name: &[u8]) -> Result<(), AllocError>
     ensures { OnOk result (text.new ≡ text.old ++ (table_line head.now ++ name_line name.now)) }
 {
@@ -61,7 +61,7 @@ fn add_categories(text: &mut Text) -> Result<(), AllocError>
     Ok(())
 }
 
-/// Adds the head of a bidder's table behind a blank line, and the bidder's name.
+/// Adds the head of a bidder's table after a blank line, and the bidder's name.
 fn add_bidder_name(text: &mut Text, bidder: u16) -> Result<(), AllocError>
     ensures { OnOk result (text.new ≡ text.old ++ (table_line (codes "[[bidder]]") ++ name_line (made_name bidder))) }
 {

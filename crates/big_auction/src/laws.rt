@@ -1,10 +1,10 @@
 // What holds of each made auction.
 ghost use Rattle.std.specs.Prelude.{◌≡◌, ◌≤◌, ℕ, IsTrue, List, reverse, true};
-ghost use Rattle.row_laws.specs.auction_model.specs.Book.{market_of};
-ghost use Rattle.clock_stage.specs.auction_rules.specs.BookOfLog.{book_of_log, is_complete};
-ghost use Rattle.clock_stage.specs.award_file.specs.Award.{IsAward};
-ghost use Rattle.clock_stage.specs.award_file.specs.Reading.{reading, states};
-ghost use Rattle.row_laws.specs.Winners.{winners_in};
+ghost use Rattle.auction_model.specs.Book.{market_of};
+ghost use Rattle.auction_rules.specs.BookOfLog.{book_of_log, is_complete};
+ghost use Rattle.award_file.specs.Award.{IsAward};
+ghost use Rattle.award_file.specs.Reading.{reading, stated_terms};
+ghost use Rattle.core_laws.specs.Winners.{winners_in};
 ghost use Rattle.log_file.specs.LogReading.{AreLog, log_records};
 ghost use Rattle.big_auction.specs.Answered.{AreAnsweredOk};
 ghost use Rattle.big_auction.specs.LogText.{log_text};
@@ -21,7 +21,7 @@ pub fn lawful_award()
 
 /// The text of the made award is read as its terms.
 pub fn stated_award()
-    ensures { reading made_award_text ≡ states made_terms }
+    ensures { reading made_award_text ≡ stated_terms made_terms }
 {}
 
 /// The text of the log of any number is read as its lines: each record states the line at its place.

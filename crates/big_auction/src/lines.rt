@@ -1,9 +1,9 @@
 // The lines of the log.
 ghost use Rattle.std.specs.Prelude.{◌≡◌, ◌≤◌, ◌+◌, ◌*◌, ◌++◌, ◌∷◌, [], ℕ, OnOk, length, map, ◌<◌, if◌then◌else◌, nat_le};
 ghost use Rattle.std.specs.List.{AllByRecursion};
-ghost use Rattle.clock_stage.specs.award_file.specs.limits.specs.declared.TheConstants.{MOST_PRICE};
+ghost use Rattle.limits.specs.declared.TheConstants.{MOST_PRICE};
 ghost use Rattle.log_file.specs.LogForm.{counts_text};
-ghost use Rattle.clock_stage.specs.auction_rules.specs.declared.Event.TheVariants.{Bid, Draft, Submit, Close};
+ghost use Rattle.auction_rules.specs.declared.Event.TheVariants.{Bid, Close, Draft, Submit};
 ghost use Rattle.big_auction.specs.Draws.{behind};
 ghost use Rattle.big_auction.specs.LogText.{event_text, log_text};
 ghost use Rattle.big_auction.specs.MadeAward.{made_name};
@@ -13,9 +13,9 @@ ghost use Rattle.big_auction.specs.Parts.{bids_for, counts_of, figures_of};
 use crate::draws::Draws;
 use crate::prices::{amount, cost};
 use crate::values::{DRAFTS, Figures, Lots, STAYING};
-use log_file::award_file::bid_book::line_text::wide_num::Text;
-use log_file::award_file::bid_book::line_text::{add_decimal, add_number};
+use line_format::{add_decimal, add_number};
 use std::alloc::AllocError;
+use wide_num::Text;
 
 /// A bidder by its number, with the package of its own and the one that it asks for at last.
 #[derive(Clone, Copy)]
@@ -25,7 +25,7 @@ pub struct Bidder {
     pub last: Lots,
 }
 
-/// Adds the kind of a line and the bidder's name, with the commas behind them.
+/// Adds the kind of a line and the bidder's name, with the commas after them.
 fn add_opening(text: &mut Text, kind: &[u8], bidder: u16) -> Result<(), AllocError>
     ensures { OnOk result (text.new ≡ text.old ++ (kind.now ++ 44 ∷ (made_name bidder ++ 44 ∷ []))) }
 {

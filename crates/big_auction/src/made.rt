@@ -1,7 +1,7 @@
 // The made texts.
 ghost use Rattle.std.specs.Prelude.{◌≡◌, ◌≤◌, ◌<◌, ◌++◌, IfOk, OnOk, length, map};
 ghost use Rattle.std.specs.List.{AllByRecursion};
-ghost use Rattle.clock_stage.specs.award_file.specs.limits.specs.declared.TheConstants.{MOST_PRICE};
+ghost use Rattle.limits.specs.declared.TheConstants.{MOST_PRICE};
 ghost use Rattle.big_auction.specs.AwardText.{made_award_text};
 ghost use Rattle.big_auction.specs.Draws.{behind};
 ghost use Rattle.big_auction.specs.LogText.{log_text};
@@ -16,8 +16,8 @@ use crate::laws::{answered_log, few_winners, lawful_award, stated_award, stated_
 use crate::lines::{Bidder, add_bid, add_bidder, add_bids, add_close};
 use crate::prices::{final_prices, last_package};
 use crate::values::{BIDDERS, FULL_ROUNDS, Figures, Lots, STAYING, WIDEST};
-use log_file::award_file::bid_book::line_text::wide_num::Text;
 use std::alloc::{AllocError, Global};
+use wide_num::Text;
 
 /// How many lines each log has.
 const LINES: u64 = 1339;
@@ -35,7 +35,7 @@ pub struct Made {
 
 /// The auction of a number: the bytes of its award and of its log, each a function of the number alone. The award is lawful and read as
 /// its terms, the log is read as its lines, each of them is answered Ok, the log is complete, and at most four bidders can win. The only
-/// error is want of memory.
+/// error is out of memory.
 pub fn make(alloc: Global, number: u32) -> Result<Made, AllocError>
     ensures award { IfOk result (λ made. made.award ≡ made_award_text) }
     ensures log { IfOk result (λ made. made.log ≡ log_text (made_log number)) }

@@ -1,19 +1,19 @@
 // Prices and costs.
 ghost use Rattle.std.specs.Prelude.{◌≡◌, ◌≤◌, ◌-◌, ◌^◌, IfOk, if◌then◌else◌, length, map, nat_le};
 ghost use Rattle.std.specs.List.{AllByRecursion};
-ghost use Rattle.clock_stage.specs.award_file.specs.limits.specs.declared.TheConstants.{MOST_PRICE};
-ghost use Rattle.row_laws.specs.auction_model.specs.Package.{cost_of};
-ghost use Rattle.row_laws.specs.auction_model.specs.PackageTests.{is_same};
-ghost use Rattle.clock_stage.specs.auction_rules.specs.Rounds.{prices_after, raised_prices};
-ghost use Rattle.clock_stage.specs.auction_rules.specs.Step.{stepped};
-ghost use Rattle.clock_stage.specs.auction_rules.specs.State.{asked};
+ghost use Rattle.limits.specs.declared.TheConstants.{MOST_PRICE};
+ghost use Rattle.auction_model.specs.Package.{cost_of};
+ghost use Rattle.auction_model.specs.PackageTests.{is_same};
+ghost use Rattle.auction_rules.specs.Rounds.{prices_after, raised_prices};
+ghost use Rattle.auction_rules.specs.Step.{stepped};
+ghost use Rattle.auction_rules.specs.State.{asked};
 ghost use Rattle.big_auction.specs.MadeAward.{made_bidders, made_terms};
 ghost use Rattle.big_auction.specs.MadeLog.{amount_of, full_rounds, last_of};
 ghost use Rattle.big_auction.specs.Parts.{counts_of, figures_of, held_from};
 
 use crate::values::{FULL_ROUNDS, Figures, Lots, NO_LOTS, RESERVES, STAYING, SUPPLY};
+use award_file::StepTable;
 use clock_stage::step;
-use log_file::award_file::StepTable;
 use std::alloc::{AllocError, Global};
 
 /// What the bidder asks for in the last round.
@@ -49,7 +49,7 @@ fn is_same(left: Lots, right: Lots) -> bool
     left.a == right.a && left.b == right.b && left.c == right.c && left.e == right.e
 }
 
-/// The amount of a draft of a bidder with these two packages: what it costs, where it is one of them. Else so many thousandths of
+/// The amount of a draft of a bidder with these two packages: what it costs, where it is one of them. Else that many thousandths of
 /// that, but no less than at the reserves.
 pub fn amount(prices: &Figures, own: Lots, last: Lots, lots: Lots, permille: u64) -> u64
     requires prices { AllByRecursion (λ p. p ≤ MOST_PRICE) (figures_of prices.now) }

@@ -2,12 +2,12 @@
 use Rattle.std.specs.Prelude.{◌≡◌, ℕ, suc, ◌+◌, ◌-◌, ◌<◌, ◌≤◌, ◌^◌, List, Bool, length, get_or, ℤ, pos, ◌*ℤ◌, ◌≤ℤ◌, ◌<ℤ◌}
 use Rattle.std.proofs.Common.{arith, refl}
 use Rattle.std.proofs.lemmas.Int.{ints}
-use Rattle.row_laws.specs.auction_model.specs.Market.{Market, worth_in}
-use Rattle.row_laws.specs.auction_model.specs.Greatest.{IsWinning}
-use Rattle.row_laws.specs.auction_model.specs.Lawful.{IsMarket}
-use Rattle.row_laws.specs.auction_model.specs.Lowered.{of_bidder}
-use Rattle.row_laws.specs.auction_model.specs.Prices.{sum_over}
-use Rattle.row_laws.proofs.Sizes.{won-range, paid-most}
+use Rattle.auction_model.specs.Market.{Market, worth_in}
+use Rattle.auction_model.specs.Greatest.{IsWinning}
+use Rattle.auction_model.specs.Lawful.{IsMarket}
+use Rattle.auction_model.specs.Lowered.{of_bidder}
+use Rattle.auction_model.specs.Prices.{sum_over}
+use Rattle.core_laws.proofs.Sizes.{won-range, paid-most}
 use Rattle.blocking.specs.Look.{CanLook}
 use Rattle.blocking.proofs.Parts.{part-range, more-bidders}
 

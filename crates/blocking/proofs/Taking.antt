@@ -3,21 +3,21 @@ use Rattle.std.specs.Prelude.{◌≡◌, ℕ, zero, suc, ◌-◌, ◌<◌, ◌�
 use Rattle.std.proofs.Common.{arith, ap, ◌∙◌, sym, FitsSigned}
 use mir.Syntax.{w128}
 use Rattle.std.proofs.lemmas.Int.{ints}
-use Rattle.row_laws.specs.auction_model.specs.Market.{Market, value_of, worth_in}
-use Rattle.row_laws.specs.auction_model.specs.Greatest.{IsWinning}
-use Rattle.row_laws.specs.auction_model.specs.Lawful.{IsMarket}
-use Rattle.row_laws.specs.auction_model.specs.Lowered.{of_bidder}
-use Rattle.row_laws.specs.auction_model.specs.Prices.{paid, sum_over, IsUnblocked}
-use Rattle.row_laws.specs.auction_model.specs.Blocks.{row_bound}
-use Rattle.row_laws.specs.wide_num.proofs.Ints.{mul-add}
-use Rattle.row_laws.specs.point_laws.proofs.Order.{mul_nonneg}
-use Rattle.row_laws.specs.Winners.{idle_row, row_of, bits_after, has_bit}
-use Rattle.row_laws.specs.Surplus.{surpluses_of, lowered_sum}
-use Rattle.row_laws.proofs.Excess.{IsPaid, taken, low-reached, free-unblocked, unblocked-free, not-below}
-use Rattle.row_laws.proofs.Rows.{excess-bound, taken-same, bits-are_row, over-same, row-not_empty}
-use Rattle.row_laws.proofs.Surplus.{surpluses-are}
-use Rattle.row_laws.proofs.Bits.{bits-below, no-bit}
-use Rattle.row_laws.proofs.Sizes.{worth-range, won-low}
+use Rattle.auction_model.specs.Market.{Market, value_of, worth_in}
+use Rattle.auction_model.specs.Greatest.{IsWinning}
+use Rattle.auction_model.specs.Lawful.{IsMarket}
+use Rattle.auction_model.specs.Lowered.{of_bidder}
+use Rattle.auction_model.specs.Prices.{IsUnblocked, paid, sum_over}
+use Rattle.auction_model.specs.Blocks.{row_bound}
+use Rattle.wide_num.proofs.Ints.{mul-add}
+use Rattle.projection_laws.proofs.Order.{mul_nonneg}
+use Rattle.core_laws.specs.Winners.{idle_row, has_member, bits_after, has_bit}
+use Rattle.core_laws.specs.Surplus.{surpluses_of, lowered_sum}
+use Rattle.core_laws.proofs.Excess.{IsPaid, taken, low-reached, free-unblocked, unblocked-free, not-below}
+use Rattle.core_laws.proofs.Rows.{excess-bound, taken-same, bits-are_row, over-same, row-not_empty}
+use Rattle.core_laws.proofs.Surplus.{surpluses-are}
+use Rattle.core_laws.proofs.Bits.{bits-below, no-bit}
+use Rattle.core_laws.proofs.Sizes.{worth-range, won-low}
 use Rattle.blocking.specs.declared.look.Block.{Block}
 use Rattle.blocking.specs.Look.{CanLook, IsFound, IsBlock}
 use Rattle.blocking.proofs.Parts.{part-range, small-fits}
@@ -68,7 +68,7 @@ module _ (m : Market) (lawful : IsMarket m) (z : List ℕ) (win : IsWinning m z)
       omega (arith, ints, d.0, d.1, d.2)
 
   -- the set of bits and the idle row are the same
-  same-row : (j : ℕ) → 0 < j → idle_row m z (record { den = den; at = at }) f j ≡ row_of z (bits_after z (idle_row m z (record { den = den; at = at }) f) 0) j
+  same-row : (j : ℕ) → 0 < j → idle_row m z (record { den = den; at = at }) f j ≡ has_member z (bits_after z (idle_row m z (record { den = den; at = at }) f) 0) j
   same-row j q = sym (bits-are_row m z (record { den = den; at = at }) f j q)
 
   -- and it isn't empty where the excess is above 0
@@ -89,11 +89,11 @@ module _ (m : Market) (lawful : IsMarket m) (z : List ℕ) (win : IsWinning m z)
       let is = found.sum in
       let gain : b.excess ≡ lowered_sum m z (record { den = den; at = at }) f -ℤ paid m (record { den = den; at = at }) = omega (arith, ints) in
       let t = taken-same m z (record { den = den; at = at }) f (idle_row m z (record { den = den; at = at }) f)
-      (row_of z (bits_after z (idle_row m z (record { den = den; at = at }) f) 0))
+      (has_member z (bits_after z (idle_row m z (record { den = den; at = at }) f) 0))
       (lowered_sum m z (record { den = den; at = at }) f -ℤ paid m (record { den = den; at = at })) (λ j q le. same-row j q)
       (taken m lawful z (record { den = den; at = at }) (surpluses_of m z den at) own f found.first) in
       let outside = over-same (λ j. not (idle_row m z (record { den = den; at = at }) f j))
-      (λ j. not (row_of z (bits_after z (idle_row m z (record { den = den; at = at }) f) 0) j)) (worth_in m z) m.bidders
+      (λ j. not (has_member z (bits_after z (idle_row m z (record { den = den; at = at }) f) 0) j)) (worth_in m z) m.bidders
       (λ j q le. ap not (same-row j q)) in
       record {
         block = record {

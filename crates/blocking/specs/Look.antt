@@ -1,15 +1,15 @@
 -- The search for the coalition that blocks a point most: its conditions, and what it answers.
 use Rattle.std.specs.Prelude.{◌≡◌, ℕ, ◌^◌, ◌<◌, ◌≤◌, List, ℤ, pos, ◌≤ℤ◌, ◌<ℤ◌, ⊤}
-use Rattle.row_laws.specs.auction_model.specs.Market.{Market}
-use Rattle.row_laws.specs.auction_model.specs.Greatest.{IsFirstGreatest}
-use Rattle.row_laws.specs.auction_model.specs.Lowered.{of_bidder}
-use Rattle.row_laws.specs.auction_model.specs.Prices.{Point, paid}
-use Rattle.row_laws.specs.auction_model.specs.PricingRun.{IsBlockOf, Block as TurnBlock}
+use Rattle.auction_model.specs.Market.{Market}
+use Rattle.auction_model.specs.Greatest.{IsFirstGreatest}
+use Rattle.auction_model.specs.Lowered.{of_bidder}
+use Rattle.auction_model.specs.Prices.{Point, paid}
+use Rattle.auction_model.specs.PricingRun.{BidderBlock, IsBlockOf}
 use Rattle.choices.specs.Lowering.{CanLower}
 use Rattle.choices.specs.declared.chooser.Found.{Found}
-use Rattle.row_laws.specs.Winners.{winners_in}
-use Rattle.row_laws.specs.Surplus.{surpluses_of, lowered_sum, AsksWinnersOnly}
-use Rattle.row_laws.specs.Rows.{row_in, HasWinners}
+use Rattle.core_laws.specs.Winners.{winners_in}
+use Rattle.core_laws.specs.Surplus.{surpluses_of, lowered_sum, AsksWinnersOnly}
+use Rattle.core_laws.specs.Rows.{row_in, HasWinners}
 use Rattle.blocking.specs.declared.look.Looked.{Looked}
 use Rattle.blocking.specs.declared.look.Looked.TheVariants.{Free, Block as Blocked}
 use Rattle.blocking.specs.declared.look.Block.{Block}
@@ -43,7 +43,7 @@ pub record IsFound (m : Market) (z : List ℕ) (den : ℤ) (at : List ℤ) (choi
   pub sum : total ≡ lowered_sum m z (payments den at) choice
 
 -- the block of a turn, its row over the bidders
-abbrev pub block_of : List ℕ → Block → TurnBlock
+abbrev pub block_of : List ℕ → Block → BidderBlock
 block_of z b = record { choice = b.choice; row = row_in z b.row; excess = b.excess }
 
 -- the block that a turn takes at the point, with a row that has a winner

@@ -1,8 +1,8 @@
 // The search for a block.
 ghost use Rattle.std.specs.Prelude.{◌≡◌, ℕ, pos, ◌^◌, ◌≤◌, ◌≤ℤ◌, ◌<ℤ◌, length, IfOk};
-ghost use Rattle.row_laws.specs.auction_model.specs.Lowered.{of_bidder};
-ghost use Rattle.row_laws.specs.auction_model.specs.Prices.{IsUnblocked, sum_over, everyone};
-ghost use Rattle.row_laws.specs.Surplus.{surpluses_of};
+ghost use Rattle.auction_model.specs.Lowered.{of_bidder};
+ghost use Rattle.auction_model.specs.Prices.{IsUnblocked, everyone, sum_over};
+ghost use Rattle.core_laws.specs.Surplus.{surpluses_of};
 ghost use Rattle.blocking.specs.Look.{CanLook, IfFree, IfBlocked, IsFound, IsBlock, payments};
 
 use crate::row::row_given;
@@ -38,7 +38,7 @@ pub enum Looked<T> {
 /// There are at most 16 winners. The excess of a choice over a set of winners that it doesn't use is its value less what
 /// the other winners win with and less what the set pays. Of all choices and sets the block has the greatest excess: the
 /// first choice by the order of ties, and with it the largest set. Its bound is the value of the choice less what the
-/// winners outside the set win with. The only error is want of memory.
+/// winners outside the set win with. The only error is out of memory.
 ///
 /// The choice is found by one search with worths that are lowered by the surpluses at the point. (Day and Raghavan, Fair
 /// payments for efficient allocations in public sector combinatorial auctions, Management Science 53, 2007: core

@@ -1,9 +1,9 @@
 // The row that a choice gives at a point.
 ghost use Rattle.std.specs.Prelude.{◌≡◌, ℤ, pos, ◌+◌, ◌*◌, ◌^◌, ◌<◌, ◌≤ℤ◌, ◌<ℤ◌, ◌+ℤ◌, ◌*ℤ◌, length, int_le, if◌then◌else◌};
-ghost use Rattle.row_laws.specs.auction_model.specs.Lowered.{of_bidder};
-ghost use Rattle.row_laws.specs.auction_model.specs.Prices.{paid, sum_over};
-ghost use Rattle.row_laws.specs.auction_model.specs.Blocks.{row_bound};
-ghost use Rattle.row_laws.specs.Winners.{idle_row, bits_after};
+ghost use Rattle.auction_model.specs.Lowered.{of_bidder};
+ghost use Rattle.auction_model.specs.Prices.{paid, sum_over};
+ghost use Rattle.auction_model.specs.Blocks.{row_bound};
+ghost use Rattle.core_laws.specs.Winners.{idle_row, bits_after};
 ghost use Rattle.blocking.specs.Look.{CanLook, IsFound, payments};
 
 use choices::{Choice, Chooser};

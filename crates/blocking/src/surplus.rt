@@ -1,6 +1,6 @@
 // Surpluses of bidders.
 ghost use Rattle.std.specs.Prelude.{◌≡◌, IfOk, pos, ◌^◌, ◌≤ℤ◌, ◌<ℤ◌, ◌-ℤ◌, ◌*ℤ◌};
-ghost use Rattle.row_laws.specs.Surplus.{surpluses_of};
+ghost use Rattle.core_laws.specs.Surplus.{surpluses_of};
 ghost use Rattle.blocking.specs.Look.{CanLook};
 
 use choices::Chooser;

@@ -3,39 +3,39 @@ use Rattle.std.specs.Prelude.{◌≡◌, ℕ, zero, suc, ◌≤◌, ◌<◌, not
 use Rattle.std.proofs.Common.{sym, ◌∙◌, ap, subst, arith}
 use Rattle.std.proofs.lemmas.Bool.{and_parts}
 use Rattle.std.proofs.lemmas.Int.{ints}
-use Rattle.cert_laws.specs.auction_model.specs.Book.{Book, market_of, menu_of, net_of}
-use Rattle.cert_laws.specs.auction_model.specs.Greatest.{IsFirstGreatest}
-use Rattle.cert_laws.specs.auction_model.specs.Lawful.{IsMarket}
-use Rattle.cert_laws.specs.auction_model.specs.Lowered.{lowered}
-use Rattle.cert_laws.specs.auction_model.specs.Market.{uses, value_of}
-use Rattle.cert_laws.specs.auction_model.specs.Menu.{fits_after, is_known_after, packages_after, without}
-use Rattle.cert_laws.specs.auction_model.specs.Package.{is_within}
-use Rattle.cert_laws.specs.auction_model.specs.Prices.{IsCorePoint, allowed_without, weight_of}
-use Rattle.cert_laws.specs.auction_model.specs.Table.{IsEntry, IsExactTable, entry_at}
-use Rattle.cert_laws.specs.auction_model.proofs.BookMarket.{market-of_book, winning-count}
-use Rattle.cert_laws.specs.auction_model.proofs.PlaceLaws.{left_at-whole}
-use Rattle.cert_laws.specs.auction_model.proofs.SkipLaws.{fits-skip}
-use Rattle.cert_text.specs.choices.specs.bid_book.specs.Kept.{IsBidBook}
-use Rattle.cert_laws.specs.cert_form.specs.Certificate.{WithoutValue, part_of}
-use Rattle.cert_laws.specs.cert_form.specs.CertText.{IsCertificate, IsChoice, IsTable}
-use Rattle.cert_laws.specs.Priced.{IsBestPart, IsPricedCert}
-use Rattle.cert_laws.specs.Sound.{cert_point}
-use Rattle.cert_laws.specs.Tests.{C1, C2, C3, C4, C9, IsPart, Obeys, bidders_of, full, states}
-use Rattle.cert_laws.proofs.Sizes.{exact_obeys}
-use Rattle.cert_laws.proofs.Winning.{full-below, unused_from}
+use Rattle.auction_model.specs.Book.{Book, market_of, menu_of, net_of}
+use Rattle.auction_model.specs.Greatest.{IsFirstGreatest}
+use Rattle.auction_model.specs.Lawful.{IsMarket}
+use Rattle.auction_model.specs.Lowered.{lowered}
+use Rattle.auction_model.specs.Market.{uses, value_of}
+use Rattle.auction_model.specs.Menu.{fits_after, is_known_after, packages_after, without}
+use Rattle.auction_model.specs.Package.{is_within}
+use Rattle.auction_model.specs.Prices.{IsCorePoint, allowed_without, weight_of}
+use Rattle.auction_model.specs.Table.{IsEntry, IsExactTable, entry_at}
+use Rattle.auction_model.proofs.BookMarket.{market-of_book, winning-count}
+use Rattle.auction_model.proofs.PlaceLaws.{left_at-whole}
+use Rattle.auction_model.proofs.SkipLaws.{fits-skip}
+use Rattle.bid_book.specs.Kept.{IsBidBook}
+use Rattle.cert_grammar.specs.Certificate.{WithoutValue, part_of}
+use Rattle.cert_grammar.specs.CertText.{IsCertificate, IsChoice, IsTable}
+use Rattle.cert_soundness.specs.Priced.{IsBestPart, IsPricedCert}
+use Rattle.cert_soundness.specs.Sound.{cert_point}
+use Rattle.cert_soundness.specs.Tests.{C1, C2, C3, C4, C9, IsPart, Obeys, bidders_of, full, states}
+use Rattle.cert_soundness.proofs.Sizes.{exact_obeys}
+use Rattle.cert_soundness.proofs.Winning.{full-below, unused_from}
 use Rattle.cert_text.specs.Parts.{cert_from, row_value, without_value}
 use Rattle.cert_text.specs.declared.certificate.CertRow.{CertRow}
 use Rattle.cert_text.specs.declared.certificate.WithoutPart.{WithoutPart}
-use Rattle.cert_text.specs.choices.specs.declared.chooser.Single.{Single}
-use Rattle.cert_text.specs.choices.specs.Lines.{width_of}
-use Rattle.cert_text.specs.choices.specs.Singles.{winners_after}
+use Rattle.choices.specs.declared.chooser.Single.{Single}
+use Rattle.choices.specs.Lines.{width_of}
+use Rattle.choices.specs.Singles.{winners_after}
 use Rattle.core_price.specs.Priced.{IsPriced}
 use Rattle.core_price.specs.declared.priced.Priced.{Priced}
-use Rattle.cert_laws.specs.row_laws.proofs.Sizes.{worth-nonneg}
-use Rattle.cert_laws.specs.row_laws.specs.Winners.{for_bidders}
-use Rattle.vickrey.specs.value_table.specs.BookTable.{menu_without}
-use Rattle.vickrey.specs.value_table.specs.TableValue.{TableValue}
-use Rattle.vickrey.specs.value_table.proofs.SingleLaws.{greatest-is}
+use Rattle.core_laws.proofs.Sizes.{worth-nonneg}
+use Rattle.core_laws.specs.Winners.{for_bidders}
+use Rattle.value_table.specs.BookTable.{menu_without}
+use Rattle.value_table.specs.TableValue.{TableValue}
+use Rattle.value_table.proofs.SingleLaws.{greatest-is}
 use Rattle.vickrey.specs.VickreyValue.{IsTableWithout, VickreyValue}
 use Rattle.vickrey.proofs.VickreyLaws.{greatest-all, winner-known}
 use Rattle.book_price.specs.Found.{AreFound, cert_found}

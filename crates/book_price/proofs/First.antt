@@ -4,18 +4,18 @@ use Rattle.std.specs.Prelude.{◌≡◌, ℕ, zero, suc, ◌-◌, ◌≤◌, ◌
 use Rattle.std.proofs.Common.{sym, ◌∙◌, ap, subst, arith}
 use Rattle.std.proofs.lemmas.Bool.{and_from, and_parts, le-leb, leb-true}
 use Rattle.std.proofs.lemmas.Int.{ints}
-use Rattle.cert_laws.specs.auction_model.specs.Greatest.{IsFirstGreatest}
-use Rattle.cert_laws.specs.auction_model.specs.Market.{is_earlier, number_of, sum_after}
-use Rattle.cert_laws.specs.auction_model.specs.Menu.{Menu, fits_after}
-use Rattle.cert_laws.specs.auction_model.specs.Package.{is_within, less}
-use Rattle.cert_laws.specs.auction_model.specs.Place.{left_at, place_of, states_of}
-use Rattle.cert_laws.specs.auction_model.specs.Table.{IsEntry, IsExactTable, entry_at}
-use Rattle.cert_laws.specs.auction_model.proofs.BookMarket.{fits-known}
-use Rattle.cert_laws.specs.auction_model.proofs.ChoiceLaws.{known-length}
-use Rattle.cert_laws.specs.auction_model.proofs.MenuLaws.{fits-cons}
-use Rattle.cert_laws.specs.auction_model.proofs.PlaceLaws.{left_at-less, left_at-whole, place-less_below, states-positive}
-use Rattle.cert_laws.specs.auction_model.proofs.OrderLaws.{earlier-number, earlier-rest}
-use Rattle.cert_laws.specs.Tests.{NoEarlier, left_after, worth_before}
+use Rattle.auction_model.specs.Greatest.{IsFirstGreatest}
+use Rattle.auction_model.specs.Market.{is_earlier, number_of, sum_after}
+use Rattle.auction_model.specs.Menu.{Menu, fits_after}
+use Rattle.auction_model.specs.Package.{is_within, less}
+use Rattle.auction_model.specs.Place.{left_at, place_of, states_of}
+use Rattle.auction_model.specs.Table.{IsEntry, IsExactTable, entry_at}
+use Rattle.auction_model.proofs.BookMarket.{fits-known}
+use Rattle.auction_model.proofs.ChoiceLaws.{known-length}
+use Rattle.auction_model.proofs.MenuLaws.{fits-cons}
+use Rattle.auction_model.proofs.PlaceLaws.{left_at-less, left_at-whole, place-less_below, states-positive}
+use Rattle.auction_model.proofs.OrderLaws.{earlier-number, earlier-rest}
+use Rattle.cert_soundness.specs.Tests.{NoEarlier, left_after, worth_before}
 
 split-here : (z : List ℕ) (k : ℕ) → k < length z → drop k z ≡ slice_index z k ∷ drop (suc k) z
 split-here [] k lt = absurd (omega arith)
@@ -51,7 +51,7 @@ module _ (m : Menu) (worth : ℕ → ℕ → ℤ) (supply z : List ℕ) (fits : 
     pub known : number_of z (suc k) ≤ m.bids (suc k)
     -- its package is within what the first k bidders leave
     pub within : IsTrue (is_within (m.lots (suc k) (number_of z (suc k))) (left_after m supply z k))
-    -- the numbers behind it fit what it leaves
+    -- the numbers after it fit what it leaves
     pub rest : IsTrue (fits_after m (suc k) (left_after m supply z (suc k)) (drop (suc k) z))
 
   own-from : (k : ℕ) → k < length z → IsTrue (fits_after m k (left_after m supply z k) (drop k z)) → Own k

@@ -1,17 +1,17 @@
 -- What pricing a book by its chooser finds is what it finds of the book.
 use Rattle.std.specs.Prelude.{◌≡◌, List, ℕ}
-use Rattle.cert_laws.specs.auction_model.specs.Book.{Book, market_of}
-use Rattle.cert_laws.specs.auction_model.specs.Greatest.{IsWinning}
-use Rattle.cert_laws.specs.auction_model.specs.Prices.{AreWeights}
-use Rattle.cert_laws.specs.Tests.{bidders_of}
-use Rattle.cert_text.specs.choices.specs.Singles.{AreSingles, winners_after}
-use Rattle.cert_text.specs.choices.specs.declared.chooser.Single.{Single}
+use Rattle.auction_model.specs.Book.{Book, market_of}
+use Rattle.auction_model.specs.Greatest.{IsWinning}
+use Rattle.auction_model.specs.Prices.{AreWeights}
+use Rattle.cert_soundness.specs.Tests.{bidders_of}
+use Rattle.choices.specs.Singles.{AreSingles, winners_after}
+use Rattle.choices.specs.declared.chooser.Single.{Single}
 use Rattle.core_price.specs.Priced.{IsPriced}
-use Rattle.cert_laws.specs.row_laws.specs.Weights.{FewWin}
+use Rattle.core_laws.specs.Weights.{FewWin}
 use Rattle.core_price.specs.declared.priced.Priced.{Priced}
-use Rattle.cert_laws.specs.row_laws.specs.Surplus.{surpluses_of}
-use Rattle.cert_laws.specs.row_laws.specs.Winners.{for_bidders}
-use Rattle.vickrey.specs.value_table.specs.TableValue.{IsLoweredTable, IsPlain, IsTableOf, TableValue}
+use Rattle.core_laws.specs.Surplus.{surpluses_of}
+use Rattle.core_laws.specs.Winners.{for_bidders}
+use Rattle.value_table.specs.TableValue.{IsLoweredTable, IsPlain, IsTableOf, TableValue}
 use Rattle.vickrey.specs.VickreyValue.{AreTablesWithout, VickreyValue}
 use Rattle.book_price.specs.Found.{AreFound}
 

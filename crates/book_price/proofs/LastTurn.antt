@@ -1,11 +1,11 @@
 -- The certificate has the point of the last turn.
 use Rattle.std.specs.Prelude.{◌≡◌, ℕ, List, [], ◌∷◌, ◌++◌, ℤ, refl}
 use Rattle.std.proofs.Common.{subst, sym}
-use Rattle.cert_laws.specs.cert_form.specs.Certificate.{CertValue}
-use Rattle.cert_laws.specs.Sound.{cert_point}
+use Rattle.cert_grammar.specs.Certificate.{CertValue}
+use Rattle.cert_soundness.specs.Sound.{cert_point}
 use Rattle.core_price.specs.Turns.{EndsWith, last_turn, point_of, turns_of}
 use Rattle.core_price.specs.declared.priced.Turn.{Turn}
-use Rattle.cert_laws.specs.row_laws.specs.Turns.{IsLastPoint}
+use Rattle.core_laws.specs.Turns.{IsLastPoint}
 
 last-of : (z : List ℕ) (den : ℤ) (at : List ℤ) (past : List Turn) → IsLastPoint (turns_of z (past ++ last_turn den at ∷ [])) (point_of z den at)
 last-of z den at [] = refl

@@ -6,24 +6,24 @@ use Rattle.std.proofs.lemmas.Bool.{cases_Bool, cases_lt, cond-false, cond-true}
 use Rattle.std.proofs.lemmas.Int.{ints}
 use Rattle.std.proofs.lemmas.List.{get_or_past}
 use Rattle.std.proofs.Math.IntN.{*ℤ-zero}
-use Rattle.cert_laws.specs.auction_model.specs.Book.{Book, market_of, menu_of, net_of}
-use Rattle.cert_laws.specs.auction_model.specs.Greatest.{IsFirstGreatest}
-use Rattle.cert_laws.specs.auction_model.specs.Lawful.{IsMarket}
-use Rattle.cert_laws.specs.auction_model.specs.Lowered.{lowered, of_bidder}
-use Rattle.cert_laws.specs.auction_model.specs.Market.{uses}
-use Rattle.cert_laws.specs.auction_model.specs.Menu.{fits_after}
-use Rattle.cert_laws.specs.auction_model.specs.Prices.{IsCorePoint, everyone, sum_over}
-use Rattle.cert_laws.specs.auction_model.specs.Table.{IsExactTable, entry_at}
-use Rattle.cert_laws.specs.auction_model.proofs.PlaceLaws.{left_at-whole}
-use Rattle.cert_laws.specs.cert_form.specs.Certificate.{CertValue}
-use Rattle.cert_laws.specs.Sound.{cert_point}
-use Rattle.cert_laws.specs.Tests.{C9, Obeys, bidders_of, full, lowered_net, won}
-use Rattle.cert_laws.proofs.Sizes.{exact_obeys}
-use Rattle.cert_laws.proofs.Winning.{full-below, lost-nothing}
-use Rattle.cert_laws.proofs.Exact.{obeys-same}
-use Rattle.cert_laws.specs.row_laws.specs.Surplus.{AsksWinnersOnly, lowered_sum, surpluses_of}
-use Rattle.cert_laws.specs.row_laws.proofs.Excess.{unblocked-free}
-use Rattle.cert_laws.specs.row_laws.proofs.Surplus.{surpluses-are, surpluses-length}
+use Rattle.auction_model.specs.Book.{Book, market_of, menu_of, net_of}
+use Rattle.auction_model.specs.Greatest.{IsFirstGreatest}
+use Rattle.auction_model.specs.Lawful.{IsMarket}
+use Rattle.auction_model.specs.Lowered.{lowered, of_bidder}
+use Rattle.auction_model.specs.Market.{uses}
+use Rattle.auction_model.specs.Menu.{fits_after}
+use Rattle.auction_model.specs.Prices.{IsCorePoint, everyone, sum_over}
+use Rattle.auction_model.specs.Table.{IsExactTable, entry_at}
+use Rattle.auction_model.proofs.PlaceLaws.{left_at-whole}
+use Rattle.cert_grammar.specs.Certificate.{CertValue}
+use Rattle.cert_soundness.specs.Sound.{cert_point}
+use Rattle.cert_soundness.specs.Tests.{C9, Obeys, bidders_of, full, lowered_net, won}
+use Rattle.cert_soundness.proofs.Sizes.{exact_obeys}
+use Rattle.cert_soundness.proofs.Winning.{full-below, lost-nothing}
+use Rattle.cert_soundness.proofs.Exact.{obeys-same}
+use Rattle.core_laws.specs.Surplus.{AsksWinnersOnly, lowered_sum, surpluses_of}
+use Rattle.core_laws.proofs.Excess.{unblocked-free}
+use Rattle.core_laws.proofs.Surplus.{surpluses-are, surpluses-length}
 
 idle-none : (x : ℤ) → pos 0 ≤ℤ x → int_max (pos 0) (neg_ℤ x) ≡ pos 0
 idle-none (pos zero) h = refl

@@ -2,16 +2,16 @@
 use Rattle.std.specs.Prelude.{◌≡◌, ℕ, zero, suc, List, [], ◌∷◌, length, map, ℤ, pos, refl}
 use Rattle.std.specs.List.{AllByRecursion}
 use Rattle.std.proofs.Common.{ap, arith}
-use Rattle.cert_laws.specs.auction_model.specs.Book.{Book, market_of}
-use Rattle.cert_laws.specs.auction_model.specs.Market.{Market}
-use Rattle.cert_laws.specs.cert_form.specs.Certificate.{RowValue}
+use Rattle.auction_model.specs.Book.{Book, market_of}
+use Rattle.auction_model.specs.Market.{Market}
+use Rattle.cert_grammar.specs.Certificate.{RowValue}
 use Rattle.core_price.specs.Kept.{IsKept, firsts, seconds}
 use Rattle.core_price.specs.Lowest.{DividesAll, IsLowest}
 use Rattle.core_price.specs.declared.priced.Priced.{Priced}
 use Rattle.core_price.specs.declared.priced.PricedRow.{PricedRow}
-use Rattle.cert_laws.specs.row_laws.specs.Winners.{for_bidders, winners_in}
+use Rattle.core_laws.specs.Winners.{for_bidders, winners_in}
 use Rattle.std.proofs.lemmas.List.{length-map}
-use Rattle.vickrey.specs.value_table.specs.TableValue.{TableValue}
+use Rattle.value_table.specs.TableValue.{TableValue}
 use Rattle.vickrey.specs.VickreyValue.{VickreyValue}
 use Rattle.book_price.specs.Found.{AreFound, cert_found}
 use Rattle.book_price.specs.Made.{row_from}

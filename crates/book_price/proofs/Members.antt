@@ -1,14 +1,13 @@
 -- The members of a row as a list.
-use Rattle.std.specs.Prelude.{◌≡◌, ℕ, zero, suc, ◌-◌, ◌*◌, ◌/◌, ◌%◌, ◌^◌, ◌<◌, ◌≤◌, ◌==◌, Bool, true, false, cond, not, ◌&&◌, ◌||◌, List, [], ◌∷◌, ◌++◌}
-use Rattle.std.specs.Prelude.{length, refl}
+use Rattle.std.specs.Prelude.{Bool, List, [], cond, false, length, not, refl, suc, true, zero, ℕ, ◌%◌, ◌&&◌, ◌*◌, ◌++◌, ◌-◌, ◌/◌, ◌<◌, ◌==◌, ◌^◌}
+use Rattle.std.specs.Prelude.{◌||◌, ◌∷◌, ◌≡◌, ◌≤◌}
 use Rattle.std.proofs.Common.{sym, ◌∙◌, ap, arith, inl, inr, ◌⊎◌}
 use Rattle.std.proofs.lemmas.Bool.{cases_Bool, cases_eq, cases_lt, eq-eqb, ne_eqb, false≢true}
 use native.Mathlib.Nat.{pow-suc}
-use Rattle.cert_laws.specs.auction_model.specs.Market.{uses}
-use Rattle.cert_laws.specs.cert_form.specs.Certificate.{is_member}
-use Rattle.cert_laws.specs.cert_form.specs.CertText.{AreMembers}
-use Rattle.cert_laws.specs.row_laws.specs.Winners.{members_of}
-use Rattle.cert_laws.specs.row_laws.specs.Winners.{has_bit, winners_in}
+use Rattle.auction_model.specs.Market.{uses}
+use Rattle.cert_grammar.specs.Certificate.{is_member}
+use Rattle.cert_grammar.specs.CertText.{AreMembers}
+use Rattle.core_laws.specs.Winners.{has_bit, members_of, winners_in}
 
 or_none : (b : Bool) → b ≡ (b || false)
 or_none true = refl

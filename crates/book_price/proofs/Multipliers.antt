@@ -1,27 +1,27 @@
 -- The multipliers of the kept rows of any market pass the tests of multipliers.
-use Rattle.std.specs.Prelude.{◌≡◌, ℕ, zero, suc, ◌-◌, ◌<◌, ◌≤◌, Bool, true, false, cond, IsTrue, List, [], length, map, slice_index_or, ℤ, pos, ◌+ℤ◌, ◌-ℤ◌}
-use Rattle.std.specs.Prelude.{◌*ℤ◌, ◌≤ℤ◌, ◌<ℤ◌, refl}
+use Rattle.std.specs.Prelude.{Bool, IsTrue, List, [], cond, false, length, map, pos, refl, slice_index_or, suc, true, zero, ℕ, ℤ, ◌*ℤ◌, ◌+ℤ◌, ◌-ℤ◌}
+use Rattle.std.specs.Prelude.{◌-◌, ◌<ℤ◌, ◌<◌, ◌≡◌, ◌≤ℤ◌, ◌≤◌}
 use Rattle.std.proofs.Common.{sym, ◌∙◌, ap, arith, ◌⊎◌, inl, inr}
 use Rattle.std.proofs.lemmas.Int.{ints}
 use Rattle.std.proofs.lemmas.List.{get_or-map, length-map}
-use Rattle.cert_laws.specs.auction_model.specs.Lowered.{of_bidder}
-use Rattle.cert_laws.specs.auction_model.specs.Market.{Market, uses, value_of, worth_in}
-use Rattle.cert_laws.specs.cert_form.specs.Certificate.{RowValue, WithoutValue, is_member, row_of as row_at_place}
-use Rattle.cert_laws.specs.MarketTests.{ShowsLeastSum, ShowsNearest, sum_holding, vickrey_in}
-use Rattle.cert_text.specs.choices.specs.Singles.{AreSingles, IsSingle}
-use Rattle.cert_text.specs.choices.specs.declared.chooser.Single.{Single}
+use Rattle.auction_model.specs.Lowered.{of_bidder}
+use Rattle.auction_model.specs.Market.{Market, uses, value_of, worth_in}
+use Rattle.cert_grammar.specs.Certificate.{RowValue, WithoutValue, is_member, row_of as row_at_place}
+use Rattle.cert_soundness.specs.MarketTests.{ShowsLeastSum, ShowsNearest, sum_holding, vickrey_in}
+use Rattle.choices.specs.Singles.{AreSingles, IsSingle}
+use Rattle.choices.specs.declared.chooser.Single.{Single}
 use Rattle.core_price.specs.Kept.{firsts, rows_in, seconds}
-use Rattle.cert_laws.specs.auction_model.specs.Prices.{weight_of}
+use Rattle.auction_model.specs.Prices.{weight_of}
 use Rattle.core_price.specs.Rows.{prices_of}
-use Rattle.cert_laws.specs.row_laws.specs.Weights.{weights_in}
+use Rattle.core_laws.specs.Weights.{weights_in}
 use Rattle.core_price.specs.declared.priced.PricedRow.{PricedRow}
-use Rattle.cert_laws.specs.row_laws.specs.far_num.specs.Members.{holds}
-use Rattle.cert_laws.specs.row_laws.specs.far_num.specs.declared.Row.{Row}
-use Rattle.core_price.specs.nearest_point.specs.Problem.{bounds, coefficients, weight_at}
-use Rattle.cert_laws.specs.point_laws.specs.Multipliers.{AreFirst, AreSecond, SumsTo, sum_at}
-use Rattle.cert_laws.specs.point_laws.proofs.Order.{zero_or}
-use Rattle.cert_laws.specs.row_laws.specs.Winners.{for_bidders, has_bit, row_of, winners_in}
-use Rattle.cert_laws.specs.wide_num.specs.Sums.{nth}
+use Rattle.far_num.specs.Members.{holds}
+use Rattle.far_num.specs.declared.Row.{Row}
+use Rattle.nearest_point.specs.Problem.{bounds, coefficients, weight_at}
+use Rattle.projection_laws.specs.Multipliers.{AreFirst, AreSecond, SumsTo, sum_at}
+use Rattle.projection_laws.proofs.Order.{zero_or}
+use Rattle.core_laws.specs.Winners.{for_bidders, has_bit, has_member, winners_in}
+use Rattle.wide_num.specs.Sums.{nth}
 use Rattle.book_price.specs.Made.{cert_made, row_from}
 use Rattle.book_price.proofs.Members.{member-is}
 use Rattle.book_price.proofs.Places.{IsPlace, each-at, part-of_winner, place-of, rank, single_at, weight-rank}
@@ -48,7 +48,7 @@ module _ (z : List ℕ) (k i : ℕ) (inside : k < length z) (place : IsPlace z k
   term : (r : PricedRow) (x : ℤ) → cond (is_member (row_from z r).members (suc k)) x (pos 0) ≡ x *ℤ holds r.row.members i
   term r x =
       let b : suc k - 1 ≡ k = omega arith in
-      let bit = member-is (row_of z r.row.members) (length z) (suc k) (omega arith) (omega arith) ∙ ap (has_bit z r.row.members) b in
+      let bit = member-is (has_member z r.row.members) (length z) (suc k) (omega arith) (omega arith) ∙ ap (has_bit z r.row.members) b in
       ap (λ t. cond t x (pos 0)) bit ∙ times_when (has_bit z r.row.members k) x ∙ ap (λ (y : ℤ). x *ℤ y) (sym (place.member r.row.members))
 
   -- the sum over the first n rows that hold the bidder is that by the coefficients of the winner

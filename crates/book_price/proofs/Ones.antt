@@ -2,9 +2,9 @@
 use Rattle.std.specs.Prelude.{◌≡◌, ℕ, zero, suc, ◌-◌, ◌<◌, ◌≤◌, List, [], ◌∷◌, get_or, length, replicate, refl}
 use Rattle.std.proofs.Common.{inl, inr, arith}
 use Rattle.std.proofs.lemmas.List.{get_or-replicate, length-replicate}
-use Rattle.cert_laws.specs.auction_model.specs.Prices.{AreWeights, weight_of}
-use Rattle.cert_laws.specs.row_laws.specs.Weights.{FewWin, ManyWin, WeighAlike, weights_in}
-use Rattle.cert_laws.specs.row_laws.specs.Winners.{winners_in}
+use Rattle.auction_model.specs.Prices.{AreWeights, weight_of}
+use Rattle.core_laws.specs.Weights.{FewWin, ManyWin, WeighAlike, weights_in}
+use Rattle.core_laws.specs.Winners.{winners_in}
 
 -- each bidder weighs 1
 pub one-at : (n j : ℕ) → 0 < j → j ≤ n → weight_of (replicate n 1) j ≡ 1

@@ -1,9 +1,9 @@
 -- The payments of the core outcome of any market pass the test of payments.
 use Rattle.std.specs.Prelude.{ℕ, List, ℤ}
-use Rattle.cert_laws.specs.auction_model.specs.Market.{Market}
-use Rattle.cert_laws.specs.auction_model.specs.Prices.{IsCorePoint}
-use Rattle.cert_laws.specs.MarketTests.{PaysWithinBids}
-use Rattle.cert_text.specs.choices.specs.declared.chooser.Single.{Single}
+use Rattle.auction_model.specs.Market.{Market}
+use Rattle.auction_model.specs.Prices.{IsCorePoint}
+use Rattle.cert_soundness.specs.MarketTests.{PaysWithinBids}
+use Rattle.choices.specs.declared.chooser.Single.{Single}
 use Rattle.core_price.specs.Turns.{point_of}
 use Rattle.core_price.specs.declared.priced.PricedRow.{PricedRow}
 use Rattle.book_price.specs.Made.{cert_made}

@@ -1,19 +1,19 @@
 -- The places of the winners among the bidders, and the part of each.
-use Rattle.std.specs.Prelude.{◌≡◌, ℕ, zero, suc, ◌+◌, ◌-◌, ◌/◌, ◌%◌, ◌<◌, ◌≤◌, ◌==◌, true, cond, IsTrue, List, [], ◌∷◌, length, map, slice_index_or, ℤ, pos}
-use Rattle.std.specs.Prelude.{refl}
+use Rattle.std.specs.Prelude.{IsTrue, List, [], cond, length, map, pos, refl, slice_index_or, suc, true, zero, ℕ, ℤ, ◌%◌, ◌+◌, ◌-◌, ◌/◌, ◌<◌, ◌==◌}
+use Rattle.std.specs.Prelude.{◌∷◌, ◌≡◌, ◌≤◌}
 use Rattle.std.specs.List.{AllByRecursion}
 use Rattle.std.proofs.Common.{◌∙◌, ap, arith}
 use Rattle.std.proofs.lemmas.Bool.{eq-eqb, ne_eqb, false≢true}
 use Rattle.std.proofs.lemmas.Nat.{mod_below}
-use Rattle.cert_laws.specs.auction_model.specs.Market.{Market, uses}
-use Rattle.cert_laws.specs.cert_form.specs.Certificate.{WithoutValue, part_of}
-use Rattle.cert_text.specs.choices.specs.Singles.{AreSingles, IsSingle, winners_after}
-use Rattle.cert_text.specs.choices.specs.declared.chooser.Single.{Single}
-use Rattle.cert_laws.specs.row_laws.specs.far_num.specs.Members.{holds}
-use Rattle.cert_laws.specs.row_laws.specs.Winners.{for_bidders, has_bit, winners_in}
-use Rattle.cert_laws.specs.row_laws.proofs.Bits.{holds-front, holds-rest}
-use Rattle.cert_laws.specs.wide_num.specs.Sums.{nth}
-use Rattle.cert_laws.specs.row_laws.specs.Weights.{weights_in}
+use Rattle.auction_model.specs.Market.{Market, uses}
+use Rattle.cert_grammar.specs.Certificate.{WithoutValue, part_of}
+use Rattle.choices.specs.Singles.{AreSingles, IsSingle, winners_after}
+use Rattle.choices.specs.declared.chooser.Single.{Single}
+use Rattle.far_num.specs.Members.{holds}
+use Rattle.core_laws.specs.Winners.{for_bidders, has_bit, winners_in}
+use Rattle.core_laws.proofs.Bits.{holds-front, holds-rest}
+use Rattle.wide_num.specs.Sums.{nth}
+use Rattle.core_laws.specs.Weights.{weights_in}
 use Rattle.book_price.specs.Made.{parts_from}
 
 -- the single at a place
@@ -69,7 +69,7 @@ next-place z n k i p = record { inside = omega (arith, p.inside); member = λ bi
 loser-place : (z : List ℕ) (k i : ℕ) → IsPlace z k i → IsPlace (zero ∷ z) (suc k) i
 loser-place z k i p = record { inside = p.inside; member = λ bits. p.member bits; number = λ xs. p.number xs }
 
--- the front and the rest of equal lists
+-- the prefix and the rest of equal lists
 pub front_of : (a b : ℕ) (behind others : List ℕ) → a ∷ behind ≡ b ∷ others → a ≡ b
 front_of a b behind others e = ap (λ (l : List ℕ). slice_index_or l 0 0) e
 
@@ -96,14 +96,14 @@ next-part x singles t tables j i other p = record {
   part = ap (λ b. cond b (part x.winner x.choice t) (part_of (parts_from singles tables) j)) (ne_eqb x.winner j other) ∙ p.part;
 }
 
--- how many winners stand before the bidder k + 1
+-- how many winners come before the bidder k + 1
 abbrev pub rank : List ℕ → ℕ → ℕ
 rank [] k = 0
 rank (x ∷ z) zero = 0
 rank (zero ∷ z) (suc k) = rank z k
 rank (suc n ∷ z) (suc k) = suc (rank z k)
 
--- a winner has the place of as many winners as stand before it
+-- a winner has the place of as many winners as come before it
 pub place-of : (z : List ℕ) (k : ℕ) → k < length z → uses z (suc k) ≡ true → IsPlace z k (rank z k)
 place-of [] k lt used = absurd (omega arith)
 place-of (zero ∷ z) zero lt used = absurd (false≢true used)

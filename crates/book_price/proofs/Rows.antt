@@ -4,17 +4,17 @@ use Rattle.std.specs.List.{AllByRecursion}
 use Rattle.std.proofs.Common.{sym, ◌∙◌, ap, arith, subst}
 use Rattle.std.proofs.lemmas.Bool.{and_parts, eqb-true, not-false, not-true}
 use Rattle.std.proofs.lemmas.List.{get_or-map, length-map}
-use Rattle.cert_laws.specs.auction_model.specs.Lowered.{of_bidder}
-use Rattle.cert_laws.specs.auction_model.specs.Prices.{sum_over}
-use Rattle.cert_laws.specs.auction_model.specs.Market.{Market, number_of, uses, value_of, worth_in}
-use Rattle.cert_laws.specs.cert_form.specs.Certificate.{RowValue, is_member, row_of as row_at_place}
-use Rattle.cert_laws.specs.MarketTests.{HasTightRow, IsTight}
-use Rattle.cert_text.specs.choices.specs.declared.chooser.Single.{Single}
+use Rattle.auction_model.specs.Lowered.{of_bidder}
+use Rattle.auction_model.specs.Prices.{sum_over}
+use Rattle.auction_model.specs.Market.{Market, number_of, uses, value_of, worth_in}
+use Rattle.cert_grammar.specs.Certificate.{RowValue, is_member, row_of as row_at_place}
+use Rattle.cert_soundness.specs.MarketTests.{HasTightRow, IsTight}
+use Rattle.choices.specs.declared.chooser.Single.{Single}
 use Rattle.core_price.specs.Kept.{IsKept}
 use Rattle.core_price.specs.declared.priced.PricedRow.{PricedRow}
-use Rattle.cert_laws.specs.row_laws.specs.Winners.{for_bidders, row_of}
-use Rattle.cert_laws.specs.row_laws.proofs.Blocks.{row-asks}
-use Rattle.cert_laws.specs.row_laws.proofs.Rows.{over-same}
+use Rattle.core_laws.specs.Winners.{for_bidders, has_member}
+use Rattle.core_laws.proofs.Blocks.{row-asks}
+use Rattle.core_laws.proofs.Rows.{over-same}
 use Rattle.book_price.specs.Made.{cert_made, row_from}
 use Rattle.book_price.proofs.Members.{member-inside, member-is}
 use Rattle.book_price.proofs.Places.{each-at}
@@ -36,8 +36,8 @@ module _ (m : Market) (z : List ℕ) (long : length z ≡ m.bidders) (den : ℤ)
     (member : IsTrue (is_member (row_from z r).members j)) where
   idle : IsTrue (uses z j && not (uses r.choice j))
   idle =
-      let inside = member-inside (row_of z r.row.members) (length z) j member in
-      kept.given.idle j inside.0 (omega (arith, inside.1, long)) (sym (member-is (row_of z r.row.members) (length z) j inside.0 inside.1) ∙ member)
+      let inside = member-inside (has_member z r.row.members) (length z) j member in
+      kept.given.idle j inside.0 (omega (arith, inside.1, long)) (sym (member-is (has_member z r.row.members) (length z) j inside.0 inside.1) ∙ member)
 
   -- a member of a row wins
   pub member-wins : IsTrue (uses z j)
@@ -49,15 +49,15 @@ module _ (m : Market) (z : List ℕ) (long : length z ≡ m.bidders) (den : ℤ)
 
 module _ (m : Market) (z : List ℕ) (long : length z ≡ m.bidders) (den : ℤ) (at : List ℤ) (r : PricedRow) (kept : IsKept m z den at r) where
   -- the list of members is the set of the row
-  same : (j : ℕ) → 0 < j → j ≤ m.bidders → is_member (row_from z r).members j ≡ row_of z r.row.members j
-  same j some inside = member-is (row_of z r.row.members) (length z) j some (omega (arith, long))
+  same : (j : ℕ) → 0 < j → j ≤ m.bidders → is_member (row_from z r).members j ≡ has_member z r.row.members j
+  same j some inside = member-is (has_member z r.row.members) (length z) j some (omega (arith, long))
 
   -- what the members pay is what the choice asks of them
   pub row-tight : sum_over (is_member (row_from z r).members) (of_bidder (for_bidders z at)) m.bidders
       ≡ den *ℤ (value_of m r.choice -ℤ sum_over (λ j. not (is_member (row_from z r).members j)) (worth_in m z) m.bidders)
   row-tight =
-      let paid = over-same (is_member (row_from z r).members) (row_of z r.row.members) (of_bidder (for_bidders z at)) m.bidders same in
-      let won = over-same (λ j. not (is_member (row_from z r).members j)) (λ j. not (row_of z r.row.members j)) (worth_in m z) m.bidders
+      let paid = over-same (is_member (row_from z r).members) (has_member z r.row.members) (of_bidder (for_bidders z at)) m.bidders same in
+      let won = over-same (λ j. not (is_member (row_from z r).members j)) (λ j. not (has_member z r.row.members j)) (worth_in m z) m.bidders
       (λ j some inside. ap not (same j some inside)) in
       paid
       ∙ row-asks m z long at r.row.members

@@ -1,28 +1,28 @@
 -- In any market the rows, the parts and the payments have the shape that a certificate keeps.
-use Rattle.std.specs.Prelude.{◌≡◌, ℕ, zero, suc, ◌-◌, ◌^◌, ◌<◌, ◌≤◌, true, cond, not, IsTrue, List, [], ◌∷◌, length, map, slice_index, slice_index_or, ℤ, pos}
-use Rattle.std.specs.Prelude.{negsuc, ◌+ℤ◌, ◌-ℤ◌, ◌*ℤ◌, ◌≤ℤ◌, ◌<ℤ◌, unsigned_abs}
+use Rattle.std.specs.Prelude.{IsTrue, List, [], cond, length, map, negsuc, not, pos, slice_index, slice_index_or, suc, true, unsigned_abs, zero, ℕ, ℤ}
+use Rattle.std.specs.Prelude.{◌*ℤ◌, ◌+ℤ◌, ◌-ℤ◌, ◌-◌, ◌<ℤ◌, ◌<◌, ◌^◌, ◌∷◌, ◌≡◌, ◌≤ℤ◌, ◌≤◌}
 use Rattle.std.specs.List.{AllByRecursion}
 use Rattle.std.proofs.Common.{◌∙◌, ap, arith}
 use Rattle.std.proofs.Math.IntN.{*ℤ_comm}
 use Rattle.std.proofs.lemmas.Bool.{and_parts}
 use Rattle.std.proofs.lemmas.Int.{ints}
 use Rattle.std.proofs.lemmas.List.{length-map}
-use Rattle.cert_laws.specs.auction_model.specs.Lawful.{IsMarket}
-use Rattle.cert_laws.specs.auction_model.specs.Market.{Market, uses}
-use Rattle.cert_laws.specs.cert_form.specs.CertText.{AllInRange, AreRows, AreWithouts, AtMost, InRange, IsChoice, IsRow, IsTable}
-use Rattle.cert_text.specs.choices.specs.Singles.{AreSingles, IsSingle, winners_after}
-use Rattle.cert_text.specs.choices.specs.declared.chooser.Single.{Single}
+use Rattle.auction_model.specs.Lawful.{IsMarket}
+use Rattle.auction_model.specs.Market.{Market, uses}
+use Rattle.cert_grammar.specs.CertText.{AllInRange, AreRows, AreWithouts, AtMost, InRange, IsChoice, IsRow, IsTable}
+use Rattle.choices.specs.Singles.{AreSingles, IsSingle, winners_after}
+use Rattle.choices.specs.declared.chooser.Single.{Single}
 use Rattle.core_price.specs.Kept.{IsKept, firsts, rows_in, seconds}
 use Rattle.core_price.specs.declared.priced.PricedRow.{PricedRow}
-use Rattle.core_price.specs.nearest_point.specs.Numbers.{AreBelow}
-use Rattle.core_price.specs.nearest_point.specs.Problem.{bounds, coefficients}
-use Rattle.cert_laws.specs.point_laws.specs.Multipliers.{AreFirst, SumsTo}
-use Rattle.cert_laws.specs.point_laws.proofs.Order.{mul_nonneg}
-use Rattle.cert_laws.specs.point_laws.proofs.Sums.{term-le}
-use Rattle.cert_laws.specs.row_laws.specs.Winners.{for_bidders, has_bit, row_of, winners_in}
-use Rattle.cert_laws.specs.row_laws.proofs.Winners.{all-bidders}
-use Rattle.cert_laws.specs.wide_num.specs.Sums.{nth, total}
-use Rattle.cert_laws.specs.wide_num.proofs.Ints.{*ℤ-one, mul-add, mul-sub}
+use Rattle.nearest_point.specs.Numbers.{AreBelow}
+use Rattle.nearest_point.specs.Problem.{bounds, coefficients}
+use Rattle.projection_laws.specs.Multipliers.{AreFirst, SumsTo}
+use Rattle.projection_laws.proofs.Order.{mul_nonneg}
+use Rattle.projection_laws.proofs.Sums.{term-le}
+use Rattle.core_laws.specs.Winners.{for_bidders, has_bit, has_member, winners_in}
+use Rattle.core_laws.proofs.Winners.{all-bidders}
+use Rattle.wide_num.specs.Sums.{nth, total}
+use Rattle.wide_num.proofs.Ints.{*ℤ-one, mul-add, mul-sub}
 use Rattle.book_price.specs.Made.{parts_from, row_from}
 use Rattle.book_price.proofs.Members.{bit-wins, member-is, member-some, members-rise, some-bit}
 use Rattle.book_price.proofs.Multipliers.{first-at, members-at, second-at}
@@ -33,7 +33,7 @@ at_most-from : (most : ℕ) (c : List ℕ) → ((k : ℕ) → k < length c → s
 at_most-from most [] h = tt
 at_most-from most (i ∷ c) h = (h 0 (omega arith), at_most-from most c (λ k lt. h (suc k) (omega arith)))
 
--- an allowed choice is a choice of so many bidders
+-- an allowed choice is a choice of that many bidders
 pub choice_shape : (m : Market) → IsMarket m → ((j : ℕ) → 0 < j → j ≤ m.bidders → m.bids j ≤ 65535) → (c : List ℕ) → IsTrue (m.allowed c) → IsChoice m.bidders c
 choice_shape m lawful few c allowed = (lawful.lengths c allowed, at_most-from 65535 c (λ k lt. small k (omega (arith, lt, lawful.lengths c allowed))))
   where
@@ -108,13 +108,13 @@ module _ (m : Market) (z : List ℕ) (long : length z ≡ m.bidders) (choices : 
   has-member i lt =
       let h = held i lt in
       let b : suc h.0 - 1 ≡ h.0 = omega arith in
-      member-some (row_from z (priced_at rows i)).members (suc h.0) (member-is (row_of z (priced_at rows i).row.members) (length z) (suc h.0)
+      member-some (row_from z (priced_at rows i)).members (suc h.0) (member-is (has_member z (priced_at rows i).row.members) (length z) (suc h.0)
       (omega arith) h.1 ∙ ap (has_bit z (priced_at rows i).row.members) b ∙ h.2)
 
   row-shape : (i : ℕ) → i < length rows → IsRow m.bidders (row_from z (priced_at rows i))
   row-shape i lt = record {
     some = has-member i lt;
-    members = rw⁻¹ long (members-rise (row_of z (priced_at rows i).row.members) (length z));
+    members = rw⁻¹ long (members-rise (has_member z (priced_at rows i).row.members) (length z));
     choice = choices (priced_at rows i).choice (kept-at i lt).given.allowed;
     range = (
       within (priced_at rows i).first den (let f = first-at rows i lt in let s = first.not_negative i lt in omega (arith, ints, f, s))

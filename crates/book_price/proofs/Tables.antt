@@ -1,23 +1,23 @@
 -- The tables of pricing are exact tables of the book, and their numbers are in range.
 use Rattle.std.specs.Prelude.{◌≡◌, ℕ, suc, ◌-◌, ◌^◌, ◌<◌, Bool, List, [], ◌∷◌, length, replicate, get_or, ℤ, pos, unsigned_abs, refl}
 use Rattle.std.proofs.Common.{sym, ◌∙◌, ap, arith}
-use Rattle.cert_laws.specs.auction_model.specs.Book.{Book, menu_of, net_of}
-use Rattle.cert_laws.specs.auction_model.specs.Greatest.{IsGreatestValue}
-use Rattle.cert_laws.specs.auction_model.specs.Lowered.{lowered}
-use Rattle.cert_laws.specs.auction_model.specs.Market.{sum_after}
-use Rattle.cert_laws.specs.auction_model.specs.Menu.{Menu, fits_after, without}
-use Rattle.cert_laws.specs.auction_model.specs.Place.{left_at, states_of}
-use Rattle.cert_laws.specs.auction_model.specs.Table.{IsExactTable}
-use Rattle.cert_laws.specs.auction_model.proofs.BoundLaws.{AreCapped, caps_of, lowered-capped, line-sizes}
-use Rattle.cert_laws.specs.auction_model.proofs.ListLaws.{zeros-at}
-use Rattle.cert_laws.specs.auction_model.proofs.PlainLaws.{fits-without_none, sum-plain}
-use Rattle.cert_text.specs.choices.specs.bid_book.specs.Kept.{IsBidBook}
-use Rattle.cert_laws.specs.cert_form.specs.CertText.{AllInRange, AreTableLines, IsTable}
-use Rattle.cert_laws.specs.Tests.{bidders_of, states}
-use Rattle.cert_text.specs.choices.specs.Lines.{width_of}
-use Rattle.vickrey.specs.value_table.specs.BookTable.{IsBookTable, IsInRange, menu_without}
-use Rattle.vickrey.specs.value_table.specs.TableValue.{IsLoweredTable, IsPlain, IsTableOf, TableValue}
-use Rattle.vickrey.specs.value_table.proofs.Plain.{plain-range}
+use Rattle.auction_model.specs.Book.{Book, menu_of, net_of}
+use Rattle.auction_model.specs.Greatest.{IsGreatestValue}
+use Rattle.auction_model.specs.Lowered.{lowered}
+use Rattle.auction_model.specs.Market.{sum_after}
+use Rattle.auction_model.specs.Menu.{Menu, fits_after, without}
+use Rattle.auction_model.specs.Place.{left_at, states_of}
+use Rattle.auction_model.specs.Table.{IsExactTable}
+use Rattle.auction_model.proofs.BoundLaws.{AreCapped, caps_of, line-sizes, lowered-capped}
+use Rattle.auction_model.proofs.ListLaws.{zeros-at}
+use Rattle.auction_model.proofs.PlainLaws.{fits-without_none, sum-plain}
+use Rattle.bid_book.specs.Kept.{IsBidBook}
+use Rattle.cert_grammar.specs.CertText.{AllInRange, AreTableLines, IsTable}
+use Rattle.cert_soundness.specs.Tests.{bidders_of, states}
+use Rattle.choices.specs.Lines.{width_of}
+use Rattle.value_table.specs.BookTable.{IsBookTable, IsInRange, menu_without}
+use Rattle.value_table.specs.TableValue.{IsLoweredTable, IsPlain, IsTableOf, TableValue}
+use Rattle.value_table.proofs.Plain.{plain-range}
 use Rattle.vickrey.specs.VickreyValue.{IsTableWithout}
 
 greatest-same : (p q : List ℕ → Bool) (v w : List ℕ → ℤ) (most : ℤ) → ((c : List ℕ) → p c ≡ q c) → ((c : List ℕ) → v c ≡ w c) → IsGreatestValue p v most

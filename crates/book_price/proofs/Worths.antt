@@ -3,11 +3,11 @@ use Rattle.std.specs.Prelude.{◌≡◌, ℕ, zero, suc, ◌*◌, ◌^◌, ◌<�
 use Rattle.std.proofs.Common.{arith}
 use Rattle.std.proofs.lemmas.Int.{ints}
 use Rattle.std.proofs.lemmas.Bool.{and_parts, leb-true}
-use Rattle.cert_laws.specs.auction_model.specs.Market.{sum_after, value_of}
-use Rattle.cert_laws.specs.auction_model.specs.Menu.{Menu, is_known_after, packages_after}
-use Rattle.cert_laws.specs.auction_model.specs.Package.{is_within}
-use Rattle.cert_laws.specs.auction_model.specs.Book.{Book, bids_of, net_of, menu_of, market_of}
-use Rattle.cert_laws.specs.row_laws.specs.Winners.{winners_in}
+use Rattle.auction_model.specs.Market.{sum_after, value_of}
+use Rattle.auction_model.specs.Menu.{Menu, is_known_after, packages_after}
+use Rattle.auction_model.specs.Package.{is_within}
+use Rattle.auction_model.specs.Book.{Book, bids_of, market_of, menu_of, net_of}
+use Rattle.core_laws.specs.Winners.{winners_in}
 
 -- the winners of a known choice, k bidders being passed
 pub sum-most : (m : Menu) (worth : ℕ → ℕ → ℤ) → ((j : ℕ) → worth j 0 ≡ pos 0) → ((j i : ℕ) → 0 < j → i ≤ m.bids j → worth j i ≤ℤ pos (2 ^ 42))

@@ -3,9 +3,3 @@ pub mod Made
 pub mod Priced
 pub mod Reduced
 pub mod Stops
-pub use Rattle.cert_laws
-pub use Rattle.cert_text.specs.choices
-pub use Rattle.core_price
-pub use Rattle.cert_laws.specs.point_laws
-pub use Rattle.cert_laws.specs.row_laws
-pub use Rattle.vickrey

@@ -1,14 +1,13 @@
 -- The certificate of a book's prices as a value, from what pricing found.
 use Rattle.std.specs.Prelude.{ℕ, List, [], ◌∷◌, length, map, ℤ}
-use Rattle.cert_text.specs.choices.specs.declared.chooser.Single.{Single}
-use Rattle.cert_laws.specs.cert_form.specs.Certificate.{CertValue, WithoutValue, RowValue}
+use Rattle.choices.specs.declared.chooser.Single.{Single}
+use Rattle.cert_grammar.specs.Certificate.{CertValue, RowValue, WithoutValue}
 use Rattle.core_price.specs.declared.priced.PricedRow.{PricedRow}
-use Rattle.cert_laws.specs.row_laws.specs.Winners.{members_of}
-use Rattle.cert_laws.specs.row_laws.specs.Winners.{for_bidders, row_of}
+use Rattle.core_laws.specs.Winners.{for_bidders, has_member, members_of}
 
 -- a kept row; its bits are those of winners in order, its members the bidders, rising
 abbrev pub row_from : List ℕ → PricedRow → RowValue
-row_from z r = record { members = members_of (row_of z r.row.members) (length z); first = r.first; second = r.second; choice = r.choice }
+row_from z r = record { members = members_of (has_member z r.row.members) (length z); first = r.first; second = r.second; choice = r.choice }
 
 -- the part of each winner, with the table without it
 abbrev pub parts_from : List Single → List (List (List ℤ)) → List WithoutValue

@@ -1,15 +1,15 @@
 -- What pricing a book promises: the certificate of the prices, and the turns that led to them.
 use Rattle.std.specs.List.{AllByRecursion}
-use Rattle.cert_laws.specs.auction_model.specs.Book.{Book, market_of}
-use Rattle.cert_laws.specs.auction_model.specs.Prices.{weight_of}
-use Rattle.cert_laws.specs.auction_model.specs.PricingRun.{IsPricingRun}
-use Rattle.cert_laws.specs.Priced.{IsPricedCert}
-use Rattle.cert_laws.specs.Sound.{cert_point}
-use Rattle.cert_laws.specs.Tests.{bidders_of, states}
+use Rattle.auction_model.specs.Book.{Book, market_of}
+use Rattle.auction_model.specs.Prices.{weight_of}
+use Rattle.auction_model.specs.PricingRun.{IsPricingRun}
+use Rattle.cert_soundness.specs.Priced.{IsPricedCert}
+use Rattle.cert_soundness.specs.Sound.{cert_point}
+use Rattle.cert_soundness.specs.Tests.{bidders_of, states}
 use Rattle.cert_text.specs.CertValues.{cert_value, IsFor}
 use Rattle.core_price.specs.Turns.{IsPointOfTurn, turns_of}
-use Rattle.cert_laws.specs.row_laws.specs.Turns.{IsLastPoint}
-use Rattle.cert_laws.specs.row_laws.specs.Weights.{FewWin}
+use Rattle.core_laws.specs.Turns.{IsLastPoint}
+use Rattle.core_laws.specs.Weights.{FewWin}
 use Rattle.std.specs.Prelude.{List, ℕ}
 use Rattle.book_price.specs.Reduced.{IsReduced}
 use Rattle.book_price.specs.declared.pricing.PricedBook.{PricedBook}

@@ -1,9 +1,9 @@
 -- Certificates in lowest terms.
 use Rattle.std.specs.Prelude.{◌≢◌, ◌⊎◌, ◌≤◌, length, map, pos}
 use Rattle.std.specs.List.{AllByRecursion}
-use Rattle.cert_laws.specs.cert_form.specs.Certificate.{CertValue, RowValue}
+use Rattle.cert_grammar.specs.Certificate.{CertValue, RowValue}
 use Rattle.core_price.specs.Lowest.{IsLowest}
-use Rattle.cert_laws.specs.row_laws.specs.Winners.{winners_in}
+use Rattle.core_laws.specs.Winners.{winners_in}
 
 -- its multipliers aren't both 0
 abbrev pub IsUsed : RowValue → Type 0

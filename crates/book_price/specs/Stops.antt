@@ -1,13 +1,13 @@
 -- Why a book is not priced.
 use Rattle.std.specs.Prelude.{◌≡◌, ℕ, List}
-use Rattle.cert_laws.specs.auction_model.specs.Book.{Book, market_of}
-use Rattle.cert_laws.specs.auction_model.specs.Greatest.{IsWinning}
+use Rattle.auction_model.specs.Book.{Book, market_of}
+use Rattle.auction_model.specs.Greatest.{IsWinning}
 use Rattle.core_price.specs.declared.priced.PriceStop.{PriceStop}
 use Rattle.core_price.specs.declared.priced.PriceStop.TheVariants.{Winners, Memory}
-use Rattle.cert_laws.specs.row_laws.specs.Weights.{ManyWin}
-use Rattle.cert_laws.specs.row_laws.specs.Winners.{winners_in}
+use Rattle.core_laws.specs.Weights.{ManyWin}
+use Rattle.core_laws.specs.Winners.{winners_in}
 
--- the winning choice has more winners than can be priced with the weights, so many; want of memory says nothing of the book
+-- the winning choice has more winners than can be priced with the weights, that many; out of memory says nothing of the book
 abbrev pub IsBookStop : Book → List ℕ → PriceStop → Type 0
 IsBookStop book weights (Winners n) = (z : List ℕ) × IsWinning (market_of book) z × ManyWin z weights
     × (n ≡ winners_in z)

@@ -3,8 +3,8 @@ ghost use Rattle.std.specs.Prelude.{◌≡◌, ◌<◌, ◌^◌, IfOk, length, m
 ghost use Rattle.book_price.specs.Made.{row_from};
 ghost use Rattle.cert_text.specs.Parts.{row_value};
 
-use cert_text::choices::Choice;
 use cert_text::{CertRow, CertRows};
+use choices::Choice;
 use core_price::{PricedRow, members_of};
 use std::alloc::{AllocError, Global};
 

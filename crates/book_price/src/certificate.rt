@@ -1,22 +1,21 @@
 // The certificate of the prices of a book.
 ghost use Rattle.std.specs.Prelude.{◌≡◌, IfOk, List, ℕ};
-ghost use Rattle.cert_laws.specs.auction_model.specs.Prices.{weight_of};
+ghost use Rattle.auction_model.specs.Prices.{weight_of};
 ghost use Rattle.book_price.specs.Found.{AreFound, cert_found};
-ghost use Rattle.cert_laws.specs.Priced.{IsPricedCert};
-ghost use Rattle.cert_laws.specs.Tests.{bidders_of, states};
+ghost use Rattle.cert_soundness.specs.Priced.{IsPricedCert};
+ghost use Rattle.cert_soundness.specs.Tests.{bidders_of, states};
 ghost use Rattle.cert_text.specs.CertValues.{IsFor, cert_value};
 
 use crate::bidder_rows::all_rows;
-use crate::lines::shared;
 use crate::parts::all_parts;
-use cert_text::Certificate;
-use cert_text::choices::Choice;
-use cert_text::choices::bid_book::BidBook;
-use cert_text::choices::bid_book::line_text::wide_num::NumList;
+use bid_book::BidBook;
+use cert_text::{Certificate, shared_table};
+use choices::Choice;
 use core_price::{Priced, for_bidders};
 use std::alloc::{AllocError, Global};
 use value_table::{TurnTable, ValueTable};
 use vickrey::Vickrey;
+use wide_num::NumList;
 
 /// The certificate of what was found by some weights. It shares the lines of all tables.
 pub(crate) fn certificate(
@@ -35,7 +34,7 @@ pub(crate) fn certificate(
 {
     book.kept();
     let value = whole.most(book);
-    let table = shared(alloc, whole.grid())?;
+    let table = shared_table(alloc, whole.grid())?;
     let withouts = all_parts(alloc, alone)?;
     let at = priced.at.items();
     let pay = NumList::from_vec(for_bidders(alloc, &winners, at)?);

@@ -1,10 +1,10 @@
 // What holds of every book.
 ghost use Rattle.std.specs.Prelude.{IsTrue, List, pos, ℕ, ◌*◌, ◌^◌, ◌≤ℤ◌, ◌≤◌};
-ghost use Rattle.cert_laws.specs.auction_model.specs.Book.{Book, market_of};
-ghost use Rattle.cert_laws.specs.auction_model.specs.Market.{value_of};
-ghost use Rattle.cert_text.specs.choices.specs.bid_book.specs.Kept.{IsBidBook};
-ghost use Rattle.cert_text.specs.limits.specs.declared.TheConstants.{MOST_AMOUNT};
-ghost use Rattle.cert_laws.specs.row_laws.specs.Winners.{winners_in};
+ghost use Rattle.auction_model.specs.Book.{Book, market_of};
+ghost use Rattle.auction_model.specs.Market.{value_of};
+ghost use Rattle.bid_book.specs.Kept.{IsBidBook};
+ghost use Rattle.limits.specs.declared.TheConstants.{MOST_AMOUNT};
+ghost use Rattle.core_laws.specs.Winners.{winners_in};
 
 /// Every book meets the conditions of `core_price::price`: it has at most 64 bidders, and no allowed choice is worth more than
 /// 2^42 for each of its winners.

@@ -7,10 +7,8 @@
 mod bidder_rows;
 mod certificate;
 mod laws;
-mod lines;
 mod parts;
 mod pricing;
 
-pub use core_price;
 pub use laws::books_can_be_priced;
 pub use pricing::{PricedBook, price_book};

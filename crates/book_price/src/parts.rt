@@ -3,9 +3,8 @@ ghost use Rattle.std.specs.Prelude.{◌≡◌, IfOk, length, map};
 ghost use Rattle.book_price.specs.Made.{parts_from};
 ghost use Rattle.cert_text.specs.Parts.{without_value};
 
-use crate::lines::shared;
-use cert_text::choices::{Grid, Single};
-use cert_text::{WithoutList, WithoutPart};
+use cert_text::{WithoutList, WithoutPart, shared_table};
+use choices::{Grid, Single};
 use std::alloc::{AllocError, Global};
 use vickrey::Vickrey;
 
@@ -28,7 +27,7 @@ fn part(alloc: Global, single: &Single, table: &Grid) -> Result<WithoutPart, All
     ensures table { IfOk result (λ p. p.table ≡ table.now) }
 {
     let choice = single.choice.copied(alloc)?;
-    let table = shared(alloc, table)?;
+    let table = shared_table(alloc, table)?;
     Ok(WithoutPart {
         winner: single.winner,
         choice,

@@ -1,18 +1,18 @@
 // From a book to its prices with their certificate.
 ghost use Rattle.std.specs.Prelude.{IfErr, IfOk};
-ghost use Rattle.cert_laws.specs.auction_model.specs.Book.{market_of};
-ghost use Rattle.cert_laws.specs.auction_model.specs.Greatest.{IsWinning};
-ghost use Rattle.cert_laws.specs.auction_model.specs.Prices.{AreWeights};
-ghost use Rattle.cert_laws.specs.Tests.{bidders_of};
-ghost use Rattle.cert_laws.specs.row_laws.specs.Weights.{FewWin};
-ghost use Rattle.vickrey.specs.value_table.specs.TableValue.{IsPlain, IsTableOf};
+ghost use Rattle.auction_model.specs.Book.{market_of};
+ghost use Rattle.auction_model.specs.Greatest.{IsWinning};
+ghost use Rattle.auction_model.specs.Prices.{AreWeights};
+ghost use Rattle.cert_soundness.specs.Tests.{bidders_of};
+ghost use Rattle.core_laws.specs.Weights.{FewWin};
+ghost use Rattle.value_table.specs.TableValue.{IsPlain, IsTableOf};
 ghost use Rattle.book_price.specs.Priced.{IsPricedBook};
 ghost use Rattle.book_price.specs.Stops.{IsBookStop};
 
 use crate::certificate::certificate;
+use bid_book::BidBook;
 use cert_text::Certificate;
-use cert_text::choices::Choice;
-use cert_text::choices::bid_book::BidBook;
+use choices::Choice;
 use core_price::{PriceStop, TurnList, count_winners, many_win, price};
 use std::alloc::{AllocError, Global};
 use value_table::{BookChooser, ValueTable, plain_table};
@@ -57,7 +57,7 @@ pub fn price_book(alloc: Global, book: &BidBook, weights: &[u32]) -> Result<Pric
 }
 
 // Takes much room and gives it back untouched. An allocator that goes by what it was given back then keeps smaller
-// pieces, so that a turn's table has the pages of the last one's. Where there is no room, nothing is lost.
+// pieces, so that a turn's table has the pages of the last one's. If there is no room, nothing is lost.
 fn keep_pages(alloc: Global) {
     let _room: Result<Vec<u8>, AllocError> = Vec::with_capacity(alloc, ROOM);
 }

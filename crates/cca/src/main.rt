@@ -2,12 +2,12 @@
 #![tactic(auto)]
 
 ghost use Rattle.std.specs.IoError.{error_kind};
-ghost use Rattle.std.specs.Prelude.{◌≡◌, ◌≢◌, All, drop, IfErr, IfOk, IsTrue, map, string_bytes};
+ghost use Rattle.std.specs.Prelude.{◌≡◌, ◌≢◌, All, drop, IfErr, IfOk, IsOk, IsTrue, map, string_bytes};
 ghost use Rattle.std.specs.Process.{exit_status};
 ghost use Rattle.std.specs.Vec.Iter.{into_iter_items};
 ghost use Rattle.std.specs.declared.io.ErrorKind.TheVariants.{OutOfMemory};
 ghost use Rattle.std.specs.declared.result.Result.TheVariants.{Err};
-ghost use Rattle.cca_run.specs.cca_inputs.specs.Code.{code_of};
+ghost use Rattle.cca_cli.specs.Code.{code_of};
 ghost use Rattle.cca.specs.Ends.{EndsAs};
 ghost use Rattle.cca.specs.declared.NoWords.{NoWords};
 ghost use Rattle.cca.specs.declared.NoWords.TheVariants.{Memory, NotText};
@@ -75,7 +75,7 @@ fn behind_name(mut all: Vec<String>) -> Vec<String>
     all
 }
 
-// The words behind the program's name, of what the system gives.
+// The words after the program's name, of what the system gives.
 fn words(alloc: Global, given: io::Result<Args>) -> Result<Vec<String>, NoWords>
     ensures words { IfOk given (λ all. IfOk result (λ words. words.items ≡ drop 1 (into_iter_items all))) }
     ensures memory { IfOk given (λ all. IfErr result (λ none. none ≡ Memory)) }
@@ -94,13 +94,13 @@ fn words(alloc: Global, given: io::Result<Args>) -> Result<Vec<String>, NoWords>
 /// What a run needs.
 #[derive(Drop)]
 struct Start<F: Drop> {
-    /// The words behind the program's name.
+    /// The words after the program's name.
     words: Vec<String>,
     /// Files that know these words.
     files: F,
 }
 
-// The words behind the program's name, of what the system gives, and files of just these names.
+// The words after the program's name, of what the system gives, and files of just these names.
 fn prepared<R: rt::Files<File = File> + Drop>(
     alloc: Global,
     rt: R,
@@ -145,38 +145,38 @@ fn exit_after<F: Files, O: Sink>(
     out: &mut O,
 ) -> ExitCode
     requires { All (λ w. IsTrue ((F.folder files.old).knows w)) (map string_bytes words.now) }
-    ensures { EndsAs (map string_bytes words.now) (F.folder files.old) (O.output out.old) (O.output out.new)
-        (exit_status result) }
+    ensures { EndsAs (map string_bytes words.now) (F.folder files.old) (F.folder files.new) (O.output out.old)
+        (O.output out.new) (exit_status result) }
 {
     exit_of(run(alloc, words, files, out))
 }
 
-// The program over any files and any output: the exit code of the run of the words, and where there are none the code of why.
+// The program over any files and any output: the exit code of the run of the words, which left these files, and if there are none the
+// code of why.
 fn ended<F: Files + Drop, O: Sink>(
     alloc: Global,
-    start: Result<Start<F>, NoWords>,
+    start: &mut Result<Start<F>, NoWords>,
     out: &mut O,
 ) -> ExitCode
-    requires { IfOk start
+    requires { IfOk start.old
         (λ r. All (λ w. IsTrue ((F.folder r.files).knows w)) (map string_bytes r.words.items)) }
-    ensures run { IfOk start
-        (λ r. EndsAs (map string_bytes r.words.items) (F.folder r.files) (O.output out.old) (O.output out.new)
-        (exit_status result)) }
-    ensures memory { start ≡ Err Memory → exit_status result ≡ 6 }
-    ensures not_text { start ≡ Err NotText → exit_status result ≡ 8 }
-    ensures silent { IfErr start (λ _. O.output out.new ≡ O.output out.old) }
+    ensures run { IfOk start.old (λ r. IfOk start.new
+        (λ q. EndsAs (map string_bytes r.words.items) (F.folder r.files) (F.folder q.files) (O.output out.old)
+        (O.output out.new) (exit_status result))) }
+    ensures some { IfOk start.old (λ _. IsOk start.new) }
+    ensures memory { start.old ≡ Err Memory → exit_status result ≡ 6 }
+    ensures not_text { start.old ≡ Err NotText → exit_status result ≡ 8 }
+    ensures silent { IfErr start.old (λ _. O.output out.new ≡ O.output out.old) }
+    ensures same { IfErr start.old (λ _. start.new ≡ start.old) }
 {
     match start {
-        Ok(Start { words, mut files }) => exit_after(alloc, &words, &mut files, out),
-        Err(none) => exit_without(none),
+        Ok(Start { words, files }) => exit_after(alloc, words, files, out),
+        Err(none) => exit_without(*none),
     }
 }
 
 fn main(rt: HostRuntime) -> ExitCode {
     let mut out = RealSink::new(&rt);
-    ended(
-        rt.alloc(),
-        prepared(rt.alloc(), &rt, env::args(&rt)),
-        &mut out,
-    )
+    let mut start = prepared(rt.alloc(), &rt, env::args(&rt));
+    ended(rt.alloc(), &mut start, &mut out)
 }

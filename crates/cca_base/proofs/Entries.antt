@@ -1,6 +1,6 @@
 -- Lists of entries that have names: one entry is looked up, and one is changed.
-use Rattle.std.proofs.Common.{◌≡◌, ◌≢◌, ℕ, suc, ◌+◌, ◌≤◌, ◌<◌, Bool, true, false, not, cond, Option, Some, List, [], ◌∷◌, length, get_or, find, is_some}
-use Rattle.std.proofs.Common.{unwrap_or, take, ◌||◌, ◌++◌, AllPairs, refl, sym, ap, ◌∙◌, arith}
+use Rattle.std.proofs.Common.{AllPairs, Bool, List, Option, Some, [], ap, arith, cond, false, find, get_or, is_some, length, not, refl, suc, sym}
+use Rattle.std.proofs.Common.{take, true, unwrap_or, ℕ, ◌++◌, ◌+◌, ◌<◌, ◌||◌, ◌∙◌, ◌∷◌, ◌≡◌, ◌≢◌, ◌≤◌}
 use Rattle.std.proofs.Math.ListN.{set}
 use Rattle.std.specs.List.{position_or_len, position, list_any}
 use Rattle.std.specs.Option.{option_map_or}

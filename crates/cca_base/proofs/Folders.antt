@@ -1,6 +1,6 @@
 -- What a change of one entry means for the files of a list.
-use Rattle.std.proofs.Common.{◌≡◌, ℕ, ◌-◌, ◌≤◌, Bool, true, false, cond, Option, Some, None, List, [], ◌∷◌, All, find, is_some, unwrap_or, refl, sym, ap}
-use Rattle.std.proofs.Common.{subst, arith, ◌∙◌, IfSome, Result, Ok, Err, OnErr}
+use Rattle.std.proofs.Common.{All, Bool, Err, IfSome, List, None, Ok, OnErr, Option, Result, Some, [], ap, arith, cond, false, find, is_some, refl}
+use Rattle.std.proofs.Common.{subst, sym, true, unwrap_or, ℕ, ◌-◌, ◌∙◌, ◌∷◌, ◌≡◌, ◌≤◌}
 use Rattle.std.specs.Option.{option_map, option_and_then, option_map_or}
 use Rattle.std.proofs.lemmas.List.Elements.{All-head, All-tail}
 use Rattle.cca_base.specs.Files.{KeepsFiles, CountsOnly, Becomes}
@@ -12,7 +12,7 @@ pub on_err : {X E : Type 0} (r : Result X E) {P : Type 0} → P → OnErr r P
 on_err (Ok x) p = cc
 on_err (Err e) p = p
 
--- in no room that is told
+-- in no room that is reported
 pub no_room : (n : ℕ) → IfSome None (λ r. n ≤ r)
 no_room n = cc
 
@@ -88,7 +88,7 @@ module _ {A : Type 0} (fresh : A → Type 0) (p : A → Bool) where
         | false ↦ fresh_nowhere view is xs (All-tail fresh x xs all)
       ]
 
--- a count that stood still
+-- a count that stopped rising
 pub counts_still : (name : List ℕ) (a b : List ℕ → ℕ) → b ≡ a → CountsOnly name a b
 counts_still name a b same = record {
   here = omega (arith, ap (λ (f : List ℕ → ℕ). f name) same);

@@ -1,11 +1,10 @@
 -- What loads gave, one call after another.
-use Rattle.std.proofs.Common.{inl, inr, ◌≡◌, ℕ, zero, suc, ◌+◌, ◌-◌, ◌≤◌, ◌<◌, Bool, true, false, cond, Option, Some, None, IfSome, unwrap_or, List, [], ◌∷◌}
-use Rattle.std.proofs.Common.{◌++◌, length, take, drop, refl, sym, ap, subst, ◌∙◌, arith, IsTrue, length-append, length-take, append_assoc, IsSomeAnd}
-use Rattle.std.proofs.Math.Seq.{take-append_seam, drop-append_seam, take-length, drop-length}
-use Rattle.std.proofs.Math.Seq.{take-add}
+use Rattle.std.proofs.Common.{Bool, IfSome, IsSomeAnd, IsTrue, List, None, Option, Some, [], ap, append_assoc, arith, cond, drop, false, inl, inr}
+use Rattle.std.proofs.Common.{length, length-append, length-take, refl, subst, suc, sym, take, true, unwrap_or, zero, ℕ, ◌++◌, ◌+◌, ◌-◌, ◌<◌, ◌∙◌}
+use Rattle.std.proofs.Common.{◌∷◌, ◌≡◌, ◌≤◌}
+use Rattle.std.proofs.Math.Seq.{drop-append_seam, drop-length, take-add, take-append_seam, take-length}
 use Rattle.std.proofs.lemmas.List.{take_all, append-nil}
-use Rattle.std.proofs.lemmas.Bool.{cases_lt}
-use Rattle.std.proofs.lemmas.Bool.{false_from_ne_true}
+use Rattle.std.proofs.lemmas.Bool.{cases_lt, false_from_ne_true}
 use Rattle.std.proofs.lemmas.Slice.Eq.{bytes_eq-Decides}
 use Rattle.std.specs.Prelude.{◌↔◌}
 use Rattle.std.specs.Option.{option_map}
@@ -40,11 +39,11 @@ all_by : (files : Contents) (old new : Folder) (since : List Given) → new.gave
     → AllByRecursion (AgreesWith files) since
 all_by files old new since is agrees = subst (AllByRecursion (AgreesWith files)) (since_is old new since is) agrees.each
 
--- where the bytes are told, the files agree with what was given
+-- where the bytes are reported, the files agree with what was given
 pub agrees_told : (old new : Folder) → KeepsFiles old new → IsTrue old.told → Agrees old.file old new
 agrees_told old new kept tells = agrees_by old.file old new kept.since kept.gave (kept.agrees tells)
 
--- a load that changed no file and gave what the files hold, where they are told
+-- a load that changed no file and gave what the files hold, where they are reported
 pub keeps_given : (a b : Folder) (g : Given) → b.knows ≡ a.knows → b.told ≡ a.told → b.file ≡ a.file → b.room ≡ a.room → b.took ≡ a.took → b.gave ≡ g ∷ a.gave
     → (IsTrue a.told → AgreesWith a.file g) → KeepsFiles a b
 keeps_given a b g knows told file room took gave agrees = record {
@@ -80,7 +79,7 @@ keeps_more a b c first next = record {
       (all_parts (AgreesWith a.file) next.since first.since).1 (later, first.agrees tells);
 }
 
--- what is behind a slice of a whole vector is nothing
+-- what is after a slice of a whole vector is nothing
 pub whole_slice : {A : Type 0} (len : ℕ) (new old : List A) → length new ≡ length old → len ≡ length old → new ≡ take len (new ++ drop (length new) old)
 whole_slice len new old same is =
     let none : drop (length new) old ≡ [] = ap (λ (k : ℕ). drop k old) same ∙ drop-length old in
@@ -113,7 +112,7 @@ keeps_with a b gave kept = record {
   agrees = λ tells. tt;
 }
 
--- a file that is told became what it was with a piece behind it
+-- a file that is reported became what it was with a piece after it
 pub becomes_with : (name : List ℕ) (a b : Folder) (gave : List Given) (piece : List ℕ) (n : ℕ) → IsTrue a.told
     → Becomes name a b (Some (unwrap_or (a.file name) [] ++ piece)) [] n
     → Becomes name (with_gave a gave) (with_gave b gave) (Some (unwrap_or (a.file name) [] ++ piece)) piece n
@@ -190,7 +189,7 @@ some_file (Some file) P h = (file, refl, h)
 pub is_file : (o : Option (List ℕ)) (P : List ℕ → Type 0) (file : List ℕ) → o ≡ Some file → P file → IsSomeAnd o P
 is_file o P file is h = subst (λ (x : Option (List ℕ)). IsSomeAnd x P) (sym is) h
 
--- the front of a buffer stands where the whole buffer's front does
+-- the prefix of a buffer stands where the whole buffer's prefix is
 pub stands_front : (file buffer : List ℕ) (at room n : ℕ) → n ≤ length buffer → Stands file at room (take n buffer) (length (take n buffer))
     → Stands file at room buffer n
 stands_front file buffer at room n le h =
@@ -211,7 +210,7 @@ front_stands file buffer at room n le h =
       some = λ lt some. omega (arith, h.some lt some, long);
     }
 
--- a piece behind what was read so far, in a file that goes on
+-- a piece after what was read so far, in a file that goes on
 pub stands_behind : (bytes piece rest : List ℕ) (room : ℕ) → (0 < length rest → 0 < room → 0 < length piece)
     → Stands (bytes ++ (piece ++ rest)) (length bytes) room piece (length piece)
 stands_behind bytes piece rest room some =
@@ -237,7 +236,7 @@ all_read bytes file buffer room some so_far last =
     let long : length file ≤ length bytes = at_end (length bytes) (length file) (λ lt. absurd (omega (arith, last.some lt some))) in
     sym (so_far ∙ take_all (length bytes) file long)
 
--- what was read so far, and the bytes of one more load, are the front of the file
+-- what was read so far, and the bytes of one more load, are the prefix of the file
 pub read_more : (bytes file buffer : List ℕ) (room n : ℕ) → n ≤ length buffer → bytes ≡ take (length bytes) file
     → Stands file (length bytes) room buffer n → bytes ++ take n buffer ≡ take (length (bytes ++ take n buffer)) file
 read_more bytes file buffer room n le so_far stands =
@@ -245,13 +244,13 @@ read_more bytes file buffer room n le so_far stands =
     ap (λ (l : List ℕ). bytes ++ l) stands.bytes ∙ ap (λ (l : List ℕ). l ++ take n (drop (length bytes) file)) so_far
     ∙ sym (take-add (length bytes) n file) ∙ ap (λ (k : ℕ). take k file) (sym long)
 
--- The loads in between gave these bytes of a name from its first byte on, one load behind the other, and nothing else.
+-- The loads in between gave these bytes of a name from its first byte on, one load after the other, and nothing else.
 pub record GaveFront (name : List ℕ) (old new : Folder) (bytes : List ℕ) : Type 0 where
   pub kept : KeepsFiles old new
   pub held : (files : Contents) → Agrees files old new → (file : List ℕ) → files name ≡ Some file → bytes ≡ take (length bytes) file
   pub enough : (files : Contents) (rest : List ℕ) → files name ≡ Some (bytes ++ rest) → Agrees files old new
 
--- a load of a name behind what was given of it
+-- a load of a name after what was given of it
 abbrev pub next_load : List ℕ → ℕ → ℕ → List ℕ → ℕ → Given
 next_load name at room buffer n = record { name = name; at = at; room = room; bytes = take n buffer }
 
@@ -329,7 +328,7 @@ module _ (name : List ℕ) (a b c : Folder) (bytes buffer : List ℕ) (room n : 
     };
   }
 
--- bytes that hold what the loads of a front gave are its own
+-- bytes that hold what the loads of a prefix gave are its own
 pub front_some : (name : List ℕ) (a b : Folder) (bytes : List ℕ) → GaveFront name a b bytes → GaveSome name a b
 front_some name a b bytes front = record {
   bytes = bytes;

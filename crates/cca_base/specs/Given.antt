@@ -2,14 +2,14 @@
 use Rattle.std.specs.Prelude.{ℕ, List, [], ◌∷◌, ◌++◌, cond}
 use Rattle.std.specs.Str.{bytes_eq}
 
--- a load of a name from a place into a buffer of so many bytes, and the bytes that it gave
+-- a load of a name from a place into a buffer of that many bytes, and the bytes that it gave
 pub record Given : Type 0 where
   pub name : List ℕ
   pub at : ℕ
   pub room : ℕ
   pub bytes : List ℕ
 
--- the bytes of all calls, in the order of the calls, where the last one stands first
+-- the bytes of all calls, in the order of the calls, where the last one is first
 abbrev pub all_bytes : List Given → List ℕ
 all_bytes [] = []
 all_bytes (g ∷ before) = all_bytes before ++ g.bytes

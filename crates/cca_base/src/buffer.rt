@@ -13,7 +13,7 @@ pub(crate) struct Buffer {
 }
 
 impl Buffer {
-    // An empty buffer for so many bytes.
+    // An empty buffer for that many bytes.
     pub(crate) fn new(alloc: Global, room: usize) -> Result<Buffer, AllocError>
         ensures empty { IfOk result (λ b. take b.used b.bytes.items ≡ []) }
         ensures room { IfOk result (λ b. length b.bytes.items - b.used ≡ room) }
@@ -49,7 +49,7 @@ impl Buffer {
     }
 }
 
-// Puts the piece at this place, in place of as many bytes.
+// Puts the piece at this place, instead of as many bytes.
 fn put_at(bytes: &mut [u8], at: usize, piece: &[u8])
     requires { at + length piece.now ≤ length bytes.old }
     ensures front { take (at + length piece.now) bytes.new ≡ take at bytes.old ++ piece.now }

@@ -12,7 +12,7 @@ use std::alloc::{AllocError, Global};
 pub(crate) trait Named: Drop {
     ghost seen: { Self → Seen };
 
-    // Whether the bytes are told.
+    // Whether the bytes are reported.
     ghost told: { Bool };
 
     // What one is at first, where this room was asked for.
@@ -41,7 +41,7 @@ pub(crate) trait Named: Drop {
         ensures fresh { IfOk result (λ file. seen file ≡ first_seen (string_bytes name) room) };
 }
 
-// Whether a file of this name stands among them.
+// Whether a file of this name is among them.
 fn knows<F: Named>(files: &[F], name: &str) -> bool
     ensures { result ≡ list_any (λ f. bytes_eq (F.seen f).name name.now) files.now }
 {

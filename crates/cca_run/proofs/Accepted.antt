@@ -1,50 +1,48 @@
 -- A certificate that pricing writes is accepted by the checker, of a book and of the book of a log.
-use Rattle.std.specs.Prelude.{◌≡◌, ℕ, ℤ, false, ◌≤◌, ◌<◌, ◌^◌, Option, Some, None, Result, Ok, Err, slice_index_or, List, [], ◌∷◌, ◌++◌, codes, length, pos}
-use Rattle.std.specs.Prelude.{reverse, ◌≤ℤ◌, refl}
+use Rattle.std.specs.Prelude.{Err, List, None, Ok, Option, Result, Some, [], codes, false, length, pos, refl, reverse, slice_index_or, ℕ, ℤ, ◌++◌}
+use Rattle.std.specs.Prelude.{◌<◌, ◌^◌, ◌∷◌, ◌≡◌, ◌≤ℤ◌, ◌≤◌}
 use Rattle.std.proofs.Common.{inl, inr, sym, ◌∙◌, ap, subst, arith}
-use Rattle.cca_work.specs.cca_inputs.specs.line_text.specs.LineText.{Said, stated, Says, text_of}
-use Rattle.cca_work.specs.outcome.specs.auction_model.specs.Book.{Book, market_of}
-use Rattle.cca_work.specs.outcome.specs.auction_model.specs.Prices.{Point, SamePoint, weight_of}
-use Rattle.cca_work.specs.cca_inputs.specs.book_form.specs.BookForm.{IsBook}
-use Rattle.cca_work.specs.cca_inputs.specs.book_form.specs.BookLines.{Excess, lines}
-use Rattle.cca_work.specs.cca_inputs.specs.bid_book.proofs.Within.{kept}
-use Rattle.cca_work.specs.cca_inputs.specs.bid_book.specs.Kept.{IsBidBook}
-use Rattle.cca_work.specs.cca_inputs.specs.cert_form.specs.Certificate.{CertValue}
-use Rattle.cca_work.specs.big_auction.specs.clock_stage.specs.auction_rules.specs.Terms.{Terms}
-use Rattle.cca_work.specs.big_auction.specs.clock_stage.specs.auction_rules.specs.declared.Event.{Event}
-use Rattle.cca_work.specs.big_auction.specs.award_file.specs.Award.{IsAward}
-use Rattle.cca_work.specs.big_auction.specs.log_file.specs.LogReading.{AreLog, log_records}
-use Rattle.cca_work.specs.log_replay.specs.ReplyLines.{end_of}
-use Rattle.cca_work.specs.log_replay.specs.declared.results.ReplayStop.{ReplayStop}
-use Rattle.cca_work.specs.cca_inputs.specs.cca_base.specs.Files.{added}
-use Rattle.cca_work.specs.cca_inputs.specs.cert_form.specs.CertText.{IsCertificate, body_lines}
-use Rattle.cca_work.specs.cca_inputs.specs.cert_form.specs.Lines.{Line, lines as spelled, spell, version_lines}
-use Rattle.cca_work.specs.cca_inputs.specs.cert_form.specs.Says.{CertSays, cert_text}
-use Rattle.cca_work.specs.place_price.specs.cert_laws.specs.BookSizes.{IsWithinSizes}
-use Rattle.cca_work.specs.place_price.specs.cert_laws.specs.Priced.{IsPricedCert}
-use Rattle.cca_work.specs.place_price.specs.cert_laws.specs.Sound.{cert_point, cert_prices}
-use Rattle.cca_work.specs.place_price.specs.cert_laws.specs.Tests.{FailsFirst, Holds, bidders_of, states}
-use Rattle.cca_work.specs.cca_inputs.specs.limits.specs.declared.TheConstants.{AWARD_BYTES, BOOK_BYTES, CERT_BYTES, LOG_BYTES, MOST_WINNERS, WEIGHTS_BYTES}
-use Rattle.cca_work.specs.cca_inputs.specs.limits.specs.declared.TheConstants.{PRICED_CERT_BYTES}
-use Rattle.cca_work.specs.outcome.specs.print_form.specs.Prices.{IsPriceText}
-use Rattle.cca_work.specs.big_auction.specs.row_laws.specs.Winners.{winners_in}
-use Rattle.cca_work.specs.outcome.specs.value_table.proofs.Plain.{net-small}
-use Rattle.cca_work.specs.cca_inputs.specs.Answers.{AwardAnswers, BookAnswers, CertAnswers, LogAnswers, WeightsAnswers, book_answer, cert_answer}
-use Rattle.cca_work.specs.cca_inputs.specs.Answers.{weights_answer}
-use Rattle.cca_work.specs.cca_inputs.specs.weights_file.specs.WeightsForm.{WeightsSay}
-use Rattle.cca_work.specs.cca_inputs.specs.Command.{form_with, price, check, weigh, weigh_check, award, audit}
-use Rattle.cca_work.specs.cca_inputs.specs.Outcome.{Answer, AnswerGives, FileAnswers, InputGives, Outcome, stopped, value}
-use Rattle.cca_work.specs.cca_inputs.specs.declared.file_text.FileText.{FileText}
-use Rattle.cca_work.specs.cca_inputs.specs.declared.price_form.PriceForm.{PriceForm}
-use Rattle.cca_work.specs.cca_inputs.specs.declared.status.FileKind.{FileKind}
-use Rattle.cca_work.specs.cca_inputs.specs.declared.status.FileKind.TheVariants as kinds
-use Rattle.cca_work.specs.cca_inputs.specs.declared.status.Status.{Status}
-use Rattle.cca_work.specs.cca_inputs.specs.declared.status.Status.TheVariants.{Done}
+use Rattle.line_format.specs.LineText.{Said, Says, stated, text_of}
+use Rattle.auction_model.specs.Book.{Book, market_of}
+use Rattle.auction_model.specs.Prices.{Point, SamePoint, weight_of}
+use Rattle.book_grammar.specs.BookForm.{IsBook}
+use Rattle.book_grammar.specs.BookLines.{Excess, book_lines}
+use Rattle.bid_book.proofs.Within.{kept}
+use Rattle.bid_book.specs.Kept.{IsBidBook}
+use Rattle.cert_grammar.specs.Certificate.{CertValue}
+use Rattle.auction_rules.specs.Terms.{Terms}
+use Rattle.auction_rules.specs.declared.Event.{Event}
+use Rattle.award_file.specs.Award.{IsAward}
+use Rattle.log_file.specs.LogReading.{AreLog, log_records}
+use Rattle.log_replay.specs.ReplyLines.{end_of}
+use Rattle.log_replay.specs.declared.results.ReplayStop.{ReplayStop}
+use Rattle.cca_base.specs.Files.{added}
+use Rattle.cert_grammar.specs.CertText.{IsCertificate, body_lines}
+use Rattle.cert_grammar.specs.Lines.{Line, lines as spelled, spell, version_lines}
+use Rattle.cert_grammar.specs.Says.{CertSays, cert_text}
+use Rattle.cert_soundness.specs.BookSizes.{IsWithinSizes}
+use Rattle.cert_soundness.specs.Priced.{IsPricedCert}
+use Rattle.cert_soundness.specs.Sound.{cert_point, cert_prices}
+use Rattle.cert_soundness.specs.Tests.{FailsFirst, Holds, bidders_of, states}
+use Rattle.limits.specs.declared.TheConstants.{AWARD_BYTES, BOOK_BYTES, CERT_BYTES, LOG_BYTES, MOST_WINNERS, PRICED_CERT_BYTES, WEIGHTS_BYTES}
+use Rattle.print_grammar.specs.Prices.{IsPriceText}
+use Rattle.core_laws.specs.Winners.{winners_in}
+use Rattle.value_table.proofs.Plain.{net-small}
+use Rattle.cca_cli.specs.Answers.{AwardAnswers, BookAnswers, CertAnswers, LogAnswers, WeightsAnswers, book_answer, cert_answer, weights_answer}
+use Rattle.weights_file.specs.WeightsForm.{WeightsSay}
+use Rattle.cca_cli.specs.Command.{audit, award, check, form_with, price, weigh, weigh_check}
+use Rattle.cca_cli.specs.Outcome.{Answer, AnswerGives, FileAnswers, InputGives, Outcome, stopped, value}
+use Rattle.cca_cli.specs.declared.file_text.FileText.{FileText}
+use Rattle.cca_cli.specs.declared.price_form.PriceForm.{PriceForm}
+use Rattle.cca_cli.specs.declared.status.FileKind.{FileKind}
+use Rattle.cca_cli.specs.declared.status.FileKind.TheVariants as kinds
+use Rattle.cca_cli.specs.declared.status.Status.{Status}
+use Rattle.cca_cli.specs.declared.status.Status.TheVariants.{Done}
 use Rattle.cca_run.proofs.OneLog.{one_award-answer}
 use Rattle.cca_run.proofs.Same.{two-inputs}
 use Rattle.cca_run.proofs.Stated.{limits-of}
-use Rattle.cca_work.specs.Gives.{ArePriceLines, ArePrinted, AwardGives, BookGives, BookOfLogGives, CertGives, EndGives, FilesGive, IsPricing}
-use Rattle.cca_work.specs.Gives.{LogGives, PriceGives, VerdictGives, WeightsGive, cert_file, ones, replay_status}
+use Rattle.cca_commands.specs.Gives.{ArePriceLines, ArePrinted, AwardGives, BookGives, BookOfLogGives, CertGives, EndGives, FilesGive, IsPricing}
+use Rattle.cca_commands.specs.Gives.{LogGives, PriceGives, VerdictGives, WeightsGive, cert_file, ones, replay_status}
 use Rattle.cca_run.specs.Later.{HoldsCert, HoldsNothing}
 
 -- the test is done, and where lines without turns were asked for it prints `yes` and then what the prices printed
@@ -83,7 +81,7 @@ some-byte : (first rest : List ℕ) → 0 < length (first ++ 10 ∷ rest)
 some-byte [] rest = omega arith
 some-byte (b ∷ first) rest = omega arith
 
--- where some of the lines stand behind others, their text has a byte
+-- where some of the lines follow others, their text has a byte
 pub some-line : (before behind : List Line) → 0 < length behind → 0 < length (text_of (spelled (before ++ behind)))
 some-line [] [] some = absurd (omega (arith, some))
 some-line [] (l ∷ behind) some = some-byte (spell l) _
@@ -156,7 +154,7 @@ module _ (one_cert : (bidders number : ℕ) (bytes : List ℕ) (x y : Said CertV
       let states_it = text_of_cert (bidders_of book) (states book) c (omega (arith, rules.bidders)) is.certificate in
       says.2 ∙ ap cert_answer (one_cert (bidders_of book) (states book) (cert_text c) says.0 (stated c) says.1 states_it)
 
-  -- the certificate of a book that can be priced is accepted, behind a file that held nothing
+  -- the certificate of a book that can be priced is accepted, after a file that held nothing
   of-cert : (book : Book) (weights : List ℕ) (form : PriceForm) (o p : Outcome) (text : List ℕ) (content : Option (List ℕ)) → IsBidBook book
       → PriceGives book weights form o → o.appended ≡ cert_file text ∷ []
       → HoldsNothing content → CertGives book (added content text) (VerdictGives book weights) p → Accepts form o p
@@ -178,7 +176,7 @@ module _ (one_cert : (bidders number : ℕ) (bytes : List ℕ) (x y : Said CertV
           (both.0, λ none. both.1 none ∙ ap (λ (x : List ℕ). codes "yes\n" ++ x) (sym (ap (λ (x : Outcome). x.printed) ends)))
 
   -- of the files of `price` and `check`
-  pub accepted : ((bytes : List ℕ) (x y : Said Book Excess) → Says IsBook lines bytes x → Says IsBook lines bytes y → x ≡ y)
+  pub accepted : ((bytes : List ℕ) (x y : Said Book Excess) → Says IsBook book_lines bytes x → Says IsBook book_lines bytes y → x ≡ y)
       → (book cert : List ℕ) (form : PriceForm) (file later : List ℕ → Option (List ℕ)) (o p : Outcome) → FilesGive (price book cert form) file o
       → HoldsCert (book ∷ []) cert file later o
       → FilesGive (check book cert) later p → Accepts form o p
@@ -202,7 +200,7 @@ module _ (one_cert : (bidders number : ℕ) (bytes : List ℕ) (x y : Said CertV
       there = subst (λ (x : Option (List ℕ)). BookGives x (λ b. CertGives b (later cert) (VerdictGives b (ones b))) p) holds.inputs_hold.0 checks
 
   -- of the files of `weigh` and `weigh-check`
-  module _ (one_book : (bytes : List ℕ) (x y : Said Book Excess) → Says IsBook lines bytes x → Says IsBook lines bytes y → x ≡ y)
+  module _ (one_book : (bytes : List ℕ) (x y : Said Book Excess) → Says IsBook book_lines bytes x → Says IsBook book_lines bytes y → x ≡ y)
       (one_weighing : (book : Book) (bytes : List ℕ) (x y : Said (List ℕ) ⊥) → IsBook book → WeightsSay book bytes x → WeightsSay book bytes y → x ≡ y)
       (book weights cert : List ℕ) (form : PriceForm) (file later : List ℕ
       → Option (List ℕ)) (o p : Outcome) (holds : HoldsCert (book ∷ weights ∷ []) cert file later o) where

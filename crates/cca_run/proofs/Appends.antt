@@ -1,22 +1,20 @@
 -- How appends end.
-use Rattle.std.proofs.Common.{◌≡◌, ◌∙◌, ℕ, ◌≤◌, ◌<◌, IsTrue, Some, List, [], ◌∷◌, ◌++◌, length, refl, sym, ap, subst, arith}
-use Rattle.std.specs.Prelude.{Result, Ok, Err}
+use Rattle.std.proofs.Common.{IsTrue, List, Some, [], ap, append_assoc, arith, get_or, length, refl, subst, sym, ℕ, ◌++◌, ◌<◌, ◌∙◌, ◌∷◌, ◌≡◌, ◌≤◌}
+use Rattle.std.specs.Prelude.{Err, Ok, Result, drop, take, ◌-◌}
 use Rattle.std.specs.List.{AllByRecursion}
-use Rattle.cca_work.specs.cca_inputs.specs.cca_base.specs.Faults.{Rose}
-use Rattle.std.specs.Prelude.{take, drop, ◌-◌}
-use Rattle.std.proofs.Common.{append_assoc, get_or}
+use Rattle.cca_base.specs.Faults.{Rose}
 use Rattle.std.proofs.lemmas.List.{take_all}
-use Rattle.cca_work.specs.cca_inputs.specs.cca_base.specs.Files.{Adds, Folder, KeepsFiles}
-use Rattle.cca_work.specs.cca_inputs.specs.cca_base.specs.Sink.{HasRoom}
-use Rattle.cca_work.specs.cca_inputs.specs.cca_base.proofs.Given.{keeps_still}
+use Rattle.cca_base.specs.Files.{Adds, Folder, KeepsFiles}
+use Rattle.cca_base.specs.Sink.{HasRoom}
+use Rattle.cca_base.proofs.Given.{keeps_still}
 use Rattle.cca_run.proofs.Moved.{all-on}
-use Rattle.cca_work.specs.cca_inputs.specs.Command.{CommandValue, files_of, output_as}
-use Rattle.cca_work.specs.cca_inputs.specs.Words.{KnowsFiles}
-use Rattle.cca_work.specs.cca_inputs.specs.declared.file_text.FileText.{FileText}
-use Rattle.cca_work.specs.cca_inputs.specs.declared.status.FileKind.{FileKind}
+use Rattle.cca_cli.specs.Command.{CommandValue, files_of, output_as}
+use Rattle.cca_cli.specs.Words.{KnowsFiles}
+use Rattle.cca_cli.specs.declared.file_text.FileText.{FileText}
+use Rattle.cca_cli.specs.declared.status.FileKind.{FileKind}
 use Rattle.cca_run.specs.Run.{AppendsAll}
 use Rattle.cca_run.specs.Ends.{AppendEnds, FailsAt, OnlyAppends}
-use Rattle.cca_work.proofs.Counts.{rose-from}
+use Rattle.cca_commands.proofs.Counts.{rose-from}
 
 keeps : (folder : Folder) → KeepsFiles folder folder
 keeps folder = keeps_still folder
@@ -25,7 +23,7 @@ keeps folder = keeps_still folder
 pub known-on : (command : CommandValue) (old new : Folder) → new.knows ≡ old.knows → KnowsFiles old command → KnowsFiles new command
 known-on command old new same all = subst (λ (k : List ℕ → _). AllByRecursion (λ f. IsTrue (k f.name)) (files_of command)) (sym same) all
 
--- of one text a front was appended
+-- of one text a prefix was appended
 pub part-one : (command : CommandValue) (text : FileText) (name : List ℕ) (old new : Folder) (n : ℕ) → output_as command text.kind ≡ Some name
     → Rose (old.append_faults name) (new.append_faults name) → n < length text.text → Adds name old new text.text n
     → (HasRoom (old.room name) (length text.text) → ⊥) → FailsAt command (text ∷ []) old new text.kind
@@ -80,7 +78,7 @@ fails-first command text rest old new kind f =
       };
     }
 
--- an append failed behind the first text, which was appended whole
+-- an append failed after the first text, which was appended whole
 fails-later : (command : CommandValue) (text : FileText) (rest : List FileText) (old mid new : Folder) (kind : FileKind)
     → AppendsAll command (text ∷ []) old mid → OnlyAppends command old mid
     → FailsAt command rest mid new kind → FailsAt command (text ∷ rest) old new kind
@@ -106,7 +104,7 @@ fails-later command text rest old mid new kind one counts f =
       };
     }
 
--- the list behind its first element, as a slice has it
+-- the list after its first element, as a slice has it
 pub rest-is : (t : FileText) (texts : List FileText) → take (length (t ∷ texts) - 1) (drop 1 (t ∷ texts)) ≡ texts
 rest-is t texts = take_all (length (t ∷ texts) - 1) texts (omega arith)
 

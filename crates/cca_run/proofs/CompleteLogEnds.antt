@@ -3,30 +3,30 @@ use Rattle.std.proofs.Common.{◌≡◌, ◌∙◌, ℕ, Bool, IsTrue, Option, S
 use Rattle.std.specs.Prelude.{◌+◌, Result, Ok, Err, reverse, if◌then◌else◌}
 use Rattle.std.specs.Option.{option_or}
 use Rattle.std.proofs.lemmas.Bool.{cases_lt}
-use Rattle.cca_work.specs.outcome.specs.auction_model.specs.Book.{Book}
-use Rattle.cca_work.specs.big_auction.specs.clock_stage.specs.auction_rules.specs.BookOfLog.{book_of_log, is_complete}
-use Rattle.cca_work.specs.big_auction.specs.clock_stage.specs.auction_rules.specs.Replies.{reply_to}
-use Rattle.cca_work.specs.big_auction.specs.clock_stage.specs.auction_rules.specs.Terms.{Terms}
-use Rattle.cca_work.specs.big_auction.specs.clock_stage.specs.auction_rules.specs.declared.Event.{Event}
-use Rattle.cca_work.specs.big_auction.specs.clock_stage.specs.auction_rules.specs.declared.Event.TheVariants.{Bid, Draft, Drop, Submit, Close}
-use Rattle.cca_work.specs.big_auction.specs.clock_stage.specs.auction_rules.specs.declared.Reply.{Reply}
-use Rattle.cca_work.specs.big_auction.specs.clock_stage.specs.auction_rules.specs.declared.Reply.TheVariants as reply
-use Rattle.cca_work.specs.log_replay.specs.ReplyLines.{book_or_open, end_of, first_refusal, refusal_of, stopped_or}
-use Rattle.cca_work.specs.log_replay.specs.declared.results.ReplayStop.{ReplayStop}
-use Rattle.cca_work.specs.log_replay.specs.declared.results.ReplayStop.TheVariants.{Rounds, Price, Open}
-use Rattle.cca_work.specs.cca_inputs.specs.limits.specs.declared.LimitKind.TheVariants.{Bytes}
-use Rattle.cca_work.specs.cca_inputs.specs.limits.specs.declared.TheConstants.{AWARD_BYTES, LOG_BYTES}
-use Rattle.cca_work.specs.cca_inputs.specs.Answers.{AwardAnswers, LogAnswers, award_answer}
-use Rattle.cca_work.specs.cca_inputs.specs.Command.{award}
-use Rattle.cca_work.specs.cca_inputs.specs.Outcome.{Answer, AnswerGives, InputGives, Outcome, stopped, value}
-use Rattle.cca_work.specs.cca_inputs.specs.declared.price_form.PriceForm.{PriceForm}
-use Rattle.cca_work.specs.cca_inputs.specs.declared.status.FileKind.{FileKind}
-use Rattle.cca_work.specs.cca_inputs.specs.declared.status.FileKind.TheVariants as kinds
-use Rattle.cca_work.specs.cca_inputs.specs.declared.status.Status.TheVariants.{Limit}
-use Rattle.cca_work.specs.Gives.{BookOfLogGives, EndGives, FilesGive, LogGives, PriceGives, ones}
+use Rattle.auction_model.specs.Book.{Book}
+use Rattle.auction_rules.specs.BookOfLog.{book_of_log, is_complete}
+use Rattle.auction_rules.specs.Replies.{reply_to}
+use Rattle.auction_rules.specs.Terms.{Terms}
+use Rattle.auction_rules.specs.declared.Event.{Event}
+use Rattle.auction_rules.specs.declared.Event.TheVariants.{Bid, Close, Draft, Drop, Submit}
+use Rattle.auction_rules.specs.declared.Reply.{Reply}
+use Rattle.auction_rules.specs.declared.Reply.TheVariants as reply
+use Rattle.log_replay.specs.ReplyLines.{book_or_open, end_of, first_refusal, refusal_of, stopped_or}
+use Rattle.log_replay.specs.declared.results.ReplayStop.{ReplayStop}
+use Rattle.log_replay.specs.declared.results.ReplayStop.TheVariants.{Open, Price, Rounds}
+use Rattle.limits.specs.declared.LimitKind.TheVariants.{Bytes}
+use Rattle.limits.specs.declared.TheConstants.{AWARD_BYTES, LOG_BYTES}
+use Rattle.cca_cli.specs.Answers.{AwardAnswers, LogAnswers, award_answer}
+use Rattle.cca_cli.specs.Command.{award}
+use Rattle.cca_cli.specs.Outcome.{Answer, AnswerGives, InputGives, Outcome, stopped, value}
+use Rattle.cca_cli.specs.declared.price_form.PriceForm.{PriceForm}
+use Rattle.cca_cli.specs.declared.status.FileKind.{FileKind}
+use Rattle.cca_cli.specs.declared.status.FileKind.TheVariants as kinds
+use Rattle.cca_cli.specs.declared.status.Status.TheVariants.{Limit}
+use Rattle.cca_commands.specs.Gives.{BookOfLogGives, EndGives, FilesGive, LogGives, PriceGives, ones}
 use Rattle.cca_run.specs.Headline.{IsAuction, IsDoneOrLimited}
 
--- an outcome that is told to be this has its status
+-- an outcome that is reported to be this has its status
 told-as : (o p : Outcome) → IsDoneOrLimited p.status → o ≡ p → IsDoneOrLimited o.status
 told-as o p ends is = subst (λ (x : Outcome). IsDoneOrLimited x.status) (sym is) ends
 

@@ -1,28 +1,28 @@
 -- A complete log within the limits is awarded, and no other.
 use Rattle.std.proofs.Common.{◌≡◌, ◌∙◌, ℕ, Bool, IsTrue, Option, Some, None, List, length, refl, sym, ap, subst, arith, inl, inr}
 use Rattle.std.specs.Prelude.{◌≤◌, Result, Ok, Err, reverse, if◌then◌else◌}
-use Rattle.cca_work.specs.outcome.specs.auction_model.specs.Book.{Book, market_of}
-use Rattle.cca_work.specs.outcome.specs.auction_model.specs.Greatest.{IsWinning}
-use Rattle.cca_work.specs.outcome.specs.auction_model.specs.Lawful.{IsMarket}
-use Rattle.cca_work.specs.outcome.specs.auction_model.specs.Market.{Market}
-use Rattle.cca_work.specs.big_auction.specs.clock_stage.specs.auction_rules.specs.BookOfLog.{book_of_log, is_complete}
-use Rattle.cca_work.specs.big_auction.specs.clock_stage.specs.auction_rules.specs.Terms.{Terms}
-use Rattle.cca_work.specs.big_auction.specs.clock_stage.specs.auction_rules.specs.declared.Event.{Event}
-use Rattle.cca_work.specs.big_auction.specs.award_file.specs.Award.{IsAward}
-use Rattle.cca_work.specs.big_auction.specs.log_file.specs.LogReading.{AreLog, log_records}
-use Rattle.cca_work.specs.log_replay.specs.ReplyLines.{book_or_open, end_of, first_refusal, stopped_or}
-use Rattle.cca_work.specs.log_replay.specs.declared.results.ReplayStop.{ReplayStop}
-use Rattle.cca_work.specs.log_replay.specs.declared.results.ReplayStop.TheVariants.{Open}
-use Rattle.cca_work.specs.cca_inputs.specs.limits.specs.declared.TheConstants.{AWARD_BYTES, LOG_BYTES, MOST_WINNERS}
-use Rattle.cca_work.specs.big_auction.specs.row_laws.specs.Winners.{winners_in}
-use Rattle.cca_work.specs.cca_inputs.specs.Answers.{AwardAnswers, LogAnswers, award_answer}
-use Rattle.cca_work.specs.cca_inputs.specs.Command.{award}
-use Rattle.cca_work.specs.cca_inputs.specs.Outcome.{Answer, AnswerGives, InputGives, Outcome, value}
-use Rattle.cca_work.specs.cca_inputs.specs.declared.price_form.PriceForm.{PriceForm}
-use Rattle.cca_work.specs.cca_inputs.specs.declared.status.FileKind.{FileKind}
-use Rattle.cca_work.specs.cca_inputs.specs.declared.status.FileKind.TheVariants as kinds
-use Rattle.cca_work.specs.cca_inputs.specs.declared.status.Status.TheVariants.{Done}
-use Rattle.cca_work.specs.Gives.{BookOfLogGives, EndGives, FilesGive, LogGives, PriceGives, ones}
+use Rattle.auction_model.specs.Book.{Book, market_of}
+use Rattle.auction_model.specs.Greatest.{IsWinning}
+use Rattle.auction_model.specs.Lawful.{IsMarket}
+use Rattle.auction_model.specs.Market.{Market}
+use Rattle.auction_rules.specs.BookOfLog.{book_of_log, is_complete}
+use Rattle.auction_rules.specs.Terms.{Terms}
+use Rattle.auction_rules.specs.declared.Event.{Event}
+use Rattle.award_file.specs.Award.{IsAward}
+use Rattle.log_file.specs.LogReading.{AreLog, log_records}
+use Rattle.log_replay.specs.ReplyLines.{book_or_open, end_of, first_refusal, stopped_or}
+use Rattle.log_replay.specs.declared.results.ReplayStop.{ReplayStop}
+use Rattle.log_replay.specs.declared.results.ReplayStop.TheVariants.{Open}
+use Rattle.limits.specs.declared.TheConstants.{AWARD_BYTES, LOG_BYTES, MOST_WINNERS}
+use Rattle.core_laws.specs.Winners.{winners_in}
+use Rattle.cca_cli.specs.Answers.{AwardAnswers, LogAnswers, award_answer}
+use Rattle.cca_cli.specs.Command.{award}
+use Rattle.cca_cli.specs.Outcome.{Answer, AnswerGives, InputGives, Outcome, value}
+use Rattle.cca_cli.specs.declared.price_form.PriceForm.{PriceForm}
+use Rattle.cca_cli.specs.declared.status.FileKind.{FileKind}
+use Rattle.cca_cli.specs.declared.status.FileKind.TheVariants as kinds
+use Rattle.cca_cli.specs.declared.status.Status.TheVariants.{Done}
+use Rattle.cca_commands.specs.Gives.{BookOfLogGives, EndGives, FilesGive, LogGives, PriceGives, ones}
 use Rattle.cca_run.specs.Headline.{CanBeAwarded, FileHolds}
 use Rattle.cca_run.proofs.HeadlineLaws.{award-never, award-states, has-book, has-value, log-never}
 use Rattle.cca_run.proofs.LogBooks.{logged}

@@ -1,22 +1,23 @@
 -- How a command ends that has its work, and how a run then ends.
 use Rattle.std.proofs.Common.{inl, inr, ◌≡◌, ◌⊎◌, ◌∙◌, ℕ, ◌≤◌, ◌<◌, Option, Some, List, length, refl, sym, ap, subst}
-use Rattle.cca_work.specs.cca_inputs.specs.cca_base.specs.Faults.{Rose}
-use Rattle.cca_work.specs.cca_inputs.specs.cca_base.specs.Files.{Agrees, Folder}
-use Rattle.cca_work.specs.cca_inputs.specs.cca_base.proofs.Given.{agrees_same, agrees_told, of_same}
-use Rattle.cca_work.specs.cca_inputs.specs.cca_base.specs.Sink.{HasRoom, Output, Puts}
-use Rattle.cca_work.specs.cca_inputs.specs.Command.{CommandValue, inputs_of, output_as, outputs_of}
-use Rattle.cca_work.specs.cca_inputs.specs.Outcome.{Outcome, done}
-use Rattle.cca_work.specs.cca_inputs.specs.StatusLine.{status_line}
-use Rattle.cca_work.specs.cca_inputs.specs.Statuses.{IsDecided, IsHindered, KeepsAll}
-use Rattle.cca_work.specs.cca_inputs.specs.declared.file_text.FileText.{FileText}
-use Rattle.cca_work.specs.cca_inputs.specs.declared.status.FileKind.{FileKind}
-use Rattle.cca_work.specs.cca_inputs.specs.declared.status.FileKind.TheVariants.{Award, Log, Book, Cert, Weights, Slots, Edits, Out}
-use Rattle.cca_work.specs.cca_inputs.specs.declared.status.Status.{Status}
-use Rattle.cca_work.specs.cca_inputs.specs.declared.status.Status.TheVariants.{Done, Words, ReadFault, WriteFault}
-use Rattle.cca_work.specs.Gives.{FilesGive}
-use Rattle.cca_work.specs.ReadFaults.{CountsAmong}
+use Rattle.cca_base.specs.Faults.{Rose}
+use Rattle.cca_base.specs.Files.{Agrees, Folder}
+use Rattle.cca_base.proofs.Given.{agrees_same, agrees_told, of_same}
+use Rattle.cca_base.specs.Sink.{HasRoom, Output, Puts}
+use Rattle.cca_cli.specs.Command.{CommandValue, inputs_of, output_as, outputs_of}
+use Rattle.cca_cli.specs.Outcome.{Outcome, done}
+use Rattle.cca_cli.specs.StatusLine.{status_line}
+use Rattle.cca_cli.specs.Statuses.{IsDecided, IsHindered, KeepsAll}
+use Rattle.cca_cli.specs.declared.file_text.FileText.{FileText}
+use Rattle.cca_cli.specs.declared.status.FileKind.{FileKind}
+use Rattle.cca_cli.specs.declared.status.FileKind.TheVariants.{Award, Cert, Edits, Log, Out, Slots, Weights}
+use Rattle.cca_cli.specs.declared.status.FileKind.TheVariants as file_kind
+use Rattle.cca_cli.specs.declared.status.Status.{Status}
+use Rattle.cca_cli.specs.declared.status.Status.TheVariants.{Done, ReadFault, Words, WriteFault}
+use Rattle.cca_commands.specs.Gives.{FilesGive}
+use Rattle.cca_commands.specs.ReadFaults.{CountsAmong}
 use Rattle.cca_run.specs.Run.{AppendsAll, FailsToWrite, IsWriteFault, Prints}
-use Rattle.cca_work.specs.Works.{OnlyReads}
+use Rattle.cca_commands.specs.Works.{OnlyReads}
 use Rattle.cca_run.specs.Ends.{FailsAt, FinishEnds, OnlyAppends, RunEnds}
 use Rattle.cca_run.proofs.Moved.{all-on, upto-on}
 use Rattle.cca_run.proofs.Named.{never-out}
@@ -64,7 +65,7 @@ append-failed command old new before now printed line appended kind result fails
     front (inl w) e = let x : WriteFault kind ≡ WriteFault Out = sym w.0 ∙ e in let same : kind ≡ Out = cc in absurd (not-out same)
     front (inr w) e = let cut = w.2 in (line, cut.0, cut.1, cut.2, inr (kind, fails, is), w.3)
 
--- the work was worked out, and the command ended
+-- the work was computed, and the command ended
 module _ (command : CommandValue) (old mid new : Folder) (before now : Output) (printed : List ℕ) (appended : List FileText) (result : Status)
     (reads : OnlyReads command old mid)
     (e : FinishEnds command mid new before now printed appended result) (given : (files : List ℕ → Option (List ℕ)) → Agrees files old mid
@@ -101,8 +102,8 @@ module _ (command : CommandValue) (old mid new : Folder) (before now : Output) (
       by Award w (inr f) = fails-to Award f
       by Log w (inl x) = let no : Log ≡ Out = x.0 in absurd cc
       by Log w (inr f) = fails-to Log f
-      by Book w (inl x) = let no : Book ≡ Out = x.0 in absurd cc
-      by Book w (inr f) = fails-to Book f
+      by file_kind.Book w (inl x) = let no : file_kind.Book ≡ Out = x.0 in absurd cc
+      by file_kind.Book w (inr f) = fails-to file_kind.Book f
       by Cert w (inl x) = let no : Cert ≡ Out = x.0 in absurd cc
       by Cert w (inr f) = fails-to Cert f
       by Weights w (inl x) = let no : Weights ≡ Out = x.0 in absurd cc

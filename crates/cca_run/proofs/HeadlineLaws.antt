@@ -3,39 +3,39 @@ use Rattle.std.proofs.Common.{◌≡◌, ◌∙◌, ℕ, Option, Some, None, Lis
 use Rattle.std.specs.Prelude.{◌-◌, ◌<◌, ◌≤◌, Result, Ok, Err, reverse}
 use Rattle.std.proofs.lemmas.Bool.{cases_lt}
 use Rattle.std.proofs.lemmas.List.{get_or-replicate}
-use Rattle.cca_work.specs.outcome.specs.auction_model.specs.Book.{Book, market_of}
-use Rattle.cca_work.specs.outcome.specs.auction_model.specs.Greatest.{IsWinning}
-use Rattle.cca_work.specs.outcome.specs.auction_model.specs.Market.{Market}
-use Rattle.cca_work.specs.outcome.specs.auction_model.specs.Prices.{AreVickreyPrices, IsCoreOutcome, Point, weight_of}
-use Rattle.cca_work.specs.outcome.specs.row_laws.specs.Outcome.{IsAuctionOutcome}
-use Rattle.cca_work.specs.big_auction.specs.clock_stage.specs.auction_rules.specs.Terms.{Terms}
-use Rattle.cca_work.specs.big_auction.specs.clock_stage.specs.auction_rules.specs.declared.Event.{Event}
-use Rattle.cca_work.specs.big_auction.specs.award_file.specs.Reading as reading
-use Rattle.cca_work.specs.big_auction.specs.log_file.specs.LogReading.{AreLog, log_records}
-use Rattle.cca_work.specs.log_replay.specs.ReplyLines.{end_of}
-use Rattle.cca_work.specs.log_replay.specs.declared.results.ReplayStop.{ReplayStop}
-use Rattle.cca_work.specs.log_replay.specs.declared.results.ReplayStop.TheVariants.{Rounds, Price, Open}
-use Rattle.cca_work.specs.cca_inputs.specs.line_text.specs.LineText.{Said, stated, faulty, beyond}
-use Rattle.cca_work.specs.cca_inputs.specs.cert_form.specs.Certificate.{CertValue}
-use Rattle.cca_work.specs.cca_inputs.specs.bid_book.specs.Kept.{IsBidBook}
-use Rattle.cca_work.specs.big_auction.specs.award_file.specs.Award.{IsAward}
-use Rattle.cca_work.specs.big_auction.specs.row_laws.specs.Winners.{winners_in}
-use Rattle.cca_work.specs.cca_inputs.specs.cert_form.specs.CertText.{IsCertificate}
-use Rattle.cca_work.specs.cca_inputs.specs.cert_form.specs.Says.{CertSays, cert_text}
-use Rattle.cca_work.specs.place_price.specs.cert_laws.specs.BookSizes.{IsWithinSizes}
-use Rattle.cca_work.specs.place_price.specs.cert_laws.specs.Priced.{IsPricedCert}
-use Rattle.cca_work.specs.place_price.specs.cert_laws.specs.Sound.{cert_point, cert_prices}
-use Rattle.cca_work.specs.place_price.specs.cert_laws.specs.Tests.{bidders_of, states}
-use Rattle.cca_work.specs.cca_inputs.specs.limits.specs.declared.TheConstants.{AWARD_BYTES, LOG_BYTES, CERT_BYTES, MOST_WINNERS, PRICED_CERT_BYTES}
-use Rattle.cca_work.specs.cca_inputs.specs.Answers.{AwardAnswers, CertAnswers, LogAnswers, award_answer, cert_answer}
-use Rattle.cca_work.specs.cca_inputs.specs.Command.{award, audit}
-use Rattle.cca_work.specs.cca_inputs.specs.Outcome.{Answer, FileAnswers, AnswerGives, InputGives, Outcome, stops, value}
-use Rattle.cca_work.specs.cca_inputs.specs.declared.price_form.PriceForm.{PriceForm}
-use Rattle.cca_work.specs.cca_inputs.specs.declared.status.FileKind.{FileKind}
-use Rattle.cca_work.specs.cca_inputs.specs.declared.status.FileKind.TheVariants as kinds
-use Rattle.cca_work.specs.cca_inputs.specs.declared.status.Status.{Status}
-use Rattle.cca_work.specs.cca_inputs.specs.declared.status.Status.TheVariants.{Done}
-use Rattle.cca_work.specs.Gives.{BookOfLogGives, CertGives, EndGives, FilesGive, IsYesText, LogGives, PriceGives, VerdictGives, cert_file, ones}
+use Rattle.auction_model.specs.Book.{Book, market_of}
+use Rattle.auction_model.specs.Greatest.{IsWinning}
+use Rattle.auction_model.specs.Market.{Market}
+use Rattle.auction_model.specs.Prices.{AreVickreyPrices, IsCoreOutcome, Point, weight_of}
+use Rattle.core_laws.specs.Outcome.{IsAuctionOutcome}
+use Rattle.auction_rules.specs.Terms.{Terms}
+use Rattle.auction_rules.specs.declared.Event.{Event}
+use Rattle.award_file.specs.Reading as reading
+use Rattle.log_file.specs.LogReading.{AreLog, log_records}
+use Rattle.log_replay.specs.ReplyLines.{end_of}
+use Rattle.log_replay.specs.declared.results.ReplayStop.{ReplayStop}
+use Rattle.log_replay.specs.declared.results.ReplayStop.TheVariants.{Open, Price, Rounds}
+use Rattle.line_format.specs.LineText.{Said, beyond, faulty, stated}
+use Rattle.cert_grammar.specs.Certificate.{CertValue}
+use Rattle.bid_book.specs.Kept.{IsBidBook}
+use Rattle.award_file.specs.Award.{IsAward}
+use Rattle.core_laws.specs.Winners.{winners_in}
+use Rattle.cert_grammar.specs.CertText.{IsCertificate}
+use Rattle.cert_grammar.specs.Says.{CertSays, cert_text}
+use Rattle.cert_soundness.specs.BookSizes.{IsWithinSizes}
+use Rattle.cert_soundness.specs.Priced.{IsPricedCert}
+use Rattle.cert_soundness.specs.Sound.{cert_point, cert_prices}
+use Rattle.cert_soundness.specs.Tests.{bidders_of, states}
+use Rattle.limits.specs.declared.TheConstants.{AWARD_BYTES, CERT_BYTES, LOG_BYTES, MOST_WINNERS, PRICED_CERT_BYTES}
+use Rattle.cca_cli.specs.Answers.{AwardAnswers, CertAnswers, LogAnswers, award_answer, cert_answer}
+use Rattle.cca_cli.specs.Command.{audit, award}
+use Rattle.cca_cli.specs.Outcome.{Answer, AnswerGives, FileAnswers, InputGives, Outcome, stops, value}
+use Rattle.cca_cli.specs.declared.price_form.PriceForm.{PriceForm}
+use Rattle.cca_cli.specs.declared.status.FileKind.{FileKind}
+use Rattle.cca_cli.specs.declared.status.FileKind.TheVariants as kinds
+use Rattle.cca_cli.specs.declared.status.Status.{Status}
+use Rattle.cca_cli.specs.declared.status.Status.TheVariants.{Done}
+use Rattle.cca_commands.specs.Gives.{BookOfLogGives, CertGives, EndGives, FilesGive, IsYesText, LogGives, PriceGives, VerdictGives, cert_file, ones}
 use Rattle.cca_run.specs.Headline.{HoldsAdmittedBids, IsAudited, IsAwarded, book_of}
 use Rattle.cca_run.proofs.Accepted.{sizes-of}
 use Rattle.cca_run.proofs.Same.{within-says}
@@ -57,7 +57,7 @@ pub record HasValue {V : Type 0} (most : ℕ) (says : List ℕ → Answer V → 
   -- the outcome is what follows for the value
   pub goes_on : follows of o
 
--- a value stands within the limit
+-- a value is within the limit
 within-most : {V : Type 0} (most : ℕ) (says : List ℕ → Answer V → Type 0) (bytes : List ℕ) (v : V) → FileAnswers most says bytes (value v) → length bytes ≤ most
 within-most most says bytes v answers =
     elim (cases_lt most (length bytes)) [
@@ -101,17 +101,17 @@ award-never bytes (is, keeps) = by (reading.reading bytes) is
     by reading.no_toml is = absurd cc
     by (reading.broken number entry) is = absurd cc
     by (reading.too_many kind count) is = absurd cc
-    by (reading.states terms) is = absurd cc
+    by (reading.stated_terms terms) is = absurd cc
 
 -- the bytes of an award state its terms
-pub award-states : (bytes : List ℕ) (terms : Terms) → AwardAnswers bytes (value terms) → reading.reading bytes ≡ reading.states terms
+pub award-states : (bytes : List ℕ) (terms : Terms) → AwardAnswers bytes (value terms) → reading.reading bytes ≡ reading.stated_terms terms
 award-states bytes terms (is, keeps) = by (reading.reading bytes) is
   where
-    by : (r : reading.Reading) → value terms ≡ award_answer r → r ≡ reading.states terms
+    by : (r : reading.Reading) → value terms ≡ award_answer r → r ≡ reading.stated_terms terms
     by reading.no_toml is = absurd cc
     by (reading.broken number entry) is = absurd cc
     by (reading.too_many kind count) is = absurd cc
-    by (reading.states t) is = let same : t ≡ terms = cc in ap reading.states same
+    by (reading.stated_terms t) is = let same : t ≡ terms = cc in ap reading.stated_terms same
 
 -- nor those of a log
 pub log-never : (terms : Terms) (bytes : List ℕ) → LogAnswers terms bytes (stops Done) → ⊥

@@ -3,9 +3,9 @@ use Rattle.std.proofs.Common.{◌≡◌, ℕ, zero, suc, Bool, true, false, Opti
 use Rattle.std.specs.Prelude.{◌&&◌, ◌||◌, not, if◌then◌else◌}
 use Rattle.std.specs.Str.{bytes_eq}
 use Rattle.std.proofs.lemmas.Slice.Eq.{bytes_eq-Decides}
-use Rattle.cca_work.specs.cca_inputs.specs.cca_base.specs.Files.{Agrees, Content, Folder, Hold}
-use Rattle.cca_work.specs.cca_inputs.specs.Command.{are_file_words, is_among, is_file_word}
-use Rattle.cca_work.specs.Works.{Loaded}
+use Rattle.cca_base.specs.Files.{Agrees, Content, Folder, Hold}
+use Rattle.cca_cli.specs.Command.{are_file_words, is_among, is_file_word}
+use Rattle.cca_commands.specs.ReadFaults.{Loaded}
 use Rattle.cca_run.proofs.WordsApart.{and-both, neither, not-true}
 
 -- what these contents say of a name, the first one of the name
@@ -13,7 +13,7 @@ abbrev pub content_in : List Content → List ℕ → Option (List ℕ)
 content_in [] name = None
 content_in (c ∷ rest) name = if bytes_eq c.name name then Some c.bytes else content_in rest name
 
--- contents of other names don't change with one more in front
+-- contents of other names don't change with one more first
 hold-behind : (c : Content) (files : List ℕ → Option (List ℕ)) (rest : List Content) → is_among c.name (map (λ d. d.name) rest) ≡ false → Hold files rest
     → Hold (λ name. if bytes_eq c.name name then Some c.bytes else files name) rest
 hold-behind c files [] apart hold = tt

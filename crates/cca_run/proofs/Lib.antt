@@ -1,6 +1,7 @@
 mod Accepted
 mod AdmittedBids
 mod Appends
+mod Commands
 mod CompleteLogEnds
 mod CompleteLogs
 mod Finished
@@ -21,4 +22,5 @@ mod RunLaws
 mod Same
 mod Stated
 mod Stopped
+mod SeenYes
 mod WordsApart

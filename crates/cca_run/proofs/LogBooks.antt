@@ -3,20 +3,20 @@ use Rattle.std.proofs.Common.{◌≡◌, ℕ, Bool, true, false, IsTrue, Option,
 use Rattle.std.specs.Prelude.{if◌then◌else◌, ◌<◌, ◌≤◌, ◌^◌, pos, ◌≤ℤ◌, Ok, Err}
 use Rattle.std.specs.List.{AllByRecursion}
 use Rattle.std.proofs.lemmas.List.{reverse-append}
-use Rattle.cca_work.specs.outcome.specs.auction_model.specs.Book.{Book, bids_of, net_of, market_of}
-use Rattle.cca_work.specs.outcome.specs.auction_model.specs.Lawful.{IsMarket}
-use Rattle.cca_work.specs.cca_inputs.specs.book_form.specs.BookLines.{IsBookWithinLimits}
-use Rattle.cca_work.specs.cca_inputs.specs.bid_book.proofs.Within.{kept}
-use Rattle.cca_work.specs.cca_inputs.specs.bid_book.specs.Kept.{IsBidBook}
-use Rattle.cca_work.specs.big_auction.specs.clock_stage.specs.auction_rules.specs.BookOfLog.{book_of_log, is_complete}
-use Rattle.cca_work.specs.big_auction.specs.clock_stage.specs.auction_rules.specs.Lawful.{HasCategories}
-use Rattle.cca_work.specs.big_auction.specs.clock_stage.specs.auction_rules.specs.Terms.{Terms}
-use Rattle.cca_work.specs.big_auction.specs.clock_stage.specs.auction_rules.specs.declared.Event.{Event}
-use Rattle.cca_work.specs.big_auction.specs.award_file.specs.Award.{IsAward}
-use Rattle.cca_work.specs.big_auction.specs.log_file.specs.LogReading.{AreLog}
-use Rattle.cca_work.specs.log_replay.specs.ReplyLines.{book_or_open, end_of, first_refusal, stopped_or}
-use Rattle.cca_work.specs.log_replay.specs.declared.results.ReplayStop.{ReplayStop}
-use Rattle.cca_work.specs.log_replay.specs.declared.results.ReplayStop.TheVariants.{Open}
+use Rattle.auction_model.specs.Book.{Book, bids_of, market_of, net_of}
+use Rattle.auction_model.specs.Lawful.{IsMarket}
+use Rattle.book_grammar.specs.BookLines.{IsBookWithinLimits}
+use Rattle.bid_book.proofs.Within.{kept}
+use Rattle.bid_book.specs.Kept.{IsBidBook}
+use Rattle.auction_rules.specs.BookOfLog.{book_of_log, is_complete}
+use Rattle.auction_rules.specs.Lawful.{HasCategories}
+use Rattle.auction_rules.specs.Terms.{Terms}
+use Rattle.auction_rules.specs.declared.Event.{Event}
+use Rattle.award_file.specs.Award.{IsAward}
+use Rattle.log_file.specs.LogReading.{AreLog}
+use Rattle.log_replay.specs.ReplyLines.{book_or_open, end_of, first_refusal, stopped_or}
+use Rattle.log_replay.specs.declared.results.ReplayStop.{ReplayStop}
+use Rattle.log_replay.specs.declared.results.ReplayStop.TheVariants.{Open}
 
 -- a list that leads to a book leads to that of its log, and is complete
 pub record IsLogged (terms : Terms) (log : List Event) (book : Book) : Type 0 where

@@ -2,11 +2,11 @@
 use Rattle.std.proofs.Common.{◌∙◌, ℕ, IsTrue, Option, List, [], ◌∷◌, ◌++◌, length, sym, ap, subst}
 use Rattle.std.specs.Prelude.{take, ◌-◌, ◌≤◌}
 use Rattle.std.specs.Option.{option_map, IfSome}
-use Rattle.cca_work.specs.cca_inputs.specs.cca_base.specs.Files.{Adds, Folder, KeepsFiles, added}
-use Rattle.cca_work.specs.cca_inputs.specs.cca_base.proofs.Given.{keeps_more}
-use Rattle.cca_work.specs.cca_inputs.specs.Command.{CommandValue}
-use Rattle.cca_work.specs.cca_inputs.specs.declared.file_text.FileText.{FileText}
-use Rattle.cca_work.specs.cca_inputs.specs.declared.status.FileKind.{FileKind}
+use Rattle.cca_base.specs.Files.{Adds, Folder, KeepsFiles, added}
+use Rattle.cca_base.proofs.Given.{keeps_more}
+use Rattle.cca_cli.specs.Command.{CommandValue}
+use Rattle.cca_cli.specs.declared.file_text.FileText.{FileText}
+use Rattle.cca_cli.specs.declared.status.FileKind.{FileKind}
 use Rattle.cca_run.specs.Run.{AppendsAll, AppendsUpTo}
 
 module _ (command : CommandValue) (old mid new : Folder) (kept : KeepsFiles old mid) where

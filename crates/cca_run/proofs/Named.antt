@@ -4,11 +4,11 @@ use Rattle.std.specs.Prelude.{Contains, find, filter}
 use Rattle.std.specs.Option.{option_map}
 use Rattle.std.specs.List.{AllByRecursion}
 use Rattle.std.proofs.lemmas.Bool.{cases_Bool}
-use Rattle.cca_work.specs.cca_inputs.specs.Command.{CommandValue, win, two_files, three_files, one_priced, two_priced, make, FileUse}
-use Rattle.cca_work.specs.cca_inputs.specs.Command.{appended_files, input_as, inputs_of, is_kind, output_as, outputs_of, read_files}
-use Rattle.cca_work.specs.cca_inputs.specs.declared.shape.ThreeFiles.TheVariants.{WeighCheck, Auction, Audit}
-use Rattle.cca_work.specs.cca_inputs.specs.declared.status.FileKind.{FileKind}
-use Rattle.cca_work.specs.cca_inputs.specs.declared.status.FileKind.TheVariants.{Out}
+use Rattle.cca_cli.specs.Command.{CommandValue, FileUse, appended_files, input_as, inputs_of, is_kind, make, one_priced, output_as, outputs_of}
+use Rattle.cca_cli.specs.Command.{read_files, three_files, two_files, two_priced, win}
+use Rattle.cca_cli.specs.declared.shape.ThreeFiles.TheVariants.{Auction, Audit, WeighCheck}
+use Rattle.cca_cli.specs.declared.status.FileKind.{FileKind}
+use Rattle.cca_cli.specs.declared.status.FileKind.TheVariants.{Out}
 
 -- the name of the file that is found is among the names
 found : (q : FileUse → Bool) (files : List FileUse) (name : List ℕ) → option_map (λ f. f.name) (find q files) ≡ Some name

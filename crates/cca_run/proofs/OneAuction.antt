@@ -1,25 +1,25 @@
 -- The bytes of an award and of its log give one outcome of an auction.
 use Rattle.std.proofs.Common.{◌≡◌, ◌∙◌, ℕ, Option, List, [], ◌∷◌, sym, ap}
 use Rattle.std.specs.Prelude.{Result, Ok, Err}
-use Rattle.cca_work.specs.cca_inputs.specs.limits.specs.declared.TheConstants.{AWARD_BYTES, LOG_BYTES}
-use Rattle.cca_work.specs.cca_inputs.specs.line_text.specs.LineText.{stated, Says}
-use Rattle.cca_work.specs.outcome.specs.auction_model.specs.Book.{Book}
-use Rattle.cca_work.specs.big_auction.specs.clock_stage.specs.auction_rules.specs.Terms.{Terms}
-use Rattle.cca_work.specs.big_auction.specs.clock_stage.specs.auction_rules.specs.declared.Event.{Event}
-use Rattle.cca_work.specs.cca_inputs.specs.book_form.specs.BookForm.{IsBook}
-use Rattle.cca_work.specs.cca_inputs.specs.book_form.specs.BookLines.{lines}
-use Rattle.cca_work.specs.log_replay.specs.declared.results.ReplayStop.{ReplayStop}
-use Rattle.cca_work.specs.cca_inputs.specs.Answers.{AwardAnswers, LogAnswers}
-use Rattle.cca_work.specs.cca_inputs.specs.Command.{auction, contents_of}
-use Rattle.cca_work.specs.cca_inputs.specs.Outcome.{Answer, Outcome, done}
-use Rattle.cca_work.specs.cca_inputs.specs.declared.status.FileKind.TheVariants.{Award, Log}
-use Rattle.cca_work.specs.Gives.{AuctionGives, FilesGive, LogGives, RepliesGive, book_file}
+use Rattle.limits.specs.declared.TheConstants.{AWARD_BYTES, LOG_BYTES}
+use Rattle.line_format.specs.LineText.{Says, stated}
+use Rattle.auction_model.specs.Book.{Book}
+use Rattle.auction_rules.specs.Terms.{Terms}
+use Rattle.auction_rules.specs.declared.Event.{Event}
+use Rattle.book_grammar.specs.BookForm.{IsBook}
+use Rattle.book_grammar.specs.BookLines.{book_lines}
+use Rattle.log_replay.specs.declared.results.ReplayStop.{ReplayStop}
+use Rattle.cca_cli.specs.Answers.{AwardAnswers, LogAnswers}
+use Rattle.cca_cli.specs.Command.{auction, contents_of}
+use Rattle.cca_cli.specs.Outcome.{Answer, Outcome, done}
+use Rattle.cca_cli.specs.declared.status.FileKind.TheVariants.{Award, Log}
+use Rattle.cca_commands.specs.Gives.{AuctionGives, FilesGive, LogGives, RepliesGive, book_file}
 use Rattle.cca_run.proofs.OneLog.{one_award-answer}
 use Rattle.cca_run.proofs.Same.{two-inputs}
 
 -- what the laws of the crates below say
 module _ (one_log_answer : (terms : Terms) (bytes : List ℕ) (x y : Answer (List Event)) → LogAnswers terms bytes x → LogAnswers terms bytes y → x ≡ y)
-    (one_text : (bytes other : List ℕ) (book : Book) → Says IsBook lines bytes (stated book) → Says IsBook lines other (stated book) → bytes ≡ other) where
+    (one_text : (bytes other : List ℕ) (book : Book) → Says IsBook book_lines bytes (stated book) → Says IsBook book_lines other (stated book) → bytes ≡ other) where
   -- what a log leads to gives one outcome
   one-replies : (records : ℕ) (replies : List ℕ) (end : Result Book ReplayStop) (o p : Outcome) → RepliesGive records replies end o
       → RepliesGive records replies end p → o ≡ p

@@ -1,12 +1,12 @@
 -- The bytes of an award, and of a log of an award, have one answer.
 use Rattle.std.proofs.Common.{inl, inr, ◌≡◌, ◌∙◌, ℕ, List, sym, ap}
-use Rattle.cca_work.specs.big_auction.specs.clock_stage.specs.auction_rules.specs.Terms.{Terms}
-use Rattle.cca_work.specs.big_auction.specs.clock_stage.specs.auction_rules.specs.declared.Event.{Event}
-use Rattle.cca_work.specs.big_auction.specs.log_file.specs.LogReading.{AreLog, AreTooMany, IsFirstFault, log_records}
-use Rattle.cca_work.specs.cca_inputs.specs.Answers.{AwardAnswers, LogAnswers, RecordsAnswer}
-use Rattle.cca_work.specs.cca_inputs.specs.Outcome.{Answer, stops, value}
-use Rattle.cca_work.specs.cca_inputs.specs.declared.status.FileKind.TheVariants.{Log}
-use Rattle.cca_work.specs.cca_inputs.specs.declared.status.Status.TheVariants.{Refused}
+use Rattle.auction_rules.specs.Terms.{Terms}
+use Rattle.auction_rules.specs.declared.Event.{Event}
+use Rattle.log_file.specs.LogReading.{AreLog, AreTooMany, IsFirstFault, log_records}
+use Rattle.cca_cli.specs.Answers.{AwardAnswers, LogAnswers, RecordsAnswer}
+use Rattle.cca_cli.specs.Outcome.{Answer, stops, value}
+use Rattle.cca_cli.specs.declared.status.FileKind.TheVariants.{Log}
+use Rattle.cca_cli.specs.declared.status.Status.TheVariants.{Refused}
 
 -- that of an award follows from the one reading of its bytes
 pub one_award-answer : (bytes : List ℕ) (a b : Answer Terms) → AwardAnswers bytes a → AwardAnswers bytes b → a ≡ b

@@ -1,64 +1,63 @@
 -- The words and the bytes give at most one status and one printed text.
-use Rattle.std.specs.Prelude.{◌≡◌, ℕ, ℤ, Bool, true, false, ◌≤◌, ◌<◌, ◌^◌, Option, Some, None, List, [], ◌∷◌, ◌++◌, codes, length, pos, ◌≤ℤ◌, refl}
+use Rattle.std.specs.Prelude.{Bool, Err, List, None, Ok, Option, Result, Some, [], codes, false, length, pos, refl, reverse, true, ℕ, ℤ, ◌++◌, ◌<◌}
+use Rattle.std.specs.Prelude.{◌^◌, ◌∷◌, ◌≡◌, ◌≤ℤ◌, ◌≤◌}
 use Rattle.std.proofs.Common.{inl, inr, sym, ◌∙◌, ap, subst, arith}
-use Rattle.cca_work.specs.cca_inputs.specs.line_text.specs.LineText.{Said, stated, faulty, beyond, Says}
-use Rattle.cca_work.specs.outcome.specs.auction_model.specs.Market.{Market}
-use Rattle.cca_work.specs.outcome.specs.auction_model.specs.Greatest.{IsWinning}
-use Rattle.cca_work.specs.outcome.specs.auction_model.specs.Lawful.{IsMarket}
-use Rattle.cca_work.specs.outcome.specs.auction_model.specs.Book.{Book, bids_of, net_of, market_of}
-use Rattle.cca_work.specs.outcome.specs.auction_model.specs.Prices.{Point, AreVickreyPrices, AreWeights, IsCoreOutcome, SamePoint, weight_of}
-use Rattle.cca_work.specs.outcome.specs.auction_model.specs.PricingRun.{Turn, IsPricingRun}
-use Rattle.cca_work.specs.cca_inputs.specs.book_form.specs.BookForm.{IsBook}
-use Rattle.cca_work.specs.cca_inputs.specs.book_form.specs.BookLines.{Excess, IsBookWithinLimits, lines}
-use Rattle.cca_work.specs.outcome.specs.print_form.specs.WinText.{win_text}
-use Rattle.cca_work.specs.cca_inputs.specs.bid_book.proofs.Within.{kept}
-use Rattle.cca_work.specs.cca_inputs.specs.cert_form.specs.Certificate.{CertValue}
-use Rattle.cca_work.specs.cca_inputs.specs.cert_form.specs.Says.{CertSays, cert_text}
-use Rattle.cca_work.specs.place_price.specs.cert_laws.specs.Sound.{IsSound, cert_point, cert_prices}
-use Rattle.cca_work.specs.place_price.specs.cert_laws.specs.Tests.{FailsFirst, Holds, bidders_of, states}
-use Rattle.cca_work.specs.outcome.specs.print_form.specs.Json.{IsOutcomeJson}
-use Rattle.cca_work.specs.outcome.specs.print_form.specs.Prices.{IsPriceText}
-use Rattle.cca_work.specs.outcome.specs.print_form.specs.Turns.{AreTurnLines}
-use Rattle.cca_work.specs.big_auction.specs.row_laws.specs.Winners.{winners_in}
-use Rattle.cca_work.specs.big_auction.specs.row_laws.specs.Weights.{FewWin}
-use Rattle.std.specs.Prelude.{Result, Ok, Err, reverse}
-use Rattle.cca_work.specs.big_auction.specs.award_file.specs.Award.{IsAward}
-use Rattle.cca_work.specs.big_auction.specs.log_file.specs.LogReading.{AreLog, log_records}
-use Rattle.cca_work.specs.log_replay.specs.ReplyLines.{end_of}
-use Rattle.cca_work.specs.big_auction.specs.clock_stage.specs.auction_rules.specs.Terms.{Terms}
-use Rattle.cca_work.specs.big_auction.specs.clock_stage.specs.auction_rules.specs.declared.Event.{Event}
-use Rattle.cca_work.specs.log_replay.specs.declared.results.ReplayStop.{ReplayStop}
-use Rattle.cca_work.specs.cca_inputs.specs.weights_file.specs.WeightsForm.{WeightsSay}
-use Rattle.cca_work.specs.cca_inputs.specs.edits_file.specs.EditsForm.{AreNamedEdits, EditsSay, NamedEdit, add, raise, remove, edits_of}
-use Rattle.cca_work.specs.outcome.specs.review.specs.Edits.{edit_lots}
+use Rattle.line_format.specs.LineText.{Said, Says, beyond, faulty, stated}
+use Rattle.auction_model.specs.Market.{Market}
+use Rattle.auction_model.specs.Greatest.{IsWinning}
+use Rattle.auction_model.specs.Lawful.{IsMarket}
+use Rattle.auction_model.specs.Book.{Book, bids_of, market_of, net_of}
+use Rattle.auction_model.specs.Prices.{AreVickreyPrices, AreWeights, IsCoreOutcome, Point, SamePoint, weight_of}
+use Rattle.auction_model.specs.PricingRun.{BidderTurn, IsPricingRun}
+use Rattle.book_grammar.specs.BookForm.{IsBook}
+use Rattle.book_grammar.specs.BookLines.{Excess, IsBookWithinLimits, book_lines}
+use Rattle.print_grammar.specs.WinText.{win_text}
+use Rattle.bid_book.proofs.Within.{kept}
+use Rattle.cert_grammar.specs.Certificate.{CertValue}
+use Rattle.cert_grammar.specs.Says.{CertSays, cert_text}
+use Rattle.cert_soundness.specs.Sound.{IsSound, cert_point, cert_prices}
+use Rattle.cert_soundness.specs.Tests.{FailsFirst, Holds, bidders_of, states}
+use Rattle.print_grammar.specs.Json.{IsOutcomeJson}
+use Rattle.print_grammar.specs.Prices.{IsPriceText}
+use Rattle.print_grammar.specs.Turns.{AreTurnLines}
+use Rattle.core_laws.specs.Winners.{winners_in}
+use Rattle.core_laws.specs.Weights.{FewWin}
+use Rattle.award_file.specs.Award.{IsAward}
+use Rattle.log_file.specs.LogReading.{AreLog, log_records}
+use Rattle.log_replay.specs.ReplyLines.{end_of}
+use Rattle.auction_rules.specs.Terms.{Terms}
+use Rattle.auction_rules.specs.declared.Event.{Event}
+use Rattle.log_replay.specs.declared.results.ReplayStop.{ReplayStop}
+use Rattle.weights_file.specs.WeightsForm.{WeightsSay}
+use Rattle.edits_file.specs.EditsForm.{AreNamedEdits, EditsSay, NamedEdit, add, edits_of, raise, remove}
+use Rattle.review.specs.Edits.{edit_lots}
 use Rattle.std.specs.List.{AllByRecursion}
-use Rattle.cca_work.specs.outcome.specs.review.specs.declared.edit.Edit.{Edit}
-use Rattle.cca_work.specs.outcome.specs.ReviewText.{IsReviewText}
+use Rattle.review.specs.declared.edit.Edit.{Edit}
+use Rattle.outcome.specs.ReviewText.{IsReviewText}
 use Rattle.cca_run.proofs.Same.{Same, both, equal, one-input, printed-same}
 use Rattle.cca_run.proofs.Stated.{limits-of}
 use Rattle.cca_run.proofs.OneLog.{one_award-answer}
-use Rattle.cca_work.specs.place_price.specs.book_price.proofs.Ones.{ones-weigh}
+use Rattle.book_price.proofs.Ones.{ones-weigh}
 use Rattle.cca_run.proofs.Ones.{not_few_and_many}
-use Rattle.cca_work.specs.cca_inputs.specs.Answers.{AwardAnswers, BookAnswers, CertAnswers, EditsAnswers, LogAnswers, WeightsAnswers, book_answer}
-use Rattle.cca_work.specs.cca_inputs.specs.Answers.{cert_answer, edits_answer, weights_answer}
-use Rattle.cca_work.specs.cca_inputs.specs.Command.{CommandValue, win, two_files, three_files, one_priced, two_priced, make, place_check, command_of}
-use Rattle.cca_work.specs.cca_inputs.specs.Command.{contents_of}
-use Rattle.cca_work.specs.cca_inputs.specs.declared.shape.OnePriced.TheVariants as one
-use Rattle.cca_work.specs.cca_inputs.specs.declared.shape.ThreeFiles.TheVariants.{WeighCheck, Auction, Audit}
-use Rattle.cca_work.specs.cca_inputs.specs.declared.shape.TwoFiles.TheVariants.{Check, PlaceCheck, Review}
-use Rattle.cca_work.specs.cca_inputs.specs.declared.shape.TwoPriced.TheVariants as two
-use Rattle.cca_work.specs.cca_inputs.specs.Outcome.{Answer, Outcome, done, stopped, value}
-use Rattle.cca_work.specs.cca_inputs.specs.declared.price_form.PriceForm.{PriceForm}
-use Rattle.cca_work.specs.cca_inputs.specs.declared.status.CertKind.TheVariants as certs
-use Rattle.cca_work.specs.cca_inputs.specs.declared.status.FileKind.{FileKind}
-use Rattle.cca_work.specs.cca_inputs.specs.declared.status.FileKind.TheVariants.{Award, Log, Book as BookFile, Cert, Weights, Edits}
-use Rattle.cca_work.specs.cca_inputs.specs.limits.specs.declared.TheConstants.{AWARD_BYTES, LOG_BYTES, BOOK_BYTES, CERT_BYTES, EDITS_BYTES}
-use Rattle.cca_work.specs.cca_inputs.specs.limits.specs.declared.TheConstants.{WEIGHTS_BYTES}
-use Rattle.cca_work.specs.Gives.{ArePriceLines, AreRounds, AuctionGives, BookOfLogGives, CertGives, CommandGives, EditsGive, Gives, EndGives}
-use Rattle.cca_work.specs.Gives.{HasTooMany, IsPricing, IsPrinted, IsYesText, LogGives, PriceGives, RepliesGive, ReviewGives, VerdictGives}
-use Rattle.cca_work.specs.Gives.{WeightsGive, WinGives, WordsGive, book_file, cert_file, ones}
-use Rattle.cca_work.specs.cca_inputs.specs.declared.status.Status.TheVariants.{No, Limit}
-use Rattle.cca_work.specs.cca_inputs.specs.limits.specs.declared.LimitKind.TheVariants.{Winners}
+use Rattle.cca_cli.specs.Answers.{AwardAnswers, BookAnswers, CertAnswers, EditsAnswers, LogAnswers, WeightsAnswers, book_answer, cert_answer}
+use Rattle.cca_cli.specs.Answers.{edits_answer, weights_answer}
+use Rattle.cca_cli.specs.Command.{CommandValue, command_of, contents_of, make, one_priced, place_check, three_files, two_files, two_priced, win}
+use Rattle.cca_cli.specs.declared.shape.OnePriced.TheVariants as one
+use Rattle.cca_cli.specs.declared.shape.ThreeFiles.TheVariants.{Auction, Audit, WeighCheck}
+use Rattle.cca_cli.specs.declared.shape.TwoFiles.TheVariants.{Check, PlaceCheck, Review}
+use Rattle.cca_cli.specs.declared.shape.TwoPriced.TheVariants as two
+use Rattle.cca_cli.specs.Outcome.{Answer, Outcome, done, stopped, value}
+use Rattle.cca_cli.specs.declared.price_form.PriceForm.{PriceForm}
+use Rattle.cca_cli.specs.declared.status.CertKind.TheVariants as certs
+use Rattle.cca_cli.specs.declared.status.FileKind.{FileKind}
+use Rattle.cca_cli.specs.declared.status.FileKind.TheVariants.{Award, Cert, Edits, Log, Weights}
+use Rattle.cca_cli.specs.declared.status.FileKind.TheVariants as file_kind
+use Rattle.limits.specs.declared.TheConstants.{AWARD_BYTES, BOOK_BYTES, CERT_BYTES, EDITS_BYTES, LOG_BYTES, WEIGHTS_BYTES}
+use Rattle.cca_commands.specs.Gives.{ArePriceLines, AreRounds, AuctionGives, BookOfLogGives, CertGives, CommandGives, EditsGive, EndGives, Gives}
+use Rattle.cca_commands.specs.Gives.{HasTooMany, IsPricing, IsPrinted, IsYesText, LogGives, PriceGives, RepliesGive, ReviewGives, VerdictGives}
+use Rattle.cca_commands.specs.Gives.{WeightsGive, WinGives, WordsGive, book_file, cert_file, ones}
+use Rattle.cca_cli.specs.declared.status.Status.TheVariants.{Limit, No}
+use Rattle.limits.specs.declared.LimitKind.TheVariants.{Winners}
 
 -- what a log leads to gives one status and one text
 one-end : (records : ℕ) (replies : List ℕ) (end : Result Book ReplayStop) (o p : Outcome) → RepliesGive records replies end o
@@ -84,7 +83,7 @@ lots-of book categories (raise name lots amount ∷ named) all = (all.0.0.count,
 lots-of book categories (remove name lots ∷ named) all = (all.0.count, lots-of book categories named all.1)
 
 -- what the laws of the crates below say
-module _ (one_book : (bytes : List ℕ) (x y : Said Book Excess) → Says IsBook lines bytes x → Says IsBook lines bytes y → x ≡ y)
+module _ (one_book : (bytes : List ℕ) (x y : Said Book Excess) → Says IsBook book_lines bytes x → Says IsBook book_lines bytes y → x ≡ y)
     (lawful_log : (terms : Terms) (rows : List (List (List ℕ))) (events : List Event) (book : Book) → IsAward terms → AreLog terms rows events
     → end_of terms (reverse events) ≡ Ok book → IsMarket (market_of book))
     (one_weighing : (book : Book) (bytes : List ℕ) (x y : Said (List ℕ) ⊥) → IsBook book → WeightsSay book bytes x → WeightsSay book bytes y → x ≡ y)
@@ -101,12 +100,12 @@ module _ (one_book : (bytes : List ℕ) (x y : Said Book Excess) → Says IsBook
     (one_prices : (book : Book) (z : List ℕ) (v w : ℕ → ℤ) (p q : Point) (t u : List ℕ) → length z ≡ (market_of book).bidders → pos 1 ≤ℤ p.den → pos 1 ≤ℤ q.den
     → SamePoint (market_of book) p q → ((j : ℕ) → 0 < j → j ≤ (market_of book).bidders → v j ≡ w j) → IsPriceText book z v p t → IsPriceText book z w q u
     → t ≡ u)
-    (one_run : (m : Market) (w : ℕ → ℕ) (z : List ℕ) (runs others : List Turn) (t u : List ℕ) → IsMarket m → IsPricingRun m w z runs → IsPricingRun m w z others
+    (one_run : (m : Market) (w : ℕ → ℕ) (z : List ℕ) (runs others : List BidderTurn) (t u : List ℕ) → IsMarket m → IsPricingRun m w z runs → IsPricingRun m w z others
     → AreTurnLines z 0 runs t → AreTurnLines z 0 others u → t ≡ u)
     (one_json : (book : Book) (z : List ℕ) (v w : ℕ → ℤ) (p q : Point) (t u : List ℕ) → length z ≡ (market_of book).bidders → pos 1 ≤ℤ p.den → pos 1 ≤ℤ q.den
     → SamePoint (market_of book) p q → ((j : ℕ) → 0 < j → j ≤ (market_of book).bidders → v j ≡ w j) → IsOutcomeJson book z v p None t
     → IsOutcomeJson book z w q None u → t ≡ u)
-    (one_json_rounds : (book : Book) (weights : ℕ → ℕ) (z : List ℕ) (v w : ℕ → ℤ) (p q : Point) (runs others : List Turn) (t u : List ℕ)
+    (one_json_rounds : (book : Book) (weights : ℕ → ℕ) (z : List ℕ) (v w : ℕ → ℤ) (p q : Point) (runs others : List BidderTurn) (t u : List ℕ)
     → length z ≡ (market_of book).bidders
     → pos 1 ≤ℤ p.den → pos 1 ≤ℤ q.den → SamePoint (market_of book) p q → ((j : ℕ) → 0 < j → j ≤ (market_of book).bidders → v j ≡ w j)
     → IsMarket (market_of book) → IsPricingRun (market_of book) weights z runs → IsPricingRun (market_of book) weights z others
@@ -158,7 +157,7 @@ module _ (one_book : (bytes : List ℕ) (x y : Said Book Excess) → Says IsBook
       let rules = kept book (limits-of bytes book says) in
       market book (omega (arith, rules.bidders)) rules.not_negative
 
-  one-rounds : (rounds : Bool) (book : Book) (weights z : List ℕ) (runs others : List Turn) (t u : List ℕ) → IsMarket (market_of book)
+  one-rounds : (rounds : Bool) (book : Book) (weights z : List ℕ) (runs others : List BidderTurn) (t u : List ℕ) → IsMarket (market_of book)
       → IsPricingRun (market_of book) (weight_of weights) z runs
       → IsPricingRun (market_of book) (weight_of weights) z others → AreRounds rounds z runs t → AreRounds rounds z others u → t ≡ u
   one-rounds true book weights z runs others t u m a b x y = one_run (market_of book) (weight_of weights) z runs others t u m a b x y
@@ -168,8 +167,8 @@ module _ (one_book : (bytes : List ℕ) (x y : Said Book Excess) → Says IsBook
       → IsPricing book weights form c t → AreVickreyPrices (market_of book) c.choice (cert_prices book c)
   vickrey-of book weights are form c t a = (sound book weights c are a.certificate.choice.0 a.certificate.pay.0 a.priced.holds).vickrey
 
-  -- the same prices of the same winners, behind two runs of pricing
-  module _ (book : Book) (weights z : List ℕ) (v w : ℕ → ℤ) (p q : Point) (runs others : List Turn) (m : IsMarket (market_of book))
+  -- the same prices of the same winners, after two runs of pricing
+  module _ (book : Book) (weights z : List ℕ) (v w : ℕ → ℤ) (p q : Point) (runs others : List BidderTurn) (m : IsMarket (market_of book))
       (long : length z ≡ (market_of book).bidders)
       (dp : pos 1 ≤ℤ p.den) (dq : pos 1 ≤ℤ q.den) (same : SamePoint (market_of book) p q) (agree : (j : ℕ) → 0 < j → j ≤ (market_of book).bidders → v j ≡ w j)
       (run : IsPricingRun (market_of book) (weight_of weights) z runs) (other : IsPricingRun (market_of book) (weight_of weights) z others) where
@@ -240,27 +239,27 @@ module _ (one_book : (bytes : List ℕ) (x y : Said Book Excess) → Says IsBook
 
   one-of : (command : CommandValue) (contents : FileKind → Option (List ℕ)) (o p : Outcome) → CommandGives command contents o
       → CommandGives command contents p → Same o p
-  one-of (win name) contents o p x y = one-input BookFile BOOK_BYTES BookAnswers WinGives one_book-answer (contents BookFile) o p
+  one-of (win name) contents o p x y = one-input file_kind.Book BOOK_BYTES BookAnswers WinGives one_book-answer (contents file_kind.Book) o p
       (λ book bytes says x y.
       let m = lawful bytes book says in
       let same = one_winning (market_of book) x.0 y.0 m x.1 y.1 in
       both o p (done (win_text book x.0) []) (done (win_text book y.0) []) x.2 y.2
       (printed-same (win_text book x.0) (win_text book y.0) [] [] (ap (win_text book) same))) x y
-  one-of (one_priced one.Price name cert form) contents o p x y = one-input BookFile BOOK_BYTES BookAnswers (λ book. PriceGives book
-      (ones book) form) one_book-answer (contents BookFile) o p
+  one-of (one_priced one.Price name cert form) contents o p x y = one-input file_kind.Book BOOK_BYTES BookAnswers (λ book. PriceGives book
+      (ones book) form) one_book-answer (contents file_kind.Book) o p
       (λ book bytes says x y. one-priced book (ones book) (ones-weigh (bidders_of book)) form o p (lawful bytes book says) x y) x y
-  one-of (two_files Check name cert) contents o p x y = one-input BookFile BOOK_BYTES BookAnswers (λ book. CertGives book (contents Cert)
-      (VerdictGives book (ones book))) one_book-answer (contents BookFile) o p
+  one-of (two_files Check name cert) contents o p x y = one-input file_kind.Book BOOK_BYTES BookAnswers (λ book. CertGives book (contents Cert)
+      (VerdictGives book (ones book))) one_book-answer (contents file_kind.Book) o p
       (λ book bytes says x y. one-input Cert CERT_BYTES (CertAnswers book) (VerdictGives book (ones book)) (one_cert-answer book) (contents Cert) o p
       (λ c of says_it a b. one-judged book (ones book) c o p (lawful bytes book says) a b) x y) x y
   one-of (two_priced two.Weigh name weights cert form) contents o p x y =
-      one-input BookFile BOOK_BYTES BookAnswers (λ b. WeightsGive b (contents Weights) (λ w. PriceGives b w form)) one_book-answer (contents BookFile) o p
+      one-input file_kind.Book BOOK_BYTES BookAnswers (λ b. WeightsGive b (contents Weights) (λ w. PriceGives b w form)) one_book-answer (contents file_kind.Book) o p
       (λ book bytes says x y. one-input Weights WEIGHTS_BYTES (WeightsAnswers book) (λ w. PriceGives book w form) (one_weights-answer book
       (limits-of bytes book says).form) (contents Weights) o p
       (λ w of says_it a b. one-priced book w (weights-of book of w says_it) form o p (lawful bytes book says) a b) x y) x y
   one-of (three_files WeighCheck name weights cert) contents o p x y =
-      one-input BookFile BOOK_BYTES BookAnswers (λ b. WeightsGive b (contents Weights) (λ w. CertGives b (contents Cert) (VerdictGives b w))) one_book-answer
-      (contents BookFile) o p
+      one-input file_kind.Book BOOK_BYTES BookAnswers (λ b. WeightsGive b (contents Weights) (λ w. CertGives b (contents Cert) (VerdictGives b w))) one_book-answer
+      (contents file_kind.Book) o p
       (λ book bytes says x y. one-input Weights WEIGHTS_BYTES (WeightsAnswers book) (λ w. CertGives book (contents Cert) (VerdictGives book w))
       (one_weights-answer book (limits-of bytes book says).form) (contents Weights) o p
       (λ w of says_it a b. one-input Cert CERT_BYTES (CertAnswers book) (VerdictGives book w) (one_cert-answer book) (contents Cert) o p
@@ -288,8 +287,8 @@ module _ (one_book : (bytes : List ℕ) (x y : Said Book Excess) → Says IsBook
   one-of (make number terms log) contents o p x y = equal o p _ x y
   one-of (one_priced one.Place slots cert form) contents o p x y = one_placed slots cert form contents o p x y
   one-of (two_files PlaceCheck slots cert) contents o p x y = one_tested slots cert contents o p x y
-  one-of (two_files Review name edits) contents o p x y = one-input BookFile BOOK_BYTES BookAnswers (λ b. EditsGive b (contents Edits)
-      (ReviewGives b)) one_book-answer (contents BookFile) o p
+  one-of (two_files Review name edits) contents o p x y = one-input file_kind.Book BOOK_BYTES BookAnswers (λ b. EditsGive b (contents Edits)
+      (ReviewGives b)) one_book-answer (contents file_kind.Book) o p
       (λ book bytes says x y. one-input Edits EDITS_BYTES (EditsAnswers book) (ReviewGives book) (one_edits-answer book) (contents Edits) o p
       (λ changes of says_it a b. both o p (done a.0 []) (done b.0 []) a.2 b.2 (printed-same a.0 b.0 [] []
       (one_review book changes a.0 b.0 (limits-of bytes book says) (lots-in book of changes says_it) a.1 b.1))) x y) x y

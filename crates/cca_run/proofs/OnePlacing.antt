@@ -1,36 +1,37 @@
 -- What placements give: one status and one printed text.
-use Rattle.std.proofs.Common.{inl, inr, ◌≡◌, ◌∙◌, ℕ, Bool, true, false, ◌≤◌, ◌<◌, Option, List, [], ◌∷◌, ◌++◌, codes, length, ℤ, pos, refl, sym, ap, subst}
-use Rattle.std.proofs.Common.{arith}
+use Rattle.std.proofs.Common.{Bool, List, Option, [], ap, arith, codes, false, inl, inr, length, pos, refl, subst, sym, true, ℕ, ℤ, ◌++◌, ◌<◌, ◌∙◌}
+use Rattle.std.proofs.Common.{◌∷◌, ◌≡◌, ◌≤◌}
 use Rattle.std.specs.Prelude.{◌^◌, ◌≤ℤ◌}
-use Rattle.cca_work.specs.cca_inputs.specs.line_text.specs.LineText.{Said, stated, faulty, beyond, Says}
-use Rattle.cca_work.specs.outcome.specs.auction_model.specs.Lawful.{IsMarket}
-use Rattle.cca_work.specs.outcome.specs.auction_model.specs.Market.{Market}
-use Rattle.cca_work.specs.outcome.specs.auction_model.specs.Prices.{Point, AreVickreyPrices, SamePoint, alike}
-use Rattle.cca_work.specs.outcome.specs.auction_model.specs.PricingRun.{Turn, IsPricingRun}
-use Rattle.cca_work.specs.cca_inputs.specs.book_form.specs.BookLines.{Excess}
-use Rattle.cca_work.specs.cca_inputs.specs.cert_form.specs.PlaceCert.{PlaceCertValue}
-use Rattle.cca_work.specs.place_price.specs.cert_laws.specs.Sound.{cert_point}
-use Rattle.cca_work.specs.cca_inputs.specs.limits.specs.declared.TheConstants.{CERT_BYTES, MOST_PLACED, SLOTS_BYTES}
-use Rattle.cca_work.specs.cca_inputs.specs.place_cert.specs.PlaceSays.{PlaceCertSays, place_text}
-use Rattle.cca_work.specs.place_price.specs.place_check.specs.PlacePriced.{IsPricedPlaceCert, IsSamePricing}
-use Rattle.cca_work.specs.place_price.specs.place_check.specs.PlaceSound.{IsPlaceSound, prices_in}
-use Rattle.cca_work.specs.place_price.specs.place_check.specs.PlaceTests as places
-use Rattle.cca_work.specs.place_price.specs.PlaceText.{IsPlaceText}
-use Rattle.cca_work.specs.outcome.specs.print_form.specs.Turns.{AreTurnLines}
-use Rattle.cca_work.specs.cca_inputs.specs.slot_places.specs.Board.{market_of}
-use Rattle.cca_work.specs.cca_inputs.specs.slot_places.specs.SlotForm.{IsSlotText, slot_lines}
-use Rattle.cca_work.specs.cca_inputs.specs.slot_places.specs.Slots.{SlotList}
-use Rattle.cca_work.specs.cca_inputs.specs.slot_places.proofs.Within.{kept}
-use Rattle.cca_work.specs.cca_inputs.specs.Answers.{PlaceCertAnswers, SlotsAnswers, place_cert_answer, slots_answer}
-use Rattle.cca_work.specs.cca_inputs.specs.Command.{one_priced, place_check}
-use Rattle.cca_work.specs.cca_inputs.specs.declared.price_form.PriceForm.{PriceForm}
-use Rattle.cca_work.specs.cca_inputs.specs.declared.shape.OnePriced.TheVariants.{Place}
-use Rattle.cca_work.specs.cca_inputs.specs.Outcome.{Answer, Outcome, done, stopped, value}
-use Rattle.cca_work.specs.cca_inputs.specs.declared.status.CertKind.TheVariants as certs
-use Rattle.cca_work.specs.cca_inputs.specs.declared.status.FileKind.{FileKind}
-use Rattle.cca_work.specs.cca_inputs.specs.declared.status.FileKind.TheVariants.{Cert, Slots}
-use Rattle.cca_work.specs.cca_inputs.specs.declared.status.Status.TheVariants.{No}
-use Rattle.cca_work.specs.Gives.{AreRounds, CommandGives, IsPlaceYes, IsPlacing, PlaceCertGives, PlaceGives, PlaceVerdictGives, cert_file}
+use Rattle.line_format.specs.LineText.{Said, Says, beyond, faulty, stated}
+use Rattle.auction_model.specs.Lawful.{IsMarket}
+use Rattle.auction_model.specs.Market.{Market}
+use Rattle.auction_model.specs.Prices.{AreVickreyPrices, Point, SamePoint, alike}
+use Rattle.auction_model.specs.PricingRun.{BidderTurn, IsPricingRun}
+use Rattle.book_grammar.specs.BookLines.{Excess}
+use Rattle.cert_grammar.specs.PlaceCert.{PlaceCertValue}
+use Rattle.cert_soundness.specs.Sound.{cert_point}
+use Rattle.limits.specs.declared.TheConstants.{CERT_BYTES, MOST_PLACED, SLOTS_BYTES}
+use Rattle.placement_cert.specs.PlaceSays.{PlaceCertSays, place_text}
+use Rattle.placement_check.specs.PlacePriced.{IsPricedPlaceCert, IsSamePricing}
+use Rattle.placement_check.specs.PlaceSound.{IsPlaceSound}
+use Rattle.cert_soundness.specs.MarketPrices.{prices_in}
+use Rattle.placement_check.specs.PlaceTests as places
+use Rattle.place_price.specs.PlaceText.{IsPlaceText}
+use Rattle.print_grammar.specs.Turns.{AreTurnLines}
+use Rattle.slot_places.specs.Board.{market_of_slots}
+use Rattle.slot_places.specs.SlotForm.{IsSlotText, slot_lines}
+use Rattle.slot_places.specs.Slots.{SlotList}
+use Rattle.slot_places.proofs.Within.{kept_slots}
+use Rattle.cca_cli.specs.Answers.{PlaceCertAnswers, SlotsAnswers, place_cert_answer, slots_answer}
+use Rattle.cca_cli.specs.Command.{one_priced, place_check}
+use Rattle.cca_cli.specs.declared.price_form.PriceForm.{PriceForm}
+use Rattle.cca_cli.specs.declared.shape.OnePriced.TheVariants.{Place}
+use Rattle.cca_cli.specs.Outcome.{Answer, Outcome, done, stopped, value}
+use Rattle.cca_cli.specs.declared.status.CertKind.TheVariants as certs
+use Rattle.cca_cli.specs.declared.status.FileKind.{FileKind}
+use Rattle.cca_cli.specs.declared.status.FileKind.TheVariants.{Cert, Slots}
+use Rattle.cca_cli.specs.declared.status.Status.TheVariants.{No}
+use Rattle.cca_commands.specs.Gives.{AreRounds, CommandGives, IsPlaceYes, IsPlacing, PlaceCertGives, PlaceGives, PlaceVerdictGives, cert_file}
 use Rattle.cca_run.proofs.Same.{Same, both, equal, one-input, printed-same}
 
 -- slots that bytes state are few bidders
@@ -38,7 +39,7 @@ pub most-placed : (bytes : List ℕ) (slots : SlotList) → SlotsAnswers bytes (
 most-placed bytes slots (said, says, is) = by said says is
   where
     of : (s : SlotList) → Says IsSlotText slot_lines bytes (stated s) → length s.bidders ≤ MOST_PLACED
-    of s text = (kept s (record { form = text.valid; limits = text.within })).few
+    of s text = (kept_slots s (record { form = text.valid; limits = text.within })).few
 
     by : (said : Said SlotList Excess) → Says IsSlotText slot_lines bytes said → value slots ≡ slots_answer said → length slots.bidders ≤ MOST_PLACED
     by (stated s) says is = let same : s ≡ slots = cc in subst (λ (x : SlotList). length x.bidders ≤ MOST_PLACED) same (of s says)
@@ -53,17 +54,17 @@ module _ (one_slots : (bytes : List ℕ) (x y : Said SlotList Excess) → Says I
     (one_cert : (bidders : ℕ) (bytes : List ℕ) (x y : Said PlaceCertValue ℕ) → PlaceCertSays bidders bytes x → PlaceCertSays bidders bytes y → x ≡ y)
     (one_verdict : (slots : SlotList) (p : PlaceCertValue) (t place u q : ℕ) → places.FailsFirst slots p t place → places.FailsFirst slots p u q
     → (t ≡ u) × (place ≡ q))
-    (not_both : (slots : SlotList) (p : PlaceCertValue) (t place : ℕ) → places.Holds slots p → places.FailsFirst slots p t place → ⊥)
-    (sound : (slots : SlotList) (p : PlaceCertValue) → length p.cert.pay ≡ length slots.bidders → places.Holds slots p → IsPlaceSound slots p)
+    (not_both : (slots : SlotList) (p : PlaceCertValue) (t place : ℕ) → places.PlacementHolds slots p → places.FailsFirst slots p t place → ⊥)
+    (sound : (slots : SlotList) (p : PlaceCertValue) → length p.cert.pay ≡ length slots.bidders → places.PlacementHolds slots p → IsPlaceSound slots p)
     (one_pricing : (slots : SlotList) (p q : PlaceCertValue) → length slots.bidders < 2 ^ 16 → IsPricedPlaceCert slots p → IsPricedPlaceCert slots q
     → IsSamePricing slots p q)
-    (market : (slots : SlotList) → length slots.bidders < 2 ^ 16 → IsMarket (market_of slots))
+    (market : (slots : SlotList) → length slots.bidders < 2 ^ 16 → IsMarket (market_of_slots slots))
     (one_vickrey : (m : Market) (z : List ℕ) (v w : ℕ → ℤ) → AreVickreyPrices m z v → AreVickreyPrices m z w → (j : ℕ) → 0 < j → j ≤ m.bidders → v j ≡ w j)
-    (one_run : (m : Market) (w : ℕ → ℕ) (z : List ℕ) (runs others : List Turn) (t u : List ℕ) → IsMarket m → IsPricingRun m w z runs → IsPricingRun m w z others
+    (one_run : (m : Market) (w : ℕ → ℕ) (z : List ℕ) (runs others : List BidderTurn) (t u : List ℕ) → IsMarket m → IsPricingRun m w z runs → IsPricingRun m w z others
     → AreTurnLines z 0 runs t → AreTurnLines z 0 others u → t ≡ u)
     (one_text : (slots : SlotList) (order z : List ℕ) (v w : ℕ → ℤ) (p q : Point) (t u : List ℕ) → length z ≡ length slots.bidders → pos 1 ≤ℤ p.den
     → pos 1 ≤ℤ q.den
-    → SamePoint (market_of slots) p q → ((j : ℕ) → 0 < j → j ≤ length slots.bidders → v j ≡ w j) → IsPlaceText slots order z v p t
+    → SamePoint (market_of_slots slots) p q → ((j : ℕ) → 0 < j → j ≤ length slots.bidders → v j ≡ w j) → IsPlaceText slots order z v p t
     → IsPlaceText slots order z w q u → t ≡ u) where
   one_slots-answer : (bytes : List ℕ) (x y : Answer SlotList) → SlotsAnswers bytes x → SlotsAnswers bytes y → x ≡ y
   one_slots-answer bytes x y a b = a.2 ∙ ap slots_answer (one_slots bytes a.0 b.0 a.1 b.1) ∙ sym b.2
@@ -72,10 +73,10 @@ module _ (one_slots : (bytes : List ℕ) (x y : Said SlotList Excess) → Says I
       → PlaceCertAnswers (length slots.bidders) bytes y → x ≡ y
   one_cert-answer slots bytes x y a b = a.2 ∙ ap place_cert_answer (one_cert (length slots.bidders) bytes a.0 b.0 a.1 b.1) ∙ sym b.2
 
-  one-rounds : (rounds : Bool) (slots : SlotList) (z : List ℕ) (runs others : List Turn) (t u : List ℕ) → IsMarket (market_of slots)
-      → IsPricingRun (market_of slots) alike z runs
-      → IsPricingRun (market_of slots) alike z others → AreRounds rounds z runs t → AreRounds rounds z others u → t ≡ u
-  one-rounds true slots z runs others t u m a b x y = one_run (market_of slots) alike z runs others t u m a b x y
+  one-rounds : (rounds : Bool) (slots : SlotList) (z : List ℕ) (runs others : List BidderTurn) (t u : List ℕ) → IsMarket (market_of_slots slots)
+      → IsPricingRun (market_of_slots slots) alike z runs
+      → IsPricingRun (market_of_slots slots) alike z others → AreRounds rounds z runs t → AreRounds rounds z others u → t ≡ u
+  one-rounds true slots z runs others t u m a b x y = one_run (market_of_slots slots) alike z runs others t u m a b x y
   one-rounds false slots z runs others t u m a b x y = x ∙ sym y
 
   -- one placement is printed in one way
@@ -85,21 +86,21 @@ module _ (one_slots : (bytes : List ℕ) (x y : Said SlotList Excess) → Says I
       let m = market slots few in
       let same = one_pricing slots p q few a.priced b.priced in
       let is : q.cert.choice ≡ p.cert.choice = sym same.choice in
-      let run = subst (λ (z : List ℕ). IsPricingRun (market_of slots) alike z b.turns) is b.run in
+      let run = subst (λ (z : List ℕ). IsPricingRun (market_of_slots slots) alike z b.turns) is b.run in
       let x = a.printed in
       let y = b.printed in
       let rounds_of = subst (λ (z : List ℕ). AreRounds rounds z b.turns y.lines) is y.are_rounds in
       let lines : x.lines ≡ y.lines = one-rounds rounds slots p.cert.choice a.turns b.turns x.lines y.lines m a.run run x.are_rounds rounds_of in
       let first = (sound slots p a.certificate.pay.0 a.priced.holds).vickrey in
-      let second = subst (λ (z : List ℕ). AreVickreyPrices (market_of slots) z (prices_in (market_of slots) q.cert)) is
+      let second = subst (λ (z : List ℕ). AreVickreyPrices (market_of_slots slots) z (prices_in (market_of_slots slots) q.cert)) is
       (sound slots q b.certificate.pay.0 b.priced.holds).vickrey in
-      let there = subst (λ (z : List ℕ). IsPlaceText slots q.order z (prices_in (market_of slots) q.cert) (cert_point q.cert) y.prices) is y.are_prices in
-      let placed = subst (λ (o : List ℕ). IsPlaceText slots o p.cert.choice (prices_in (market_of slots) q.cert) (cert_point q.cert) y.prices)
+      let there = subst (λ (z : List ℕ). IsPlaceText slots q.order z (prices_in (market_of_slots slots) q.cert) (cert_point q.cert) y.prices) is y.are_prices in
+      let placed = subst (λ (o : List ℕ). IsPlaceText slots o p.cert.choice (prices_in (market_of_slots slots) q.cert) (cert_point q.cert) y.prices)
       (sym same.placement) there in
-      let prices : x.prices ≡ y.prices = one_text slots p.order p.cert.choice (prices_in (market_of slots) p.cert) (prices_in (market_of slots) q.cert)
+      let prices : x.prices ≡ y.prices = one_text slots p.order p.cert.choice (prices_in (market_of_slots slots) p.cert) (prices_in (market_of_slots slots) q.cert)
       (cert_point p.cert) (cert_point q.cert) x.prices y.prices
       (m.lengths p.cert.choice a.priced.winning.passed) a.priced.outcome.core.den_positive b.priced.outcome.core.den_positive same.point
-      (one_vickrey (market_of slots) p.cert.choice (prices_in (market_of slots) p.cert) (prices_in (market_of slots) q.cert) first second) x.are_prices
+      (one_vickrey (market_of_slots slots) p.cert.choice (prices_in (market_of_slots slots) p.cert) (prices_in (market_of_slots slots) q.cert) first second) x.are_prices
       placed in
       x.whole ∙ ap (λ (l : List ℕ). l ++ x.prices) lines ∙ ap (λ (l : List ℕ). y.lines ++ l) prices ∙ sym y.whole
 
@@ -114,7 +115,7 @@ module _ (one_slots : (bytes : List ℕ) (x y : Said SlotList Excess) → Says I
   one-yes slots p t u few s x y =
       let m = market slots few in
       let den = s.outcome.core.den_positive in
-      let prices = one_text slots p.order p.cert.choice (prices_in (market_of slots) p.cert) (prices_in (market_of slots) p.cert) (cert_point p.cert)
+      let prices = one_text slots p.order p.cert.choice (prices_in (market_of_slots slots) p.cert) (prices_in (market_of_slots slots) p.cert) (cert_point p.cert)
       (cert_point p.cert) x.0 y.0
       (m.lengths p.cert.choice s.greatest.passed) den den (λ j some le. refl) (λ j some le. refl) x.1 y.1 in
       x.2 ∙ ap (λ (l : List ℕ). codes "yes\n" ++ l) prices ∙ sym y.2
@@ -130,7 +131,7 @@ module _ (one_slots : (bytes : List ℕ) (x y : Said SlotList Excess) → Says I
       equal o p (stopped (No certs.Placement y.0 y.1)) (x.3 ∙ ap (λ (t : ℕ). stopped (No certs.Placement t x.1)) is.0
       ∙ ap (λ (q : ℕ). stopped (No certs.Placement y.0 q)) is.1) y.3
 
-  -- the placement that is worked out
+  -- the placement that is computed
   pub one-place : (slots cert : List ℕ) (form : PriceForm) (contents : FileKind → Option (List ℕ)) (o p : Outcome)
       → CommandGives (one_priced Place slots cert form) contents o → CommandGives (one_priced Place slots cert form) contents p → Same o p
   one-place slots cert form contents o p x y =

@@ -1,12 +1,12 @@
 -- Weights of 1, and counts of winners that are few or many.
 use Rattle.std.specs.Prelude.{◌≡◌, ◌⊎◌, ◌<◌, ◌≤◌, List, length, ℕ}
 use Rattle.std.proofs.Common.{inl, inr, arith}
-use Rattle.cca_work.specs.outcome.specs.auction_model.specs.Book.{Book}
-use Rattle.cca_work.specs.place_price.specs.cert_laws.specs.Tests.{bidders_of}
-use Rattle.cca_work.specs.big_auction.specs.row_laws.specs.Weights.{FewWin, ManyWin, WeighAlike}
-use Rattle.cca_work.specs.big_auction.specs.row_laws.specs.Winners.{winners_in}
-use Rattle.cca_work.specs.place_price.specs.book_price.proofs.Ones.{winners-ones}
-use Rattle.cca_work.specs.Gives.{ones}
+use Rattle.auction_model.specs.Book.{Book}
+use Rattle.cert_soundness.specs.Tests.{bidders_of}
+use Rattle.core_laws.specs.Weights.{FewWin, ManyWin, WeighAlike}
+use Rattle.core_laws.specs.Winners.{winners_in}
+use Rattle.book_price.proofs.Ones.{winners-ones}
+use Rattle.cca_commands.specs.Gives.{ones}
 
 -- few enough and too many don't win both
 pub not_few_and_many : (z weights : List ℕ) → FewWin z weights → ManyWin z weights → ⊥

@@ -1,27 +1,27 @@
 -- A certificate of a placement that pricing writes is accepted by the checker.
 use Rattle.std.specs.Prelude.{◌≡◌, ℕ, ℤ, Bool, false, ◌≤◌, ◌<◌, ◌^◌, Option, Some, List, [], ◌∷◌, ◌++◌, codes, length, pos, ◌≤ℤ◌, refl}
 use Rattle.std.proofs.Common.{inl, inr, sym, ◌∙◌, ap, subst, arith}
-use Rattle.cca_work.specs.cca_inputs.specs.line_text.specs.LineText.{Said, stated, Says}
-use Rattle.cca_work.specs.outcome.specs.auction_model.specs.Prices.{Point, SamePoint}
-use Rattle.cca_work.specs.cca_inputs.specs.book_form.specs.BookLines.{Excess}
-use Rattle.cca_work.specs.cca_inputs.specs.cca_base.specs.Files.{added}
-use Rattle.cca_work.specs.cca_inputs.specs.cert_form.specs.PlaceCert.{PlaceCertValue}
-use Rattle.cca_work.specs.cca_inputs.specs.limits.specs.declared.TheConstants.{CERT_BYTES, MOST_PLACED, SLOTS_BYTES}
-use Rattle.cca_work.specs.cca_inputs.specs.place_cert.specs.PlaceSays.{PlaceCertSays, place_text}
-use Rattle.cca_work.specs.cca_inputs.specs.place_cert.specs.PlaceText.{IsPlaceCertificate, place_lines}
-use Rattle.cca_work.specs.place_price.specs.cert_laws.specs.Sound.{cert_point}
-use Rattle.cca_work.specs.place_price.specs.place_check.specs.PlaceSound.{prices_in}
-use Rattle.cca_work.specs.place_price.specs.place_check.specs.PlaceTests as places
-use Rattle.cca_work.specs.place_price.specs.PlaceText.{IsPlaceText}
-use Rattle.cca_work.specs.cca_inputs.specs.slot_places.specs.Board.{market_of}
-use Rattle.cca_work.specs.cca_inputs.specs.slot_places.specs.SlotForm.{IsSlotText, slot_lines}
-use Rattle.cca_work.specs.cca_inputs.specs.slot_places.specs.Slots.{SlotList}
-use Rattle.cca_work.specs.cca_inputs.specs.Answers.{PlaceCertAnswers, SlotsAnswers, place_cert_answer, slots_answer}
-use Rattle.cca_work.specs.cca_inputs.specs.Command.{place, place_check}
-use Rattle.cca_work.specs.cca_inputs.specs.Outcome.{Answer, AnswerGives, FileAnswers, Outcome, value}
-use Rattle.cca_work.specs.cca_inputs.specs.declared.status.FileKind.TheVariants as kinds
-use Rattle.cca_work.specs.cca_inputs.specs.declared.status.Status.TheVariants.{Done}
-use Rattle.cca_work.specs.Gives.{AreRounds, FilesGive, IsPlacing, PlaceCertGives, PlaceGives, PlaceVerdictGives, SlotsGive, cert_file}
+use Rattle.line_format.specs.LineText.{Said, Says, stated}
+use Rattle.auction_model.specs.Prices.{Point, SamePoint}
+use Rattle.book_grammar.specs.BookLines.{Excess}
+use Rattle.cca_base.specs.Files.{added}
+use Rattle.cert_grammar.specs.PlaceCert.{PlaceCertValue}
+use Rattle.limits.specs.declared.TheConstants.{CERT_BYTES, MOST_PLACED, SLOTS_BYTES}
+use Rattle.placement_cert.specs.PlaceSays.{PlaceCertSays, place_text}
+use Rattle.placement_cert.specs.PlaceText.{IsPlaceCertificate, place_lines}
+use Rattle.cert_soundness.specs.Sound.{cert_point}
+use Rattle.cert_soundness.specs.MarketPrices.{prices_in}
+use Rattle.placement_check.specs.PlaceTests as places
+use Rattle.place_price.specs.PlaceText.{IsPlaceText}
+use Rattle.slot_places.specs.Board.{market_of_slots}
+use Rattle.slot_places.specs.SlotForm.{IsSlotText, slot_lines}
+use Rattle.slot_places.specs.Slots.{SlotList}
+use Rattle.cca_cli.specs.Answers.{PlaceCertAnswers, SlotsAnswers, place_cert_answer, slots_answer}
+use Rattle.cca_cli.specs.Command.{place, place_check}
+use Rattle.cca_cli.specs.Outcome.{Answer, AnswerGives, FileAnswers, Outcome, value}
+use Rattle.cca_cli.specs.declared.status.FileKind.TheVariants as kinds
+use Rattle.cca_cli.specs.declared.status.Status.TheVariants.{Done}
+use Rattle.cca_commands.specs.Gives.{AreRounds, FilesGive, IsPlacing, PlaceCertGives, PlaceGives, PlaceVerdictGives, SlotsGive, cert_file}
 use Rattle.cca_run.proofs.Accepted.{NoStop, first-text, just-added, nothing-appended, some-line, value-inputs, yes-printed}
 use Rattle.cca_run.proofs.OnePlacing.{most-placed}
 use Rattle.cca_run.specs.Later.{HoldsCert, HoldsNothing}
@@ -35,10 +35,10 @@ module _ (one_slots : (bytes : List ℕ) (x y : Said SlotList Excess) → Says I
     (one_cert : (bidders : ℕ) (bytes : List ℕ) (x y : Said PlaceCertValue ℕ) → PlaceCertSays bidders bytes x → PlaceCertSays bidders bytes y → x ≡ y)
     (text_of_cert : (bidders : ℕ) (c : PlaceCertValue) → bidders < 2 ^ 100 → IsPlaceCertificate bidders c → PlaceCertSays bidders (place_text c) (stated c))
     (short_text : (bidders : ℕ) (c : PlaceCertValue) → bidders ≤ MOST_PLACED → IsPlaceCertificate bidders c → length (place_text c) ≤ CERT_BYTES)
-    (not_both : (slots : SlotList) (p : PlaceCertValue) (t place : ℕ) → places.Holds slots p → places.FailsFirst slots p t place → ⊥)
+    (not_both : (slots : SlotList) (p : PlaceCertValue) (t place : ℕ) → places.PlacementHolds slots p → places.FailsFirst slots p t place → ⊥)
     (one_text : (slots : SlotList) (order z : List ℕ) (v w : ℕ → ℤ) (p q : Point) (t u : List ℕ) → length z ≡ length slots.bidders → pos 1 ≤ℤ p.den
     → pos 1 ≤ℤ q.den
-    → SamePoint (market_of slots) p q → ((j : ℕ) → 0 < j → j ≤ length slots.bidders → v j ≡ w j) → IsPlaceText slots order z v p t
+    → SamePoint (market_of_slots slots) p q → ((j : ℕ) → 0 < j → j ≤ length slots.bidders → v j ≡ w j) → IsPlaceText slots order z v p t
     → IsPlaceText slots order z w q u → t ≡ u) where
   -- the verdict on a certificate for which all tests hold
   judged : (slots : SlotList) (rounds : Bool) (c : PlaceCertValue) (t : List ℕ) (p : Outcome) → IsPlacing slots rounds c t → PlaceVerdictGives slots c p
@@ -50,7 +50,7 @@ module _ (one_slots : (bytes : List ℕ) (x y : Said SlotList Excess) → Says I
         let den = is.priced.outcome.core.den_positive in
         let told = is.printed in
         let none : told.lines ≡ [] = subst (λ (r : Bool). AreRounds r c.cert.choice is.turns told.lines) plain told.are_rounds in
-        let same : prices ≡ told.prices = one_text slots c.order c.cert.choice (prices_in (market_of slots) c.cert) (prices_in (market_of slots) c.cert)
+        let same : prices ≡ told.prices = one_text slots c.order c.cert.choice (prices_in (market_of_slots slots) c.cert) (prices_in (market_of_slots slots) c.cert)
         (cert_point c.cert) (cert_point c.cert) prices told.prices
         is.certificate.choice.0 den den (λ j some le. refl) (λ j some le. refl) are told.are_prices in
         ap (λ (x : Outcome). x.printed) ends ∙ whole ∙ yes-printed told.lines told.prices prices t none same told.whole
@@ -66,7 +66,7 @@ module _ (one_slots : (bytes : List ℕ) (x y : Said SlotList Excess) → Says I
       let states_it = text_of_cert (length slots.bidders) c (omega (arith, few)) is in
       says.2 ∙ ap place_cert_answer (one_cert (length slots.bidders) (place_text c) says.0 (stated c) says.1 states_it)
 
-  -- the certificate of a placement is accepted, behind a file that held nothing
+  -- the certificate of a placement is accepted, after a file that held nothing
   of-cert : (slots : SlotList) (rounds : Bool) (o p : Outcome) (text : List ℕ) (content : Option (List ℕ)) → length slots.bidders ≤ MOST_PLACED
       → PlaceGives slots rounds o → o.appended ≡ cert_file text ∷ []
       → HoldsNothing content → PlaceCertGives slots (added content text) (PlaceVerdictGives slots) p → AcceptsPlacing rounds o p

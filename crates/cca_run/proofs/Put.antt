@@ -1,16 +1,16 @@
 -- Two texts that are put one after the other.
-use Rattle.std.proofs.Common.{inr, ◌≡◌, ◌∙◌, ℕ, ◌≤◌, ◌+◌, ◌-◌, Bool, true, false, Option, Some, None, List, ◌++◌, length, take, refl, sym, ap, subst, arith}
-use Rattle.std.proofs.Common.{append_assoc}
+use Rattle.std.proofs.Common.{Bool, List, None, Option, Some, ap, append_assoc, arith, false, inr, length, refl, subst, sym, take, true, ℕ, ◌++◌, ◌+◌}
+use Rattle.std.proofs.Common.{◌-◌, ◌∙◌, ◌≡◌, ◌≤◌}
 use Rattle.std.specs.Option.{option_map, IfSome}
 use Rattle.std.proofs.lemmas.List.{length-append, take-append-le}
 use Rattle.std.proofs.Math.Seq.{take-length, take-append-add}
-use Rattle.cca_work.specs.cca_inputs.specs.cca_base.specs.Sink.{HasRoom, Output, Puts}
-use Rattle.cca_work.specs.cca_inputs.specs.declared.status.FileKind.TheVariants.{Out}
-use Rattle.cca_work.specs.cca_inputs.specs.declared.status.Status.{Status}
-use Rattle.cca_work.specs.cca_inputs.specs.declared.status.Status.TheVariants.{WriteFault}
+use Rattle.cca_base.specs.Sink.{HasRoom, Output, Puts}
+use Rattle.cca_cli.specs.declared.status.FileKind.TheVariants.{Out}
+use Rattle.cca_cli.specs.declared.status.Status.{Status}
+use Rattle.cca_cli.specs.declared.status.Status.TheVariants.{WriteFault}
 use Rattle.cca_run.specs.Run.{Prints}
 use Rattle.cca_run.specs.Ends.{Written}
-use Rattle.cca_work.proofs.Counts.{rose-from}
+use Rattle.cca_commands.proofs.Counts.{rose-from}
 
 grown : (a b : List ℕ) (n : ℕ) (x y z : List ℕ) → y ≡ x ++ take (length a) a → z ≡ y ++ take n b → z ≡ x ++ take (length a + n) (a ++ b)
 grown a b n x y z is then =
@@ -27,7 +27,7 @@ fit : (m n : ℕ) (x y : Option ℕ) → y ≡ option_map (λ r. r - m) x → If
 fit m n None y is one other = cc
 fit m n (Some r) y is one other = let rest : n ≤ r - m = subst (λ (o : Option ℕ). IfSome o (λ k. n ≤ k)) is other in omega (arith, one, rest)
 
--- the first whole, and of the second so many bytes
+-- the first whole, and of the second that many bytes
 puts-on : (old mid new : Output) (a b : List ℕ) (n : ℕ) → Puts old mid a (length a) → Puts mid new b n → Puts old new (a ++ b) (length a + n)
 puts-on old mid new a b n p q = record {
   bytes = grown a b n old.bytes mid.bytes new.bytes p.bytes q.bytes;
@@ -35,7 +35,7 @@ puts-on old mid new a b n p q = record {
   room = left (length a) n old.room mid.room new.room p.room q.room;
 }
 
--- a front of the first
+-- a prefix of the first
 puts-first : (old new : Output) (a b : List ℕ) (n : ℕ) → n ≤ length a → Puts old new a n → Puts old new (a ++ b) n
 puts-first old new a b n le p = record { bytes = p.bytes ∙ ap (λ (t : List ℕ). old.bytes ++ t) (sym (take-append-le n a b le)); fits = p.fits; room = p.room }
 
@@ -44,7 +44,7 @@ room-first : (room : Option ℕ) (a b : List ℕ) → HasRoom room (length (a ++
 room-first None a b has = has
 room-first (Some r) a b has = omega (arith, has, length-append a b)
 
--- and, behind the first, for the second
+-- and, after the first, for the second
 room-behind : (x y : Option ℕ) (a b : List ℕ) → y ≡ option_map (λ r. r - length a) x → HasRoom x (length (a ++ b)) → HasRoom y (length b)
 room-behind None y a b is has = absurd has
 room-behind (Some r) y a b is has = subst (λ (o : Option ℕ). HasRoom o (length b)) (sym is) (omega (arith, has, length-append a b))

@@ -1,29 +1,29 @@
 -- Over files and an output with room no fault comes.
-use Rattle.std.proofs.Common.{inl, inr, ◌≡◌, ◌⊎◌, ◌∙◌, ℕ, ◌+◌, ◌-◌, ◌≤◌, Bool, true, false, Option, Some, None, List, [], ◌∷◌, ◌++◌, length, refl, sym, ap}
-use Rattle.std.proofs.Common.{subst, arith}
+use Rattle.std.proofs.Common.{Bool, List, None, Option, Some, [], ap, arith, false, inl, inr, length, refl, subst, sym, true, ℕ, ◌++◌, ◌+◌, ◌-◌, ◌∙◌}
+use Rattle.std.proofs.Common.{◌∷◌, ◌≡◌, ◌≤◌, ◌⊎◌}
 use Rattle.std.specs.Prelude.{Contains, if◌then◌else◌}
 use Rattle.std.specs.Option.{option_map, option_map_or}
 use Rattle.std.specs.Str.{bytes_eq}
 use Rattle.std.proofs.lemmas.Bool.{true≢false, cases_Bool}
 use Rattle.std.proofs.lemmas.Slice.Eq.{bytes_eq-Decides}
-use Rattle.cca_work.specs.cca_inputs.specs.cca_base.specs.Files.{Agrees, Folder}
-use Rattle.cca_work.specs.cca_inputs.specs.cca_base.specs.Sink.{HasRoom, Output}
-use Rattle.cca_work.specs.cca_inputs.specs.cca_base.proofs.Writing.{room_less}
-use Rattle.cca_work.specs.cca_inputs.specs.Command.{CommandValue, command_of, output_as}
-use Rattle.cca_work.specs.cca_inputs.specs.StatusLine.{status_line}
-use Rattle.cca_work.specs.cca_inputs.specs.Statuses.{IsDecided}
-use Rattle.cca_work.specs.cca_inputs.specs.declared.file_text.FileText.{FileText}
-use Rattle.cca_work.specs.cca_inputs.specs.declared.status.FileKind.{FileKind}
-use Rattle.cca_work.specs.cca_inputs.specs.declared.status.FileKind.TheVariants as kinds
-use Rattle.cca_work.specs.cca_inputs.specs.declared.status.Status.{Status}
-use Rattle.cca_work.specs.cca_inputs.specs.declared.status.Status.TheVariants.{Done, No, Words, Refused, ReadFault, WriteFault, Memory, Limit}
-use Rattle.cca_work.specs.Gives.{WordsGive}
+use Rattle.cca_base.specs.Files.{Agrees, Folder}
+use Rattle.cca_base.specs.Sink.{HasRoom, Output}
+use Rattle.cca_base.proofs.Writing.{room_less}
+use Rattle.cca_cli.specs.Command.{CommandValue, command_of, output_as}
+use Rattle.cca_cli.specs.StatusLine.{status_line}
+use Rattle.cca_cli.specs.Statuses.{IsDecided}
+use Rattle.cca_cli.specs.declared.file_text.FileText.{FileText}
+use Rattle.cca_cli.specs.declared.status.FileKind.{FileKind}
+use Rattle.cca_cli.specs.declared.status.FileKind.TheVariants as kinds
+use Rattle.cca_cli.specs.declared.status.Status.{Status}
+use Rattle.cca_cli.specs.declared.status.Status.TheVariants.{Done, Limit, Memory, No, ReadFault, Refused, Words, WriteFault}
+use Rattle.cca_commands.specs.Gives.{WordsGive}
 use Rattle.cca_run.specs.Rooms.{HasRooms, appended_to, goes_to, told_to}
 use Rattle.cca_run.specs.Run.{AppendsAll, AppendsUpTo, FailsToWrite, IsFileFault, IsHindrance, IsReadFault, inputs, outputs}
 use Rattle.cca_run.specs.Ends.{RunEnds}
 use Rattle.cca_run.proofs.Named.{input-among, output-among}
 
--- behind so many bytes there is room for the rest
+-- after that many bytes there is room for the rest
 room-left : (x y : Option ℕ) (m n : ℕ) → y ≡ option_map (λ r. r - m) x → HasRoom x (m + n) → HasRoom y n
 room-left None y m n is has = absurd has
 room-left (Some r) y m n is has = subst (λ (o : Option ℕ). HasRoom o n) (sym is) (omega (arith, has))
@@ -65,7 +65,7 @@ behind-texts command name (t ∷ texts) old new (between, one, rest) n has = beh
         (room_less (old.room name) (appended_to command name texts + n) (0 + (appended_to command name texts + n)) (omega arith)
         (is_room 0 (counted command name t false 0 (goes-to command name one.name t one.output ∙ apart) refl (appended_to command name texts))))
 
--- a text among others that goes to a file counts there behind those before it
+-- a text among others that goes to a file counts there after those before it
 among-texts : (command : CommandValue) (name : List ℕ) (before : List FileText) (t : FileText) (behind : List FileText) → goes_to command name t ≡ true
     → appended_to command name before + length t.text ≤ appended_to command name (before ++ t ∷ behind)
 among-texts command name [] t behind is =
@@ -114,7 +114,7 @@ module _ (words : List (List ℕ)) (old new : Folder) (before now : Output) (agr
           let here = subst (λ (c : Option CommandValue). HasRoom (old.room name) (told_to c name given.0.appended)) is room in
           had-no_room command old new kind fault (subst (λ (texts : List FileText). HasRoom (old.room name) (appended_to command name texts)) given.3 here)
 
-  -- no line of a hindrance is due but that of want of memory
+  -- no line of a hindrance is due but that of out of memory
   due-line : (status : Status) → IsHindrance (command_of words) old new status → HasRoom before.room (length (status_line status))
   due-line (ReadFault kind) h = absurd (no-read kind h.0)
   due-line (WriteFault kind) h = absurd (no-append kind h)

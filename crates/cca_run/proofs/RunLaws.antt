@@ -1,28 +1,29 @@
 -- How the end of a run keeps each clause of the top call.
-use Rattle.std.proofs.Common.{◌≡◌, ◌≢◌, ◌⊎◌, ◌∙◌, ℕ, ◌≤◌, IsTrue, Option, Some, None, List, [], ◌∷◌, drop, length, take, refl, sym, ap, subst}
-use Rattle.std.proofs.Common.{arith, inl, inr}
+use Rattle.std.proofs.Common.{IsTrue, List, None, Option, Some, [], ap, arith, drop, inl, inr, length, refl, subst, sym, take, ℕ, ◌∙◌, ◌∷◌, ◌≡◌, ◌≢◌}
+use Rattle.std.proofs.Common.{◌≤◌, ◌⊎◌}
 use Rattle.std.proofs.lemmas.List.{append-nil, take_all}
 use Rattle.std.proofs.Math.Seq.{drop-append_seam}
-use Rattle.cca_work.specs.big_auction.specs.clock_stage.specs.auction_rules.specs.Terms.{Terms}
-use Rattle.cca_work.specs.big_auction.specs.clock_stage.specs.auction_rules.specs.declared.Event.{Event}
-use Rattle.cca_work.specs.cca_inputs.specs.cca_base.specs.Files.{Adds, Agrees, Folder, added}
-use Rattle.cca_work.specs.cca_inputs.specs.cca_base.specs.Sink.{Output, Puts}
-use Rattle.cca_work.specs.cca_inputs.specs.Command.{CommandValue, audit, award, command_of}
-use Rattle.cca_work.specs.cca_inputs.specs.Outcome.{Outcome}
-use Rattle.cca_work.specs.cca_inputs.specs.Statuses.{IsDecided}
-use Rattle.cca_work.specs.cca_inputs.specs.declared.file_text.FileText.{FileText}
-use Rattle.cca_work.specs.cca_inputs.specs.declared.price_form.PriceForm.{PriceForm}
-use Rattle.cca_work.specs.cca_inputs.specs.declared.status.FileKind.{FileKind}
-use Rattle.cca_work.specs.cca_inputs.specs.declared.status.FileKind.TheVariants as kinds
-use Rattle.cca_work.specs.cca_inputs.specs.declared.status.Status.{Status}
-use Rattle.cca_work.specs.cca_inputs.specs.declared.status.Status.TheVariants.{Done, No, Words, Refused, ReadFault, WriteFault, Memory, Limit}
-use Rattle.cca_work.specs.Gives.{FilesGive, WordsGive, cert_file}
+use Rattle.auction_rules.specs.Terms.{Terms}
+use Rattle.auction_rules.specs.declared.Event.{Event}
+use Rattle.cca_base.specs.Files.{Adds, Agrees, Folder, added}
+use Rattle.cca_base.specs.Sink.{Output, Puts}
+use Rattle.cca_cli.specs.Command.{CommandValue, audit, award, command_of}
+use Rattle.cca_cli.specs.Outcome.{Outcome}
+use Rattle.cca_cli.specs.Statuses.{IsDecided}
+use Rattle.cca_cli.specs.declared.file_text.FileText.{FileText}
+use Rattle.cca_cli.specs.declared.price_form.PriceForm.{PriceForm}
+use Rattle.cca_cli.specs.declared.status.FileKind.{FileKind}
+use Rattle.cca_cli.specs.declared.status.FileKind.TheVariants as kinds
+use Rattle.cca_cli.specs.declared.status.Status.{Status}
+use Rattle.cca_cli.specs.declared.status.Status.TheVariants.{Done, Limit, Memory, No, ReadFault, Refused, Words, WriteFault}
+use Rattle.cca_commands.specs.Gives.{FilesGive, WordsGive, cert_file}
 use Rattle.cca_run.specs.Headline.{CanBeAwarded, IsAuction, IsAudited, IsAwarded, IsDoneOrLimited}
 use Rattle.cca_run.specs.Later.{HoldsCert, HoldsNothing, after}
 use Rattle.cca_run.specs.Run.{Appended, AppendsAll, HasNoFault, IsReadFault, IsWriteFault, inputs}
 use Rattle.cca_run.specs.Ends.{RunEnds}
 use Rattle.cca_run.specs.Runs.{Runs}
 use Rattle.cca_run.proofs.Named.{input-among, output-among}
+use Rattle.cca_run.proofs.SeenYes.{seen-yes}
 use Rattle.cca_run.proofs.Rooms.{run-roomy}
 use Rattle.cca_run.proofs.Held.{some-agree}
 use Rattle.cca_run.proofs.WordsApart.{IsApart, apart-in, award-files, words-apart}
@@ -156,7 +157,7 @@ appended-cert terms log cert text form old new o apart told some nothing (betwee
     in_new : (name : List ℕ) → new.file name ≡ between.file name
     in_new name = ap (λ (f : List ℕ → Option (List ℕ)). f name) kept.file
 
--- the same of files that held something, with what was taken behind it
+-- the same of files that held something, with what was taken after it
 appended-behind : (terms log cert text : List ℕ) (form : PriceForm) (given : List ℕ → Option (List ℕ)) (old new : Folder) (o : Outcome)
     → IsApart terms log cert → o.appended ≡ cert_file text ∷ [] → HoldsNothing (given cert)
     → AppendsAll (award terms log cert form) (cert_file text ∷ []) old new → HoldsCert (terms ∷ log ∷ []) cert given (after given old new) o
@@ -250,6 +251,8 @@ module _ (audits : AuditLaw) (awards : AwardLaw) (limits : LimitLaw) (done_where
     roomy = λ told has. run-roomy said old new before now (ends.told told) has result ends;
     read_fault = ends.read_fault;
     write_fault = ends.write_fault;
+    seen = λ terms log cert is. seen-yes audits (command_of said) old new before now result ends terms log cert is;
+    loaded = ends.loaded;
     given = some-agree (inputs (command_of said)) old new (words-apart said) ends.loaded;
     told = ends.told;
     answer = ends.answer;

@@ -1,31 +1,32 @@
 -- How a run ends whose way to the work stopped, or whose words say no command.
 use Rattle.std.proofs.Common.{inl, inr, ◌≡◌, ◌⊎◌, ◌∙◌, ℕ, ◌<◌, Option, Some, List, ◌++◌, length, refl, sym, ap, subst}
-use Rattle.cca_work.specs.cca_inputs.specs.cca_base.specs.Faults.{Rose}
-use Rattle.cca_work.specs.cca_inputs.specs.cca_base.specs.Files.{Agrees, Folder, KeepsFiles}
-use Rattle.cca_work.specs.cca_inputs.specs.cca_base.proofs.Given.{agrees_told, keeps_still}
-use Rattle.cca_work.specs.cca_inputs.specs.cca_base.specs.Sink.{HasRoom, Output, Puts}
-use Rattle.cca_work.specs.cca_inputs.specs.Command.{CommandValue, outputs_of}
-use Rattle.cca_work.specs.cca_inputs.specs.Outcome.{Outcome, stopped_after}
-use Rattle.cca_work.specs.cca_inputs.specs.StatusLine.{status_line}
-use Rattle.cca_work.specs.cca_inputs.specs.Statuses.{IsDecided, IsHindered, IsStop}
-use Rattle.cca_work.specs.cca_inputs.specs.declared.status.FileKind.{FileKind}
-use Rattle.cca_work.specs.cca_inputs.specs.declared.status.FileKind.TheVariants.{Out}
-use Rattle.cca_work.specs.cca_inputs.specs.declared.status.Status.{Status}
-use Rattle.cca_work.specs.cca_inputs.specs.declared.status.Status.TheVariants.{Words, ReadFault, WriteFault, Memory}
-use Rattle.cca_work.specs.Gives.{FilesGive, WordsGive}
-use Rattle.cca_work.specs.ReadFaults.{CountsAmong, FailsToRead}
+use Rattle.cca_base.specs.Faults.{Rose}
+use Rattle.cca_base.specs.Files.{Agrees, Folder, KeepsFiles}
+use Rattle.cca_base.proofs.Given.{agrees_told, keeps_still}
+use Rattle.cca_base.specs.Sink.{HasRoom, Output, Puts}
+use Rattle.cca_cli.specs.Command.{CommandValue, outputs_of}
+use Rattle.cca_cli.specs.Outcome.{Outcome, stopped_after}
+use Rattle.cca_cli.specs.StatusLine.{status_line}
+use Rattle.cca_cli.specs.Statuses.{IsDecided, IsHindered}
+use Rattle.cca_cli.specs.Reading.{IsStop}
+use Rattle.cca_cli.specs.declared.status.FileKind.{FileKind}
+use Rattle.cca_cli.specs.declared.status.FileKind.TheVariants.{Out}
+use Rattle.cca_cli.specs.declared.status.Status.{Status}
+use Rattle.cca_cli.specs.declared.status.Status.TheVariants.{Memory, ReadFault, Words, WriteFault}
+use Rattle.cca_commands.specs.Gives.{FilesGive, WordsGive}
+use Rattle.cca_commands.specs.ReadFaults.{CountsAmong, FailsToRead}
 use Rattle.cca_run.specs.Run.{Appended, IsHindrance, IsReadFault, IsWriteFault, Prints}
-use Rattle.cca_work.specs.Works.{OnlyReads, StopsBy, bare, text_before}
+use Rattle.cca_commands.specs.Works.{OnlyReads, StopsBy, bare, text_before}
 use Rattle.cca_run.specs.Ends.{RunEnds}
-use Rattle.cca_work.specs.declared.work.Stop.{Stop}
-use Rattle.cca_work.proofs.Counts.{among-none}
+use Rattle.cca_commands.specs.declared.work.Stop.{Stop}
+use Rattle.cca_commands.proofs.Counts.{among-none}
 
 -- what a result is that a fault of the output may have replaced
 module _ (before now : Output) (text : List ℕ) (status result : Status) (prints : Prints before now text status result) where
   abbrev Front : Type 0
   Front = (n : ℕ) × (n < length text) × Puts before now text n
 
-  -- no room is told for the text
+  -- no room is reported for the text
   abbrev Full : Type 0
   Full = HasRoom before.room (length text) → ⊥
 

@@ -5,17 +5,16 @@ use Rattle.std.specs.Option.{option_map}
 use Rattle.std.specs.Str.{bytes_eq}
 use Rattle.std.proofs.lemmas.Bool.{cases_Bool}
 use Rattle.std.proofs.lemmas.Slice.Eq.{bytes_eq-Decides}
-use Rattle.cca_work.specs.cca_inputs.specs.Command.{CommandValue, FileUse, win, two_files, three_files, one_priced, two_priced, make, award}
-use Rattle.cca_work.specs.cca_inputs.specs.Command.{win_words, two_words, three_words, one_priced_words, two_priced_words, make_words}
-use Rattle.cca_work.specs.cca_inputs.specs.Command.{are_file_words, command_of, files_of, flags_of, form_asked, inputs_of, is_among, is_file_word, is_read}
-use Rattle.cca_work.specs.cca_inputs.specs.Command.{number_said, said_by, shape_named}
-use Rattle.cca_work.specs.cca_inputs.specs.declared.price_form.PriceForm.{PriceForm}
-use Rattle.cca_work.specs.cca_inputs.specs.declared.shape.OnePriced.{OnePriced}
-use Rattle.cca_work.specs.cca_inputs.specs.declared.shape.Shape.{Shape}
-use Rattle.cca_work.specs.cca_inputs.specs.declared.shape.Shape.TheVariants as shape
-use Rattle.cca_work.specs.cca_inputs.specs.declared.shape.ThreeFiles.{ThreeFiles}
-use Rattle.cca_work.specs.cca_inputs.specs.declared.shape.TwoFiles.{TwoFiles}
-use Rattle.cca_work.specs.cca_inputs.specs.declared.shape.TwoPriced.{TwoPriced}
+use Rattle.cca_cli.specs.Command.{CommandValue, FileUse, are_file_words, award, command_of, files_of, flags_of, form_asked, inputs_of, is_among}
+use Rattle.cca_cli.specs.Command.{is_file_word, is_read, make, make_words, number_said, one_priced, one_priced_words, said_by, shape_named}
+use Rattle.cca_cli.specs.Command.{three_files, three_words, two_files, two_priced, two_priced_words, two_words, win, win_words}
+use Rattle.cca_cli.specs.declared.price_form.PriceForm.{PriceForm}
+use Rattle.cca_cli.specs.declared.shape.OnePriced.{OnePriced}
+use Rattle.cca_cli.specs.declared.shape.Shape.{Shape}
+use Rattle.cca_cli.specs.declared.shape.Shape.TheVariants as shape
+use Rattle.cca_cli.specs.declared.shape.ThreeFiles.{ThreeFiles}
+use Rattle.cca_cli.specs.declared.shape.TwoFiles.{TwoFiles}
+use Rattle.cca_cli.specs.declared.shape.TwoPriced.{TwoPriced}
 use Rattle.cca_run.specs.Run.{inputs}
 
 -- both hold

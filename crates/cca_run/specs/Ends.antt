@@ -1,21 +1,23 @@
 -- How a run ends that has a command, and one whose words say none.
-use Rattle.std.specs.Prelude.{◌≡◌, ◌⊎◌, ◌<◌, ◌≤◌, ℕ, Bool, true, false, IsTrue, Option, Some, None, Result, Ok, Err, List, length}
-use Rattle.cca_work.specs.cca_inputs.specs.cca_base.specs.Faults.{Rose}
-use Rattle.cca_work.specs.cca_inputs.specs.cca_base.specs.Files.{Agrees, Folder, KeepsFiles}
-use Rattle.cca_work.specs.cca_inputs.specs.cca_base.specs.Sink.{HasRoom, Output, Puts}
-use Rattle.cca_work.specs.cca_inputs.specs.Command.{CommandValue, output_as, outputs_of}
-use Rattle.cca_work.specs.cca_inputs.specs.Outcome.{Outcome}
-use Rattle.cca_work.specs.cca_inputs.specs.StatusLine.{status_line}
-use Rattle.cca_work.specs.cca_inputs.specs.Statuses.{IsDecided, IsHindered, KeepsAll}
-use Rattle.cca_work.specs.cca_inputs.specs.declared.file_text.FileText.{FileText}
-use Rattle.cca_work.specs.cca_inputs.specs.declared.status.FileKind.{FileKind}
-use Rattle.cca_work.specs.cca_inputs.specs.declared.status.FileKind.TheVariants.{Out}
-use Rattle.cca_work.specs.cca_inputs.specs.declared.status.Status.{Status}
-use Rattle.cca_work.specs.cca_inputs.specs.declared.status.Status.TheVariants.{Done, Words, ReadFault, WriteFault}
-use Rattle.cca_work.specs.Gives.{WordsGive}
-use Rattle.cca_work.specs.ReadFaults.{CountsAmong}
-use Rattle.cca_work.specs.Works.{Loaded}
-use Rattle.cca_run.specs.Run.{Appended, AppendsAll, AppendsUpTo, Changes, IsHindrance, IsReadFault, IsWriteFault, inputs, outputs}
+use Rattle.std.specs.Prelude.{◌≡◌, ◌⊎◌, ◌<◌, ◌≤◌, ◌++◌, ℕ, Bool, true, false, IsTrue, Option, Some, None, Result, Ok, Err, List, length}
+use Rattle.cca_base.specs.Faults.{Rose}
+use Rattle.cca_base.specs.Files.{Agrees, Folder, KeepsFiles}
+use Rattle.cca_base.specs.Sink.{HasRoom, Output, Puts}
+use Rattle.cca_cli.specs.Command.{CommandValue, output_as, outputs_of}
+use Rattle.cca_cli.specs.Outcome.{Outcome}
+use Rattle.cca_cli.specs.StatusLine.{status_line}
+use Rattle.cca_cli.specs.Statuses.{IsDecided, IsHindered, KeepsAll}
+use Rattle.cca_cli.specs.declared.file_text.FileText.{FileText}
+use Rattle.cca_cli.specs.declared.status.FileKind.{FileKind}
+use Rattle.cca_cli.specs.declared.status.FileKind.TheVariants.{Out}
+use Rattle.cca_cli.specs.declared.status.Status.{Status}
+use Rattle.cca_cli.specs.declared.status.Status.TheVariants.{Done, ReadFault, Words, WriteFault}
+use Rattle.cca_commands.specs.Gives.{WordsGive}
+use Rattle.cca_commands.specs.ReadFaults.{CountsAmong, Loaded}
+use Rattle.cca_run.specs.Run.{Appended, AppendsAll, AppendsUpTo, Changes, IsHindrance, IsReadFault, IsWriteFault, Prints, inputs, outputs}
+use Rattle.cca_commands.specs.Works.{text_before}
+use Rattle.cca_commands.specs.declared.work.Stop.{Stop}
+use Rattle.cca_commands.specs.declared.work.Work.{Work}
 
 -- an append to the command's file of this kind failed, and the texts were appended up to it
 pub record FailsAt (command : CommandValue) (appended : List FileText) (old new : Folder) (kind : FileKind) : Type 0 where
@@ -35,7 +37,7 @@ abbrev pub AppendEnds : CommandValue → List FileText → Folder → Folder →
 AppendEnds command texts old new (Ok u) = AppendsAll command texts old new
 AppendEnds command texts old new (Err kind) = FailsAt command texts old new kind
 
--- whether the whole text was written; else a front of it and not all, for which no room is told, and a fault of the output, which was counted
+-- whether the whole text was written, else a prefix of it and not all, for which no room is reported, and a fault of the output, which was counted
 abbrev pub Written : Output → Output → List ℕ → Bool → Type 0
 Written old new text true = Puts old new text (length text)
 Written old new text false = Rose old.faults new.faults × ((n : ℕ) × (n < length text) × Puts old new text n)
@@ -63,7 +65,7 @@ pub record RunEnds (command : Option CommandValue) (old new : Folder) (before no
   pub appends : CountsAmong (outputs command) old.append_faults new.append_faults
 
 -- How a command ends that has its work: all was appended and printed; or an append failed, and its line was printed; or a put failed, and
--- a front of what was to be printed.
+-- a prefix of what was to be printed.
 pub record FinishEnds (command : CommandValue) (old new : Folder) (before now : Output) (printed : List ℕ) (appended : List FileText)
     (result : Status) : Type 0 where
   pub done : result ≡ Done → Puts before now printed (length printed) × AppendsAll command appended old new
@@ -78,3 +80,10 @@ pub record FinishEnds (command : CommandValue) (old new : Folder) (before now : 
   pub files : AppendsAll command appended old new ⊎ ((kind : FileKind) × AppendsUpTo command kind appended old new)
   pub counts : OnlyAppends command old new
   pub faults : before.faults ≤ now.faults
+
+-- How a command ends by its work; or, where it has none, no file changes, and the text and the line of why are printed.
+abbrev pub CommandEnds : CommandValue → Folder → Folder → Output → Output → Result Work Stop → Status → Type 0
+CommandEnds command old new before now (Ok work) result =
+    FinishEnds command old new before now work.printed work.appended.items result
+CommandEnds command old new before now (Err stop) result =
+    (new ≡ old) × Prints before now (text_before stop ++ status_line stop.status) stop.status result

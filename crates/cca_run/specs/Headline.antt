@@ -1,29 +1,29 @@
 -- The headline: from the bytes of three files to the book of a log and the outcome of the auction.
-use Rattle.std.specs.Prelude.{◌≡◌, ◌≤◌, ◌<◌, ◌&&◌, ℕ, IsTrue, Option, Some, None, List, length, not, reverse}
+use Rattle.std.specs.Prelude.{◌≡◌, ◌≤◌, ◌<◌, ◌&&◌, ℕ, IsTrue, Option, Some, None, List, length, map, not, reverse}
 use Rattle.std.specs.List.{AllByRecursion}
-use Rattle.cca_work.specs.outcome.specs.auction_model.specs.Book.{Book, bids_of, market_of}
-use Rattle.cca_work.specs.outcome.specs.auction_model.specs.PackageTests.{is_empty}
-use Rattle.cca_work.specs.outcome.specs.auction_model.specs.Greatest.{IsWinning}
-use Rattle.cca_work.specs.outcome.specs.row_laws.specs.Outcome.{IsAuctionOutcome}
-use Rattle.cca_work.specs.big_auction.specs.clock_stage.specs.auction_rules.specs.BookOfLog.{IsGreatestFor, book_of_log, is_complete, pairs_of}
-use Rattle.cca_work.specs.big_auction.specs.clock_stage.specs.auction_rules.specs.Replies.{admitted, has_entry, standing}
-use Rattle.cca_work.specs.big_auction.specs.clock_stage.specs.auction_rules.specs.Terms.{Terms}
-use Rattle.cca_work.specs.big_auction.specs.clock_stage.specs.auction_rules.specs.declared.Event.{Event}
-use Rattle.cca_work.specs.big_auction.specs.award_file.specs.Reading.{reading, states}
-use Rattle.cca_work.specs.big_auction.specs.log_file.specs.LogReading.{AreLog, log_records}
-use Rattle.cca_work.specs.cca_inputs.specs.cert_form.specs.Certificate.{CertValue}
-use Rattle.cca_work.specs.cca_inputs.specs.cert_form.specs.Says.{CertSays, cert_text}
-use Rattle.cca_work.specs.place_price.specs.cert_laws.specs.Priced.{IsPricedCert}
-use Rattle.cca_work.specs.place_price.specs.cert_laws.specs.Sound.{cert_point, cert_prices}
-use Rattle.cca_work.specs.place_price.specs.cert_laws.specs.Tests as tests
-use Rattle.cca_work.specs.cca_inputs.specs.line_text.specs.LineText.{stated}
-use Rattle.cca_work.specs.outcome.specs.auction_model.specs.Prices.{AreVickreyPrices, weight_of}
-use Rattle.cca_work.specs.cca_inputs.specs.limits.specs.declared.TheConstants.{AWARD_BYTES, LOG_BYTES, MOST_WINNERS, PRICED_CERT_BYTES}
-use Rattle.cca_work.specs.log_replay.specs.ReplyLines.{first_refusal}
-use Rattle.cca_work.specs.big_auction.specs.row_laws.specs.Winners.{winners_in}
-use Rattle.cca_work.specs.cca_inputs.specs.declared.status.Status.{Status}
-use Rattle.cca_work.specs.cca_inputs.specs.declared.status.Status.TheVariants.{Done, No, Words, Refused, ReadFault, WriteFault, Memory, Limit}
-use Rattle.cca_work.specs.Gives.{IsYesText, ones}
+use Rattle.auction_model.specs.Book.{Book, bidder_of, bids_of, market_of}
+use Rattle.auction_model.specs.PackageTests.{InOrder, is_empty}
+use Rattle.auction_model.specs.Greatest.{IsWinning}
+use Rattle.core_laws.specs.Outcome.{IsAuctionOutcome}
+use Rattle.auction_rules.specs.BookOfLog.{IsGreatestFor, bid_lots, book_of_log, is_complete, pairs_of}
+use Rattle.auction_rules.specs.Replies.{admitted, has_entry, standing}
+use Rattle.auction_rules.specs.Terms.{Terms, entrant}
+use Rattle.auction_rules.specs.declared.Event.{Event}
+use Rattle.award_file.specs.Reading.{reading, stated_terms}
+use Rattle.log_file.specs.LogReading.{AreLog, log_records}
+use Rattle.cert_grammar.specs.Certificate.{CertValue}
+use Rattle.cert_grammar.specs.Says.{CertSays, cert_text}
+use Rattle.cert_soundness.specs.Priced.{IsPricedCert}
+use Rattle.cert_soundness.specs.Sound.{cert_point, cert_prices}
+use Rattle.cert_soundness.specs.Tests as tests
+use Rattle.line_format.specs.LineText.{stated}
+use Rattle.auction_model.specs.Prices.{AreVickreyPrices, weight_of}
+use Rattle.limits.specs.declared.TheConstants.{AWARD_BYTES, LOG_BYTES, MOST_WINNERS, PRICED_CERT_BYTES}
+use Rattle.log_replay.specs.ReplyLines.{first_refusal}
+use Rattle.core_laws.specs.Winners.{winners_in}
+use Rattle.cca_cli.specs.declared.status.Status.{Status}
+use Rattle.cca_cli.specs.declared.status.Status.TheVariants.{Done, Limit, Memory, No, ReadFault, Refused, Words, WriteFault}
+use Rattle.cca_commands.specs.Gives.{IsYesText, ones}
 
 -- the file of this name holds bytes of which this is so
 pub record FileHolds (file : List ℕ → Option (List ℕ)) (name : List ℕ) (says : List ℕ → Type 0) : Type 0 where
@@ -33,7 +33,7 @@ pub record FileHolds (file : List ℕ → Option (List ℕ)) (name : List ℕ) (
 
 -- An auction on two files: the award states the terms, and the log the lines of a complete log on them, in their order.
 pub record IsAuction (file : List ℕ → Option (List ℕ)) (award log : List ℕ) (terms : Terms) (lines : List Event) : Type 0 where
-  pub award_states : FileHolds file award (λ bytes. reading bytes ≡ states terms)
+  pub award_states : FileHolds file award (λ bytes. reading bytes ≡ stated_terms terms)
   pub log_states : FileHolds file log (λ bytes. AreLog terms (log_records bytes) lines)
   pub complete : IsTrue (is_complete terms (reverse lines))
 
@@ -41,10 +41,15 @@ pub record IsAuction (file : List ℕ → Option (List ℕ)) (award log : List �
 abbrev pub book_of : Terms → List Event → Book
 book_of terms lines = book_of_log terms (reverse lines)
 
--- The book has the bidders of the award. Of each it has a bid for each package that isn't empty and stands among its admitted clock bids or
--- in its last admitted list, and for no other; and the amount of each bid stands for its package there and is the greatest that does.
+-- The book sells what the award sells, at its reserves, to its bidders by name. Of each bidder it has one bid for each package that isn't empty
+-- and is among its admitted clock bids or in its last admitted list, and for no other. The amount of each bid is there for its package, and is
+-- the greatest that is.
 pub record HoldsAdmittedBids (terms : Terms) (lines : List Event) (book : Book) : Type 0 where
+  pub supply : book.supply ≡ terms.supply
+  pub reserves : book.reserves ≡ terms.reserves
   pub bidders : length book.bidders ≡ length terms.bidders
+  pub names : (j : ℕ) → 1 ≤ j → j ≤ length terms.bidders → (bidder_of book j).name ≡ (entrant terms j).name
+  pub once : (j : ℕ) → 1 ≤ j → j ≤ length terms.bidders → InOrder (map bid_lots (bids_of book j))
   pub packages : (j : ℕ) → 1 ≤ j → j ≤ length terms.bidders → (lots : List ℕ) → has_entry lots (bids_of book j)
       ≡ (not (is_empty lots) && has_entry lots (pairs_of (standing terms (admitted terms (reverse lines)) j)))
   pub amounts : (j : ℕ) → 1 ≤ j → j ≤ length terms.bidders

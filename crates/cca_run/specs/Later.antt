@@ -1,15 +1,15 @@
 -- The files as they stand later, when a certificate is tested.
 use Rattle.std.specs.Prelude.{◌≡◌, ℕ, Option, List, [], ◌∷◌, drop, length, unwrap_or}
 use Rattle.std.specs.List.{AllByRecursion}
-use Rattle.cca_work.specs.cca_inputs.specs.cca_base.specs.Files.{Folder, added}
-use Rattle.cca_work.specs.cca_inputs.specs.Outcome.{Outcome}
-use Rattle.cca_work.specs.Gives.{cert_file}
+use Rattle.cca_base.specs.Files.{Folder, added}
+use Rattle.cca_cli.specs.Outcome.{Outcome}
+use Rattle.cca_commands.specs.Gives.{cert_file}
 
 -- the file is missing or empty
 abbrev pub HoldsNothing : Option (List ℕ) → Type 0
 HoldsNothing content = unwrap_or content [] ≡ []
 
--- What files hold behind the appends in between that held this before: of each name what these took stands at its end.
+-- What files hold after the appends in between that held this before: of each name what these took is at its end.
 abbrev pub after : (List ℕ → Option (List ℕ)) → Folder → Folder → List ℕ → Option (List ℕ)
 after given old new name = added (given name) (drop (length (old.took name)) (new.took name))
 

@@ -4,6 +4,3 @@ pub mod Later
 pub mod Headline
 pub mod Rooms
 pub mod Runs
-pub use Rattle.cca_work.specs.cca_inputs.specs.cca_base
-pub use Rattle.cca_work.specs.cca_inputs
-pub use Rattle.cca_work.specs.outcome.specs.value_table

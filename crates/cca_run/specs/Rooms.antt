@@ -2,14 +2,14 @@
 use Rattle.std.specs.Prelude.{ℕ, ◌+◌, Bool, false, IsSome, Option, Some, None, List, [], ◌∷◌, Contains, length, if◌then◌else◌}
 use Rattle.std.specs.Option.{option_map_or}
 use Rattle.std.specs.Str.{bytes_eq}
-use Rattle.cca_work.specs.cca_inputs.specs.cca_base.specs.Files.{Folder}
-use Rattle.cca_work.specs.cca_inputs.specs.cca_base.specs.Sink.{HasRoom, Output}
-use Rattle.cca_work.specs.cca_inputs.specs.Command.{CommandValue, command_of, output_as}
-use Rattle.cca_work.specs.cca_inputs.specs.Outcome.{Outcome}
-use Rattle.cca_work.specs.cca_inputs.specs.StatusLine.{status_line}
-use Rattle.cca_work.specs.cca_inputs.specs.declared.file_text.FileText.{FileText}
-use Rattle.cca_work.specs.cca_inputs.specs.declared.status.Status.TheVariants.{Memory}
-use Rattle.cca_work.specs.Gives.{Gives}
+use Rattle.cca_base.specs.Files.{Folder}
+use Rattle.cca_base.specs.Sink.{HasRoom, Output}
+use Rattle.cca_cli.specs.Command.{CommandValue, command_of, output_as}
+use Rattle.cca_cli.specs.Outcome.{Outcome}
+use Rattle.cca_cli.specs.StatusLine.{status_line}
+use Rattle.cca_cli.specs.declared.file_text.FileText.{FileText}
+use Rattle.cca_cli.specs.declared.status.Status.TheVariants.{Memory}
+use Rattle.cca_commands.specs.Gives.{Gives}
 use Rattle.cca_run.specs.Run.{inputs, outputs}
 
 -- the text goes to the command's file of this name
@@ -26,8 +26,8 @@ abbrev pub told_to : Option CommandValue → List ℕ → List FileText → ℕ
 told_to None name texts = 0
 told_to (Some command) name texts = appended_to command name texts
 
--- Each file that is read tells a room, so that no load of it fails. Each file that is appended to tells one in which there is place for all
--- that an outcome of the words appends to it, and the output one for all that it prints, and for the line of want of memory.
+-- Each file that is read says a room, so that no load of it fails. Each file that is appended to says one in which there is place for all
+-- that an outcome of the words appends to it, and the output one for all that it prints, and for the line of out of memory.
 pub record HasRooms (words : List (List ℕ)) (old : Folder) (before : Output) : Type 0 where
   pub reads : (name : List ℕ) → Contains (inputs (command_of words)) name → IsSome (old.room name)
   pub appends : (o : Outcome) → Gives words old.file o → (name : List ℕ) → Contains (outputs (command_of words)) name

@@ -1,18 +1,19 @@
 -- How a run ends: the causes of faults, and what is left in the files and in the output.
 use Rattle.std.specs.Prelude.{◌≡◌, ◌⊎◌, ◌<◌, ℕ, Option, Some, None, List, [], ◌∷◌, ◌++◌, Contains, length}
-use Rattle.cca_work.specs.cca_inputs.specs.cca_base.specs.Faults.{Rose}
-use Rattle.cca_work.specs.cca_inputs.specs.cca_base.specs.Files.{Adds, Agrees, Folder, KeepsFiles}
-use Rattle.cca_work.specs.cca_inputs.specs.cca_base.specs.Sink.{HasRoom, Output, Puts}
-use Rattle.cca_work.specs.cca_inputs.specs.Command.{CommandValue, command_of, inputs_of, output_as, outputs_of}
-use Rattle.cca_work.specs.cca_inputs.specs.Outcome.{Outcome}
-use Rattle.cca_work.specs.cca_inputs.specs.StatusLine.{status_line}
-use Rattle.cca_work.specs.cca_inputs.specs.declared.file_text.FileText.{FileText}
-use Rattle.cca_work.specs.cca_inputs.specs.declared.status.FileKind.{FileKind}
-use Rattle.cca_work.specs.cca_inputs.specs.declared.status.FileKind.TheVariants.{Award, Log, Book, Cert, Weights, Slots, Edits, Out}
-use Rattle.cca_work.specs.cca_inputs.specs.declared.status.Status.{Status}
-use Rattle.cca_work.specs.cca_inputs.specs.declared.status.Status.TheVariants.{Done, No, Words, Refused, ReadFault, WriteFault, Memory, Limit}
-use Rattle.cca_work.specs.Gives.{FilesGive, Gives}
-use Rattle.cca_work.specs.ReadFaults.{FailsToRead}
+use Rattle.cca_base.specs.Faults.{Rose}
+use Rattle.cca_base.specs.Files.{Adds, Agrees, Folder, KeepsFiles}
+use Rattle.cca_base.specs.Sink.{HasRoom, Output, Puts}
+use Rattle.cca_cli.specs.Command.{CommandValue, command_of, inputs_of, output_as, outputs_of}
+use Rattle.cca_cli.specs.Outcome.{Outcome}
+use Rattle.cca_cli.specs.StatusLine.{status_line}
+use Rattle.cca_cli.specs.declared.file_text.FileText.{FileText}
+use Rattle.cca_cli.specs.declared.status.FileKind.{FileKind}
+use Rattle.cca_cli.specs.declared.status.FileKind.TheVariants.{Award, Cert, Edits, Log, Out, Slots, Weights}
+use Rattle.cca_cli.specs.declared.status.FileKind.TheVariants as file_kind
+use Rattle.cca_cli.specs.declared.status.Status.{Status}
+use Rattle.cca_cli.specs.declared.status.Status.TheVariants.{Done, Limit, Memory, No, ReadFault, Refused, Words, WriteFault}
+use Rattle.cca_commands.specs.Gives.{FilesGive, Gives}
+use Rattle.cca_commands.specs.ReadFaults.{FailsToRead}
 
 abbrev pub IsReadFault : Option CommandValue → Folder → Folder → FileKind → Type 0
 IsReadFault None old new kind = ⊥
@@ -30,8 +31,8 @@ AppendsAll command [] old new = KeepsFiles old new
 AppendsAll command (first ∷ rest) old new = (between : Folder) × AppendsWhole command first old between
     × AppendsAll command rest between new
 
--- Of these texts the ones before that of this kind were appended whole, of that one, for which no room was told that is enough, a part
--- from its front and not all, and of those behind it nothing; no other file changed.
+-- Of these texts the ones before that of this kind were appended whole, of that one, for which no room was reported that is enough, a part
+-- from its start and not all, and of those after it nothing; no other file changed.
 pub record AppendsUpTo (command : CommandValue) (kind : FileKind) (appended : List FileText) (old new : Folder) : Type 0 where
   pub before : List FileText
   pub text : List ℕ
@@ -47,7 +48,7 @@ pub record AppendsUpTo (command : CommandValue) (kind : FileKind) (appended : Li
   pub no_room : HasRoom (between.room name) (length text) → ⊥
 
 -- The command appends to a file of this kind, an append to which failed: all else was done, the texts before this one were appended whole,
--- and of this one a part from its front.
+-- and of this one a part from its start.
 pub record FailsToWrite (command : CommandValue) (old new : Folder) (kind : FileKind) : Type 0 where
   pub name : List ℕ
   pub output : output_as command kind ≡ Some name
@@ -64,7 +65,7 @@ IsFileFault (Some command) old new kind = FailsToWrite command old new kind
 abbrev pub IsWriteFault : Option CommandValue → Folder → Folder → Output → Output → FileKind → Type 0
 IsWriteFault command old new before now Award = IsFileFault command old new Award
 IsWriteFault command old new before now Log = IsFileFault command old new Log
-IsWriteFault command old new before now Book = IsFileFault command old new Book
+IsWriteFault command old new before now file_kind.Book = IsFileFault command old new file_kind.Book
 IsWriteFault command old new before now Cert = IsFileFault command old new Cert
 IsWriteFault command old new before now Weights = IsFileFault command old new Weights
 IsWriteFault command old new before now Slots = IsFileFault command old new Slots
@@ -76,7 +77,7 @@ abbrev pub IsPlain : Option CommandValue → Type 0
 IsPlain None = ⊥
 IsPlain (Some command) = Unit {0}
 
--- a fault of a file or want of memory, each with its cause; no file changed but by the appends before a failed one
+-- a fault of a file or out of memory, each with its cause; no file changed but by the appends before a failed one
 abbrev pub IsHindrance : Option CommandValue → Folder → Folder → Status → Type 0
 IsHindrance command old new Done = ⊥
 IsHindrance command old new (No kind test place) = ⊥
@@ -120,7 +121,7 @@ abbrev pub outputs : Option CommandValue → List (List ℕ)
 outputs None = []
 outputs (Some command) = outputs_of command
 
--- the whole text was written and this status answered, or a front of it, for which no room is told that is enough, and a fault of the
+-- the whole text was written and this status answered, or a prefix of it, for which no room is reported that is enough, and a fault of the
 -- output, which was counted
 abbrev pub Prints : Output → Output → List ℕ → Status → Status → Type 0
 Prints old new text status result =

@@ -1,21 +1,21 @@
--- What a run keeps: the clauses of the top call, each by its name. What they say stands there.
-use Rattle.std.specs.Prelude.{◌≡◌, ◌⊎◌, ◌≤◌, ◌<◌, ◌∷◌, ℕ, IsTrue, List, [], length, Option, Some, None}
-use Rattle.cca_work.specs.big_auction.specs.clock_stage.specs.auction_rules.specs.Terms.{Terms}
-use Rattle.cca_work.specs.big_auction.specs.clock_stage.specs.auction_rules.specs.declared.Event.{Event}
-use Rattle.cca_work.specs.cca_inputs.specs.cca_base.specs.Files.{Agrees, Folder, KeepsFiles}
-use Rattle.cca_work.specs.cca_inputs.specs.cca_base.specs.Sink.{Output, Puts}
-use Rattle.cca_work.specs.cca_inputs.specs.Command as command
-use Rattle.cca_work.specs.cca_inputs.specs.Command.{command_of}
-use Rattle.cca_work.specs.cca_inputs.specs.Outcome.{Outcome}
-use Rattle.cca_work.specs.cca_inputs.specs.StatusLine.{status_line}
-use Rattle.cca_work.specs.cca_inputs.specs.Statuses.{IsDecided, IsHindered, KeepsAll}
-use Rattle.cca_work.specs.cca_inputs.specs.declared.price_form.PriceForm.{PriceForm}
-use Rattle.cca_work.specs.cca_inputs.specs.declared.status.FileKind.{FileKind}
-use Rattle.cca_work.specs.cca_inputs.specs.declared.status.FileKind.TheVariants.{Out}
-use Rattle.cca_work.specs.cca_inputs.specs.declared.status.Status.{Status}
-use Rattle.cca_work.specs.cca_inputs.specs.declared.status.Status.TheVariants.{Done, Words, ReadFault, WriteFault, Memory}
-use Rattle.cca_work.specs.Gives.{FilesGive, Gives, cert_file}
-use Rattle.cca_work.specs.ReadFaults.{CountsAmong}
+-- What a run keeps: the clauses of the top call, each by its name. What they say is there.
+use Rattle.std.specs.Prelude.{◌++◌, codes, take, ◌≡◌, ◌⊎◌, ◌≤◌, ◌<◌, ◌∷◌, ℕ, IsTrue, List, [], length, Option, Some, None}
+use Rattle.auction_rules.specs.Terms.{Terms}
+use Rattle.auction_rules.specs.declared.Event.{Event}
+use Rattle.cca_base.specs.Files.{Agrees, Folder, KeepsFiles}
+use Rattle.cca_base.specs.Sink.{Output, Puts}
+use Rattle.cca_cli.specs.Command as command
+use Rattle.cca_cli.specs.Command.{command_of}
+use Rattle.cca_cli.specs.Outcome.{Outcome}
+use Rattle.cca_cli.specs.StatusLine.{status_line}
+use Rattle.cca_cli.specs.Statuses.{IsDecided, IsHindered, KeepsAll}
+use Rattle.cca_cli.specs.declared.price_form.PriceForm.{PriceForm}
+use Rattle.cca_cli.specs.declared.status.FileKind.{FileKind}
+use Rattle.cca_cli.specs.declared.status.FileKind.TheVariants.{Out}
+use Rattle.cca_cli.specs.declared.status.Status.{Status}
+use Rattle.cca_cli.specs.declared.status.Status.TheVariants.{Done, Memory, ReadFault, Words, WriteFault}
+use Rattle.cca_commands.specs.Gives.{FilesGive, Gives, cert_file}
+use Rattle.cca_commands.specs.ReadFaults.{CountsAmong, Loaded}
 use Rattle.cca_run.specs.Headline.{CanBeAwarded, IsAuction, IsAudited, IsAwarded, IsDoneOrLimited}
 use Rattle.cca_run.specs.Later.{HoldsCert, HoldsNothing, after}
 use Rattle.cca_run.specs.Rooms.{HasRooms}
@@ -27,6 +27,9 @@ pub record Runs (said : List (List ℕ)) (old new : Folder) (before now : Output
   pub not_plain : command_of said ≡ None → (result ≡ Words) ⊎ (result ≡ WriteFault Out)
   pub audit : (terms log cert : List ℕ) → command_of said ≡ Some (command.audit terms log cert) → (given : List ℕ → Option (List ℕ))
       → Agrees given old new → result ≡ Done → (text : List ℕ) × IsAudited given terms log cert text × Puts before now text (length text)
+  pub seen : (terms log cert : List ℕ) → command_of said ≡ Some (command.audit terms log cert) → (given : List ℕ → Option (List ℕ))
+      → Agrees given old new → (more : List ℕ) → now.bytes ≡ before.bytes ++ (codes "yes\n" ++ more)
+      → (text : List ℕ) × IsAudited given terms log cert text × ((n : ℕ) × (codes "yes\n" ++ more ≡ take n text))
   pub award : (terms log cert : List ℕ) (form : PriceForm) → command_of said ≡ Some (command.award terms log cert form)
       → (given : List ℕ → Option (List ℕ)) → Agrees given old new → result ≡ Done → (text : List ℕ) × IsAwarded given terms log text
       × AppendsAll (command.award terms log cert form) (cert_file text ∷ []) old new
@@ -52,6 +55,7 @@ pub record Runs (said : List (List ℕ)) (old new : Folder) (before now : Output
   pub write_fault : (kind : FileKind) → result ≡ WriteFault kind → IsWriteFault (command_of said) old new before now kind
   pub given : (given : List ℕ → Option (List ℕ)) × Agrees given old new
   pub told : IsTrue old.told → Agrees old.file old new
+  pub loaded : Loaded (inputs (command_of said)) old new
   pub answer : (given : List ℕ → Option (List ℕ)) → Agrees given old new → IsDecided result → (o : Outcome) × Gives said given o
       × (o.status ≡ result) × Puts before now o.printed (length o.printed) × Appended (command_of said) o.appended old new
   pub line : (result ≡ Words) ⊎ IsHindered result → Puts before now (status_line result) (length (status_line result))

@@ -1,14 +1,13 @@
 // Appends of a command's texts.
-ghost use Rattle.std.specs.Prelude.{IsSome};
-ghost use Rattle.cca_work.specs.cca_inputs.specs.Command.{output_as};
-ghost use Rattle.cca_work.specs.cca_inputs.specs.Words.{KnowsFiles, command_value};
-ghost use Rattle.cca_work.specs.Works.{AreOutputs};
+ghost use Rattle.std.specs.Prelude.{IsSome, [], ◌∷◌};
+ghost use Rattle.cca_cli.specs.Command.{output_as};
+ghost use Rattle.cca_cli.specs.Words.{KnowsFiles, command_value};
+ghost use Rattle.cca_commands.specs.Works.{AreOutputs};
 ghost use Rattle.cca_run.specs.Ends.{AppendEnds, OnlyAppends};
-ghost use Rattle.std.specs.Prelude.{[], ◌∷◌};
 
 use crate::FileKind;
 use cca_base::Files;
-use cca_work::{Command, FileText, write_long};
+use cca_commands::{Command, FileText, write_long};
 
 // Appends one text to the command's file of its kind, which the error names.
 fn append_text<F: Files>(

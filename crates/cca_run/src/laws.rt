@@ -1,26 +1,27 @@
-// What holds of the definitions of a run, whoever runs it.
+// What holds of the definitions of a run, regardless of who runs it.
 ghost use Rattle.std.specs.Prelude.{◌≡◌, ◌<◌, ◌≤◌, ◌++◌, ◌∷◌, ℕ, Bool, false, List, [], Option, codes, length};
-ghost use Rattle.cca_work.specs.outcome.specs.auction_model.specs.Book.{Book};
-ghost use Rattle.cca_work.specs.place_price.specs.cert_laws.specs.Tests.{bidders_of};
-ghost use Rattle.cca_work.specs.big_auction.specs.row_laws.specs.Weights.{FewWin, ManyWin};
-ghost use Rattle.cca_work.specs.cca_inputs.specs.limits.specs.declared.TheConstants.{MOST_WINNERS};
-ghost use Rattle.cca_work.specs.big_auction.specs.clock_stage.specs.auction_rules.specs.Terms.{Terms};
-ghost use Rattle.cca_work.specs.big_auction.specs.clock_stage.specs.auction_rules.specs.declared.Event.{Event};
-ghost use Rattle.cca_work.specs.big_auction.specs.row_laws.specs.Winners.{winners_in};
-ghost use Rattle.cca_work.specs.cca_inputs.specs.Command.{form_with, price, check, weigh, weigh_check, award, audit, place, place_check};
-ghost use Rattle.cca_work.specs.cca_inputs.specs.Outcome.{Outcome};
-ghost use Rattle.cca_work.specs.cca_inputs.specs.declared.price_form.PriceForm.{PriceForm};
-ghost use Rattle.cca_work.specs.cca_inputs.specs.declared.status.Status.TheVariants.{Done};
-ghost use Rattle.cca_work.specs.Gives.{FilesGive, Gives, cert_file, ones};
+ghost use Rattle.auction_model.specs.Book.{Book};
+ghost use Rattle.cert_soundness.specs.Tests.{bidders_of};
+ghost use Rattle.core_laws.specs.Weights.{FewWin, ManyWin};
+ghost use Rattle.limits.specs.declared.TheConstants.{MOST_WINNERS};
+ghost use Rattle.auction_rules.specs.Terms.{Terms};
+ghost use Rattle.auction_rules.specs.declared.Event.{Event};
+ghost use Rattle.core_laws.specs.Winners.{winners_in};
+ghost use Rattle.cca_cli.specs.Command.{audit, award, check, form_with, place, place_check, price, weigh, weigh_check};
+ghost use Rattle.cca_cli.specs.Outcome.{Outcome};
+ghost use Rattle.cca_cli.specs.declared.price_form.PriceForm.{PriceForm};
+ghost use Rattle.cca_cli.specs.declared.status.Status.TheVariants.{Done};
+ghost use Rattle.cca_commands.specs.Gives.{FilesGive, Gives, cert_file, ones};
 ghost use Rattle.cca_run.specs.Headline.{CanBeAwarded, IsAuction, IsAudited, IsAwarded, IsDoneOrLimited};
 ghost use Rattle.cca_run.specs.Later.{HoldsCert};
 
-use cca_work::{
-    bidders_of_book, bids_of_book, book_market, book_of_award, core_outcome, one_book, one_cert,
-    one_edits, one_outcome_json, one_place_cert, one_place_text, one_place_verdict, one_price_text,
-    one_pricing, one_reading, one_review_text, one_run_text, one_slots, one_verdict, one_weighing,
-    packages_of_log, plain_outcome, short_place_text, short_text, slot_market, sound_places,
-    sound_yes, text_of_cert, text_of_place_cert, vickrey_prices, winning_choice,
+use cca_commands::{
+    bidders_of_book, bids_of_book, book_in_order, book_market, book_of_award, core_outcome,
+    one_book, one_cert, one_edits, one_outcome_json, one_place_cert, one_place_text,
+    one_place_verdict, one_price_text, one_pricing, one_reading, one_review_text, one_run_text,
+    one_slots, one_verdict, one_weighing, packages_of_log, plain_outcome, short_place_text,
+    short_text, slot_market, sound_places, sound_yes, text_of_cert, text_of_place_cert,
+    vickrey_prices, winning_choice,
 };
 
 /// The words and the bytes of the files give at most one status and one printed text. So each status that is decided comes exactly
@@ -134,6 +135,7 @@ pub fn headline()
     plain_outcome();
     bidders_of_book();
     bids_of_book();
+    book_in_order();
     packages_of_log();
     book_of_award();
     short_text();

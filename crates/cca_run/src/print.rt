@@ -1,13 +1,13 @@
 // What is printed.
 ghost use Rattle.std.specs.Prelude.{◌≤◌, ◌++◌};
-ghost use Rattle.cca_work.specs.cca_inputs.specs.StatusLine.{status_line};
+ghost use Rattle.cca_cli.specs.StatusLine.{status_line};
 ghost use Rattle.cca_run.specs.Run.{Prints};
-ghost use Rattle.cca_work.specs.Works.{text_before};
+ghost use Rattle.cca_commands.specs.Works.{text_before};
 ghost use Rattle.cca_run.specs.Ends.{Written};
 
 use crate::{FileKind, Status};
 use cca_base::{Sink, write_sink};
-use cca_work::{Stop, line_of};
+use cca_commands::{Stop, line_of};
 
 // Writes the text, and says whether all of it was written.
 fn put_all<O: Sink>(out: &mut O, text: &[u8]) -> bool

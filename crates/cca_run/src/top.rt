@@ -1,33 +1,33 @@
 // The top call.
-ghost use Rattle.std.specs.Prelude.{◌≡◌, ◌⊎◌, ◌≤◌, ◌<◌, ◌∷◌, ℕ, List, [], length, map, string_bytes, All, IsTrue, Option, Some, None};
-ghost use Rattle.cca_work.specs.big_auction.specs.clock_stage.specs.auction_rules.specs.Terms.{Terms};
-ghost use Rattle.cca_work.specs.big_auction.specs.clock_stage.specs.auction_rules.specs.declared.Event.{Event};
-ghost use Rattle.cca_work.specs.cca_inputs.specs.cca_base.specs.Files.{Agrees, KeepsFiles};
-ghost use Rattle.cca_work.specs.cca_inputs.specs.cca_base.specs.Sink.{Puts};
-ghost use Rattle.cca_work.specs.cca_inputs.specs.Command.{audit, award, command_of};
-ghost use Rattle.cca_work.specs.cca_inputs.specs.Outcome.{Outcome};
-ghost use Rattle.cca_work.specs.cca_inputs.specs.StatusLine.{status_line};
-ghost use Rattle.cca_work.specs.cca_inputs.specs.Statuses.{IsDecided, IsHindered, KeepsAll};
-ghost use Rattle.cca_work.specs.cca_inputs.specs.Words.{KnowsFiles, command_value};
-ghost use Rattle.cca_work.specs.cca_inputs.specs.declared.price_form.PriceForm.{PriceForm};
-ghost use Rattle.cca_work.specs.cca_inputs.specs.declared.status.FileKind.{FileKind};
-ghost use Rattle.cca_work.specs.cca_inputs.specs.declared.status.Status.{Status};
-ghost use Rattle.cca_work.specs.Gives.{FilesGive, Gives, cert_file};
+ghost use Rattle.std.specs.Prelude.{◌++◌, codes, take, ◌≡◌, ◌⊎◌, ◌≤◌, ◌<◌, ◌∷◌, ℕ, List, [], length, map, string_bytes, All, IfOk, IsTrue, Option, Some, None};
+ghost use Rattle.auction_rules.specs.Terms.{Terms};
+ghost use Rattle.auction_rules.specs.declared.Event.{Event};
+ghost use Rattle.cca_base.specs.Files.{Agrees, KeepsFiles};
+ghost use Rattle.cca_base.specs.Sink.{Puts};
+ghost use Rattle.cca_cli.specs.Command.{audit, award, command_of};
+ghost use Rattle.cca_cli.specs.Outcome.{Outcome};
+ghost use Rattle.cca_cli.specs.StatusLine.{status_line};
+ghost use Rattle.cca_cli.specs.Statuses.{IsDecided, IsHindered, KeepsAll};
+ghost use Rattle.cca_cli.specs.Words.{KnowsFiles, command_value};
+ghost use Rattle.cca_cli.specs.declared.price_form.PriceForm.{PriceForm};
+ghost use Rattle.cca_cli.specs.declared.status.FileKind.{FileKind};
+ghost use Rattle.cca_cli.specs.declared.status.Status.{Status};
+ghost use Rattle.cca_commands.specs.Gives.{FilesGive, Gives, cert_file};
 ghost use Rattle.cca_run.specs.Headline.{CanBeAwarded, IsAuction, IsAudited, IsAwarded, IsDoneOrLimited};
 ghost use Rattle.cca_run.specs.Later.{HoldsCert, HoldsNothing, after};
 ghost use Rattle.cca_run.specs.Rooms.{HasRooms};
 ghost use Rattle.cca_run.specs.Runs.{Runs};
-ghost use Rattle.cca_work.specs.ReadFaults.{CountsAmong};
+ghost use Rattle.cca_commands.specs.ReadFaults.{CountsAmong, Loaded};
 ghost use Rattle.cca_run.specs.Run.{Appended, AppendsAll, Changes, HasNoFault, IsDue, IsReadFault, IsWriteFault, inputs, outputs};
-ghost use Rattle.cca_work.specs.Works.{AreOutputs};
-ghost use Rattle.cca_run.specs.Ends.{FinishEnds, RunEnds};
+ghost use Rattle.cca_commands.specs.Works.{AreOutputs};
+ghost use Rattle.cca_run.specs.Ends.{CommandEnds, FinishEnds, RunEnds};
 
 use crate::append::append_all;
 use crate::laws::{awarded_cert_passes, complete_log_ends, complete_log_is_awarded, headline};
 use crate::print::{print, print_stop};
 use crate::{FileKind, Status};
 use cca_base::{Files, Sink};
-use cca_work::{Command, Work, line_of, read_command, work_out};
+use cca_commands::{Command, Stop, Work, line_of, read_command, work_out};
 use std::alloc::Global;
 
 // Appends what is to be appended, and then prints.
@@ -51,6 +51,25 @@ fn finish<F: Files, O: Sink>(
     }
 }
 
+// Ends a command by its work, or by why it has none. It takes no memory.
+fn end_command<F: Files, O: Sink>(
+    files: &mut F,
+    out: &mut O,
+    command: Command<'_>,
+    worked: &Result<Work, Stop>,
+) -> Status
+    requires known { KnowsFiles (F.folder files.old) (command_value command) }
+    requires outputs { IfOk worked.now (λ work. AreOutputs (command_value command) work.appended.items) }
+    ensures ends { CommandEnds (command_value command.entry) (F.folder files.old) (F.folder files.new)
+        (O.output out.old) (O.output out.new) worked.now result }
+    ensures faults { (O.output out.old).faults ≤ (O.output out.new).faults }
+{
+    match worked {
+        Ok(work) => finish(files, out, command, work),
+        Err(stop) => print_stop(out, stop),
+    }
+}
+
 // Runs a command.
 fn run_command<F: Files, O: Sink>(
     alloc: Global,
@@ -63,10 +82,8 @@ fn run_command<F: Files, O: Sink>(
         (O.output out.old) (O.output out.new) result }
     ensures faults { (O.output out.old).faults ≤ (O.output out.new).faults }
 {
-    match work_out(alloc, files, command) {
-        Ok(work) => finish(files, out, command, &work),
-        Err(stop) => print_stop(out, &stop),
-    }
+    let worked = work_out(alloc, files, command);
+    end_command(files, out, command, &worked)
 }
 
 // Tells that the words are of no plain form.
@@ -96,24 +113,24 @@ fn ran<F: Files, O: Sink>(alloc: Global, words: &[String], files: &mut F, out: &
 /// Runs the command that the words say, the words after the program's name.
 ///
 /// `win BOOK` prints the winners of a book and their net value. `price BOOK CERT` prices the book, appends the certificate to CERT and
-/// prints what the winners bid, their Vickrey prices and what they pay; with `--rounds` behind the files a line for each turn of pricing
-/// comes before that, and with `--json` all is one line of JSON. `check BOOK CERT` tests a certificate of the book, whoever wrote it, and
+/// prints what the winners bid, their Vickrey prices and what they pay; with `--rounds` after the files a line for each turn of pricing
+/// comes before that, and with `--json` all is one line of JSON. `check BOOK CERT` tests a certificate of the book, regardless of who wrote it, and
 /// prints `yes` and the outcome that it shows, or the first test that fails with its place. A yes is sound: the choice is the winning
 /// one, and the payments are the core outcome.
 ///
-/// `weigh BOOK WEIGHTS CERT` prices as `price` does, with the same flags, but for the distance from the Vickrey prices: each square is
+/// `weigh BOOK WEIGHTS CERT` prices as `price` does, with the same flags, except for the distance from the Vickrey prices: each square is
 /// divided by the weight that WEIGHTS gives the bidder. `weigh-check BOOK WEIGHTS CERT` tests a certificate as `check` does, by these
 /// weights; a yes says that the payments are the core outcome for them.
 ///
 /// `auction AWARD LOG BOOK` replays the log of an auction, appends the text of its book to BOOK and prints a line for the reply to each
-/// record; where a close is refused for a limit, or the log isn't complete, there is no book, and the line of the status comes behind
+/// record; where a close is refused for a limit, or the log isn't complete, there is no book, and the line of the status comes after
 /// those lines. `award AWARD LOG CERT` prices the book of the log as `price` does, with the same flags, and `audit AWARD LOG CERT` makes
 /// the book from the log itself and tests the certificate as `check` does; both end where `auction` would, with its status and its lines.
 ///
 /// `make NUMBER AWARD LOG` makes the auction of a number, appends its award to AWARD and then its log to LOG, and prints a line with the
 /// number, how many bidders there are and how many lines the log has.
 ///
-/// All is worked out before anything is written, and files are appended before anything is printed. But for that, a status other than
+/// All is computed before anything is written, and files are appended before anything is printed. Except for that, a status other than
 /// Done prints its line alone; a fault of the output is WriteFault of Out, whatever came before. Words that aren't of the plain form are
 /// told without taking memory. The condition is that `files` knows each of the words.
 pub fn run<F: Files, O: Sink>(alloc: Global, words: &[String], files: &mut F, out: &mut O) -> Status
@@ -132,13 +149,19 @@ pub fn run<F: Files, O: Sink>(alloc: Global, words: &[String], files: &mut F, ou
         → result ≡ Status.Done
         → (text : List ℕ) × IsAudited given terms log cert text
         × Puts (O.output out.old) (O.output out.new) text (length text) }
+    // So it is, whatever the status, where what was printed begins with `yes`.
+    ensures seen { (terms log cert : List ℕ) → command_of (map string_bytes words.now) ≡ Some (audit terms log cert)
+        → (given : List ℕ → Option (List ℕ)) → Agrees given (F.folder files.old) (F.folder files.new)
+        → (more : List ℕ) → (O.output out.new).bytes ≡ (O.output out.old).bytes ++ (codes "yes\n" ++ more)
+        → (text : List ℕ) × IsAudited given terms log cert text
+        × ((n : ℕ) × (codes "yes\n" ++ more ≡ take n text)) }
     ensures award { (terms log cert : List ℕ) (form : PriceForm)
         → command_of (map string_bytes words.now) ≡ Some (award terms log cert form)
         → (given : List ℕ → Option (List ℕ)) → Agrees given (F.folder files.old) (F.folder files.new)
         → result ≡ Status.Done → (text : List ℕ) × IsAwarded given terms log text
         × AppendsAll (award terms log cert form) (cert_file text ∷ []) (F.folder files.old) (F.folder files.new) }
 
-    // For every complete log `award` is done, with such a certificate, or stopped by a limit; but for a fault that was counted, and want of
+    // For every complete log `award` is done, with such a certificate, or stopped by a limit; except for a fault that was counted, and want of
     // memory.
     ensures every_log { (terms log cert : List ℕ) (form : PriceForm)
         → command_of (map string_bytes words.now) ≡ Some (award terms log cert form)
@@ -148,7 +171,7 @@ pub fn run<F: Files, O: Sink>(alloc: Global, words: &[String], files: &mut F, ou
         (O.output out.old) (O.output out.new) → IsDoneOrLimited result ⊎ (result ≡ Status.Memory) }
 
     // Its other half: `award` writes such a certificate for every auction within the limits, and `audit` over the same bytes says yes, where
-    // the certificate's file held nothing before; but for a fault that was counted, and want of memory.
+    // the certificate's file held nothing before; except for a fault that was counted, and out of memory.
     ensures awarded { (terms log cert : List ℕ) (form : PriceForm)
         → command_of (map string_bytes words.now) ≡ Some (award terms log cert form)
         → (given : List ℕ → Option (List ℕ)) → Agrees given (F.folder files.old) (F.folder files.new)
@@ -175,7 +198,7 @@ pub fn run<F: Files, O: Sink>(alloc: Global, words: &[String], files: &mut F, ou
         → (o : Outcome) × FilesGive (award terms log cert form) (F.folder files.old).file o
         × HoldsCert (terms ∷ log ∷ []) cert (F.folder files.old).file (F.folder files.new).file o }
 
-    // Where no fault was counted, the status is one that the words and the bytes decide, or want of memory.
+    // Where no fault was counted, the status is one that the words and the bytes decide, or out of memory.
     ensures complete { HasNoFault (command_of (map string_bytes words.now)) (F.folder files.old) (F.folder files.new)
         (O.output out.old) (O.output out.new) → (result ≡ Status.Memory) ⊎ IsDecided result }
 
@@ -194,18 +217,21 @@ pub fn run<F: Files, O: Sink>(alloc: Global, words: &[String], files: &mut F, ou
     // Some content of the files agrees with all that the loads of this call gave, whatever the files are: none is loaded twice.
     ensures given { (given : List ℕ → Option (List ℕ)) × Agrees given (F.folder files.old) (F.folder files.new) }
 
-    // Where the bytes are told, the loads of this call gave them.
+    // Only the files that the command reads are loaded, one after the other, each once.
+    ensures loaded { Loaded (inputs (command_of (map string_bytes words.now))) (F.folder files.old) (F.folder files.new) }
+
+    // Where the bytes are reported, the loads of this call gave them.
     ensures told { IsTrue (F.folder files.old).told
         → Agrees (F.folder files.old).file (F.folder files.old) (F.folder files.new) }
 
-    // Every other status but want of memory is the one that the words and the bytes give; its text was printed whole, and what it
+    // Every other status but out of memory is the one that the words and the bytes give; its text was printed whole, and what it
     // appends was appended whole.
     ensures answer { (given : List ℕ → Option (List ℕ)) → Agrees given (F.folder files.old) (F.folder files.new)
         → IsDecided result → (o : Outcome) × Gives (map string_bytes words.now) given o
         × (o.status ≡ result) × Puts (O.output out.old) (O.output out.new) o.printed (length o.printed)
         × Appended (command_of (map string_bytes words.now)) o.appended (F.folder files.old) (F.folder files.new) }
 
-    // After a fault of a file and want of memory the line of the status was printed; after a fault of the output a front, and not all, of
+    // After a fault of a file and out of memory the line of the status was printed; after a fault of the output a prefix, and not all, of
     // the text that was due.
     ensures line { (result ≡ Status.Words) ⊎ IsHindered result
         → Puts (O.output out.old) (O.output out.new) (status_line result) (length (status_line result)) }
@@ -214,7 +240,7 @@ pub fn run<F: Files, O: Sink>(alloc: Global, words: &[String], files: &mut F, ou
         × ((given : List ℕ → Option (List ℕ)) → Agrees given (F.folder files.old) (F.folder files.new)
         → IsDue (map string_bytes words.now) given (F.folder files.old) (F.folder files.new) text) }
 
-    // The command's files grow by the front of what it appends, one after the other, and only on Done and faults of writing; no other
+    // The command's files grow by the prefix of what it appends, one after the other, and only on Done and faults of writing; no other
     // file changes.
     ensures kept { KeepsAll result → KeepsFiles (F.folder files.old) (F.folder files.new) }
     ensures files { Changes (command_of (map string_bytes words.now)) (F.folder files.old) (F.folder files.new) }

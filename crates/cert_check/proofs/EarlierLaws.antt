@@ -1,19 +1,19 @@
 -- The bids of the first bidders of the choice, and what they leave.
-use Rattle.std.specs.Prelude.{◌≡◌, ℕ, zero, suc, ◌+◌, ◌-◌, ◌^◌, ◌<◌, ◌≤◌, ◌↔◌, Bool, IsTrue, List, [], ◌∷◌, length, drop, get_or, slice_index_or, ℤ, ◌+ℤ◌}
-use Rattle.std.specs.Prelude.{◌-ℤ◌, ◌<ℤ◌, unsigned_abs, refl}
+use Rattle.std.specs.Prelude.{Bool, IsTrue, List, [], drop, get_or, length, refl, slice_index_or, suc, unsigned_abs, zero, ℕ, ℤ, ◌+ℤ◌, ◌+◌, ◌-ℤ◌, ◌-◌}
+use Rattle.std.specs.Prelude.{◌<ℤ◌, ◌<◌, ◌^◌, ◌↔◌, ◌∷◌, ◌≡◌, ◌≤◌}
 use Rattle.std.proofs.Common.{sym, ◌∙◌, ap, subst, arith, drop-cons}
 use Rattle.std.proofs.lemmas.Int.{ints}
-use Rattle.line_check.specs.cert_laws.specs.auction_model.specs.Package.{is_within, less}
-use Rattle.line_check.specs.cert_laws.specs.auction_model.specs.Place.{place_of, left_at}
-use Rattle.line_check.specs.cert_laws.specs.auction_model.specs.Market.{is_number_before, number_of}
-use Rattle.line_check.specs.cert_laws.specs.auction_model.specs.Menu.{fits_after}
-use Rattle.line_check.specs.cert_laws.specs.auction_model.specs.Book.{Book, bids_of, lots_of, net_of, menu_of, market_of}
-use Rattle.line_check.specs.cert_laws.specs.auction_model.proofs.PlaceLaws.{states-positive, left_at-whole, left_at-less, place-less_below}
-use Rattle.line_check.specs.cert_laws.specs.cert_form.specs.Certificate.{CertValue}
-use Rattle.line_check.specs.cert_laws.specs.Tests.{NoEarlier, bidders_of, states, left_after}
-use Rattle.line_check.specs.cert_laws.proofs.Bounds.{First, first_of_fitting}
+use Rattle.auction_model.specs.Package.{is_within, less}
+use Rattle.auction_model.specs.Place.{left_at, place_of}
+use Rattle.auction_model.specs.Market.{is_number_before, number_of}
+use Rattle.auction_model.specs.Menu.{fits_after}
+use Rattle.auction_model.specs.Book.{Book, bids_of, lots_of, market_of, menu_of, net_of}
+use Rattle.auction_model.proofs.PlaceLaws.{left_at-less, left_at-whole, place-less_below, states-positive}
+use Rattle.cert_grammar.specs.Certificate.{CertValue}
+use Rattle.cert_soundness.specs.Tests.{NoEarlier, bidders_of, left_after, states}
+use Rattle.cert_soundness.proofs.Bounds.{First, first_of_fitting}
 use Rattle.cert_check.specs.EarlierBids.{StaysBelow, AllStayBelow, NoneEarlier, IsLeft}
-use Rattle.line_check.specs.cert_laws.specs.wide_num.specs.Sums.{nth}
+use Rattle.wide_num.specs.Sums.{nth}
 
 module _ (book : Book) (choice : List ℕ) (value : ℤ) (length_is : length choice ≡ bidders_of book) where
   -- before the first bidder the whole supply and the whole value are left
@@ -108,7 +108,7 @@ left-test book choice value (suc k) rest bound c line b length_is some inside so
     let asks = left-asks book choice value length_is k rest bound c line own (omega (arith, inside)) choice_is value_is line_is in
     (λ t. asks.0 (test.0 t), λ n. test.1 (asks.1 n))
 
--- nothing is asked of bidder 0, nor of one behind the last
+-- nothing is asked of bidder 0, nor of one after the last
 pub none-outside : (book : Book) (c : CertValue) (j : ℕ) → (0 < j → j ≤ bidders_of book → ⊥) → NoneEarlier book c j
 none-outside book c j out k lt e = absurd (out (omega (arith, e)) (omega (arith, e, lt)))
 

@@ -2,9 +2,9 @@
 use Rattle.std.specs.Prelude.{◌≡◌, ℕ, ◌+◌, ◌-◌, ◌<◌, ◌↔◌, Bool, IsTrue, List, [], get_or, length, map, ℤ, pos, Option, refl}
 use Rattle.std.proofs.Common.{sym, subst, arith}
 use Rattle.std.proofs.lemmas.List.{length-map}
-use Rattle.line_check.specs.cert_laws.specs.auction_model.specs.Book.{Book}
-use Rattle.line_check.specs.cert_laws.specs.cert_form.specs.Certificate.{CertValue, WithoutValue, RowValue}
-use Rattle.line_check.specs.cert_laws.specs.Tests.{C1, C2, C3, C4, C5, C6, C7, C8, IsTightRow}
+use Rattle.auction_model.specs.Book.{Book}
+use Rattle.cert_grammar.specs.Certificate.{CertValue, RowValue, WithoutValue}
+use Rattle.cert_soundness.specs.Tests.{C1, C2, C3, C4, C5, C6, C7, C8, IsTightRow}
 use Rattle.cert_text.specs.Parts.{row_value}
 use Rattle.cert_text.specs.declared.certificate.CertRow.{CertRow}
 use Rattle.cert_check.specs.Fields.{cert_of, cert_headed, cert_with, row_with, IsOf}

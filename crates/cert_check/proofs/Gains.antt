@@ -3,10 +3,10 @@ use Rattle.std.specs.Prelude.{◌≡◌, ℕ, ◌+◌, ◌-◌, ◌^◌, true, �
 use Rattle.std.proofs.Common.{inl, inr, sym, ap, arith}
 use Rattle.std.proofs.lemmas.Bool.{cond-true, cond-false, ne_eqb, cases_Bool}
 use Rattle.std.proofs.lemmas.Int.{ints}
-use Rattle.line_check.specs.cert_laws.specs.auction_model.specs.Book.{Book, net_of, market_of}
-use Rattle.line_check.specs.cert_laws.specs.auction_model.specs.Lowered.{of_bidder}
-use Rattle.line_check.specs.cert_laws.specs.auction_model.specs.Market.{number_of, uses, worth_in}
-use Rattle.line_check.specs.cert_laws.specs.Tests.{bidders_of}
+use Rattle.auction_model.specs.Book.{Book, market_of, net_of}
+use Rattle.auction_model.specs.Lowered.{of_bidder}
+use Rattle.auction_model.specs.Market.{number_of, uses, worth_in}
+use Rattle.cert_soundness.specs.Tests.{bidders_of}
 use Rattle.cert_check.specs.Gains.{CanLower, gain_of}
 
 -- a winner gains the denominator times its net amount, less what it pays

@@ -1,24 +1,24 @@
 -- What the first three tests say of the amounts of a book.
-use Rattle.std.specs.Prelude.{◌≡◌, ℕ, zero, suc, ◌^◌, ◌≤◌, ◌<◌, Bool, true, false, cond, IsTrue, List, length, ℤ, pos, ◌+ℤ◌, ◌-ℤ◌, ◌*ℤ◌, ◌≤ℤ◌, unsigned_abs}
-use Rattle.std.specs.Prelude.{refl}
+use Rattle.std.specs.Prelude.{Bool, IsTrue, List, cond, false, length, pos, refl, suc, true, unsigned_abs, zero, ℕ, ℤ, ◌*ℤ◌, ◌+ℤ◌, ◌-ℤ◌, ◌<◌, ◌^◌}
+use Rattle.std.specs.Prelude.{◌≡◌, ◌≤ℤ◌, ◌≤◌}
 use Rattle.std.proofs.Common.{inl, inr, sym, ◌∙◌, ap, subst, arith}
 use Rattle.std.proofs.lemmas.Bool.{cases_lt, cases_Bool, cond-true, cond-false}
 use Rattle.std.proofs.lemmas.Int.{ints}
-use Rattle.line_check.specs.cert_laws.specs.auction_model.specs.Book.{Book, bids_of, net_of, menu_of, market_of}
-use Rattle.line_check.specs.cert_laws.specs.auction_model.specs.Lawful.{IsMarket}
-use Rattle.line_check.specs.cert_laws.specs.auction_model.specs.Lowered.{of_bidder}
-use Rattle.line_check.specs.cert_laws.specs.auction_model.specs.Market.{number_of, value_of, uses, worth_in}
-use Rattle.line_check.specs.cert_laws.specs.auction_model.specs.Menu.{is_known_after}
-use Rattle.line_check.specs.cert_laws.specs.auction_model.specs.Prices.{sum_over, everyone}
-use Rattle.line_check.specs.cert_laws.specs.auction_model.proofs.BookMarket.{market-of_book, fits-known}
-use Rattle.cert_text.specs.choices.specs.bid_book.specs.Kept.{IsBidBook}
-use Rattle.line_check.specs.cert_laws.specs.row_laws.proofs.Sizes.{worth-nonneg}
-use Rattle.line_check.specs.cert_laws.specs.row_laws.proofs.Sums.{over-is, choice-is}
-use Rattle.line_check.specs.cert_laws.specs.wide_num.specs.Sums.{total}
-use Rattle.line_check.specs.cert_laws.specs.cert_form.specs.Certificate.{CertValue, WithoutValue, part_of}
-use Rattle.line_check.specs.cert_laws.specs.Tests.{IsPart, bidders_of}
-use Rattle.line_check.specs.cert_laws.proofs.Sizes.{net-most}
-use Rattle.line_check.specs.cert_laws.proofs.Winning.{allowed, value_is, most}
+use Rattle.auction_model.specs.Book.{Book, bids_of, market_of, menu_of, net_of}
+use Rattle.auction_model.specs.Lawful.{IsMarket}
+use Rattle.auction_model.specs.Lowered.{of_bidder}
+use Rattle.auction_model.specs.Market.{number_of, uses, value_of, worth_in}
+use Rattle.auction_model.specs.Menu.{is_known_after}
+use Rattle.auction_model.specs.Prices.{everyone, sum_over}
+use Rattle.auction_model.proofs.BookMarket.{fits-known, market-of_book}
+use Rattle.bid_book.specs.Kept.{IsBidBook}
+use Rattle.core_laws.proofs.Sizes.{worth-nonneg}
+use Rattle.core_laws.proofs.Sums.{choice-is, over-is}
+use Rattle.wide_num.specs.Sums.{total}
+use Rattle.cert_grammar.specs.Certificate.{CertValue, WithoutValue, part_of}
+use Rattle.cert_soundness.specs.Tests.{IsPart, bidders_of}
+use Rattle.cert_soundness.proofs.Sizes.{net-most}
+use Rattle.cert_soundness.proofs.Winning.{allowed, most, value_is}
 use Rattle.cert_check.specs.Fields.{AreValuesWithout}
 use Rattle.cert_check.specs.Head.{HeadHolds, IsHead}
 use Rattle.cert_check.specs.declared.claim.Claim.{Claim}

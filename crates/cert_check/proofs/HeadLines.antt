@@ -1,13 +1,13 @@
--- The head's table, two lines at a time, and what is found early of the places behind its rules.
+-- The head's table, two lines at a time, and what is found early of the places after its rules.
 use Rattle.std.specs.Prelude.{◌≡◌, ℕ, suc, ◌+◌, ◌*◌, ◌<◌, ◌≤◌, ◌↔◌, ◌≤ℤ◌, refl}
 use Rattle.std.proofs.Common.{sym, subst, arith}
-use Rattle.line_check.specs.cert_laws.specs.auction_model.specs.Book.{Book, net_of, menu_of}
-use Rattle.line_check.specs.cert_laws.specs.auction_model.specs.Menu.{without}
-use Rattle.line_check.specs.cert_laws.specs.auction_model.specs.Table.{entry_at}
-use Rattle.line_check.specs.cert_laws.specs.cert_form.specs.Certificate.{CertValue}
-use Rattle.line_check.specs.cert_laws.specs.Tests.{Asks, C3, ObeysAt, NoEarlier, bidders_of, states, full}
-use Rattle.line_check.specs.LineTests.{offered, worth_of, RulesAt}
-use Rattle.line_check.specs.declared.offers.Offers.{Offers}
+use Rattle.auction_model.specs.Book.{Book, menu_of, net_of}
+use Rattle.auction_model.specs.Menu.{without}
+use Rattle.auction_model.specs.Table.{entry_at}
+use Rattle.cert_grammar.specs.Certificate.{CertValue}
+use Rattle.cert_soundness.specs.Tests.{Asks, C3, NoEarlier, ObeysAt, bidders_of, full, states}
+use Rattle.table_check.specs.LineTests.{offered, worth_of, RulesAt}
+use Rattle.table_check.specs.declared.offers.TestedBids.{TestedBids}
 use Rattle.cert_check.proofs.TableLaws.{number-below}
 use Rattle.cert_check.proofs.ValueLaws.{obeys-all, obeys-none_less}
 use Rattle.cert_check.proofs.Worths.{obeys-same}
@@ -32,7 +32,7 @@ module _ (book : Book) (w : ℕ → ℕ) (c : CertValue) (place : ℕ) where
   of-C3 asks = asks.2 refl
 
 -- the offers are all bids at their net amounts
-module _ (o : Offers) (w : ℕ → ℕ) (c : CertValue) (nobody : o.skip ≡ 0) (net : (j i : ℕ) → 0 < j → j ≤ bidders_of o.book.now
+module _ (o : TestedBids) (w : ℕ → ℕ) (c : CertValue) (nobody : o.skip ≡ 0) (net : (j i : ℕ) → 0 < j → j ≤ bidders_of o.book.now
     → worth_of o j i ≡ net_of o.book.now j i) where
   to-net : (k s : ℕ) → ObeysAt (offered o) (worth_of o) o.book.now.supply c.table k s → ObeysAt (menu_of o.book.now)
       (net_of o.book.now) o.book.now.supply c.table k s
@@ -88,7 +88,7 @@ module _ (book : Book) (w : ℕ → ℕ) (c : CertValue) where
     λ asks. (of-C3 book w c ((bidders_of book + 1) * states book + suc k) asks).first k lt refl,
   )
 
-  -- and behind them nothing is asked
+  -- and after them nothing is asked
   pub past-C3 : (q : ℕ) → (bidders_of book + 1) * states book + (bidders_of book + 1) ≤ q → Asks book w c 3 q
   past-C3 q past = asks-C3 book w c q (record {
     rules = λ k s le lt e. absurd (omega (arith, e, past, number-below (bidders_of book) k s (states book) le lt));

@@ -14,7 +14,6 @@ pub mod Gains
 pub mod Written
 pub mod FieldLaws
 pub mod Worths
-pub mod TestedLaws
 pub mod TableLaws
 pub mod EarlierLaws
 pub mod ValueLaws

@@ -3,23 +3,23 @@ use Rattle.std.specs.Prelude.{◌≡◌, ℕ, suc, ◌+◌, ◌-◌, ◌*◌, �
 use Rattle.std.proofs.Common.{sym, ◌∙◌, ap, subst, arith}
 use Rattle.std.proofs.lemmas.Int.{ints, unsigned_abs-mul}
 use Rattle.std.proofs.Math.Nat.{mul-le-mul_left}
-use Rattle.line_check.specs.cert_laws.specs.auction_model.specs.Menu.{without}
-use Rattle.line_check.specs.cert_laws.specs.auction_model.specs.Book.{net_of, menu_of}
-use Rattle.line_check.specs.cert_laws.specs.auction_model.specs.Lowered.{of_bidder}
-use Rattle.line_check.specs.cert_laws.specs.auction_model.specs.Prices.{sum_over, everyone}
-use Rattle.cert_text.specs.choices.specs.bid_book.specs.Kept.{IsBidBook}
-use Rattle.line_check.specs.cert_laws.specs.cert_form.specs.Certificate.{CertValue}
-use Rattle.line_check.specs.cert_laws.specs.cert_form.specs.CertText.{AllInRange}
-use Rattle.line_check.specs.cert_laws.specs.Tests.{bidders_of, lowered_net, C9}
+use Rattle.auction_model.specs.Menu.{without}
+use Rattle.auction_model.specs.Book.{menu_of, net_of}
+use Rattle.auction_model.specs.Lowered.{of_bidder}
+use Rattle.auction_model.specs.Prices.{everyone, sum_over}
+use Rattle.bid_book.specs.Kept.{IsBidBook}
+use Rattle.cert_grammar.specs.Certificate.{CertValue}
+use Rattle.cert_grammar.specs.CertText.{AllInRange}
+use Rattle.cert_soundness.specs.Tests.{C9, bidders_of, lowered_net}
 use Rattle.cert_check.specs.Fields.{IsOf}
 use Rattle.cert_check.specs.declared.claim.Claim.{Claim}
-use Rattle.line_check.specs.Worths.{worth_with}
+use Rattle.table_check.specs.Worths.{worth_with}
 use Rattle.cert_check.specs.Gains.{CanLower, gain_of}
-use Rattle.line_check.specs.LineTests.{TableAt}
+use Rattle.table_check.specs.LineTests.{TableAt}
 use Rattle.cert_check.specs.Places.{IsFirstFailing}
 use Rattle.cert_check.proofs.HeadLaws.{number-known}
 use Rattle.cert_check.proofs.PlaceTests.{failing-same}
-use Rattle.line_check.proofs.TableLines.{in-range}
+use Rattle.table_check.proofs.TableLines.{in-range}
 use Rattle.cert_check.proofs.ValueLaws.{obeys-all, obeys-none_less}
 use Rattle.cert_check.proofs.Worths.{lowered-worth, table-same}
 

@@ -1,15 +1,15 @@
--- The lowered table, two lines at a time, and what is found early of the place behind its rules.
+-- The lowered table, two lines at a time, and what is found early of the place after its rules.
 use Rattle.std.specs.Prelude.{◌≡◌, ℕ, ◌+◌, ◌*◌, ◌<◌, ◌≤◌, ◌↔◌, ◌≤ℤ◌, refl}
 use Rattle.std.proofs.Common.{sym, subst, arith}
-use Rattle.line_check.specs.cert_laws.specs.auction_model.specs.Book.{Book, menu_of}
-use Rattle.line_check.specs.cert_laws.specs.auction_model.specs.Lowered.{of_bidder}
-use Rattle.line_check.specs.cert_laws.specs.auction_model.specs.Menu.{without}
-use Rattle.line_check.specs.cert_laws.specs.auction_model.specs.Prices.{sum_over, everyone}
-use Rattle.line_check.specs.cert_laws.specs.auction_model.specs.Table.{entry_at}
-use Rattle.line_check.specs.cert_laws.specs.cert_form.specs.Certificate.{CertValue}
-use Rattle.line_check.specs.cert_laws.specs.Tests.{Asks, C9, ObeysAt, bidders_of, states, full, lowered_net}
-use Rattle.line_check.specs.LineTests.{offered, worth_of, RulesAt}
-use Rattle.line_check.specs.declared.offers.Offers.{Offers}
+use Rattle.auction_model.specs.Book.{Book, menu_of}
+use Rattle.auction_model.specs.Lowered.{of_bidder}
+use Rattle.auction_model.specs.Menu.{without}
+use Rattle.auction_model.specs.Prices.{everyone, sum_over}
+use Rattle.auction_model.specs.Table.{entry_at}
+use Rattle.cert_grammar.specs.Certificate.{CertValue}
+use Rattle.cert_soundness.specs.Tests.{Asks, C9, ObeysAt, bidders_of, full, lowered_net, states}
+use Rattle.table_check.specs.LineTests.{offered, worth_of, RulesAt}
+use Rattle.table_check.specs.declared.offers.TestedBids.{TestedBids}
 use Rattle.cert_check.proofs.TableLaws.{number-below}
 use Rattle.cert_check.proofs.ValueLaws.{obeys-all, obeys-none_less}
 use Rattle.cert_check.proofs.Worths.{obeys-same}
@@ -32,7 +32,7 @@ module _ (book : Book) (w : ℕ → ℕ) (c : CertValue) (place : ℕ) where
   of-C9 asks = asks.8 refl
 
 -- the offers are all bids at their lowered worths
-module _ (o : Offers) (w : ℕ → ℕ) (c : CertValue) (nobody : o.skip ≡ 0) (net : (j i : ℕ) → 0 < j → j ≤ bidders_of o.book.now
+module _ (o : TestedBids) (w : ℕ → ℕ) (c : CertValue) (nobody : o.skip ≡ 0) (net : (j i : ℕ) → 0 < j → j ≤ bidders_of o.book.now
     → worth_of o j i ≡ lowered_net o.book.now c j i) where
   to-net : (k s : ℕ) → ObeysAt (offered o) (worth_of o) o.book.now.supply c.lowered k s → ObeysAt (menu_of o.book.now)
       (lowered_net o.book.now c) o.book.now.supply c.lowered k s
@@ -72,7 +72,7 @@ module _ (book : Book) (w : ℕ → ℕ) (c : CertValue) where
     λ asks. (of-C9 book w c ((bidders_of book + 1) * states book + 0) asks).top (omega arith),
   )
 
-  -- and behind it nothing is asked
+  -- and after it nothing is asked
   pub past-C9 : (q : ℕ) → (bidders_of book + 1) * states book + 1 ≤ q → Asks book w c 9 q
   past-C9 q past = asks-C9 book w c q (record {
     rules = λ k s le lt e. absurd (omega (arith, e, past, number-below (bidders_of book) k s (states book) le lt));

@@ -3,11 +3,11 @@ use Rattle.std.specs.Prelude.{◌≡◌, ℕ, zero, suc, ◌+◌, ◌-◌, ◌�
 use Rattle.std.proofs.Common.{inl, inr, ap, subst, arith, ◌∙◌}
 use Rattle.std.proofs.lemmas.Bool.{false≢true, or_cases, eqb-true, eq-eqb}
 use Rattle.std.proofs.Math.Bool.{or-true}
-use Rattle.line_check.specs.cert_laws.specs.auction_model.specs.Market.{number_of}
-use Rattle.line_check.specs.cert_laws.specs.auction_model.specs.Menu.{Menu, is_known_after}
-use Rattle.line_check.specs.cert_laws.specs.auction_model.proofs.ChoiceLaws.{known-length, known-of}
-use Rattle.line_check.specs.cert_laws.specs.cert_form.specs.CertText.{AreMembers}
-use Rattle.line_check.specs.cert_laws.specs.cert_form.specs.Certificate.{is_member}
+use Rattle.auction_model.specs.Market.{number_of}
+use Rattle.auction_model.specs.Menu.{Menu, is_known_after}
+use Rattle.auction_model.proofs.ChoiceLaws.{known-length, known-of}
+use Rattle.cert_grammar.specs.CertText.{AreMembers}
+use Rattle.cert_grammar.specs.Certificate.{is_member}
 
 -- each number of a known choice is that of a bid or 0
 pub known-number : (m : Menu) (c : List ℕ) (j : ℕ) → IsTrue (is_known_after m 0 c) → 0 < j → j ≤ m.bidders → number_of c j ≤ m.bids j
@@ -33,7 +33,7 @@ member-at (j ∷ members) (suc k) lt =
     let rest = member-at members k (omega arith) in
     ap (λ b. (j == get_or members k 0) || b) rest ∙ or-true (j == get_or members k 0)
 
--- each member stands at some place of the list
+-- each member is at some place of the list
 pub place_of-member : (members : List ℕ) (j : ℕ) → IsTrue (is_member members j) → (k : ℕ) × (k < length members) × (get_or members k 0 ≡ j)
 place_of-member [] j h = absurd (false≢true h)
 place_of-member (i ∷ members) j h =

@@ -1,18 +1,18 @@
 -- C4 from the tests of the parts.
-use Rattle.std.specs.Prelude.{◌≡◌, ℕ, zero, suc, ◌+◌, ◌*◌, ◌<◌, ◌≤◌, ◌==◌, ◌↔◌, Bool, not, IsTrue, List, [], ◌∷◌, length, map, drop, get_or, refl, Option}
-use Rattle.std.specs.Prelude.{Some, None, is_some, ℤ}
+use Rattle.std.specs.Prelude.{Bool, IsTrue, List, None, Option, Some, [], drop, get_or, is_some, length, map, not, refl, suc, zero, ℕ, ℤ, ◌*◌, ◌+◌}
+use Rattle.std.specs.Prelude.{◌<◌, ◌==◌, ◌↔◌, ◌∷◌, ◌≡◌, ◌≤◌}
 use Rattle.std.proofs.Common.{inl, inr, sym, ◌∙◌, ap, subst, arith, drop-cons}
 use Rattle.std.proofs.lemmas.Bool.{cases_lt, cond-true, cond-false, eq-eqb, ne_eqb, false≢true, not-true, not-false}
-use Rattle.line_check.specs.cert_laws.specs.auction_model.specs.Menu.{without}
-use Rattle.line_check.specs.cert_laws.specs.auction_model.specs.Market.{number_of, value_of, uses}
-use Rattle.line_check.specs.cert_laws.specs.auction_model.specs.Book.{Book, net_of, menu_of, market_of}
-use Rattle.line_check.specs.cert_laws.specs.cert_form.specs.Certificate.{CertValue, WithoutValue, part_of}
-use Rattle.line_check.specs.cert_laws.specs.cert_form.specs.CertText.{IsTable, AreWithouts}
-use Rattle.line_check.specs.cert_laws.specs.Tests.{bidders_of, states, IsPart, C4}
-use Rattle.line_check.specs.cert_laws.proofs.Winning.{allowed-length}
+use Rattle.auction_model.specs.Menu.{without}
+use Rattle.auction_model.specs.Market.{number_of, uses, value_of}
+use Rattle.auction_model.specs.Book.{Book, market_of, menu_of, net_of}
+use Rattle.cert_grammar.specs.Certificate.{CertValue, WithoutValue, part_of}
+use Rattle.cert_grammar.specs.CertText.{AreWithouts, IsTable}
+use Rattle.cert_soundness.specs.Tests.{C4, IsPart, bidders_of, states}
+use Rattle.cert_soundness.proofs.Winning.{allowed-length}
 use Rattle.cert_text.specs.Parts.{without_value}
 use Rattle.cert_text.specs.declared.certificate.WithoutPart.{WithoutPart}
-use Rattle.line_check.specs.LineTests.{TableAt}
+use Rattle.table_check.specs.LineTests.{TableAt}
 use Rattle.cert_check.specs.Places.{IsFirstFailing}
 
 -- each part has a choice and a table of the right form
@@ -31,7 +31,7 @@ parts-form b s j (zero ∷ numbers) (w ∷ parts) are i other lt = parts-form b 
 parts-form b s j (suc n ∷ numbers) (w ∷ parts) are zero other lt = record { choice = are.0.choice.0; table = are.0.table }
 parts-form b s j (suc n ∷ numbers) (w ∷ parts) are (suc i) other lt = parts-form b s (suc j) numbers parts are.1 i other (omega arith)
 
--- so has the part that stands at a place of such a list
+-- so has the part that is at a place of such a list
 pub part-form : (b s j : ℕ) (numbers : List ℕ) (items withouts : List WithoutPart) (i : ℕ) (part : WithoutPart) → items ≡ withouts
     → AreWithouts b s j numbers (map without_value withouts)
     → i < length items → part ≡ get_or items i part → HasForm b s part

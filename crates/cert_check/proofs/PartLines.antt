@@ -1,18 +1,18 @@
 -- The table of a part, two lines at a time.
 use Rattle.std.specs.Prelude.{◌≡◌, ℕ, ◌+◌, ◌*◌, ◌<◌, ◌≤◌, List, ℤ, refl}
 use Rattle.std.proofs.Common.{sym, subst, arith}
-use Rattle.line_check.specs.cert_laws.specs.auction_model.specs.Book.{net_of, menu_of}
-use Rattle.line_check.specs.cert_laws.specs.auction_model.specs.Menu.{without}
-use Rattle.line_check.specs.cert_laws.specs.cert_form.specs.Certificate.{WithoutValue}
-use Rattle.line_check.specs.cert_laws.specs.Tests.{ObeysAt, IsPart, bidders_of, states}
-use Rattle.line_check.specs.cert_laws.proofs.Places.{one_place}
-use Rattle.line_check.specs.Faults.{FirstFault}
-use Rattle.line_check.specs.LineTests.{offered, worth_of, ObeysIn, RulesAt}
-use Rattle.line_check.specs.declared.offers.Offers.{Offers}
+use Rattle.auction_model.specs.Book.{menu_of, net_of}
+use Rattle.auction_model.specs.Menu.{without}
+use Rattle.cert_grammar.specs.Certificate.{WithoutValue}
+use Rattle.cert_soundness.specs.Tests.{IsPart, ObeysAt, bidders_of, states}
+use Rattle.cert_soundness.proofs.Places.{one_place}
+use Rattle.table_check.specs.Faults.{FirstFault}
+use Rattle.table_check.specs.LineTests.{offered, worth_of, ObeysIn, RulesAt}
+use Rattle.table_check.specs.declared.offers.TestedBids.{TestedBids}
 use Rattle.cert_check.proofs.Worths.{obeys-same}
 
 -- the offers are the bids of all but one bidder, at their net amounts
-module _ (o : Offers) (j : ℕ) (part : WithoutValue) (nobody : o.skip ≡ j) (net : (i n : ℕ) → 0 < i → i ≤ bidders_of o.book.now
+module _ (o : TestedBids) (j : ℕ) (part : WithoutValue) (nobody : o.skip ≡ j) (net : (i n : ℕ) → 0 < i → i ≤ bidders_of o.book.now
     → worth_of o i n ≡ net_of o.book.now i n) where
   to-net : (k s : ℕ) → ObeysAt (offered o) (worth_of o) o.book.now.supply part.table k s → ObeysAt (without (menu_of o.book.now) j)
       (net_of o.book.now) o.book.now.supply part.table k s
@@ -37,7 +37,7 @@ module _ (o : Offers) (j : ℕ) (part : WithoutValue) (nobody : o.skip ≡ j) (n
   part-rules place is k s le lt e = from-net k s (is.rules k s le lt)
 
 -- a fault of a line at a place is one of the rules at the number of both
-pub fault-rules : (o : Offers) (table : List (List ℤ)) (k r : ℕ) → k ≤ bidders_of o.book.now → FirstFault (ObeysIn o table k) (states o.book.now) r
+pub fault-rules : (o : TestedBids) (table : List (List ℤ)) (k r : ℕ) → k ≤ bidders_of o.book.now → FirstFault (ObeysIn o table k) (states o.book.now) r
     → FirstFault (λ s. RulesAt o table (k * states o.book.now + s)) (states o.book.now) r
 fault-rules o table k r le f = record {
   within = f.within;

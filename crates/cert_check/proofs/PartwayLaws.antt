@@ -2,14 +2,14 @@
 use Rattle.std.proofs.Common.{◌≡◌, ℕ, ◌+◌, ◌-◌, ◌<◌, ◌≤◌, inl, inr, refl, sym, subst, arith}
 use Rattle.std.proofs.lemmas.Bool.{cases_lt}
 use Rattle.std.specs.Prelude.{Some, None}
-use Rattle.line_check.specs.cert_laws.specs.auction_model.specs.Book.{Book}
-use Rattle.line_check.specs.cert_laws.specs.cert_form.specs.Certificate.{CertValue}
-use Rattle.line_check.specs.cert_laws.specs.Tests.{Asks, FailsFirst, Holds}
+use Rattle.auction_model.specs.Book.{Book}
+use Rattle.cert_grammar.specs.Certificate.{CertValue}
+use Rattle.cert_soundness.specs.Tests.{Asks, FailsFirst, Holds}
 use Rattle.cert_check.specs.Partway.{HoldsTo, IsLate}
 use Rattle.cert_check.specs.Places.{IsFirstFailing}
 
 module _ (book : Book) (w : ℕ → ℕ) (c : CertValue) (test : ℕ) where
-  -- places that hold behind those that hold
+  -- places that hold after those that hold
   pub holds-further : (base n : ℕ) → HoldsTo book w c test base → ((i : ℕ) → i < n → Asks book w c test (base + i)) → HoldsTo book w c test (base + n)
   holds-further base n before more u q (inl less) = before u q (inl less)
   holds-further base n before more u q (inr (same, lt)) =
@@ -55,7 +55,7 @@ module _ (book : Book) (w : ℕ → ℕ) (c : CertValue) (test : ℕ) where
   pub table-fails : (base n p : ℕ) → HoldsTo book w c test base → IsLate book w c test base n (Some p) → FailsFirst book w c test (base + p)
   table-fails base n p before late = fails-further base p before late.2 late.1
 
-  -- places that hold, with nothing that fails behind them, make the whole test hold
+  -- places that hold, with nothing that fails after them, make the whole test hold
   pub table-holds : (base n : ℕ) → HoldsTo book w c test base → IsLate book w c test base n None → ((q : ℕ) → base + n ≤ q → Asks book w c test q)
       → HoldsTo book w c (test + 1) 0
   table-holds base n before late rest = holds-whole (base + n) (holds-further base n before late) rest

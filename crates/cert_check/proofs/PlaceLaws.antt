@@ -2,13 +2,13 @@
 use Rattle.std.specs.Prelude.{◌≡◌, ℕ, suc, ◌+◌, ◌≤◌, ◌<◌, ◌↔◌, Bool, IsTrue, length, slice_index_or, ℤ, pos, ◌+ℤ◌, ◌-ℤ◌, ◌*ℤ◌, ◌≤ℤ◌, ◌<ℤ◌, ◌⊎◌}
 use Rattle.std.proofs.Common.{sym, ◌∙◌, ap, subst, arith}
 use Rattle.std.proofs.lemmas.Bool.{and_parts, and_from, both_ways}
-use Rattle.line_check.specs.cert_laws.specs.auction_model.specs.Book.{Book, bids_of, menu_of}
-use Rattle.line_check.specs.cert_laws.specs.auction_model.specs.Lowered.{of_bidder}
-use Rattle.line_check.specs.cert_laws.specs.auction_model.specs.Market.{uses}
-use Rattle.line_check.specs.cert_laws.specs.auction_model.specs.Menu.{is_known_after, fits_after}
-use Rattle.line_check.specs.cert_laws.specs.cert_form.specs.Certificate.{CertValue, RowValue, row_of}
-use Rattle.line_check.specs.cert_laws.specs.Tests.{C2, C5, C6, C7, C8, IsTightRow, bidders_of, won, vickrey_of, sum_holding}
-use Rattle.line_check.specs.cert_laws.proofs.Winning.{known_from}
+use Rattle.auction_model.specs.Book.{Book, bids_of, menu_of}
+use Rattle.auction_model.specs.Lowered.{of_bidder}
+use Rattle.auction_model.specs.Market.{uses}
+use Rattle.auction_model.specs.Menu.{fits_after, is_known_after}
+use Rattle.cert_grammar.specs.Certificate.{CertValue, RowValue, row_of}
+use Rattle.cert_soundness.specs.Tests.{C2, C5, C6, C7, C8, IsTightRow, bidders_of, sum_holding, vickrey_of, won}
+use Rattle.cert_soundness.proofs.Winning.{known_from}
 use Rattle.cert_check.specs.Head.{HoldsBefore}
 
 module _ (book : Book) (c : CertValue) where
@@ -20,7 +20,7 @@ module _ (book : Book) (c : CertValue) where
       (λ n lt. subst (λ (x : ℕ). slice_index_or c.choice x 0 ≤ length (bids_of book (suc (0 + n)))) (omega arith)
       ((before (suc (0 + n)) (omega (arith, length_is))).known (omega arith) (omega (arith, length_is))))
 
-  -- at the place behind the bidders C2 asks whether a known choice fits
+  -- at the place after the bidders C2 asks whether a known choice fits
   pub fits-C2 : (place : ℕ) (b : Bool) → place ≡ bidders_of book + 1 → IsTrue (is_known_after (menu_of book) 0 c.choice)
       → b ≡ fits_after (menu_of book) 0 book.supply c.choice → IsTrue b ↔ C2 book c place
   fits-C2 place b here known is = (
@@ -32,23 +32,23 @@ module _ (book : Book) (c : CertValue) where
     λ h. is ∙ and_from (is_known_after (menu_of book) 0 c.choice) _ known (h.fits here),
   )
 
-  -- behind the bidders and two places more C2 asks nothing
+  -- after the bidders and two places more C2 asks nothing
   pub past-C2 : (place : ℕ) → bidders_of book + 3 ≤ place → C2 book c place
   past-C2 place past = record { known = λ some le. absurd (omega arith); fits = λ e. absurd (omega (arith, e)); value = λ e. absurd (omega (arith, e)) }
 
-  -- behind the bidders C5 asks nothing
+  -- after the bidders C5 asks nothing
   pub past-C5 : (place : ℕ) → bidders_of book + 1 ≤ place → C5 book c place
   past-C5 place past = record { winner = λ some le wins. absurd (omega arith); loser = λ some le loses. absurd (omega arith) }
 
-  -- behind the rows C6 asks nothing
+  -- after the rows C6 asks nothing
   pub past-C6 : (place : ℕ) → length c.rows + 1 ≤ place → C6 book c place
   past-C6 place past = record { row = λ some le. absurd (omega arith) }
 
-  -- behind the rows and the bidders C7 asks nothing
+  -- after the rows and the bidders C7 asks nothing
   pub past-C7 : (place : ℕ) → length c.rows + bidders_of book + 1 ≤ place → C7 book c place
   past-C7 place past = record { sign = λ some le. absurd (omega arith); columns = λ j some le e wins. absurd (omega (arith, e)) }
 
-  -- behind the rows and the bidders C8 asks nothing
+  -- after the rows and the bidders C8 asks nothing
   pub past-C8 : (w : ℕ → ℕ) (place : ℕ) → length c.rows + bidders_of book + 1 ≤ place → C8 book w c place
   past-C8 w place past = record { sign = λ some le. absurd (omega arith); columns = λ j some le e wins. absurd (omega (arith, e)) }
 
@@ -90,7 +90,7 @@ module _ (book : Book) (c : CertValue) where
     λ h. test.1 (subst (λ (r : RowValue). pos 0 ≤ℤ r.first) same (h.sign some le)),
   )
 
-  -- behind the rows C7 asks whether the first multipliers of the rows of a winner sum to the denominator
+  -- after the rows C7 asks whether the first multipliers of the rows of a winner sum to the denominator
   pub sum-C7 : (place j : ℕ) (b : Bool) → place ≡ length c.rows + j → 0 < j → j ≤ bidders_of book
       → (IsTrue b ↔ (IsTrue (uses c.choice j) → sum_holding c.rows j (λ row. row.first) (length c.rows) ≡ c.den)) → IsTrue b ↔ C7 book c place
   sum-C7 place j b here some le test = (
@@ -114,7 +114,7 @@ module _ (book : Book) (c : CertValue) where
     λ h. test.1 (subst (λ (r : RowValue). (pos 0 <ℤ r.first) ⊎ (pos 0 ≤ℤ r.second)) same (h.sign some le)),
   )
 
-  -- behind the rows C8 asks whether the weighted sum of second multipliers is the way from the Vickrey price
+  -- after the rows C8 asks whether the weighted sum of second multipliers is the way from the Vickrey price
   pub sum-C8 : (w : ℕ → ℕ) (place j : ℕ) (b : Bool) → place ≡ length c.rows + j → 0 < j → j ≤ bidders_of book
       → (IsTrue b ↔ (IsTrue (uses c.choice j) → (of_bidder c.pay j -ℤ (c.den *ℤ vickrey_of book c j)) ≡ pos (w j) *ℤ sum_holding c.rows j (λ row. row.second)
       (length c.rows))) → IsTrue b ↔ C8 book w c place

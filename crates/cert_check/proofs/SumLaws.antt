@@ -1,15 +1,15 @@
 -- Sums of some bidders and of some rows, step by step.
-use Rattle.std.specs.Prelude.{◌≡◌, ℕ, zero, suc, ◌+◌, ◌-◌, ◌*◌, ◌^◌, ◌≤◌, ◌<◌, ◌↔◌, ◌==◌, IsTrue, Bool, true, false, cond, if◌then◌else◌, List, [], ◌∷◌}
-use Rattle.std.specs.Prelude.{length, map, get_or, ℤ, pos, ◌+ℤ◌, ◌-ℤ◌, unsigned_abs, refl}
+use Rattle.std.specs.Prelude.{Bool, IsTrue, List, [], cond, false, get_or, if◌then◌else◌, length, map, pos, refl, suc, true, unsigned_abs, zero, ℕ, ℤ}
+use Rattle.std.specs.Prelude.{◌*◌, ◌+ℤ◌, ◌+◌, ◌-ℤ◌, ◌-◌, ◌<◌, ◌==◌, ◌^◌, ◌↔◌, ◌∷◌, ◌≡◌, ◌≤◌}
 use Rattle.std.proofs.Common.{sym, subst, ◌∙◌, ap, arith, add-one, FitsSigned, to_z, of_z}
 use Rattle.std.specs.Int.{w128}
 use Rattle.std.proofs.lemmas.Bool.{eqb-true, eq-eqb}
 use Rattle.std.proofs.lemmas.Int.{ints, to_z-of_z}
 use Rattle.std.proofs.lemmas.List.{get_or-map, length-map}
-use Rattle.line_check.specs.cert_laws.specs.auction_model.specs.Prices.{sum_over}
-use Rattle.line_check.specs.cert_laws.specs.cert_form.specs.CertText.{AllInRange, InRange, AreRows, IsRow}
-use Rattle.line_check.specs.cert_laws.specs.cert_form.specs.Certificate.{RowValue, is_member, row_of}
-use Rattle.line_check.specs.cert_laws.specs.Tests.{sum_holding}
+use Rattle.auction_model.specs.Prices.{sum_over}
+use Rattle.cert_grammar.specs.CertText.{AllInRange, AreRows, InRange, IsRow}
+use Rattle.cert_grammar.specs.Certificate.{RowValue, is_member, row_of}
+use Rattle.cert_soundness.specs.Tests.{sum_holding}
 use Rattle.cert_text.specs.declared.certificate.CertRow.{CertRow}
 use Rattle.cert_text.specs.Parts.{row_value}
 use Rattle.cert_check.specs.declared.sums.Multiplier.{Multiplier}
@@ -38,7 +38,7 @@ rows-range bidders [] k d h lt = absurd (omega arith)
 rows-range bidders (r ∷ rows) zero d h lt = h.0.range
 rows-range bidders (r ∷ rows) (suc k) d h lt = rows-range bidders rows k d h.1 (omega arith)
 
--- the row that stands at a place
+-- the row that is at a place
 pub row-at : (rows : List CertRow) (k : ℕ) (row : CertRow) → k < length rows → row ≡ get_or rows k row → row_of (map row_value rows) (k + 1) ≡ row_value row
 row-at rows k row lt is =
     let back : k + 1 - 1 ≡ k = omega arith in

@@ -1,20 +1,19 @@
 -- The rules of a table, from those of its lines.
-use Rattle.std.specs.Prelude.{ℕ, suc, ◌+◌, ◌*◌, ◌<◌, ◌≤◌, List, ℤ, ◌≤ℤ◌, ◌<ℤ◌, refl, Some}
-use Rattle.std.specs.Prelude.{None}
+use Rattle.std.specs.Prelude.{List, None, Some, refl, suc, ℕ, ℤ, ◌*◌, ◌+◌, ◌<ℤ◌, ◌<◌, ◌≤ℤ◌, ◌≤◌}
 use Rattle.std.proofs.Common.{inl, inr, arith}
 use Rattle.std.proofs.lemmas.Bool.{cases_lt}
 use Rattle.std.proofs.lemmas.Int.{ints}
 use Rattle.std.proofs.Math.Nat.{mul-le-mul_left}
-use Rattle.line_check.specs.cert_laws.specs.auction_model.specs.Table.{entry_at}
-use Rattle.line_check.specs.cert_laws.specs.cert_form.specs.CertText.{IsTable}
-use Rattle.line_check.specs.cert_laws.specs.Tests.{bidders_of, states, full}
-use Rattle.line_check.specs.cert_laws.proofs.Places.{first_rule}
-use Rattle.line_check.specs.Faults.{FirstFault}
+use Rattle.auction_model.specs.Table.{entry_at}
+use Rattle.cert_grammar.specs.CertText.{IsTable}
+use Rattle.cert_soundness.specs.Tests.{bidders_of, full, states}
+use Rattle.cert_soundness.proofs.Places.{first_rule}
+use Rattle.table_check.specs.Faults.{FirstFault}
 use Rattle.cert_check.specs.Places.{IsFirstFailing}
-use Rattle.line_check.specs.LineTests.{offered, worth_of, ObeysIn, RulesAt, TestsTable}
-use Rattle.line_check.specs.declared.offers.Offers.{Offers}
+use Rattle.table_check.specs.LineTests.{offered, worth_of, ObeysIn, RulesAt, TestsTable}
+use Rattle.table_check.specs.declared.offers.TestedBids.{TestedBids}
 
-module _ (o : Offers) (table : List (List ℤ)) (is : IsTable (bidders_of o.book.now) (states o.book.now) table) where
+module _ (o : TestedBids) (table : List (List ℤ)) (is : IsTable (bidders_of o.book.now) (states o.book.now) table) where
   -- the lines before keep the rules, and this one does below r
   pub table-fails : (k r : ℕ) → k ≤ bidders_of o.book.now → r < states o.book.now → ((l s : ℕ) → l < k → ObeysIn o table l s)
       → FirstFault (ObeysIn o table k) (states o.book.now) r
@@ -24,17 +23,17 @@ module _ (o : Offers) (table : List (List ℤ)) (is : IsTable (bidders_of o.book
       (λ t less. f.before t less (omega (arith, less, lt))) (λ obeys. f.fails lt (λ inside. obeys)) in
       (p.1, p.0)
 
-  -- a line whose first fault is behind its places keeps its rules everywhere
+  -- a line whose first fault is after its places keeps its rules everywhere
   pub line-keeps : (k r : ℕ) → states o.book.now ≤ r → FirstFault (ObeysIn o table k) (states o.book.now) r → (s : ℕ) → ObeysIn o table k s
   line-keeps k r past f s lt = f.before s (omega (arith, lt, past)) lt
 
--- behind the numbers of all lines and places
+-- after the numbers of all lines and places
 pub number-below : (b k s S : ℕ) → k ≤ b → s < S → k * S + s < (b + 1) * S
 number-below b k s S le lt =
     let up : suc k ≤ b + 1 = omega (arith, le) in
     omega (arith, lt, mul-le-mul_left S up)
 
-module _ (o : Offers) (table : List (List ℤ)) where
+module _ (o : TestedBids) (table : List (List ℤ)) where
   past-rules : (place : ℕ) → (bidders_of o.book.now + 1) * states o.book.now ≤ place → RulesAt o table place
   past-rules place past k s le lt e = absurd (omega (arith, past, e, number-below (bidders_of o.book.now) k s (states o.book.now) le lt))
 

@@ -5,7 +5,7 @@ use Rattle.std.specs.Int.{w128}
 use Rattle.std.proofs.Common.{sym, ◌∙◌, ap, subst, arith, to_z, of_z}
 use Rattle.std.proofs.lemmas.Int.{ints, to_z-of_z, to_z_pos, quot-rem, quot_fits, rem_is}
 use Rattle.std.proofs.Math.IntN.{*ℤ_comm}
-use Rattle.line_check.specs.cert_laws.specs.wide_num.proofs.Ints.{exact_quot, mul_cancel}
+use Rattle.wide_num.proofs.Ints.{exact_quot, mul_cancel}
 use Rattle.cert_check.proofs.SumLaws.{bits-same}
 
 module _ (number sum : ℤ) (w : ℕ) (some : 1 ≤ w) where

@@ -1,21 +1,21 @@
 -- C3 from the tests of the table and of the earlier bids.
-use Rattle.std.specs.Prelude.{◌≡◌, ℕ, suc, ◌+◌, ◌*◌, ◌<◌, ◌≤◌, Bool, IsTrue, List, length, slice_index_or, replicate, ℤ, pos, refl, Option, Some, None}
-use Rattle.std.specs.Prelude.{if◌then◌else◌}
+use Rattle.std.specs.Prelude.{Bool, IsTrue, List, None, Option, Some, if◌then◌else◌, length, pos, refl, replicate, slice_index_or, suc, ℕ, ℤ, ◌*◌}
+use Rattle.std.specs.Prelude.{◌+◌, ◌<◌, ◌≡◌, ◌≤◌}
 use Rattle.std.proofs.Common.{inl, inr, sym, ap, subst, arith}
 use Rattle.std.proofs.lemmas.Bool.{cases_lt, and_from, ne_eqb}
-use Rattle.line_check.specs.cert_laws.specs.auction_model.specs.Package.{is_within}
-use Rattle.line_check.specs.cert_laws.specs.auction_model.specs.Menu.{Menu, without, is_known_after, packages_after}
-use Rattle.line_check.specs.cert_laws.specs.auction_model.specs.Book.{Book, bids_of, net_of, menu_of, market_of}
-use Rattle.line_check.specs.cert_laws.specs.cert_form.specs.Certificate.{CertValue}
-use Rattle.line_check.specs.cert_laws.specs.cert_form.specs.CertText.{IsCertificate}
-use Rattle.line_check.specs.cert_laws.specs.Tests.{ObeysAt, bidders_of, states, C2, C3}
-use Rattle.line_check.specs.cert_laws.proofs.Winning.{known_from}
+use Rattle.auction_model.specs.Package.{is_within}
+use Rattle.auction_model.specs.Menu.{Menu, is_known_after, packages_after, without}
+use Rattle.auction_model.specs.Book.{Book, bids_of, market_of, menu_of, net_of}
+use Rattle.cert_grammar.specs.Certificate.{CertValue}
+use Rattle.cert_grammar.specs.CertText.{IsCertificate}
+use Rattle.cert_soundness.specs.Tests.{C2, C3, ObeysAt, bidders_of, states}
+use Rattle.cert_soundness.proofs.Winning.{known_from}
 use Rattle.cert_text.specs.CertValues.{cert_value, IsFor}
 use Rattle.cert_text.specs.declared.certificate.Certificate.{Certificate}
 use Rattle.cert_check.specs.EarlierBids.{NoneEarlier}
-use Rattle.line_check.specs.LineTests.{TableAt}
+use Rattle.table_check.specs.LineTests.{TableAt}
 use Rattle.cert_check.specs.Places.{IsFirstFailing}
-use Rattle.line_check.specs.Worths.{worth_with}
+use Rattle.table_check.specs.Worths.{worth_with}
 use Rattle.cert_check.proofs.TableLaws.{number-below}
 use Rattle.cert_check.proofs.Worths.{plain-worth, table-same}
 

@@ -2,31 +2,31 @@
 use Rattle.std.specs.Prelude.{◌≡◌, ℕ, ◌+◌, ◌<◌, Option, Some, None, refl}
 use Rattle.std.proofs.Common.{inl, inr, sym, subst, arith}
 use Rattle.std.proofs.lemmas.Bool.{cases_lt}
-use Rattle.line_check.specs.cert_laws.specs.auction_model.specs.Book.{Book}
-use Rattle.line_check.specs.cert_laws.specs.cert_form.specs.Certificate.{CertValue}
-use Rattle.line_check.specs.cert_laws.specs.Tests.{Asks, Holds, FailsFirst, C1, C2, C3, C4, C5, C6, C7, C8, C9}
+use Rattle.auction_model.specs.Book.{Book}
+use Rattle.cert_grammar.specs.Certificate.{CertValue}
+use Rattle.cert_soundness.specs.Tests.{Asks, C1, C2, C3, C4, C5, C6, C7, C8, C9, FailsFirst, Holds}
 use Rattle.cert_check.specs.Head.{HoldsUpTo, HeadHolds}
 use Rattle.cert_check.specs.Places.{IsFirstFailing}
 use Rattle.cert_check.proofs.PlaceTests.{failing-same}
 
 module _ (book : Book) (w : ℕ → ℕ) (c : CertValue) (t : ℕ) (before : HoldsUpTo book w c t) where
-  -- behind test 1 the sizes are right
+  -- after test 1 the sizes are right
   pub held-C1 : 1 < t → (place : ℕ) → C1 c place
   held-C1 lt place = (before 1 place lt).0 refl
 
-  -- behind test 2 the choice is right
+  -- after test 2 the choice is right
   pub held-C2 : 2 < t → (place : ℕ) → C2 book c place
   held-C2 lt place = (before 2 place lt).1 refl
 
-  -- behind test 3 the head's table is right
+  -- after test 3 the head's table is right
   pub held-C3 : 3 < t → (place : ℕ) → C3 book c place
   held-C3 lt place = (before 3 place lt).2 refl
 
-  -- behind test 4 the parts without each winner are right
+  -- after test 4 the parts without each winner are right
   pub held-C4 : 4 < t → (place : ℕ) → C4 book c place
   held-C4 lt place = (before 4 place lt).3 refl
 
-  -- behind test 3 the head is right
+  -- after test 3 the head is right
   pub held-head : 3 < t → HeadHolds book c
   held-head lt = record { sizes = held-C1 (omega arith); choice = held-C2 (omega arith); table = held-C3 lt }
 
@@ -48,7 +48,7 @@ module _ (book : Book) (w : ℕ → ℕ) (c : CertValue) (t : ℕ) (before : Hol
     ];
   }
 
-  -- behind test 9 all tests hold
+  -- after test 9 all tests hold
   pub held-all : 9 < t → Holds book w c
   held-all lt = record {
     c1 = λ place. (before 1 place (omega arith)).0 refl;

@@ -3,16 +3,16 @@ use Rattle.std.specs.Prelude.{◌≡◌, ℕ, suc, ◌-◌, ◌^◌, ◌<◌, �
 use Rattle.std.proofs.Common.{sym, ap, subst, arith}
 use Rattle.std.proofs.lemmas.Int.{ints}
 use Rattle.std.proofs.lemmas.List.{length-replicate}
-use Rattle.line_check.specs.cert_laws.specs.auction_model.specs.Book.{Book, net_of}
-use Rattle.line_check.specs.cert_laws.specs.auction_model.specs.Lowered.{of_bidder}
-use Rattle.line_check.specs.cert_laws.specs.auction_model.specs.Menu.{Menu}
-use Rattle.line_check.specs.cert_laws.specs.auction_model.proofs.ListLaws.{zeros-at}
-use Rattle.cert_text.specs.choices.specs.bid_book.specs.Kept.{IsBidBook}
-use Rattle.line_check.specs.cert_laws.specs.cert_form.specs.Certificate.{CertValue}
-use Rattle.line_check.specs.cert_laws.specs.Tests.{ObeysAt, Obeys, bidders_of, lowered_net}
-use Rattle.line_check.specs.LineTests.{TableAt}
+use Rattle.auction_model.specs.Book.{Book, net_of}
+use Rattle.auction_model.specs.Lowered.{of_bidder}
+use Rattle.auction_model.specs.Menu.{Menu}
+use Rattle.auction_model.proofs.ListLaws.{zeros-at}
+use Rattle.bid_book.specs.Kept.{IsBidBook}
+use Rattle.cert_grammar.specs.Certificate.{CertValue}
+use Rattle.cert_soundness.specs.Tests.{Obeys, ObeysAt, bidders_of, lowered_net}
+use Rattle.table_check.specs.LineTests.{TableAt}
 use Rattle.cert_check.specs.Places.{IsFirstFailing}
-use Rattle.line_check.specs.Worths.{worth_with, HasSmallWorths}
+use Rattle.table_check.specs.Worths.{worth_with, HasSmallWorths}
 use Rattle.cert_check.specs.Gains.{CanLower, gain_of}
 use Rattle.cert_check.proofs.Gains.{gain-small}
 use Rattle.cert_check.proofs.PlaceTests.{failing-same}
@@ -64,10 +64,6 @@ module _ (m : Menu) (f g : ℕ → ℕ → ℤ) (supply : List ℕ) (table : Lis
     none = o.none;
     bid = λ lt i some few fits. (let own = o.bid lt i some few fits in let e = same (suc k) i (omega arith) (omega (arith, lt)) in omega (arith, ints, own, e));
   }
-
-  -- a table that obeys the rules for one obeys them for the other
-  pub all-obey : Obeys m f supply table → Obeys m g supply table
-  all-obey rules k s le lt = obeys-same k s (rules k s le lt)
 
   at-same : (most : ℤ) (place : ℕ) → TableAt m f supply table most place → TableAt m g supply table most place
   at-same most place t = record { rules = λ k s le lt e. obeys-same k s (t.rules k s le lt e); top = t.top }

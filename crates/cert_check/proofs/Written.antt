@@ -1,7 +1,7 @@
 -- Numbers that are written bidder by bidder.
 use Rattle.std.specs.Prelude.{◌≡◌, ℕ, ◌+◌, ◌-◌, ◌<◌, ◌≤◌, List, get_or, length, ℤ, pos, ◌+ℤ◌}
 use Rattle.std.proofs.Common.{◌≢◌, ◌∙◌, ap, subst, arith, set, get_or-set_other, get_or-set_same, below_more}
-use Rattle.line_check.specs.cert_laws.specs.auction_model.specs.Lowered.{of_bidder}
+use Rattle.auction_model.specs.Lowered.{of_bidder}
 
 -- the numbers of the first n bidders are those of f
 abbrev pub AreWritten : (ℕ → ℤ) → List ℤ → ℕ → Type 0
@@ -25,7 +25,7 @@ written-all f numbers n bidders all done j some inside =
 pub record AreAdded (add : ℕ → ℤ) (before numbers : List ℤ) (n : ℕ) : Type 0 where
   -- the first n have what was added
   pub done : (q : ℕ) → q < n → get_or numbers q (pos 0) ≡ get_or before q (pos 0) +ℤ add (q + 1)
-  -- those behind are as before
+  -- those after are as before
   pub rest : (q : ℕ) → n ≤ q → get_or numbers q (pos 0) ≡ get_or before q (pos 0)
 
 -- one number more has what is added

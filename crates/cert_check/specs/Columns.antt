@@ -1,9 +1,9 @@
 -- The multipliers of the rows, row by row, and their sums, bidder by bidder.
 use Rattle.std.specs.Prelude.{◌≡◌, ℕ, ◌-◌, ◌<◌, ◌≤◌, List, length, ℤ}
-use Rattle.line_check.specs.cert_laws.specs.auction_model.specs.Lowered.{of_bidder}
-use Rattle.line_check.specs.cert_laws.specs.cert_form.specs.Certificate.{RowValue, row_of}
-use Rattle.line_check.specs.cert_laws.specs.Tests.{sum_holding}
-use Rattle.line_check.specs.cert_laws.specs.wide_num.specs.Sums.{nth}
+use Rattle.auction_model.specs.Lowered.{of_bidder}
+use Rattle.cert_grammar.specs.Certificate.{RowValue, row_of}
+use Rattle.cert_soundness.specs.Tests.{sum_holding}
+use Rattle.wide_num.specs.Sums.{nth}
 use Rattle.cert_check.specs.Multipliers.{multiplier_of}
 use Rattle.cert_check.specs.declared.sums.Multiplier.{Multiplier}
 use Rattle.cert_check.specs.declared.sums.Multiplier.TheVariants.{First, Second}

@@ -1,13 +1,13 @@
 -- The bids that come before those of the choice in the order of ties.
 use Rattle.std.specs.Prelude.{◌≡◌, ℕ, suc, ◌+◌, ◌*◌, ◌^◌, ◌<◌, ◌≤◌, IsTrue, List, length, drop, ℤ, ◌+ℤ◌, ◌-ℤ◌, ◌<ℤ◌, unsigned_abs}
-use Rattle.line_check.specs.cert_laws.specs.auction_model.specs.Package.{is_within, less}
-use Rattle.line_check.specs.cert_laws.specs.auction_model.specs.Place.{place_of, left_at}
-use Rattle.line_check.specs.cert_laws.specs.auction_model.specs.Market.{is_number_before, number_of}
-use Rattle.line_check.specs.cert_laws.specs.auction_model.specs.Book.{Book, bids_of, lots_of, net_of, menu_of}
-use Rattle.line_check.specs.cert_laws.specs.cert_form.specs.Certificate.{CertValue}
-use Rattle.line_check.specs.cert_laws.specs.auction_model.specs.Menu.{fits_after}
-use Rattle.line_check.specs.cert_laws.specs.Tests.{NoEarlier, bidders_of, states, left_after, worth_before}
-use Rattle.line_check.specs.cert_laws.specs.wide_num.specs.Sums.{nth}
+use Rattle.auction_model.specs.Package.{is_within, less}
+use Rattle.auction_model.specs.Place.{left_at, place_of}
+use Rattle.auction_model.specs.Market.{is_number_before, number_of}
+use Rattle.auction_model.specs.Book.{Book, bids_of, lots_of, menu_of, net_of}
+use Rattle.cert_grammar.specs.Certificate.{CertValue}
+use Rattle.auction_model.specs.Menu.{fits_after}
+use Rattle.cert_soundness.specs.Tests.{NoEarlier, bidders_of, left_after, states, worth_before}
+use Rattle.wide_num.specs.Sums.{nth}
 
 -- where bid i of bidder j fits what a place leaves, its net amount with the line's entry for the rest is below a bound
 abbrev pub StaysBelow : Book → ℕ → List ℤ → ℕ → ℤ → ℕ → Type 0
@@ -26,7 +26,7 @@ abbrev pub NoneEarlier : Book → CertValue → ℕ → Type 0
 NoneEarlier book c j = (k : ℕ) → k < bidders_of book → j ≡ suc k
     → NoEarlier (menu_of book) (net_of book) book.supply c.table c.choice c.value k
 
--- what the bids of the first k bidders of a choice leave of the supply and of the value; the bids behind them fit it
+-- what the bids of the first k bidders of a choice leave of the supply and of the value; the bids after them fit it
 pub record IsLeft (book : Book) (choice : List ℕ) (value : ℤ) (k rest : ℕ) (bound : ℤ) : Type 0 where
   pub place : rest < states book
   pub left : left_at book.supply rest ≡ left_after (menu_of book) book.supply choice k

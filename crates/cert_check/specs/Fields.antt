@@ -1,10 +1,10 @@
 -- Certificates by the numbers that a test reads.
 use Rattle.std.specs.Prelude.{◌≡◌, ℕ, ◌<◌, ◌≤◌, List, [], ℤ, pos, if◌then◌else◌}
-use Rattle.line_check.specs.cert_laws.specs.auction_model.specs.Book.{Book, market_of}
-use Rattle.line_check.specs.cert_laws.specs.auction_model.specs.Lowered.{of_bidder}
-use Rattle.line_check.specs.cert_laws.specs.auction_model.specs.Market.{uses, value_of}
-use Rattle.line_check.specs.cert_laws.specs.cert_form.specs.Certificate.{CertValue, WithoutValue, RowValue, part_of}
-use Rattle.line_check.specs.cert_laws.specs.Tests.{bidders_of}
+use Rattle.auction_model.specs.Book.{Book, market_of}
+use Rattle.auction_model.specs.Lowered.{of_bidder}
+use Rattle.auction_model.specs.Market.{uses, value_of}
+use Rattle.cert_grammar.specs.Certificate.{CertValue, RowValue, WithoutValue, part_of}
+use Rattle.cert_soundness.specs.Tests.{bidders_of}
 use Rattle.cert_check.specs.declared.claim.Claim.{Claim}
 
 -- a certificate of these, without tables

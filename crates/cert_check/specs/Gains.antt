@@ -1,9 +1,9 @@
 -- What the bidders gain at the payments, and what lowering their worths by it needs.
 use Rattle.std.specs.Prelude.{◌≡◌, ℕ, ◌<◌, ◌≤◌, ◌^◌, List, length, ℤ, pos, ◌*ℤ◌, ◌-ℤ◌, unsigned_abs, if◌then◌else◌}
-use Rattle.line_check.specs.cert_laws.specs.auction_model.specs.Book.{Book, bids_of, net_of, market_of}
-use Rattle.line_check.specs.cert_laws.specs.auction_model.specs.Lowered.{of_bidder}
-use Rattle.line_check.specs.cert_laws.specs.auction_model.specs.Market.{number_of, uses, worth_in}
-use Rattle.line_check.specs.cert_laws.specs.Tests.{bidders_of}
+use Rattle.auction_model.specs.Book.{Book, bids_of, market_of, net_of}
+use Rattle.auction_model.specs.Lowered.{of_bidder}
+use Rattle.auction_model.specs.Market.{number_of, uses, worth_in}
+use Rattle.cert_soundness.specs.Tests.{bidders_of}
 
 pub record CanLower (book : Book) (den : ℤ) (choice : List ℕ) (pay : List ℤ) : Type 0 where
   pub numbers : length choice ≡ bidders_of book

@@ -1,9 +1,9 @@
 -- What the tests before one give it.
 use Rattle.std.specs.Prelude.{◌≡◌, ℕ, ◌<◌, ◌≤◌, ◌^◌, IsTrue, List, length, ℤ, pos, ◌+ℤ◌, ◌*ℤ◌, ◌≤ℤ◌, ◌<ℤ◌}
-use Rattle.line_check.specs.cert_laws.specs.auction_model.specs.Book.{Book, bids_of, net_of, market_of}
-use Rattle.line_check.specs.cert_laws.specs.auction_model.specs.Market.{value_of}
-use Rattle.line_check.specs.cert_laws.specs.cert_form.specs.Certificate.{CertValue}
-use Rattle.line_check.specs.cert_laws.specs.Tests.{Asks, C1, C2, C3, bidders_of}
+use Rattle.auction_model.specs.Book.{Book, bids_of, market_of, net_of}
+use Rattle.auction_model.specs.Market.{value_of}
+use Rattle.cert_grammar.specs.Certificate.{CertValue}
+use Rattle.cert_soundness.specs.Tests.{Asks, C1, C2, C3, bidders_of}
 
 -- it holds at all places before this one
 abbrev pub HoldsBefore : (ℕ → Type 0) → ℕ → Type 0

@@ -7,9 +7,3 @@ pub mod Columns
 pub mod Verdicts
 pub mod Gains
 pub mod EarlierBids
-pub use Rattle.line_check.specs.cert_laws.specs.auction_model
-pub use Rattle.line_check.specs.cert_laws
-pub use Rattle.cert_text
-pub use Rattle.line_check
-pub use Rattle.cert_text.specs.limits
-pub use Rattle.line_check.specs.cert_laws.specs.wide_num

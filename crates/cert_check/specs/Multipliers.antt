@@ -1,6 +1,6 @@
 -- The multipliers of a row.
 use Rattle.std.specs.Prelude.{ℤ}
-use Rattle.line_check.specs.cert_laws.specs.cert_form.specs.Certificate.{RowValue}
+use Rattle.cert_grammar.specs.Certificate.{RowValue}
 use Rattle.cert_check.specs.declared.sums.Multiplier.{Multiplier}
 use Rattle.cert_check.specs.declared.sums.Multiplier.TheVariants.{First, Second}
 

@@ -1,8 +1,8 @@
 -- What is known of the tests when only a part of a certificate has come.
 use Rattle.std.specs.Prelude.{◌≡◌, ℕ, ◌+◌, ◌<◌, ◌⊎◌, ◌^◌, Option, Some, None}
-use Rattle.line_check.specs.cert_laws.specs.auction_model.specs.Book.{Book}
-use Rattle.line_check.specs.cert_laws.specs.cert_form.specs.Certificate.{CertValue}
-use Rattle.line_check.specs.cert_laws.specs.Tests.{Asks, FailsFirst}
+use Rattle.auction_model.specs.Book.{Book}
+use Rattle.cert_grammar.specs.Certificate.{CertValue}
+use Rattle.cert_soundness.specs.Tests.{Asks, FailsFirst}
 use Rattle.cert_check.specs.declared.failure.Failure.{Failure}
 
 -- all that comes before this place of this test holds
@@ -19,13 +19,13 @@ abbrev pub failure_at : ℕ → Option ℕ → Option Failure
 failure_at test None = None
 failure_at test (Some place) = Some (record { test = test; place = place })
 
--- of the first n places behind a base, this is the first at which the test fails, or none does
+-- of the first n places after a base, this is the first at which the test fails, or none does
 abbrev pub IsLate : Book → (ℕ → ℕ) → CertValue → ℕ → ℕ → ℕ → Option ℕ → Type 0
 IsLate book w c test base n None = (i : ℕ) → i < n → Asks book w c test (base + i)
 IsLate book w c test base n (Some p) = (p < n) × (Asks book w c test (base + p) → ⊥)
     × ((i : ℕ) → i < p → Asks book w c test (base + i))
 
--- a place that stays in 64 bits behind another
+-- a place that stays in 64 bits after another
 abbrev pub IsSmallPlace : Option ℕ → Type 0
 IsSmallPlace None = Unit {0}
 IsSmallPlace (Some p) = p < 2 ^ 62

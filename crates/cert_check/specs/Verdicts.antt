@@ -1,8 +1,8 @@
 -- What the checker answers.
 use Rattle.std.specs.Prelude.{ℕ}
-use Rattle.line_check.specs.cert_laws.specs.auction_model.specs.Book.{Book}
-use Rattle.line_check.specs.cert_laws.specs.cert_form.specs.Certificate.{CertValue}
-use Rattle.line_check.specs.cert_laws.specs.Tests.{Holds, FailsFirst}
+use Rattle.auction_model.specs.Book.{Book}
+use Rattle.cert_grammar.specs.Certificate.{CertValue}
+use Rattle.cert_soundness.specs.Tests.{FailsFirst, Holds}
 use Rattle.cert_check.specs.declared.verdict.Verdict.{Verdict}
 use Rattle.cert_check.specs.declared.verdict.Verdict.TheVariants.{Yes, No}
 

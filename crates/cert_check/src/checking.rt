@@ -4,15 +4,15 @@ ghost use Rattle.cert_check.specs.Fields.{IsOf};
 ghost use Rattle.cert_check.specs.Head.{HoldsUpTo};
 ghost use Rattle.cert_check.specs.Places.{IsFirstFailing};
 ghost use Rattle.cert_check.specs.Verdicts.{IsVerdict};
-ghost use Rattle.line_check.specs.cert_laws.specs.auction_model.specs.Prices.{AreWeights, weight_of};
-ghost use Rattle.line_check.specs.cert_laws.specs.Sound.{IsSound};
-ghost use Rattle.line_check.specs.cert_laws.specs.Tests.{Asks, C4, C7, C8, bidders_of, states};
+ghost use Rattle.auction_model.specs.Prices.{AreWeights, weight_of};
+ghost use Rattle.cert_soundness.specs.Sound.{IsSound};
+ghost use Rattle.cert_soundness.specs.Tests.{Asks, C4, C7, C8, bidders_of, states};
 ghost use Rattle.cert_text.specs.CertValues.{IsFor, cert_value};
 
 use crate::Verdict;
 use crate::choice::choice_test;
 use crate::claim::Claim;
-use crate::columns::{Column, MOST_ROWS, put_multipliers, put_sums};
+use crate::columns::{MultiplierColumn, put_multipliers, put_sums};
 use crate::multipliers::{first_test, second_test};
 use crate::parts::{parts_test, put_values};
 use crate::payments::payments_test;
@@ -20,13 +20,14 @@ use crate::rows::rows_test;
 use crate::sizes::sizes_test;
 use crate::sums::Multiplier;
 use crate::tables::{BIDDER_ROOM, lowered_test, value_test};
+use bid_book::BidBook;
+use cert_soundness::sound_yes;
 use cert_text::Certificate;
-use cert_text::choices::bid_book::BidBook;
-use line_check::cert_laws::sound_yes;
+use limits::MOST_ROWS;
 
 /// Tests a certificate of a book.
 ///
-/// `Yes` comes exactly where all nine tests hold; then the choice is the winning one, and with the payments it is the core
+/// `Yes` comes exactly where all nine tests hold, and then the choice is the winning one, and with the payments it is the core
 /// outcome for these weights. Else the answer is the first test that fails, with the first place at which it does. There is one
 /// weight of 1 to 20 for each bidder, and the certificate is for as many bidders and states as the book has. It takes no memory.
 pub fn check(book: &BidBook, cert: &Certificate, weights: &[u32]) -> Verdict
@@ -60,7 +61,7 @@ fn first_failing(book: &BidBook, cert: &Certificate, weights: &[u32], test: u8) 
     }
 }
 
-/// The same for a test behind the third.
+/// The place at which a test after the third fails.
 fn claim_failing(book: &BidBook, cert: &Certificate, weights: &[u32], test: u8) -> Option<u64>
     requires shape { IsFor (bidders_of book.now) (states book.now) cert.now }
     requires weights { AreWeights (bidders_of book.now) weights.now }
@@ -78,7 +79,7 @@ fn claim_failing(book: &BidBook, cert: &Certificate, weights: &[u32], test: u8) 
     later_failing(&claim, cert, weights, test)
 }
 
-/// The same for the claim of the certificate.
+/// The place at which a test after the third fails, for the claim of the certificate.
 fn later_failing(claim: &Claim, cert: &Certificate, weights: &[u32], test: u8) -> Option<u64>
     requires shape { IsFor (bidders_of claim.now.book.now) (states claim.now.book.now) cert.now }
     requires claim { IsOf claim.now (cert_value cert.now) }
@@ -90,7 +91,7 @@ fn later_failing(claim: &Claim, cert: &Certificate, weights: &[u32], test: u8) -
     let pay = cert.pay.items();
     let rows = cert.rows.items();
     match test {
-        4 => parts_test(claim, cert.withouts.items(), &cert.table),
+        4 => parts_test(claim, cert.withouts.items()),
         5 => payments_test(claim, pay),
         6 => rows_test(claim, pay, rows),
         7 => least_failing(claim, cert),
@@ -112,7 +113,7 @@ fn least_failing(claim: &Claim, cert: &Certificate) -> Option<u64>
     let firsts = &mut numbers[..rows.len()];
     put_multipliers(rows, Multiplier::First, firsts);
     put_sums(rows, Multiplier::First, &mut sums);
-    let first = Column {
+    let first = MultiplierColumn {
         numbers: firsts,
         sums: &sums,
     };
@@ -141,7 +142,7 @@ fn nearest_failing(claim: &Claim, cert: &Certificate, weights: &[u32]) -> Option
     put_multipliers(rows, Multiplier::First, firsts);
     put_multipliers(rows, Multiplier::Second, seconds);
     put_sums(rows, Multiplier::Second, &mut sums);
-    let second = Column {
+    let second = MultiplierColumn {
         numbers: seconds,
         sums: &sums,
     };

@@ -3,12 +3,12 @@ ghost use Rattle.std.specs.Prelude.{IsTrue, length, [], pos, ◌≡◌, ◌+◌,
 ghost use Rattle.cert_check.specs.Fields.{cert_of};
 ghost use Rattle.cert_check.specs.Head.{HoldsBefore};
 ghost use Rattle.cert_check.specs.Places.{IsFirstFailing};
-ghost use Rattle.line_check.specs.cert_laws.specs.cert_form.specs.Certificate.{CertValue};
-ghost use Rattle.line_check.specs.cert_laws.specs.Tests.{C2, bidders_of};
+ghost use Rattle.cert_grammar.specs.Certificate.{CertValue};
+ghost use Rattle.cert_soundness.specs.Tests.{C2, bidders_of};
 
 use crate::judging::number;
-use cert_text::choices::bid_book::BidBook;
-use cert_text::choices::{are_within, value_among};
+use bid_book::BidBook;
+use choices::{are_within, value_among};
 
 /// The first place at which C2 fails of a certificate with this choice and this value.
 pub fn choice_test(book: &BidBook, choice: &[u16], claimed: i128) -> Option<u64>

@@ -1,10 +1,10 @@
 // What the first three tests have shown.
 ghost use Rattle.std.specs.Prelude.{◌≡◌, ◌<◌, ◌≤◌};
-ghost use Rattle.line_check.specs.cert_laws.specs.auction_model.specs.Market.{number_of};
+ghost use Rattle.auction_model.specs.Market.{number_of};
 ghost use Rattle.cert_check.specs.Head.{IsHead};
 
 use crate::judging::number;
-use cert_text::choices::bid_book::BidBook;
+use bid_book::BidBook;
 
 /// The denominator, the value and the choice of a certificate of a book whose first three tests hold.
 #[derive(Drop)]
@@ -18,7 +18,7 @@ pub struct Claim<'a> {
 }
 
 impl<'a> Claim<'a> {
-    ghost use Rattle.line_check.specs.cert_laws.specs.Tests.{bidders_of};
+    ghost use Rattle.cert_soundness.specs.Tests.{bidders_of};
 
     /// The number that the choice gives to bidder `j`.
     pub fn number(&self, j: u16) -> u16

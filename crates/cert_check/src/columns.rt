@@ -1,24 +1,21 @@
 // The multipliers of rows as numbers.
 ghost use Rattle.std.specs.Prelude.{ℕ, ◌≡◌, ◌≤◌, ◌<◌, ◌*◌, ◌^◌, length, map, pos, unsigned_abs, ◌+ℤ◌, if◌then◌else◌};
-ghost use Rattle.line_check.specs.cert_laws.specs.auction_model.specs.Lowered.{of_bidder};
+ghost use Rattle.auction_model.specs.Lowered.{of_bidder};
 ghost use Rattle.cert_check.specs.Columns.{AreMultipliers, AreSums};
-ghost use Rattle.line_check.specs.cert_laws.specs.cert_form.specs.CertText.{AreRows};
-ghost use Rattle.line_check.specs.cert_laws.specs.cert_form.specs.Certificate.{is_member};
+ghost use Rattle.cert_grammar.specs.CertText.{AreRows};
+ghost use Rattle.cert_grammar.specs.Certificate.{is_member};
 ghost use Rattle.cert_text.specs.Parts.{row_value};
-ghost use Rattle.cert_text.specs.limits.specs.declared.TheConstants.{MOST_BIDDERS};
-ghost use Rattle.line_check.specs.cert_laws.specs.wide_num.specs.Sums.{nth};
+ghost use Rattle.limits.specs.declared.TheConstants.{MOST_BIDDERS};
+ghost use Rattle.wide_num.specs.Sums.{nth};
 
 use crate::sums::amounts::counted;
 use crate::sums::members::is_among;
 use crate::sums::{Multiplier, picked, sum_of};
 use cert_text::CertRow;
 
-/// How many rows a certificate has at most.
-pub const MOST_ROWS: usize = 10;
-
 /// One of the multipliers of all rows.
 #[derive(Drop)]
-pub struct Column<'a> {
+pub struct MultiplierColumn<'a> {
     /// The multiplier of each row.
     pub numbers: &'a [i128],
     /// For each bidder the sum over the rows that hold it.

@@ -1,9 +1,9 @@
 // What fails first, as far as a certificate has come.
 ghost use Rattle.std.specs.Prelude.{◌≡◌, ◌≤◌, ◌<◌, ◌+◌, ◌^◌, ◌↔◌, ℕ, IsTrue, None};
-ghost use Rattle.line_check.specs.cert_laws.specs.auction_model.specs.Book.{Book};
-ghost use Rattle.line_check.specs.cert_laws.specs.cert_form.specs.Certificate.{CertValue};
+ghost use Rattle.auction_model.specs.Book.{Book};
+ghost use Rattle.cert_grammar.specs.Certificate.{CertValue};
 ghost use Rattle.cert_check.specs.Places.{IsFirstFailing};
-ghost use Rattle.line_check.specs.cert_laws.specs.Tests.{Asks};
+ghost use Rattle.cert_soundness.specs.Tests.{Asks};
 ghost use Rattle.cert_check.specs.Partway.{failure_at, HoldsTo, IsJudged, IsLate, IsSmallPlace};
 ghost use Rattle.cert_check.specs.Verdicts.{IsVerdict};
 
@@ -18,9 +18,9 @@ pub struct Failure {
     pub place: u64,
 }
 
-/// What fails first behind a test, of which this is the first place at which it fails: the test at this place, and nothing where there
+/// What fails first after a test, of which this is the first place at which it fails: the test at this place, and nothing where there
 /// is none.
-pub fn of_test(test: u8, found: Option<u64>) -> Option<Failure>
+pub fn failure_of(test: u8, found: Option<u64>) -> Option<Failure>
     requires test { test < 10 }
     ensures judged { (book : Book) (w : ℕ → ℕ) (c : CertValue) → HoldsTo book w c test 0
         → IsFirstFailing (Asks book w c test) found → IsJudged book w c (test + 1) 0 result }
@@ -32,7 +32,7 @@ pub fn of_test(test: u8, found: Option<u64>) -> Option<Failure>
     }
 }
 
-/// What fails first behind a table, once all its rules were tested: what was found early comes behind the rules.
+/// What fails first after a table, once all its rules were tested: what was found early comes after the rules.
 pub fn behind_table(
     failed: Option<Failure>,
     test: u8,
@@ -68,8 +68,8 @@ fn of_table(test: u8, base: u64, late: Option<u64>) -> Option<Failure>
     }
 }
 
-/// What is found early, with one more place of those behind the rules.
-pub fn with_late(late: Option<u64>, place: u64, holds: bool) -> Option<u64>
+/// What is found early, with one more place of those after the rules.
+pub fn merge_early(late: Option<u64>, place: u64, holds: bool) -> Option<u64>
     ensures { (book : Book) (w : ℕ → ℕ) (c : CertValue) (test base : ℕ) → IsLate book w c test base place late
         → (late ≡ None → IsTrue holds ↔ Asks book w c test (base + place))
         → IsLate book w c test base (place + 1) result }

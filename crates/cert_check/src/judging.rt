@@ -1,11 +1,11 @@
 // What a book says of the numbers of a choice, bidder by bidder.
 ghost use Rattle.std.specs.Prelude.{◌≡◌, ◌≤◌, ◌<◌, length, IsTrue, ◌↔◌};
-ghost use Rattle.line_check.specs.cert_laws.specs.auction_model.specs.Market.{number_of};
-ghost use Rattle.line_check.specs.cert_laws.specs.auction_model.specs.Book.{market_of};
-ghost use Rattle.line_check.specs.cert_laws.specs.Tests.{bidders_of};
+ghost use Rattle.auction_model.specs.Market.{number_of};
+ghost use Rattle.auction_model.specs.Book.{market_of};
+ghost use Rattle.cert_soundness.specs.Tests.{bidders_of};
 
-use cert_text::choices::bid_book::BidBook;
-use cert_text::choices::{are_known, are_within};
+use bid_book::BidBook;
+use choices::{are_known, are_within};
 
 /// The number that a choice gives to bidder `j`.
 pub(crate) fn number(choice: &[u16], j: u16) -> u16

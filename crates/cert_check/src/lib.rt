@@ -12,7 +12,7 @@
 //! - C8: the second ones show that of those of the least sum these are nearest to the Vickrey prices: `multipliers::second_test`;
 //! - C9: the lowered table shows that no set of bidders blocks the payments: `tables::lowered_test`.
 //!
-//! `check` tests a certificate that is held. Whoever doesn't hold one takes the tests one by one, over the numbers that each reads: a
+//! `check` tests a certificate that is held. Anyone who doesn't hold one takes the tests one by one, over the numbers that each reads: a
 //! table is tested two lines at a time.
 #![tactic(auto)]
 
@@ -34,14 +34,14 @@ mod verdict;
 pub use checking::check;
 pub use choice::choice_test;
 pub use claim::Claim;
-pub use columns::{Column, MOST_ROWS, add_row};
-pub use failure::{Failure, behind_table, of_test, verdict_of, with_late};
+pub use columns::{MultiplierColumn, add_row};
+pub use failure::{Failure, behind_table, failure_of, merge_early, verdict_of};
 pub use judging::is_allowed_without;
-pub use line_check::{LineFault, Offers, last_line_fault, two_lines_found};
 pub use multipliers::{first_test, is_first, is_signed, second_test};
 pub use payments::payments_test;
 pub use rows::row_holds;
 pub use sizes::{is_small, sizes_test};
+pub use table_check::{LineFault, TestedBids, last_line_fault, two_lines_found};
 pub use tables::earlier::none_earlier;
 pub use tables::gains::put_gains;
 pub use tables::{BIDDER_ROOM, sum_paid};

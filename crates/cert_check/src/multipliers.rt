@@ -1,23 +1,23 @@
 // C7 and C8: the multipliers.
 ghost use Rattle.std.specs.Prelude.{IsTrue, List, length, map, [], pos, unsigned_abs, ℕ, ◌+◌, ◌^◌, ◌<◌, ◌≡◌, ◌+ℤ◌, ◌-ℤ◌, ◌*ℤ◌, ◌≤ℤ◌, ◌<ℤ◌, ◌⊎◌, ◌≤◌, ◌↔◌};
-ghost use Rattle.line_check.specs.cert_laws.specs.auction_model.specs.Book.{market_of};
-ghost use Rattle.line_check.specs.cert_laws.specs.auction_model.specs.Lowered.{of_bidder};
-ghost use Rattle.line_check.specs.cert_laws.specs.auction_model.specs.Market.{uses, worth_in};
-ghost use Rattle.line_check.specs.cert_laws.specs.auction_model.specs.Prices.{AreWeights, weight_of};
-ghost use Rattle.cert_text.specs.choices.specs.bid_book.specs.Kept.{IsBidBook};
+ghost use Rattle.auction_model.specs.Book.{market_of};
+ghost use Rattle.auction_model.specs.Lowered.{of_bidder};
+ghost use Rattle.auction_model.specs.Market.{uses, worth_in};
+ghost use Rattle.auction_model.specs.Prices.{AreWeights, weight_of};
+ghost use Rattle.bid_book.specs.Kept.{IsBidBook};
 ghost use Rattle.cert_check.specs.Columns.{AreFirsts, AreFirstSums, AreSeconds, AreSecondSums};
 ghost use Rattle.cert_check.specs.Fields.{AreValuesWithout, IsOf, cert_with};
 ghost use Rattle.cert_check.specs.Places.{IsFirstFailing};
-ghost use Rattle.line_check.specs.cert_laws.specs.cert_form.specs.CertText.{AllInRange};
-ghost use Rattle.line_check.specs.cert_laws.specs.cert_form.specs.Certificate.{CertValue, RowValue, WithoutValue};
-ghost use Rattle.line_check.specs.cert_laws.specs.Tests.{C7, C8, bidders_of};
+ghost use Rattle.cert_grammar.specs.CertText.{AllInRange};
+ghost use Rattle.cert_grammar.specs.Certificate.{CertValue, RowValue, WithoutValue};
+ghost use Rattle.cert_soundness.specs.Tests.{C7, C8, bidders_of};
 
 use crate::claim::Claim;
-use crate::columns::Column;
+use crate::columns::MultiplierColumn;
 use crate::sums::amounts::{is_equal, times, won};
 
 /// The first place at which C7 fails of a certificate with these first multipliers.
-pub fn first_test(claim: &Claim, first: &Column) -> Option<u64>
+pub fn first_test(claim: &Claim, first: &MultiplierColumn) -> Option<u64>
     requires few { length first.now.numbers.now ≤ 10 }
     requires sums { bidders_of claim.now.book.now ≤ length first.now.sums.now }
     ensures { (c : CertValue) → IsOf claim.now c → AreFirsts c.rows first.now.numbers.now
@@ -33,7 +33,7 @@ pub fn first_test(claim: &Claim, first: &Column) -> Option<u64>
 }
 
 /// Whether C7 holds at a place: a row's sign, or a winner's sum.
-fn first_holds(claim: &Claim, first: &Column, place: u16) -> bool
+fn first_holds(claim: &Claim, first: &MultiplierColumn, place: u16) -> bool
     requires few { length first.now.numbers.now ≤ 10 }
     requires sums { bidders_of claim.now.book.now ≤ length first.now.sums.now }
     requires place { (0 < place) × (place ≤ length first.now.numbers.now + bidders_of claim.now.book.now) }
@@ -75,7 +75,7 @@ pub fn second_test(
     pay: &[i128],
     values: &[i128],
     firsts: &[i128],
-    second: &Column,
+    second: &MultiplierColumn,
     weights: &[u32],
 ) -> Option<u64>
     requires pay { (length pay.now ≡ bidders_of claim.now.book.now) × AllInRange pay.now }
@@ -105,7 +105,7 @@ fn second_holds(
     pay: &[i128],
     values: &[i128],
     firsts: &[i128],
-    second: &Column,
+    second: &MultiplierColumn,
     weights: &[u32],
     place: u16,
 ) -> bool

@@ -1,10 +1,10 @@
 // The parts of a certificate without a winner.
 ghost use Rattle.std.specs.Prelude.{◌≡◌, ◌↔◌, ℕ, List, ◌<◌, ◌≤◌, length, map, IsTrue};
-ghost use Rattle.line_check.specs.cert_laws.specs.auction_model.specs.Book.{market_of, menu_of, net_of};
-ghost use Rattle.line_check.specs.cert_laws.specs.auction_model.specs.Market.{uses, value_of};
-ghost use Rattle.line_check.specs.cert_laws.specs.cert_form.specs.Certificate.{CertValue, part_of};
-ghost use Rattle.line_check.specs.cert_laws.specs.cert_form.specs.CertText.{AreWithouts, IsTable};
-ghost use Rattle.line_check.specs.cert_laws.specs.Tests.{bidders_of, states, IsPart, Obeys, C4};
+ghost use Rattle.auction_model.specs.Book.{market_of};
+ghost use Rattle.auction_model.specs.Market.{uses, value_of};
+ghost use Rattle.cert_grammar.specs.Certificate.{CertValue, part_of};
+ghost use Rattle.cert_grammar.specs.CertText.{AreWithouts, IsTable};
+ghost use Rattle.cert_soundness.specs.Tests.{C4, IsPart, bidders_of, states};
 ghost use Rattle.cert_text.specs.Parts.{without_value};
 ghost use Rattle.cert_check.specs.Fields.{AreValuesWithout, worth_without};
 ghost use Rattle.cert_check.specs.Places.{IsFirstFailing};
@@ -13,18 +13,16 @@ use crate::claim::Claim;
 use crate::judging::is_allowed_without;
 use crate::tables::BIDDER_ROOM;
 use crate::tables::grids::table_test;
+use bid_book::BidBook;
 use cert_text::WithoutPart;
-use cert_text::choices::bid_book::BidBook;
-use cert_text::choices::{Grid, value_among};
-use line_check::Offers;
+use choices::value_among;
+use table_check::TestedBids;
 
-/// Whether a part shows the best choice without bidder `j`. The lines that the table of all bids has too aren't tested again.
-fn shows_best(book: &BidBook, whole: &Grid, part: &WithoutPart, j: u16) -> bool
+/// Whether a part shows the best choice without bidder `j`.
+fn shows_best(book: &BidBook, part: &WithoutPart, j: u16) -> bool
     requires bidder { (0 < j) × (j ≤ bidders_of book.now) }
     requires choice { length part.now.choice ≡ bidders_of book.now }
     requires table { IsTable (bidders_of book.now) (states book.now) part.now.table }
-    requires shape { IsTable (bidders_of book.now) (states book.now) whole.now }
-    requires rules { Obeys (menu_of book.now) (net_of book.now) book.now.supply whole.now }
     ensures { IsTrue result ↔ IsPart book.now j (without_value part.now) }
 {
     book.kept();
@@ -34,47 +32,42 @@ fn shows_best(book: &BidBook, whole: &Grid, part: &WithoutPart, j: u16) -> bool
     }
     let most = value_among(book, choice);
     let gains = [0i128; BIDDER_ROOM];
-    let offers = Offers {
+    let offers = TestedBids {
         book,
         skip: j,
         den: 1,
         gains: &gains,
     };
-    table_test(&offers, whole, &part.table, most).is_none()
+    table_test(&offers, &part.table, most).is_none()
 }
 
 /// Whether the part without bidder `j` shows the best choice without it.
-fn has_part(book: &BidBook, whole: &Grid, parts: &[WithoutPart], j: u16) -> bool
+fn has_part(book: &BidBook, parts: &[WithoutPart], j: u16) -> bool
     requires bidder { (0 < j) × (j ≤ bidders_of book.now) }
     requires parts { (numbers : List ℕ)
         × AreWithouts (bidders_of book.now) (states book.now) 1 numbers (map without_value parts.now) }
-    requires shape { IsTable (bidders_of book.now) (states book.now) whole.now }
-    requires rules { Obeys (menu_of book.now) (net_of book.now) book.now.supply whole.now }
     ensures { IsTrue result ↔ IsPart book.now j (part_of (map without_value parts.now) j) }
 {
     for part in parts {
         if part.winner == j {
-            return shows_best(book, whole, part, j);
+            return shows_best(book, part, j);
         }
     }
     false
 }
 
 /// The first winner whose part doesn't show the best choice without it: its choice isn't known, uses the winner or doesn't fit,
-/// or its table breaks a rule or has more for the whole supply. `whole` is the table of all bids.
-pub(crate) fn parts_test(claim: &Claim, parts: &[WithoutPart], whole: &Grid) -> Option<u64>
+/// or its table breaks a rule or has more for the whole supply.
+pub(crate) fn parts_test(claim: &Claim, parts: &[WithoutPart]) -> Option<u64>
     requires parts { (numbers : List ℕ)
         × AreWithouts (bidders_of claim.now.book.now) (states claim.now.book.now) 1 numbers
         (map without_value parts.now) }
-    requires shape { IsTable (bidders_of claim.now.book.now) (states claim.now.book.now) whole.now }
-    requires rules { Obeys (menu_of claim.now.book.now)
-        (net_of claim.now.book.now) claim.now.book.now.supply whole.now }
     ensures { (c : CertValue) → c.choice ≡ claim.now.choice.now → c.withouts ≡ map without_value parts.now
         → IsFirstFailing (C4 claim.now.book.now c) result }
 {
     for k in 0..claim.book.bidders() {
         let j = k as u16 + 1;
-        if claim.number(j) != 0 && !has_part(claim.book, whole, parts, j) {
+        if claim.number(j) != 0 && !has_part(claim.book, parts, j) {
             return Some(j as u64);
         }
     }

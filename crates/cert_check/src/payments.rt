@@ -2,8 +2,8 @@
 ghost use Rattle.std.specs.Prelude.{IsTrue, length, [], ◌≡◌, ◌<◌, ◌≤◌, ◌↔◌};
 ghost use Rattle.cert_check.specs.Fields.{IsOf, cert_with};
 ghost use Rattle.cert_check.specs.Places.{IsFirstFailing};
-ghost use Rattle.line_check.specs.cert_laws.specs.cert_form.specs.Certificate.{CertValue};
-ghost use Rattle.line_check.specs.cert_laws.specs.Tests.{C5, bidders_of};
+ghost use Rattle.cert_grammar.specs.Certificate.{CertValue};
+ghost use Rattle.cert_soundness.specs.Tests.{C5, bidders_of};
 
 use crate::claim::Claim;
 use crate::sums::amounts::{is_between, times, won};

@@ -1,14 +1,14 @@
 // C6: the rows.
 ghost use Rattle.std.specs.Prelude.{IsTrue, length, map, not, [], ◌*ℤ◌, ◌-ℤ◌, ◌≡◌, ◌↔◌};
-ghost use Rattle.line_check.specs.cert_laws.specs.auction_model.specs.Book.{market_of};
-ghost use Rattle.line_check.specs.cert_laws.specs.auction_model.specs.Lowered.{of_bidder};
-ghost use Rattle.line_check.specs.cert_laws.specs.auction_model.specs.Market.{value_of, worth_in};
-ghost use Rattle.line_check.specs.cert_laws.specs.auction_model.specs.Prices.{sum_over};
+ghost use Rattle.auction_model.specs.Book.{market_of};
+ghost use Rattle.auction_model.specs.Lowered.{of_bidder};
+ghost use Rattle.auction_model.specs.Market.{value_of, worth_in};
+ghost use Rattle.auction_model.specs.Prices.{sum_over};
 ghost use Rattle.cert_check.specs.Fields.{IsOf, cert_with, row_with};
 ghost use Rattle.cert_check.specs.Places.{IsFirstFailing};
-ghost use Rattle.line_check.specs.cert_laws.specs.cert_form.specs.CertText.{AllInRange, AreMembers, AreRows};
-ghost use Rattle.line_check.specs.cert_laws.specs.cert_form.specs.Certificate.{CertValue, RowValue, is_member};
-ghost use Rattle.line_check.specs.cert_laws.specs.Tests.{C6, IsTightRow, bidders_of};
+ghost use Rattle.cert_grammar.specs.CertText.{AllInRange, AreMembers, AreRows};
+ghost use Rattle.cert_grammar.specs.Certificate.{CertValue, RowValue, is_member};
+ghost use Rattle.cert_soundness.specs.Tests.{C6, IsTightRow, bidders_of};
 ghost use Rattle.cert_text.specs.Parts.{row_value};
 
 use crate::claim::Claim;
@@ -17,7 +17,7 @@ use crate::sums::amounts::times;
 use crate::sums::members::{uses_all, uses_none};
 use crate::sums::{paid_by, won_beside};
 use cert_text::CertRow;
-use cert_text::choices::value_among;
+use choices::value_among;
 
 /// The first place at which C6 fails of a certificate with these payments and rows.
 pub(crate) fn rows_test(claim: &Claim, pay: &[i128], rows: &[CertRow]) -> Option<u64>
@@ -45,7 +45,7 @@ pub fn row_holds(claim: &Claim, pay: &[i128], members: &[u16], choice: &[u16]) -
     pays_tightly(claim, pay, members, choice)
 }
 
-/// The same for the certificate and the row of these numbers alone.
+/// Whether the row holds, for the certificate and the row of these numbers alone.
 fn pays_tightly(claim: &Claim, pay: &[i128], members: &[u16], choice: &[u16]) -> bool
     requires pay { (length pay.now ≡ bidders_of claim.now.book.now) × AllInRange pay.now }
     requires members { AreMembers (bidders_of claim.now.book.now) 0 members.now }

@@ -1,8 +1,8 @@
 // C1: the denominator and the value.
 ghost use Rattle.std.specs.Prelude.{IsTrue, [], pos, ◌≡◌, ◌*ℤ◌, ◌+ℤ◌, ◌<ℤ◌, ◌^◌, ◌≤ℤ◌, ◌↔◌};
 ghost use Rattle.cert_check.specs.Places.{IsFirstFailing};
-ghost use Rattle.line_check.specs.cert_laws.specs.cert_form.specs.Certificate.{CertValue};
-ghost use Rattle.line_check.specs.cert_laws.specs.Tests.{C1};
+ghost use Rattle.cert_grammar.specs.Certificate.{CertValue};
+ghost use Rattle.cert_soundness.specs.Tests.{C1};
 ghost use Rattle.cert_check.specs.Fields.{cert_of};
 
 /// The first place at which C1 fails of a certificate with this denominator and this value.
@@ -12,7 +12,7 @@ pub fn sizes_test(den: i128, value: i128) -> Option<u64>
     size_fault(den, value)
 }
 
-/// The same for the certificate of these numbers alone.
+/// Where the sizes fail their test, for the certificate of these numbers alone.
 fn size_fault(den: i128, value: i128) -> Option<u64>
     ensures { IsFirstFailing (C1 (cert_of den value [] [] [] [])) result }
 {

@@ -1,25 +1,25 @@
 //! Sums over bidders and over rows.
 ghost use Rattle.std.specs.Prelude.{IsTrue, length, map, not, pos, unsigned_abs, ℕ, ◌*◌, ◌<◌, ◌^◌, ◌≡◌, ◌≤ℤ◌, ◌≤◌};
-ghost use Rattle.line_check.specs.cert_laws.specs.auction_model.specs.Book.{market_of, menu_of};
-ghost use Rattle.line_check.specs.cert_laws.specs.auction_model.specs.Lowered.{of_bidder};
-ghost use Rattle.line_check.specs.cert_laws.specs.auction_model.specs.Market.{worth_in};
-ghost use Rattle.line_check.specs.cert_laws.specs.auction_model.specs.Menu.{is_known_after};
-ghost use Rattle.line_check.specs.cert_laws.specs.auction_model.specs.Prices.{sum_over};
-ghost use Rattle.cert_text.specs.choices.specs.bid_book.specs.Kept.{IsBidBook};
+ghost use Rattle.auction_model.specs.Book.{market_of, menu_of};
+ghost use Rattle.auction_model.specs.Lowered.{of_bidder};
+ghost use Rattle.auction_model.specs.Market.{worth_in};
+ghost use Rattle.auction_model.specs.Menu.{is_known_after};
+ghost use Rattle.auction_model.specs.Prices.{sum_over};
+ghost use Rattle.bid_book.specs.Kept.{IsBidBook};
 ghost use Rattle.cert_check.specs.Multipliers.{multiplier_of};
-ghost use Rattle.line_check.specs.cert_laws.specs.cert_form.specs.CertText.{AllInRange, AreRows};
-ghost use Rattle.line_check.specs.cert_laws.specs.cert_form.specs.Certificate.{is_member};
-ghost use Rattle.line_check.specs.cert_laws.specs.Tests.{bidders_of, sum_holding};
+ghost use Rattle.cert_grammar.specs.CertText.{AllInRange, AreRows};
+ghost use Rattle.cert_grammar.specs.Certificate.{is_member};
+ghost use Rattle.cert_soundness.specs.Tests.{bidders_of, sum_holding};
 ghost use Rattle.cert_text.specs.Parts.{row_value};
-ghost use Rattle.cert_text.specs.limits.specs.declared.TheConstants.{MOST_BIDDERS};
+ghost use Rattle.limits.specs.declared.TheConstants.{MOST_BIDDERS};
 
 pub mod amounts;
 pub mod members;
 
 use crate::sums::amounts::{counted, won};
 use crate::sums::members::is_among;
+use bid_book::BidBook;
 use cert_text::CertRow;
-use cert_text::choices::bid_book::BidBook;
 
 /// One of the two multipliers of a row.
 #[derive(Clone, Copy)]

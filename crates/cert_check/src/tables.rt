@@ -1,14 +1,14 @@
 // The tests C3 and C9: the tables of the net amounts and of the lowered ones.
 ghost use Rattle.std.specs.Prelude.{◌≡◌, ℕ, ◌^◌, ◌<◌, ◌≤◌, IsTrue, length, unsigned_abs};
-ghost use Rattle.line_check.specs.cert_laws.specs.auction_model.specs.Book.{market_of};
-ghost use Rattle.line_check.specs.cert_laws.specs.auction_model.specs.Lowered.{of_bidder};
-ghost use Rattle.line_check.specs.cert_laws.specs.auction_model.specs.Prices.{sum_over, everyone};
-ghost use Rattle.line_check.specs.cert_laws.specs.cert_form.specs.CertText.{AllInRange, IsTable};
-ghost use Rattle.line_check.specs.cert_laws.specs.cert_form.specs.Certificate.{CertValue};
-ghost use Rattle.line_check.specs.cert_laws.specs.Tests.{bidders_of, states, C3, C9};
+ghost use Rattle.auction_model.specs.Book.{market_of};
+ghost use Rattle.auction_model.specs.Lowered.{of_bidder};
+ghost use Rattle.auction_model.specs.Prices.{everyone, sum_over};
+ghost use Rattle.cert_grammar.specs.CertText.{AllInRange, IsTable};
+ghost use Rattle.cert_grammar.specs.Certificate.{CertValue};
+ghost use Rattle.cert_soundness.specs.Tests.{C3, C9, bidders_of, states};
 ghost use Rattle.cert_check.specs.Fields.{IsOf, cert_headed};
 ghost use Rattle.cert_check.specs.Places.{IsFirstFailing};
-ghost use Rattle.cert_text.specs.limits.specs.declared.TheConstants.{MOST_BIDDERS};
+ghost use Rattle.limits.specs.declared.TheConstants.{MOST_BIDDERS};
 
 pub(crate) mod earlier;
 pub(crate) mod gains;
@@ -18,10 +18,10 @@ use crate::claim::Claim;
 use crate::tables::earlier::earlier_fault;
 use crate::tables::gains::put_gains;
 use crate::tables::grids::table_test;
-use cert_text::choices::Grid;
-use cert_text::choices::bid_book::BidBook;
-use cert_text::choices::bid_book::lots::limits::{MOST_BIDDERS, MOST_STATES};
-use line_check::Offers;
+use bid_book::BidBook;
+use choices::Grid;
+use limits::{MOST_BIDDERS, MOST_STATES};
+use table_check::TestedBids;
 
 /// Room for a number of each bidder.
 pub const BIDDER_ROOM: usize = MOST_BIDDERS as usize;
@@ -42,7 +42,7 @@ pub(crate) fn value_test(book: &BidBook, choice: &[u16], value: i128, table: &Gr
     value_fault(book, choice, value, table)
 }
 
-/// The same for the certificate of these alone.
+/// Where the value fails its test, for the certificate of these numbers alone.
 fn value_fault(book: &BidBook, choice: &[u16], value: i128, table: &Grid) -> Option<u64>
     requires allowed { IsTrue ((market_of book.now).allowed choice.now) }
     requires value { unsigned_abs value < 2 ^ 120 }
@@ -51,13 +51,13 @@ fn value_fault(book: &BidBook, choice: &[u16], value: i128, table: &Grid) -> Opt
 {
     let bidders = book.bidders();
     let gains = [0i128; BIDDER_ROOM];
-    let offers = Offers {
+    let offers = TestedBids {
         book,
         skip: 0,
         den: 1,
         gains: &gains,
     };
-    if let Some(place) = table_test(&offers, table, table, value) {
+    if let Some(place) = table_test(&offers, table, value) {
         return Some(place);
     }
     let last = (bidders + 1) * book.supply().states();
@@ -77,13 +77,13 @@ pub(crate) fn lowered_test(claim: &Claim, pay: &[i128], table: &Grid) -> Option<
     let paid = sum_paid(pay);
     let mut gains = [0i128; BIDDER_ROOM];
     put_gains(claim, pay, &mut gains);
-    let offers = Offers {
+    let offers = TestedBids {
         book: claim.book,
         skip: 0,
         den: claim.den,
         gains: &gains,
     };
-    table_test(&offers, table, table, paid)
+    table_test(&offers, table, paid)
 }
 
 /// The sum of all payments.

@@ -1,9 +1,9 @@
 -- A line of just these numbers.
 use Rattle.std.proofs.Common.{◌≡◌, ℕ, Bool, false, List, [], ◌∷◌, sym, ap, subst, ◌∙◌}
 use Rattle.std.specs.Prelude.{ℤ}
-use Rattle.cert_form.specs.Lines.{kind, these}
-use Rattle.cert_form.specs.line_text.specs.Range.{any_out}
-use Rattle.cert_form.specs.CertText.{line}
+use Rattle.cert_grammar.specs.Lines.{kind, these}
+use Rattle.line_format.specs.Range.{any_out}
+use Rattle.cert_grammar.specs.CertText.{line}
 use Rattle.cert_text.specs.Readers.{IsLineAt, Leads, Halts}
 use Rattle.cert_text.specs.declared.stop.CertStop.TheVariants.{Form}
 use Rattle.cert_text.proofs.PlanSteps.{line_next, line_unfit}

@@ -2,9 +2,9 @@
 use Rattle.std.proofs.Common.{◌≡◌, ℕ, suc, zero, ◌+◌, ◌≤◌, ◌<◌, List, [], ◌∷◌, ◌++◌, length, get_or, drop, refl, sym, ap, subst, ◌∙◌, arith, append_assoc}
 use Rattle.std.specs.Prelude.{ℤ, pos, codes, map}
 use Rattle.std.proofs.lemmas.List.{append-nil, drop_more}
-use Rattle.cert_form.specs.Certificate.{WithoutValue}
-use Rattle.cert_form.specs.Lines.{Line, Kind, kind, these, chosen, table_plan, part_plan, parts_plan, unless_zero}
-use Rattle.cert_form.specs.CertText.{line, choice_line, table_lines, part_lines, as_numbers, IsWithout, AreWithouts}
+use Rattle.cert_grammar.specs.Certificate.{WithoutValue}
+use Rattle.cert_grammar.specs.Lines.{Line, Kind, kind, these, chosen, table_plan, part_plan, parts_plan, unless_zero}
+use Rattle.cert_grammar.specs.CertText.{line, choice_line, table_lines, part_lines, as_numbers, IsWithout, AreWithouts}
 use Rattle.cert_text.specs.declared.certificate.WithoutPart.{WithoutPart}
 use Rattle.cert_text.specs.Parts.{without_value}
 use Rattle.cert_text.specs.PartReads.{without_kind, own_lines, AddsPart}
@@ -38,14 +38,14 @@ module _ (bytes : List ℕ) (place bidders states j : ℕ) where
   pub part_first : (stop : CertStop) → Halts bytes place (without_kind j ∷ []) stop → Halts bytes place (part_plan bidders states j) stop
   part_first stop h = halts_before bytes place (without_kind j ∷ []) stop (choice_kind bidders ∷ table_kind ∷ table_plan bidders states) h
 
-  -- halts at the choice, behind the line that names the winner
+  -- halts at the choice, after the line that names the winner
   pub part_second : (n1 : ℕ) (stop : CertStop) → Leads bytes place (without_kind j ∷ []) n1 [] (line (codes "without") (pos j ∷ []) ∷ [])
       → HaltsChosen bytes n1 bidders stop → Halts bytes place (part_plan bidders states j) stop
   part_second n1 stop a h = halts_then bytes place (without_kind j ∷ []) n1 (line (codes "without") (pos j ∷ []) ∷ [])
       (choice_kind bidders ∷ table_kind ∷ table_plan bidders states) stop a
       (halts_before bytes n1 (choice_kind bidders ∷ []) stop (table_kind ∷ table_plan bidders states) (h (chosen bidders) (plain_choice bidders)))
 
-  -- halts in the table, behind the choice
+  -- halts in the table, after the choice
   pub part_third : (n1 : ℕ) (choice : List ℕ) (n2 : ℕ) (stop : CertStop) → Leads bytes place (without_kind j ∷ []) n1 []
       (line (codes "without") (pos j ∷ []) ∷ []) → LeadsChosen bytes n1 bidders n2 choice → Halts bytes n2 (table_kind ∷ table_plan bidders states) stop
       → Halts bytes place (part_plan bidders states j) stop
@@ -63,7 +63,7 @@ module _ (bytes : List ℕ) (place bidders states j : ℕ) where
   map_more [] p = refl
   map_more (o ∷ old) p = ap (λ (l : List WithoutValue). without_value o ∷ l) (map_more old p)
 
-  -- the part of a winner is read and stands behind the others
+  -- the part of a winner is read and follows the others
   pub part_winner : (number : ℕ) (old : List WithoutPart) (p : WithoutPart) (next : ℕ) → 0 < number → Leads bytes place (part_plan bidders states j) next []
       (own_lines (without_value p)) → IsWithout bidders states j (without_value p) → AddsPart bytes place bidders states j number old (old ++ p ∷ []) next
   part_winner zero old p next some read is = absurd (omega (arith, some))
@@ -143,7 +143,7 @@ module _ (bytes : List ℕ) (place bidders states : ℕ) (choice : List ℕ) whe
       (subst (λ (k : ℕ). Halts bytes next (unless_zero (pos (get_or choice done 0)) (part_plan bidders states k)) stop) ej2
       (subst (λ (n : ℕ). Halts bytes next (unless_zero (pos n) (part_plan bidders states j)) stop) en halt)))
 
-  -- behind the last bidder all parts of the choice are read
+  -- after the last bidder all parts of the choice are read
   pub parts_done : (done next : ℕ) (parts : List WithoutPart) → length choice ≤ done → PartsSoFar bytes place bidders states choice done next parts
       → Leads bytes place (parts_plan bidders states 1 (as_numbers choice)) next [] (part_lines (map without_value parts))
       × AreWithouts bidders states 1 choice (map without_value parts)

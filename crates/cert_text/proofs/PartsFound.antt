@@ -3,7 +3,7 @@ use Rattle.std.proofs.Common.{◌≡◌, ◌≢◌, ℕ, ◌+◌, ◌<◌, cond,
 use Rattle.std.specs.List.{AllByRecursion}
 use Rattle.std.proofs.lemmas.Bool.{eq-eqb}
 use Rattle.std.proofs.lemmas.List.{at_drop_more}
-use Rattle.cert_form.specs.Certificate.{WithoutValue, part_of}
+use Rattle.cert_grammar.specs.Certificate.{WithoutValue, part_of}
 use Rattle.cert_text.specs.declared.certificate.WithoutPart.{WithoutPart}
 use Rattle.cert_text.specs.Parts.{without_value}
 
@@ -15,7 +15,7 @@ pub record IsPast (parts : List WithoutPart) (i j : ℕ) : Type 0 where
 abbrev part_in : ℕ → List WithoutPart → WithoutValue
 part_in j parts = part_of (map without_value parts) j
 
--- behind parts of others, a part without bidder j is the one that is looked for
+-- after parts of others, a part without bidder j is the one that is looked for
 pub part_found : (parts : List WithoutPart) (i j : ℕ) (part : WithoutPart) → i < length parts → part ≡ get_or parts i part → IsPast parts i j
     → part.winner ≡ j → without_value part ≡ part_of (map without_value parts) j
 part_found parts i j part lt is past own = sym (

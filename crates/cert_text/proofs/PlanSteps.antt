@@ -3,15 +3,14 @@ use Rattle.std.proofs.Common.{◌≡◌, ℕ, ◌+◌, ◌<◌, Bool, true, fals
 use Rattle.std.specs.Prelude.{ℤ, ◌^◌, nat_le, ◌||◌, unsigned_abs}
 use Rattle.std.proofs.lemmas.Bool.Decides.{nat_tests}
 use Rattle.std.proofs.lemmas.List.{append-nil}
-use Rattle.cert_form.specs.line_text.specs.LineText.{IsLine}
-use Rattle.cert_form.specs.line_text.specs.Numeral.{numbers_text}
-use Rattle.cert_form.specs.Lines.{Line, Kind, Numbers, kind, FitNumbers, after_numbers}
-use Rattle.cert_form.specs.line_text.specs.Range.{any_out, is_out}
-use Rattle.cert_form.specs.CertText.{line}
-use Rattle.cert_form.specs.line_text.specs.Range.{AllInRange}
-use Rattle.cert_form.specs.Reading.{ReachedBy}
-use Rattle.cert_form.proofs.Reading.{reached-missing, reached-next, reached-beyond, reached-refused}
-use Rattle.cert_form.specs.line_text.proofs.Words.{one_behind}
+use Rattle.line_format.specs.LineText.{IsLine}
+use Rattle.line_format.specs.Numeral.{numbers_text}
+use Rattle.cert_grammar.specs.Lines.{Line, Kind, Numbers, kind, FitNumbers, after_numbers}
+use Rattle.line_format.specs.Range.{AllInRange, any_out, is_out}
+use Rattle.cert_grammar.specs.CertText.{line}
+use Rattle.cert_grammar.specs.Reading.{ReachedBy}
+use Rattle.cert_grammar.proofs.Reading.{reached-missing, reached-next, reached-beyond, reached-refused}
+use Rattle.line_format.proofs.Words.{one_behind}
 use Rattle.cert_text.specs.Readers.{AreLike, IsLineAt, Leads, Halts}
 use Rattle.cert_text.specs.declared.stop.CertStop.{CertStop}
 use Rattle.cert_text.specs.declared.stop.CertStop.TheVariants.{Form, Range}
@@ -49,7 +48,7 @@ module _ (bytes : List ℕ) (place : ℕ) where
         (second.leads whole plan (items ++ read) (first.leads whole plan items here));
   }
 
-  -- with more to come behind
+  -- with more to come after
   pub leads_before : (kinds : List Kind) (next : ℕ) (left : List Kind) (read : List Line) (behind : List Kind) → Leads bytes place kinds next left read
       → Leads bytes place (kinds ++ behind) next (left ++ behind) read
   leads_before kinds next left read behind l = record {
@@ -57,25 +56,25 @@ module _ (bytes : List ℕ) (place : ℕ) where
         (l.leads whole (behind ++ plan) items (subst (λ (p : List Kind). ReachedBy whole bytes place p items) (append_assoc kinds behind plan) here));
   }
 
-  -- what halts at the first kinds halts with more to come behind
+  -- what halts at the first kinds halts with more to come after
   pub halts_before : (kinds : List Kind) (stop : CertStop) (behind : List Kind) → Halts bytes place kinds stop → Halts bytes place (kinds ++ behind) stop
   halts_before kinds stop behind h = record {
     halts = λ whole plan items here. h.halts whole (behind ++ plan) items
         (subst (λ (p : List Kind). ReachedBy whole bytes place p items) (append_assoc kinds behind plan) here);
   }
 
-  -- halts behind lines that were read
+  -- halts after lines that were read
   pub halts_later : (kinds : List Kind) (next : ℕ) (left : List Kind) (read : List Line) (stop : CertStop) → Leads bytes place kinds next left read
       → Halts bytes next left stop → Halts bytes place kinds stop
   halts_later kinds next left read stop l h = record { halts = λ whole plan items here. h.halts whole plan (items ++ read) (l.leads whole plan items here) }
 
-  -- kinds of lines, and behind them others
+  -- kinds of lines, and after them others
   pub leads_then : (kinds : List Kind) (next : ℕ) (read : List Line) (others : List Kind) (last : ℕ) (more : List Line) → Leads bytes place kinds next [] read
       → Leads bytes next others last [] more → Leads bytes place (kinds ++ others) last [] (read ++ more)
   leads_then kinds next read others last more first second = leads_on (kinds ++ others) next others read last [] more
       (leads_before kinds next [] read others first) second
 
-  -- halts at the kinds behind those that were read
+  -- halts at the kinds after those that were read
   pub halts_then : (kinds : List Kind) (next : ℕ) (read : List Line) (others : List Kind) (stop : CertStop) → Leads bytes place kinds next [] read
       → Halts bytes next others stop → Halts bytes place (kinds ++ others) stop
   halts_then kinds next read others stop first halt = halts_later (kinds ++ others) next others read stop (leads_before kinds next [] read others first) halt

@@ -1,9 +1,9 @@
 -- The rows of a certificate, one by one.
 use Rattle.std.proofs.Common.{◌≡◌, ℕ, suc, ◌+◌, ◌-◌, ◌≤◌, ◌<◌, List, [], ◌∷◌, ◌++◌, length, get_or, refl, sym, ap, subst, ◌∙◌, arith, length-append}
 use Rattle.std.specs.Prelude.{ℤ, pos, codes, map}
-use Rattle.cert_form.specs.Certificate.{RowValue}
-use Rattle.cert_form.specs.Lines.{Line, Kind, kind, members, signed, chosen, rows_plan}
-use Rattle.cert_form.specs.CertText.{line, choice_line, row_lines, as_numbers, IsRow, AreRows}
+use Rattle.cert_grammar.specs.Certificate.{RowValue}
+use Rattle.cert_grammar.specs.Lines.{Line, Kind, kind, members, signed, chosen, rows_plan}
+use Rattle.cert_grammar.specs.CertText.{line, choice_line, row_lines, as_numbers, IsRow, AreRows}
 use Rattle.cert_text.specs.declared.certificate.CertRow.{CertRow}
 use Rattle.cert_text.specs.Parts.{row_value}
 use Rattle.cert_text.specs.PartReads.{own_row, row_plan}
@@ -55,13 +55,13 @@ module _ (bytes : List ℕ) (place bidders : ℕ) where
   pub row_first : (stop : CertStop) → Halts bytes place (members_kind bidders ∷ []) stop → Halts bytes place (row_plan bidders) stop
   row_first stop h = halts_before bytes place (members_kind bidders ∷ []) stop (pair_kind ∷ choice_kind bidders ∷ []) h
 
-  -- halts at the multipliers, behind the members
+  -- halts at the multipliers, after the members
   pub row_second : (ms : List ℕ) (n1 : ℕ) (stop : CertStop) → Leads bytes place (members_kind bidders ∷ []) n1 [] (members_line ms ∷ [])
       → Halts bytes n1 (pair_kind ∷ []) stop → Halts bytes place (row_plan bidders) stop
   row_second ms n1 stop a h = halts_then bytes place (members_kind bidders ∷ []) n1 (members_line ms ∷ []) (pair_kind ∷ choice_kind bidders ∷ []) stop a
       (halts_before bytes n1 (pair_kind ∷ []) stop (choice_kind bidders ∷ []) h)
 
-  -- halts at the choice, behind the multipliers
+  -- halts at the choice, after the multipliers
   pub row_third : (ms : List ℕ) (n1 : ℕ) (first second : ℤ) (n2 : ℕ) (stop : CertStop) → Leads bytes place (members_kind bidders ∷ []) n1 []
       (members_line ms ∷ []) → Leads bytes n1 (pair_kind ∷ []) n2 [] (pair_line first second ∷ []) → HaltsChosen bytes n2 bidders stop
       → Halts bytes place (row_plan bidders) stop
@@ -69,7 +69,7 @@ module _ (bytes : List ℕ) (place bidders : ℕ) where
       (pair_kind ∷ choice_kind bidders ∷ []) stop a
       (halts_then bytes n1 (pair_kind ∷ []) n2 (pair_line first second ∷ []) (choice_kind bidders ∷ []) stop b (h (chosen bidders) (plain_choice bidders)))
 
--- so many rows are read
+-- that many rows are read
 pub record RowsSoFar (bytes : List ℕ) (place bidders count done next : ℕ) (rows : List CertRow) : Type 0 where
   pub many : length (map row_value rows) ≡ done
   pub leads : Leads bytes place (rows_plan bidders count) next (rows_plan bidders (count - done)) (row_lines (map row_value rows))
@@ -127,7 +127,7 @@ module _ (bytes : List ℕ) (place bidders count : ℕ) where
       (row_lines (map row_value rows)) stop (here done next rows lt h)
       (halts_before bytes next (row_plan bidders) stop (rows_plan bidders (count - (done + 1))) halt)
 
-  -- behind the last row all are read, and they are as many as were counted
+  -- after the last row all are read, and they are as many as were counted
   pub rows_done : (done next : ℕ) (rows : List CertRow) → done ≡ count → RowsSoFar bytes place bidders count done next rows
       → Leads bytes place (rows_plan bidders count) next [] (row_lines (map row_value rows)) × (length (map row_value rows) ≡ count)
   rows_done done next rows e h = (

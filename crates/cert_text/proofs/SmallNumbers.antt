@@ -1,6 +1,6 @@
 -- Lines of numbers of 0 to 65,535: choices, members and the count of rows.
-use Rattle.std.proofs.Common.{◌≡◌, ℕ, suc, zero, ◌+◌, ◌≤◌, ◌<◌, Bool, true, false, List, [], ◌∷◌, ◌++◌, length, get_or, take, refl, sym, ap, subst, ◌∙◌}
-use Rattle.std.proofs.Common.{arith, ◌⊎◌, inl, inr}
+use Rattle.std.proofs.Common.{Bool, List, [], ap, arith, false, get_or, inl, inr, length, refl, subst, suc, sym, take, true, zero, ℕ, ◌++◌, ◌+◌, ◌<◌}
+use Rattle.std.proofs.Common.{◌∙◌, ◌∷◌, ◌≡◌, ◌≤◌, ◌⊎◌}
 use Rattle.std.proofs.lemmas.Bool.Decides.{nat_tests}
 use Rattle.std.specs.Int.Signed.{lt_z, lt_z_yes, lt_z_no}
 use Rattle.std.proofs.Math.Dec.{T}
@@ -8,15 +8,15 @@ use Rattle.std.proofs.Math.IntN.{nat_abs}
 use Rattle.std.specs.Prelude.{ℤ, pos, negsuc, codes, ◌≤ℤ◌, ◌<ℤ◌, ◌^◌, nat_le, ◌||◌, not}
 use Rattle.std.proofs.lemmas.Int.{ints}
 use Rattle.std.proofs.lemmas.List.{take_more}
-use Rattle.cert_form.specs.Lines.{Numbers, kind, chosen, counted, members, AreNumbers, Rise, FitNumbers}
-use Rattle.cert_form.specs.line_text.specs.Range.{any_out, is_out}
-use Rattle.cert_form.specs.CertText.{line, as_numbers, AtMost, IsChoice, AreMembers}
-use Rattle.cert_form.proofs.Written.{long_numbers}
+use Rattle.cert_grammar.specs.Lines.{Numbers, kind, chosen, counted, members, AreNumbers, Rise, FitNumbers}
+use Rattle.line_format.specs.Range.{any_out, is_out}
+use Rattle.cert_grammar.specs.CertText.{line, as_numbers, AtMost, IsChoice, AreMembers}
+use Rattle.cert_grammar.proofs.Written.{long_numbers}
 use Rattle.cert_text.specs.Readers.{IsLineAt, Leads, Halts, HaltsLike, LeadsLike, LeadsCounted, HaltsCounted, IsCount, AreSmall}
 use Rattle.cert_text.specs.declared.stop.CertStop.TheVariants.{Form}
 use Rattle.cert_text.proofs.PlanSteps.{line_next, line_unfit}
 
--- one more number stands behind the others
+-- one more number follows the others
 pub as_more : (ns : List ℕ) (n : ℕ) → as_numbers (ns ++ n ∷ []) ≡ as_numbers ns ++ pos n ∷ []
 as_more [] n = refl
 as_more (m ∷ ns) n = ap (λ (l : List ℤ). pos m ∷ l) (as_more ns n)

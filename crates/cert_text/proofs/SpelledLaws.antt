@@ -1,16 +1,16 @@
 -- The texts of a table's lines, and the fields of a line.
-use Rattle.std.proofs.Common.{◌≡◌, ℕ, zero, suc, ◌+◌, ◌-◌, ◌<◌, ◌≤◌, ◌^◌, ℤ, pos, List, [], ◌∷◌, ◌++◌, length, codes, get_or, drop, take, map, refl, sym, ap}
-use Rattle.std.proofs.Common.{◌∙◌, arith, append_assoc, length-append, length-drop}
+use Rattle.std.proofs.Common.{List, [], ap, append_assoc, arith, codes, drop, get_or, length, length-append, length-drop, map, pos, refl, suc, sym}
+use Rattle.std.proofs.Common.{take, zero, ℕ, ℤ, ◌++◌, ◌+◌, ◌-◌, ◌<◌, ◌^◌, ◌∙◌, ◌∷◌, ◌≡◌, ◌≤◌}
 use Rattle.std.proofs.lemmas.List.{at_drop_more, get_or-map, length-take-le, map-append, take_all, take_more}
 use Rattle.std.specs.Fmt.{decimal}
 use Rattle.std.specs.List.{concat}
-use Rattle.cert_form.specs.CertText.{line, table_lines}
-use Rattle.cert_form.specs.Lines.{Line, spell}
-use Rattle.cert_form.specs.line_text.specs.Numeral.{numeral, numbers_text}
-use Rattle.cert_form.specs.line_text.specs.Range.{AllInRange}
-use Rattle.cert_form.specs.line_text.proofs.Decimals.{decimal_numeral}
-use Rattle.cert_form.specs.line_text.proofs.NumberRuns.{next_run}
-use Rattle.cert_text.specs.Written.{bytes_of, line_bytes, lines_of_table, Adds}
+use Rattle.cert_grammar.specs.CertText.{line, table_lines}
+use Rattle.cert_grammar.specs.Lines.{Line, spell}
+use Rattle.line_format.specs.Numeral.{numbers_text, numeral}
+use Rattle.line_format.specs.Range.{AllInRange}
+use Rattle.line_format.proofs.Decimals.{decimal_numeral}
+use Rattle.line_format.proofs.NumberRuns.{next_run}
+use Rattle.cert_text.specs.Written.{bytes_of, line_bytes, lines_of_table, AddsLines}
 use Rattle.cert_text.proofs.Written.{adds_both}
 
 -- one text more
@@ -38,14 +38,14 @@ spelled-same whole texts at numbers default inside are same =
     ap (λ (t : List (List ℕ)). get_or t at default) are ∙ get_or-map line_bytes whole at [] default inside ∙ ap line_bytes same
 
 -- the word of a table, the texts of its lines, and then parts
-pub tables-added : (a b d e : List ℕ) (table : List (List ℤ)) (texts : List (List ℕ)) (parts : List Line) → Adds a b (line (codes "table") [] ∷ [])
-    → texts ≡ map line_bytes table → d ≡ b ++ concat texts → Adds d e parts
-    → Adds a e (lines_of_table (codes "table") table ++ parts)
+pub tables-added : (a b d e : List ℕ) (table : List (List ℤ)) (texts : List (List ℕ)) (parts : List Line) → AddsLines a b (line (codes "table") [] ∷ [])
+    → texts ≡ map line_bytes table → d ≡ b ++ concat texts → AddsLines d e parts
+    → AddsLines a e (lines_of_table (codes "table") table ++ parts)
 tables-added a b d e table texts parts word are lines then =
-    let own : Adds b d (table_lines table) = lines ∙ ap (λ (t : List (List ℕ)). b ++ concat t) are ∙ ap (λ (t : List ℕ). b ++ t) (spelled-all table) in
+    let own : AddsLines b d (table_lines table) = lines ∙ ap (λ (t : List (List ℕ)). b ++ concat t) are ∙ ap (λ (t : List ℕ). b ++ t) (spelled-all table) in
     adds_both a d e (lines_of_table (codes "table") table) parts (adds_both a b d (line (codes "table") [] ∷ []) (table_lines table) word own) then
 
--- one number more, before those that stand there
+-- one number more, before those that are there
 pub field-more : (ns : List ℤ) (k n : ℕ) (rest made : List ℕ) → k < length ns → n < 2 ^ 64 → get_or ns k (pos 0) ≡ pos n
     → rest ≡ numbers_text (drop (k + 1) ns) → made ≡ 32 ∷ decimal n ++ rest
     → made ≡ numbers_text (drop k ns)

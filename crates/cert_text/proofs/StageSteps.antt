@@ -1,10 +1,10 @@
 -- The stages of a certificate's text, from what is read of each.
 use Rattle.std.proofs.Common.{◌≡◌, ℕ, false, map, List, [], ◌∷◌, ◌++◌, length, sym, subst}
 use Rattle.std.specs.Prelude.{ℤ, pos, codes}
-use Rattle.cert_form.specs.limits.specs.declared.TheConstants.{MOST_BIDDERS, MOST_STATES}
-use Rattle.cert_form.specs.Certificate.{WithoutValue, RowValue}
-use Rattle.cert_form.specs.Lines.{Line, Kind, kind, just_line, version_of, these, signed, headed, counted, table_plan, parts_plan, rows_plan}
-use Rattle.cert_form.specs.CertText.{line, choice_line, as_numbers, table_lines, part_lines, row_lines}
+use Rattle.limits.specs.declared.TheConstants.{MOST_BIDDERS, MOST_STATES}
+use Rattle.cert_grammar.specs.Certificate.{WithoutValue, RowValue}
+use Rattle.cert_grammar.specs.Lines.{Line, Kind, kind, just_line, version_of, these, signed, headed, counted, table_plan, parts_plan, rows_plan}
+use Rattle.cert_grammar.specs.CertText.{line, choice_line, as_numbers, table_lines, part_lines, row_lines}
 use Rattle.cert_text.specs.StagePlans.{opening_plan, opening_lines, winning_kind, winning_lines, payment_plan, payment_lines, closing_plan, closing_lines}
 use Rattle.cert_text.specs.Readers.{AreChosen, Leads, Halts, LeadsChosen, HaltsChosen}
 use Rattle.cert_text.specs.declared.stop.CertStop.{CertStop}
@@ -28,7 +28,7 @@ module _ (bytes : List ℕ) where
   second_first stop h = halts_before bytes 0 (second_kind ∷ []) stop (limits_kind ∷ []) h
 
   module _ (n1 : ℕ) (a : Leads bytes 0 (second_kind ∷ []) n1 [] (second_line ∷ [])) where
-    -- halts at the limits, behind the first line
+    -- halts at the limits, after the first line
     pub second_second : (stop : CertStop) → Halts bytes n1 (limits_kind ∷ []) stop → Halts bytes 0 (map just_line (version_of false)) stop
     second_second stop h = halts_then bytes 0 (second_kind ∷ []) n1 (second_line ∷ []) (limits_kind ∷ []) stop a h
 
@@ -55,7 +55,7 @@ module _ (bytes : List ℕ) (place : ℕ) where
   opening_first stop h = halts_before bytes place (den_kind ∷ []) stop (value_kind ∷ []) h
 
   module _ (den : ℤ) (n1 : ℕ) (a : Leads bytes place (den_kind ∷ []) n1 [] (den_line den ∷ [])) where
-    -- halts at the value, behind the denominator
+    -- halts at the value, after the denominator
     pub opening_second : (stop : CertStop) → Halts bytes n1 (value_kind ∷ []) stop → Halts bytes place opening_plan stop
     opening_second stop h = halts_then bytes place (den_kind ∷ []) n1 (den_line den ∷ []) (value_kind ∷ []) stop a h
 
@@ -86,14 +86,14 @@ module _ (bytes : List ℕ) (place bidders states : ℕ) where
     head : Leads bytes place (winning_kind bidders states ∷ []) n1 left (choice_line choice ∷ [])
     head = a (headed bidders states) (head_choice bidders states)
 
-    -- halts in the table, behind the choice
+    -- halts in the table, after the choice
     pub winning_second : (stop : CertStop) → Halts bytes n1 (named_plan (codes "table") bidders states) stop
         → Halts bytes place (winning_kind bidders states ∷ []) stop
     winning_second stop h = halts_later bytes place (winning_kind bidders states ∷ []) n1 left (choice_line choice ∷ []) stop head
         (halts_before bytes n1 (named_plan (codes "table") bidders states) stop (parts_plan bidders states 1 (as_numbers choice)) h)
 
     module _ (table : List (List ℤ)) (n2 : ℕ) (b : Leads bytes n1 (named_plan (codes "table") bidders states) n2 [] (named_lines (codes "table") table)) where
-      -- halts in the parts, behind the table
+      -- halts in the parts, after the table
       pub winning_third : (stop : CertStop) → Halts bytes n2 (parts_plan bidders states 1 (as_numbers choice)) stop
           → Halts bytes place (winning_kind bidders states ∷ []) stop
       winning_third stop h = halts_later bytes place (winning_kind bidders states ∷ []) n1 left (choice_line choice ∷ []) stop head
@@ -122,12 +122,12 @@ module _ (bytes : List ℕ) (place bidders states : ℕ) where
   payment_first stop h = halts_before bytes place (pay_kind ∷ []) stop (count_kind ∷ []) h
 
   module _ (pay : List ℤ) (n1 : ℕ) (a : Leads bytes place (pay_kind ∷ []) n1 [] (line (codes "pay") pay ∷ [])) where
-    -- halts at the count of rows, behind the payments
+    -- halts at the count of rows, after the payments
     pub payment_second : (stop : CertStop) → Halts bytes n1 (count_kind ∷ []) stop → Halts bytes place (payment_plan bidders) stop
     payment_second stop h = halts_then bytes place (pay_kind ∷ []) n1 (line (codes "pay") pay ∷ []) (count_kind ∷ []) stop a h
 
     module _ (count n2 : ℕ) (b : Leads bytes n1 (count_kind ∷ []) n2 (rows_plan bidders count) (count_line count ∷ [])) where
-      -- halts in the rows, behind their count
+      -- halts in the rows, after their count
       pub payment_third : (stop : CertStop) → Halts bytes n2 (rows_plan bidders count) stop → Halts bytes place (payment_plan bidders) stop
       payment_third stop h = payment_second stop (halts_later bytes n1 (count_kind ∷ []) n2 (rows_plan bidders count) (count_line count ∷ []) stop b h)
 
@@ -149,7 +149,7 @@ module _ (bytes : List ℕ) (place bidders states : ℕ) where
 
   module _ (table : List (List ℤ)) (n1 : ℕ) (a : Leads bytes place (named_plan (codes "lowered") bidders states) n1 [] (named_lines (codes "lowered") table))
     where
-      -- halts at the last line, behind the lowered table
+      -- halts at the last line, after the lowered table
       pub closing_second : (stop : CertStop) → Halts bytes n1 (end_kind ∷ []) stop → Halts bytes place (closing_plan bidders states) stop
       closing_second stop h = halts_then bytes place (named_plan (codes "lowered") bidders states) n1 (named_lines (codes "lowered") table)
           (end_kind ∷ []) stop a h

@@ -2,9 +2,9 @@
 use Rattle.std.proofs.Common.{◌≡◌, ℕ, suc, ◌+◌, ◌-◌, ◌≤◌, ◌<◌, List, [], ◌∷◌, ◌++◌, length, refl, sym, ap, subst, ◌∙◌, arith, length-append}
 use Rattle.std.specs.Prelude.{ℤ, codes, replicate}
 use Rattle.choices.specs.Lines.{width_of}
-use Rattle.cert_form.specs.Lines.{Line, Kind, kind, signed, table_plan}
-use Rattle.cert_form.specs.CertText.{line, table_lines, AreTableLines, IsTable}
-use Rattle.cert_form.specs.line_text.specs.Range.{AllInRange}
+use Rattle.cert_grammar.specs.Lines.{Line, Kind, kind, signed, table_plan}
+use Rattle.cert_grammar.specs.CertText.{line, table_lines, AreTableLines, IsTable}
+use Rattle.line_format.specs.Range.{AllInRange}
 use Rattle.cert_text.specs.Readers.{Leads, Halts}
 use Rattle.cert_text.specs.declared.stop.CertStop.{CertStop}
 use Rattle.cert_text.proofs.PlanSteps.{leads_none, leads_on, leads_before, halts_before, halts_later}
@@ -12,7 +12,7 @@ use Rattle.cert_text.proofs.PlanSteps.{leads_none, leads_on, leads_before, halts
 abbrev pub t_kind : ℕ → Kind
 t_kind states = kind (codes "t") (signed states)
 
--- so many lines of the table are read
+-- that many lines of the table are read
 pub record TableSoFar (bytes : List ℕ) (place bidders states done next : ℕ) (table : List (List ℤ)) : Type 0 where
   pub count : length table ≡ done
   pub leads : Leads bytes place (table_plan bidders states) next (replicate (suc bidders - done) (t_kind states)) (table_lines table)

@@ -1,18 +1,18 @@
 -- A certificate, from the stages of its text.
-use Rattle.std.proofs.Common.{◌≡◌, ℕ, suc, ◌+◌, ◌≤◌, ◌<◌, Bool, true, false, List, [], ◌∷◌, ◌++◌, length, take, drop, refl, sym, ap, subst, ◌∙◌, arith}
-use Rattle.std.proofs.Common.{length-drop, ◌⊎◌, inl, inr}
+use Rattle.std.proofs.Common.{Bool, List, [], ap, arith, drop, false, inl, inr, length, length-drop, refl, subst, suc, sym, take, true, ℕ, ◌++◌, ◌+◌}
+use Rattle.std.proofs.Common.{◌<◌, ◌∙◌, ◌∷◌, ◌≡◌, ◌≤◌, ◌⊎◌}
 use Rattle.std.specs.Prelude.{ℤ, map, ◌==◌}
 use Rattle.std.proofs.lemmas.Bool.{eqb-false}
 use Rattle.std.proofs.lemmas.List.{append-nil}
-use Rattle.cert_form.specs.line_text.specs.LineText.{IsLine, IsTextOf}
-use Rattle.cert_form.specs.Certificate.{CertValue}
-use Rattle.cert_form.specs.Lines.{Line, Kind, version_lines, version_plan, body_plan, cert_plan, IsCertText, lines}
-use Rattle.cert_form.specs.CertText.{IsChoice, IsTable, AreWithouts, AreRows, IsCertificate, body_lines, cert_lines}
-use Rattle.cert_form.specs.wide_num.specs.Range.{InRange}
-use Rattle.cert_form.specs.line_text.specs.Range.{AllInRange}
-use Rattle.cert_form.specs.Reading.{Reached}
-use Rattle.cert_form.proofs.Version.{version_is}
-use Rattle.cert_form.proofs.Reading.{reached-start, reached-end, reached-more, reached-tail}
+use Rattle.line_format.specs.LineText.{IsLine, IsTextOf}
+use Rattle.cert_grammar.specs.Certificate.{CertValue}
+use Rattle.cert_grammar.specs.Lines.{Line, Kind, version_lines, version_plan, body_plan, cert_plan, IsCertText, lines}
+use Rattle.cert_grammar.specs.CertText.{IsChoice, IsTable, AreWithouts, AreRows, IsCertificate, body_lines, cert_lines}
+use Rattle.wide_num.specs.Range.{InRange}
+use Rattle.line_format.specs.Range.{AllInRange}
+use Rattle.cert_grammar.specs.Reading.{Reached}
+use Rattle.cert_grammar.proofs.Version.{version_is}
+use Rattle.cert_grammar.proofs.Reading.{reached-start, reached-end, reached-more, reached-tail}
 use Rattle.cert_text.specs.declared.certificate.CertRow.{CertRow}
 use Rattle.cert_text.specs.declared.certificate.WithoutPart.{WithoutPart}
 use Rattle.cert_text.specs.declared.stop.CertStop.{CertStop}
@@ -73,7 +73,7 @@ module _ (b s : ℕ) (bytes : List ℕ) where
     from_opening : (stop : CertStop) → Halts bytes n0 (body_plan b s) stop → StopsAt b s bytes stop
     from_opening stop h = stops stop (halts_then bytes 0 (version_plan b s) n0 (version_lines b s) (body_plan b s) stop zeroth h)
 
-    -- and so is one in the opening, behind the version
+    -- and so is one in the opening, after the version
     pub opening_stops : (stop : CertStop) → Halts bytes n0 opening_plan stop → StopsAt b s bytes stop
     opening_stops stop h = from_opening stop (halts_before bytes n0 opening_plan stop (winning_kind b s ∷ (payment_plan b ++ closing_plan b s)) h)
 
@@ -82,7 +82,7 @@ module _ (b s : ℕ) (bytes : List ℕ) where
       from_winning stop h = from_opening stop (halts_then bytes n0 opening_plan n1 (opening_lines den value)
           (winning_kind b s ∷ (payment_plan b ++ closing_plan b s)) stop one h)
 
-      -- one at the winning choice, its table and its parts, behind the opening
+      -- one at the winning choice, its table and its parts, after the opening
       pub winning_stops : (stop : CertStop) → Halts bytes n1 (winning_kind b s ∷ []) stop → StopsAt b s bytes stop
       winning_stops stop h = from_winning stop (halts_before bytes n1 (winning_kind b s ∷ []) stop (payment_plan b ++ closing_plan b s) h)
 
@@ -92,12 +92,12 @@ module _ (b s : ℕ) (bytes : List ℕ) where
         from_payments stop h = from_winning stop (halts_then bytes n1 (winning_kind b s ∷ []) n2 (winning_lines choice table (map without_value withouts))
             (payment_plan b ++ closing_plan b s) stop two h)
 
-        -- one in the payments and rows, behind the parts
+        -- one in the payments and rows, after the parts
         pub payment_stops : (stop : CertStop) → Halts bytes n2 (payment_plan b) stop → StopsAt b s bytes stop
         payment_stops stop h = from_payments stop (halts_before bytes n2 (payment_plan b) stop (closing_plan b s) h)
 
         module _ (pay : List ℤ) (rows : List CertRow) (n3 : ℕ) (three : Leads bytes n2 (payment_plan b) n3 [] (payment_lines pay (map row_value rows))) where
-          -- one in the lowered table and the last line, behind the rows
+          -- one in the lowered table and the last line, after the rows
           pub closing_stops : (stop : CertStop) → Halts bytes n3 (closing_plan b s) stop → StopsAt b s bytes stop
           closing_stops stop h = from_payments stop (halts_then bytes n2 (payment_plan b) n3 (payment_lines pay (map row_value rows))
               (closing_plan b s) stop three h)
@@ -119,7 +119,7 @@ module _ (b s : ℕ) (bytes : List ℕ) where
             reached : Reached b s bytes n4 [] (version_lines b s ++ body_lines value_read)
             reached = whole.leads (cert_plan b s) [] [] start
 
-            -- and one behind the last line
+            -- and one after the last line
             pub end_stops : (stop : CertStop) → HaltsAtEnd bytes n4 stop → StopsAt b s bytes stop
             end_stops stop h = cert_stops b s bytes stop (h (cert_plan b s) (version_lines b s ++ body_lines value_read) reached)
 

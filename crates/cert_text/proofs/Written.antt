@@ -1,33 +1,33 @@
 -- What the lines of a certificate add to a text.
-use Rattle.std.proofs.Common.{◌≡◌, ℕ, zero, suc, ◌+◌, ◌<◌, ◌≤◌, ◌^◌, ℤ, pos, List, [], ◌∷◌, ◌++◌, length, codes, get_or, drop, map, refl, sym, ap, ◌∙◌, arith}
-use Rattle.std.proofs.Common.{append_assoc}
+use Rattle.std.proofs.Common.{List, [], ap, append_assoc, arith, codes, drop, get_or, length, map, pos, refl, suc, sym, zero, ℕ, ℤ, ◌++◌, ◌+◌, ◌<◌}
+use Rattle.std.proofs.Common.{◌^◌, ◌∙◌, ◌∷◌, ◌≡◌, ◌≤◌}
 use Rattle.std.proofs.lemmas.List.{length-map}
 use Rattle.std.specs.List.{AllByRecursion}
-use Rattle.cert_form.specs.line_text.specs.LineText.{text_of}
-use Rattle.cert_form.specs.line_text.specs.Decimals.{decimals_text}
-use Rattle.cert_form.specs.line_text.proofs.NumberRuns.{one_more}
-use Rattle.cert_form.specs.line_text.specs.Numeral.{numeral, numbers_text}
-use Rattle.cert_form.specs.CertText.{as_numbers, cert_lines, line, part_lines, row_lines, AreRows, AreTableLines, AreWithouts, IsCertificate}
-use Rattle.cert_form.specs.Lines.{Line, over, spell, version_lines}
+use Rattle.line_format.specs.LineText.{text_of}
+use Rattle.line_format.specs.Decimals.{decimals_text}
+use Rattle.line_format.proofs.NumberRuns.{one_more}
+use Rattle.line_format.specs.Numeral.{numbers_text, numeral}
+use Rattle.cert_grammar.specs.CertText.{as_numbers, cert_lines, line, part_lines, row_lines, AreRows, AreTableLines, AreWithouts, IsCertificate}
+use Rattle.cert_grammar.specs.Lines.{Line, over, spell, version_lines}
 use Rattle.choices.specs.Lines.{width_of}
-use Rattle.cert_form.specs.Plan.{next_place, placed}
-use Rattle.cert_form.specs.Says.{cert_text}
-use Rattle.cert_form.specs.line_text.proofs.Decimals.{decimal_numeral}
+use Rattle.cert_grammar.specs.Plan.{next_place, placed}
+use Rattle.cert_grammar.specs.Says.{cert_text}
+use Rattle.line_format.proofs.Decimals.{decimal_numeral}
 use Rattle.cert_text.specs.Parts.{row_value, without_value}
 use Rattle.cert_text.specs.CertValues.{cert_value}
-use Rattle.cert_text.specs.Written.{bytes_of, lines_of_head, lines_of_part, lines_of_parts, lines_of_rows, lines_of_table, Adds, ArePartsInRange}
-use Rattle.cert_text.specs.Written.{IsRowInRange, IsTableInRange}
+use Rattle.cert_text.specs.Written.{AddsLines, ArePartsInRange, IsRowInRange, IsTableInRange, bytes_of, lines_of_head, lines_of_part, lines_of_parts}
+use Rattle.cert_text.specs.Written.{lines_of_rows, lines_of_table}
 use Rattle.cert_text.specs.declared.certificate.Certificate.{Certificate}
 use Rattle.cert_text.specs.declared.certificate.CertRow.{CertRow}
 use Rattle.cert_text.specs.declared.certificate.WithoutPart.{WithoutPart}
 
--- the bytes of lines and others behind them are those of both
+-- the bytes of lines and others after them are those of both
 pub bytes_append : (xs ys : List Line) → bytes_of (xs ++ ys) ≡ bytes_of xs ++ bytes_of ys
 bytes_append [] ys = refl
 bytes_append (l ∷ ls) ys = ap (λ (b : List ℕ). spell l ++ 10 ∷ b) (bytes_append ls ys) ∙ sym (append_assoc (spell l) (10 ∷ bytes_of ls) (bytes_of ys))
 
 -- these lines, and then those
-pub adds_both : (a b c : List ℕ) (xs ys : List Line) → Adds a b xs → Adds b c ys → Adds a c (xs ++ ys)
+pub adds_both : (a b c : List ℕ) (xs ys : List Line) → AddsLines a b xs → AddsLines b c ys → AddsLines a c (xs ++ ys)
 adds_both a b c xs ys first then = then ∙ ap (λ (t : List ℕ). t ++ bytes_of ys) first ∙ append_assoc a (bytes_of xs) (bytes_of ys)
     ∙ ap (λ (t : List ℕ). a ++ t) (sym (bytes_append xs ys))
 
@@ -48,7 +48,7 @@ added_line text word numbers a b d first second third =
 -- the next part
 pub next_part : (parts : List WithoutPart) (i : ℕ) (part : WithoutPart) (whole before behind : List ℕ) → i < length parts → part ≡ get_or parts i part
     → before ++ bytes_of (part_lines (map without_value (drop i parts))) ≡ whole
-    → Adds before behind (lines_of_part part) → behind ++ bytes_of (part_lines (map without_value (drop (i + 1) parts))) ≡ whole
+    → AddsLines before behind (lines_of_part part) → behind ++ bytes_of (part_lines (map without_value (drop (i + 1) parts))) ≡ whole
 next_part parts i part whole before behind inside item so_far step =
     let others = drop (i + 1) parts in
     let split : bytes_of (part_lines (map without_value (get_or parts i part ∷ others))) ≡ bytes_of (lines_of_part part)
@@ -102,20 +102,20 @@ module _ (b s : ℕ) where
     pub all_rows_range : AllByRecursion IsRowInRange c.rows
     all_rows_range = rows_range c.rows is.rows
 
--- the parts of a certificate's text, one behind the other
-pub whole_cert : (c : Certificate) (v a e f g h i : List ℕ) → Adds [] v (version_lines (length c.choice) (width_of c.table)) → Adds v a (lines_of_head c)
-    → Adds a e (lines_of_table (codes "table") c.table ++ lines_of_parts c.withouts)
-    → Adds e f (line (codes "pay") c.pay ∷ []) → Adds f g (lines_of_rows c.rows) → Adds g h (lines_of_table (codes "lowered") c.lowered)
-    → Adds h i (line (codes "end") [] ∷ []) → i ≡ cert_text (cert_value c)
+-- the parts of a certificate's text, one after another
+pub whole_cert : (c : Certificate) (v a e f g h i : List ℕ) → AddsLines [] v (version_lines (length c.choice) (width_of c.table)) → AddsLines v a (lines_of_head c)
+    → AddsLines a e (lines_of_table (codes "table") c.table ++ lines_of_parts c.withouts)
+    → AddsLines e f (line (codes "pay") c.pay ∷ []) → AddsLines f g (lines_of_rows c.rows) → AddsLines g h (lines_of_table (codes "lowered") c.lowered)
+    → AddsLines h i (line (codes "end") [] ∷ []) → i ≡ cert_text (cert_value c)
 whole_cert c v a e f g h i version head to_tables pay rows lowered end =
     let first = version_lines (length c.choice) (width_of c.table) in
     let tables = lines_of_table (codes "table") c.table ++ lines_of_parts c.withouts in
     let last = lines_of_table (codes "lowered") c.lowered ++ line (codes "end") [] ∷ [] in
     let tail = (line (codes "pay") c.pay ∷ []) ++ (lines_of_rows c.rows ++ last) in
-    let to_last : Adds g i last = adds_both g h i (lines_of_table (codes "lowered") c.lowered) (line (codes "end") [] ∷ []) lowered end in
-    let to_tail : Adds e i tail = adds_both e f i (line (codes "pay") c.pay ∷ []) (lines_of_rows c.rows ++ last) pay
+    let to_last : AddsLines g i last = adds_both g h i (lines_of_table (codes "lowered") c.lowered) (line (codes "end") [] ∷ []) lowered end in
+    let to_tail : AddsLines e i tail = adds_both e f i (line (codes "pay") c.pay ∷ []) (lines_of_rows c.rows ++ last) pay
     (adds_both f g i (lines_of_rows c.rows) last rows to_last) in
-    let to_head : Adds v i (lines_of_head c ++ (tables ++ tail)) = adds_both v a i (lines_of_head c) (tables ++ tail) head
+    let to_head : AddsLines v i (lines_of_head c ++ (tables ++ tail)) = adds_both v a i (lines_of_head c) (tables ++ tail) head
     (adds_both a e i tables tail to_tables to_tail) in
     adds_both [] v i first (lines_of_head c ++ (tables ++ tail)) version to_head
     ∙ ap (λ (n : ℕ). bytes_of (first ++ (lines_of_head c ++ (tables ++ line (codes "pay") c.pay ∷ line (codes "rows") (pos n ∷ []) ∷

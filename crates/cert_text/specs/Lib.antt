@@ -5,7 +5,3 @@ pub mod Readers
 pub mod PartReads
 pub mod StagePlans
 pub mod Written
-pub use Rattle.cert_form
-pub use Rattle.choices
-pub use Rattle.cert_form.specs.limits
-pub use Rattle.cert_form.specs.line_text

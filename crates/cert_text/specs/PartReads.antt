@@ -1,8 +1,8 @@
 -- Parts that are read one after the other.
 use Rattle.std.specs.Prelude.{◌≡◌, ℕ, suc, List, [], ◌∷◌, ◌++◌, map, pos, codes}
-use Rattle.cert_form.specs.Certificate.{WithoutValue, RowValue}
-use Rattle.cert_form.specs.Lines.{Line, Kind, kind, these, members, signed, chosen, part_plan, unless_zero}
-use Rattle.cert_form.specs.CertText.{line, choice_line, table_lines, part_lines, as_numbers, AreWithouts}
+use Rattle.cert_grammar.specs.Certificate.{WithoutValue, RowValue}
+use Rattle.cert_grammar.specs.Lines.{Line, Kind, kind, these, members, signed, chosen, part_plan, unless_zero}
+use Rattle.cert_grammar.specs.CertText.{line, choice_line, table_lines, part_lines, as_numbers, AreWithouts}
 use Rattle.cert_text.specs.declared.certificate.WithoutPart.{WithoutPart}
 use Rattle.cert_text.specs.Parts.{without_value}
 use Rattle.cert_text.specs.Readers.{Leads}
@@ -24,7 +24,7 @@ own_row r = line (codes "row") (as_numbers r.members) ∷ line (codes "mult") (r
 abbrev pub row_plan : ℕ → List Kind
 row_plan bidders = kind (codes "row") (members bidders) ∷ kind (codes "mult") (signed 2) ∷ kind (codes "choice") (chosen bidders) ∷ []
 
--- The part of bidder j is read, where its number isn't 0, and stands behind the parts that were there.
+-- The part of bidder j is read, where its number isn't 0, and follows the parts that were there.
 pub record AddsPart (bytes : List ℕ) (place bidders states j number : ℕ) (old new : List WithoutPart) (next : ℕ) : Type 0 where
   pub part : List WithoutValue
   pub added : map without_value new ≡ map without_value old ++ part

@@ -1,6 +1,6 @@
 -- The value of a certificate of the program, from its fields.
 use Rattle.std.specs.Prelude.{ℕ, ℤ, List, map}
-use Rattle.cert_form.specs.Certificate.{CertValue, RowValue, WithoutValue}
+use Rattle.cert_grammar.specs.Certificate.{CertValue, RowValue, WithoutValue}
 use Rattle.cert_text.specs.declared.certificate.CertRow.{CertRow}
 use Rattle.cert_text.specs.declared.certificate.WithoutPart.{WithoutPart}
 

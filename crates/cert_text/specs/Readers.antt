@@ -1,11 +1,11 @@
--- What a line is read as, and where the reader then stands.
+-- What a line is read as, and where the reader then is.
 use Rattle.std.specs.Prelude.{◌≡◌, ℕ, ◌+◌, ◌≤◌, ◌<◌, Bool, false, List, [], ◌∷◌, codes, ◌++◌, length, take, drop, ℤ, pos}
-use Rattle.cert_form.specs.line_text.specs.LineText.{IsLine}
-use Rattle.cert_form.specs.line_text.specs.Numeral.{numbers_text}
-use Rattle.cert_form.specs.Lines.{Line, Kind, Numbers, chosen, counted, kind, FitNumbers, AreNumbers, after_numbers}
-use Rattle.cert_form.specs.line_text.specs.Range.{any_out}
-use Rattle.cert_form.specs.CertText.{as_numbers, line}
-use Rattle.cert_form.specs.Reading.{ReachedBy}
+use Rattle.line_format.specs.LineText.{IsLine}
+use Rattle.line_format.specs.Numeral.{numbers_text}
+use Rattle.cert_grammar.specs.Lines.{Line, Kind, Numbers, chosen, counted, kind, FitNumbers, AreNumbers, after_numbers}
+use Rattle.line_format.specs.Range.{any_out}
+use Rattle.cert_grammar.specs.CertText.{as_numbers, line}
+use Rattle.cert_grammar.specs.Reading.{ReachedBy}
 use Rattle.cert_text.specs.Stops.{StopsBy}
 use Rattle.cert_text.specs.declared.stop.CertStop.{CertStop}
 
@@ -59,7 +59,7 @@ HaltsLike bytes place word m stop = (n : Numbers) → AreLike m n → Halts byte
 abbrev pub AreChosen : ℕ → Numbers → Type 0
 AreChosen bidders n = AreLike (chosen bidders) n
 
--- a choice of so many bidders is read at the place, whether it is the head's or another
+-- a choice of that many bidders is read at the place, whether it is the head's or another
 abbrev pub LeadsChosen : List ℕ → ℕ → ℕ → ℕ → List ℕ → Type 0
 LeadsChosen bytes place bidders next choice = LeadsLike bytes place (codes "choice") (chosen bidders) next (as_numbers choice)
 

@@ -1,8 +1,8 @@
 -- The stages of a certificate's text: which lines are to come in each, and which were read.
 use Rattle.std.specs.Prelude.{ℕ, ℤ, pos, List, [], ◌∷◌, ◌++◌, length, codes}
-use Rattle.cert_form.specs.Certificate.{WithoutValue, RowValue}
-use Rattle.cert_form.specs.Lines.{Line, Kind, kind, these, signed, headed, counted, table_plan}
-use Rattle.cert_form.specs.CertText.{line, choice_line, table_lines, part_lines, row_lines}
+use Rattle.cert_grammar.specs.Certificate.{WithoutValue, RowValue}
+use Rattle.cert_grammar.specs.Lines.{Line, Kind, kind, these, signed, headed, counted, table_plan}
+use Rattle.cert_grammar.specs.CertText.{line, choice_line, table_lines, part_lines, row_lines}
 
 abbrev pub opening_plan : List Kind
 opening_plan = kind (codes "den") (signed 1) ∷ kind (codes "value") (signed 1) ∷ []

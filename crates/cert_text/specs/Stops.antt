@@ -1,13 +1,13 @@
 -- Why bytes are not read as a certificate.
 use Rattle.std.specs.Prelude.{ℕ, List}
-use Rattle.cert_form.specs.line_text.specs.LineText.{FaultAt, Exceeds, faulty, beyond}
-use Rattle.cert_form.specs.Plan.{Follows}
-use Rattle.cert_form.specs.Lines.{Kind, Fits, after, lines}
-use Rattle.cert_form.specs.Says.{CertSays}
+use Rattle.line_format.specs.LineText.{Exceeds, FaultAt, beyond, faulty}
+use Rattle.cert_grammar.specs.Plan.{Follows}
+use Rattle.cert_grammar.specs.Lines.{Kind, Fits, after, lines}
+use Rattle.cert_grammar.specs.Says.{CertSays}
 use Rattle.cert_text.specs.declared.stop.CertStop.{CertStop}
 use Rattle.cert_text.specs.declared.stop.CertStop.TheVariants.{Form, Range, Memory}
 
--- what the bytes say, for so many bidders and states; want of memory says nothing of them
+-- what the bytes say, for that many bidders and states; out of memory says nothing of them
 abbrev pub StopsAt : ℕ → ℕ → List ℕ → CertStop → Type 0
 StopsAt bidders states bytes (Form place) = CertSays bidders states bytes (faulty place)
 StopsAt bidders states bytes (Range place) = CertSays bidders states bytes (beyond place)

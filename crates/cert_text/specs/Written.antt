@@ -1,10 +1,10 @@
 -- Lines of a certificate as bytes, and which numbers are in range.
 use Rattle.std.specs.Prelude.{◌≡◌, ℕ, ℤ, pos, List, [], ◌∷◌, ◌++◌, codes, length, map}
 use Rattle.std.specs.List.{AllByRecursion}
-use Rattle.cert_form.specs.CertText.{as_numbers, choice_line, line, part_lines, row_lines, table_lines}
-use Rattle.cert_form.specs.line_text.specs.Range.{AllInRange}
-use Rattle.cert_form.specs.wide_num.specs.Range.{InRange}
-use Rattle.cert_form.specs.Lines.{Line, spell}
+use Rattle.cert_grammar.specs.CertText.{as_numbers, choice_line, line, part_lines, row_lines, table_lines}
+use Rattle.line_format.specs.Range.{AllInRange}
+use Rattle.wide_num.specs.Range.{InRange}
+use Rattle.cert_grammar.specs.Lines.{Line, spell}
 use Rattle.cert_text.specs.Parts.{row_value, without_value}
 use Rattle.cert_text.specs.declared.certificate.Certificate.{Certificate}
 use Rattle.cert_text.specs.declared.certificate.CertRow.{CertRow}
@@ -19,9 +19,9 @@ bytes_of (l ∷ ls) = spell l ++ 10 ∷ bytes_of ls
 abbrev pub line_bytes : List ℤ → List ℕ
 line_bytes numbers = bytes_of (line (codes "t") numbers ∷ [])
 
--- the text behind is the text before with these lines added
-abbrev pub Adds : List ℕ → List ℕ → List Line → Type 0
-Adds before behind ls = behind ≡ before ++ bytes_of ls
+-- the text after is the text before with these lines added
+abbrev pub AddsLines : List ℕ → List ℕ → List Line → Type 0
+AddsLines before behind ls = behind ≡ before ++ bytes_of ls
 
 -- the denominator, the value and the winning choice
 abbrev pub lines_of_head : Certificate → List Line

@@ -1,17 +1,17 @@
 // What a certificate holds.
 ghost use Rattle.std.specs.Prelude.{◌≡◌, ◌≢◌, length, map, IfSome, IfNone};
 ghost use Rattle.std.specs.List.{AllByRecursion};
-ghost use Rattle.choices.specs.auction_model.specs.Place.{states_of};
-ghost use Rattle.cert_form.specs.Certificate.{part_of};
-ghost use Rattle.cert_form.specs.CertText.{IsCertificate};
-ghost use Rattle.cert_form.specs.OneProof.{IsCertificate-prop};
+ghost use Rattle.auction_model.specs.Place.{states_of};
+ghost use Rattle.cert_grammar.specs.Certificate.{part_of};
+ghost use Rattle.cert_grammar.specs.CertText.{IsCertificate};
+ghost use Rattle.cert_grammar.specs.OneProof.{IsCertificate-prop};
 ghost use Rattle.cert_text.specs.Parts.{cert_from, without_value};
 ghost use Rattle.choices.specs.Lines.{width_of};
 
 use crate::{CertRows, WithoutList};
-use choices::bid_book::BidBook;
-use choices::bid_book::line_text::wide_num::NumList;
+use bid_book::BidBook;
 use choices::{Choice, Grid, Numbers};
+use wide_num::NumList;
 
 /// For how many bidders and states a certificate is.
 #[derive(Clone, Copy, Debug, PartialEq, Eq)]
@@ -85,7 +85,7 @@ pub struct Certificate {
 }
 
 impl Certificate {
-    /// The part without bidder `j`, and None where there is none. Each winner has one.
+    /// The part without bidder `j`, and None if there is none. Each winner has one.
     pub fn part(&self, j: u16) -> Option<&WithoutPart>
         ensures found { IfSome result
             (λ part. without_value part.now ≡ part_of (map without_value self.now.withouts) j) }

@@ -1,23 +1,23 @@
 // Numbers of a line, added to a text piece by piece: the digits of a piece are put into a room from its last number to
-// its first, each before what stands there already.
+// its first, each before what is there already.
 ghost use Rattle.std.specs.Prelude.{◌≡◌, ◌≤◌, ◌<◌, ◌+◌, ◌*◌, ◌∷◌, ◌++◌, [], length, drop, pos, slice_index_or, IfSome, OnOk};
 ghost use Rattle.std.specs.Fmt.{decimal};
-ghost use Rattle.cert_form.specs.line_text.specs.Numeral.{numbers_text};
-ghost use Rattle.cert_form.specs.line_text.specs.Range.{AllInRange};
+ghost use Rattle.line_format.specs.Numeral.{numbers_text};
+ghost use Rattle.line_format.specs.Range.{AllInRange};
 
 use choices::Grid;
-use choices::bid_book::line_text::add_signed_numbers;
-use choices::bid_book::line_text::wide_num::Text;
 use itoa::write_digits;
+use line_format::add_signed_numbers;
 use std::alloc::AllocError;
+use wide_num::Text;
 
-// So many numbers make a piece.
+// That many numbers make a piece.
 const PIECE: usize = 32;
 
-// A space and a number of 64 bits have at most so many bytes.
+// A space and a number of 64 bits have at most that many bytes.
 const FIELD: usize = 21;
 
-/// Adds numbers with their signs, each behind one space.
+/// Adds numbers with their signs, each after one space.
 pub(crate) fn add_fields(text: &mut Text, numbers: &[i128]) -> Result<(), AllocError>
     requires { AllInRange numbers.now }
     ensures { OnOk result (text.new ≡ text.old ++ numbers_text numbers.now) }
@@ -31,7 +31,7 @@ pub(crate) fn add_fields(text: &mut Text, numbers: &[i128]) -> Result<(), AllocE
     Ok(())
 }
 
-/// The same of the numbers of a line of a table.
+/// Adds the numbers of a line of a table, each after one space.
 pub(crate) fn add_table_fields(text: &mut Text, table: &Grid, line: usize) -> Result<(), AllocError>
     requires line { line < length table.now }
     requires range { AllInRange (slice_index_or table.now line []) }
@@ -51,7 +51,7 @@ pub(crate) fn add_table_fields(text: &mut Text, table: &Grid, line: usize) -> Re
     Ok(())
 }
 
-/// The same of a few numbers.
+/// Adds a few numbers, each after one space.
 fn add_piece(text: &mut Text, numbers: &[i128]) -> Result<(), AllocError>
     requires few { length numbers.now ≤ 32 }
     requires range { AllInRange numbers.now }
@@ -64,7 +64,7 @@ fn add_piece(text: &mut Text, numbers: &[i128]) -> Result<(), AllocError>
     }
 }
 
-/// Puts numbers at the end of a room, each behind one space, and says where they begin; None where one is below 0 or
+/// Puts numbers at the end of a room, each after one space, and says where they begin; None where one is below 0 or
 /// has more than 64 bits.
 fn put_fields(room: &mut [u8], numbers: &[i128]) -> Option<usize>
     requires { 21 * length numbers.now ≤ length room.old }
@@ -87,7 +87,7 @@ fn short(number: i128) -> Option<u64>
     u64::try_from(number).ok()
 }
 
-/// Puts a number behind one space before what stands from `end` on, and says where the space is.
+/// Puts a number after one space before what stands from `end` on, and says where the space is.
 fn put_field(room: &mut [u8], end: usize, number: u64) -> usize
     requires { (21 ≤ end) × (end ≤ length room.old) }
     ensures start { (result < end) × (end ≤ result + 21) }

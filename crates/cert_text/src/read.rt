@@ -1,9 +1,9 @@
 // From bytes to a certificate.
 ghost use Rattle.std.specs.Prelude.{◌≡◌, ◌≤◌, IfErr, IfOk, OnOk, length, drop};
-ghost use Rattle.cert_form.specs.line_text.specs.LineText.{stated};
+ghost use Rattle.line_format.specs.LineText.{stated};
 ghost use Rattle.choices.specs.Lines.{width_of};
-ghost use Rattle.cert_form.specs.Says.{CertSays};
-ghost use Rattle.cert_form.specs.CertText.{IsCertificate};
+ghost use Rattle.cert_grammar.specs.Says.{CertSays};
+ghost use Rattle.cert_grammar.specs.CertText.{IsCertificate};
 ghost use Rattle.cert_text.specs.CertValues.{cert_value, IsFor};
 ghost use Rattle.cert_text.specs.Parts.{cert_from};
 ghost use Rattle.cert_text.specs.Stops.{StopsAt};
@@ -24,10 +24,10 @@ use crate::{CertStop, Certificate, Shape};
 use choices::Grid;
 use std::alloc::Global;
 
-/// The certificate that the bytes are the text of, for so many bidders and states.
+/// The certificate that the bytes are the text of, for that many bidders and states.
 ///
 /// Errors: `Form` and `Range` with the byte where the first faulty line begins, the first where its form is wrong, the second
-/// where its form is right and a number in it is out of range; `Memory` for want of memory.
+/// where its form is right and a number in it is out of range; `Memory` when out of memory.
 pub fn read_cert(alloc: Global, bytes: &[u8], shape: Shape) -> Result<Certificate, CertStop>
     ensures says { IfOk result (λ c. CertSays shape.bidders shape.states bytes.now (stated (cert_value c))) }
     ensures shape { IfOk result (IsFor shape.bidders shape.states) }
@@ -42,7 +42,7 @@ pub fn read_cert(alloc: Global, bytes: &[u8], shape: Shape) -> Result<Certificat
     Ok(certificate(opening, winning, payments, closing.table))
 }
 
-/// Nothing stands at the place.
+/// Nothing is at the place.
 ///
 /// Errors: `Form` with the place where something does.
 pub fn end_at(bytes: &[u8], place: usize) -> Result<(), CertStop>

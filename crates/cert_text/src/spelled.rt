@@ -1,14 +1,14 @@
 // The texts of a table's lines, which are added again where another table has the same line.
 ghost use Rattle.std.specs.Prelude.{◌≡◌, ◌<◌, ◌++◌, [], codes, length, map, slice_index_or, IfOk, IsTrue, OnOk};
 ghost use Rattle.std.specs.List.{concat};
-ghost use Rattle.cert_form.specs.line_text.specs.Range.{AllInRange};
-ghost use Rattle.cert_text.specs.Written.{line_bytes, lines_of_part, lines_of_parts, lines_of_table, Adds, ArePartsInRange, IsTableInRange};
+ghost use Rattle.line_format.specs.Range.{AllInRange};
+ghost use Rattle.cert_text.specs.Written.{line_bytes, lines_of_part, lines_of_parts, lines_of_table, AddsLines, ArePartsInRange, IsTableInRange};
 
 use crate::WithoutPart;
 use crate::write::{add_choice, add_number_line, add_signed_line, add_table_line, line_room};
 use choices::Grid;
-use choices::bid_book::line_text::wide_num::Text;
 use std::alloc::{AllocError, Global};
+use wide_num::Text;
 
 /// The text of each line of a table, with its line feed.
 pub(crate) fn spelled_lines(alloc: Global, table: &Grid) -> Result<Vec<Text>, AllocError>
@@ -32,7 +32,7 @@ fn spelled(alloc: Global, table: &Grid, line: usize) -> Result<Text, AllocError>
     Ok(text)
 }
 
-/// Adds the texts of lines one behind the other.
+/// Adds the texts of lines one after another.
 pub(crate) fn add_spelled(text: &mut Text, spelled: &[Text]) -> Result<(), AllocError>
     ensures { OnOk result (text.new ≡ text.old ++ concat spelled.now) }
 {
@@ -51,7 +51,7 @@ pub(crate) fn add_parts(
 ) -> Result<(), AllocError>
     requires range { ArePartsInRange parts.now }
     requires spelled { spelled.now ≡ map line_bytes whole.now }
-    ensures { OnOk result (Adds text.old text.new (lines_of_parts parts.now)) }
+    ensures { OnOk result (AddsLines text.old text.new (lines_of_parts parts.now)) }
 {
     for part in parts {
         add_part(text, part, whole, spelled)?;
@@ -67,7 +67,7 @@ fn add_part(
 ) -> Result<(), AllocError>
     requires range { IsTableInRange part.now.table }
     requires spelled { spelled.now ≡ map line_bytes whole.now }
-    ensures { OnOk result (Adds text.old text.new (lines_of_part part.now)) }
+    ensures { OnOk result (AddsLines text.old text.new (lines_of_part part.now)) }
 {
     add_number_line(text, b"without", &[part.winner])?;
     add_choice(text, &part.choice)?;
@@ -83,7 +83,7 @@ fn add_known_table(
 ) -> Result<(), AllocError>
     requires range { IsTableInRange part.now.table }
     requires spelled { spelled.now ≡ map line_bytes whole.now }
-    ensures { OnOk result (Adds text.old text.new (lines_of_table (codes "table") part.now.table)) }
+    ensures { OnOk result (AddsLines text.old text.new (lines_of_table (codes "table") part.now.table)) }
 {
     add_signed_line(text, b"table", &[])?;
     for i in 0..part.table.lines() {

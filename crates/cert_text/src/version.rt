@@ -1,23 +1,21 @@
 // The version of a certificate's text.
 ghost use Rattle.std.specs.Prelude.{◌≡◌, ◌≤◌, length, map, false, IfOk, IfErr, []};
-ghost use Rattle.cert_form.specs.Lines.{is_first_version, just_line, version_lines, version_of, version_plan};
+ghost use Rattle.cert_grammar.specs.Lines.{is_first_version, just_line, version_lines, version_of, version_plan};
 ghost use Rattle.cert_text.specs.Readers.{Leads, Halts};
 
 use crate::read::fields::take_these;
 use crate::{CertStop, Shape};
-use choices::bid_book::lots::limits::{
-    FIRST_VERSION_BIDDERS, FIRST_VERSION_STATES, MOST_BIDDERS, MOST_STATES,
-};
+use limits::{FIRST_VERSION_BIDDERS, FIRST_VERSION_STATES, MOST_BIDDERS, MOST_STATES};
 use std::alloc::Global;
 
-/// Whether the text of a certificate for so many bidders and states is of the first version.
+/// Whether the text of a certificate for that many bidders and states is of the first version.
 pub fn has_first_version(bidders: usize, states: usize) -> bool
     ensures { result ≡ is_first_version bidders states }
 {
     bidders <= FIRST_VERSION_BIDDERS && states as u64 <= FIRST_VERSION_STATES
 }
 
-/// Reads the lines that tell the version. Gives the place of the next line.
+/// Reads the lines that give the version. Gives the place of the next line.
 pub(crate) fn take_version(alloc: Global, bytes: &[u8], shape: Shape) -> Result<usize, CertStop>
     ensures leads { IfOk result
         (λ next. Leads bytes.now 0 (version_plan shape.bidders shape.states) next []
@@ -33,7 +31,7 @@ pub(crate) fn take_version(alloc: Global, bytes: &[u8], shape: Shape) -> Result<
     Ok(next)
 }
 
-/// Reads the lines that tell the second version and its limits.
+/// Reads the lines that give the second version and its limits.
 fn take_second_version(alloc: Global, bytes: &[u8]) -> Result<usize, CertStop>
     ensures leads { IfOk result
         (λ next. Leads bytes.now 0 (map just_line (version_of false)) next [] (version_of false)) }

@@ -1,29 +1,29 @@
 // From a certificate to its text.
 ghost use Rattle.std.specs.Prelude.{◌≡◌, ◌≤◌, ◌<◌, ◌∷◌, ◌++◌, [], codes, length, slice_index_or, take, IfOk, OnOk};
 ghost use Rattle.std.specs.List.{AllByRecursion};
-ghost use Rattle.cert_form.specs.CertText.{as_numbers, choice_line, line};
-ghost use Rattle.cert_form.specs.line_text.specs.Range.{AllInRange};
-ghost use Rattle.cert_form.specs.wide_num.specs.Range.{InRange};
-ghost use Rattle.cert_form.specs.Lines.{version_lines};
-ghost use Rattle.cert_form.specs.line_text.specs.Numeral.{numbers_text};
-ghost use Rattle.cert_form.specs.Says.{cert_text};
+ghost use Rattle.cert_grammar.specs.CertText.{as_numbers, choice_line, line};
+ghost use Rattle.line_format.specs.Range.{AllInRange};
+ghost use Rattle.wide_num.specs.Range.{InRange};
+ghost use Rattle.cert_grammar.specs.Lines.{version_lines};
+ghost use Rattle.line_format.specs.Numeral.{numbers_text};
+ghost use Rattle.cert_grammar.specs.Says.{cert_text};
 ghost use Rattle.cert_text.specs.CertValues.{cert_value};
-ghost use Rattle.cert_text.specs.Written.{line_bytes, lines_of_head, lines_of_part, lines_of_parts, lines_of_row, lines_of_rows, lines_of_table, Adds, ArePartsInRange, IsRowInRange, IsTableInRange};
+ghost use Rattle.cert_text.specs.Written.{line_bytes, lines_of_head, lines_of_part, lines_of_parts, lines_of_row, lines_of_rows, lines_of_table, AddsLines, ArePartsInRange, IsRowInRange, IsTableInRange};
 
 use crate::fields::{add_fields, add_table_fields};
 use crate::spelled::{add_parts, add_spelled, spelled_lines};
 use crate::version::has_first_version;
 use crate::{CertRow, Certificate};
-use choices::bid_book::line_text::add_numbers;
-use choices::bid_book::line_text::wide_num::Text;
-use choices::bid_book::lots::limits::{MOST_BIDDERS, MOST_STATES};
 use choices::{Choice, Grid};
+use limits::{MOST_BIDDERS, MOST_STATES};
+use line_format::add_numbers;
 use std::alloc::{AllocError, Global};
+use wide_num::Text;
 
-// So many bytes are enough for all lines but those of tables.
+// That many bytes are enough for all lines but those of tables.
 const SHORT_LINES: usize = 16_384;
 
-/// The one text of a certificate. The only error is want of memory.
+/// The one text of a certificate. The only error is out of memory.
 pub fn write_cert(alloc: Global, cert: &Certificate) -> Result<Text, AllocError>
     ensures { IfOk result (λ text. text ≡ cert_text (cert_value cert.now)) }
 {
@@ -70,7 +70,7 @@ pub(crate) fn line_room(table: &Grid, line: usize) -> usize
     width.saturating_mul(first.max(last)).saturating_add(2)
 }
 
-// The room of a number behind a space.
+// The room of a number after a space.
 fn number_room(number: i128) -> usize {
     let sign = if number < 0 { 1 } else { 0 };
     let digits = match number.unsigned_abs().checked_ilog10() {
@@ -80,9 +80,9 @@ fn number_room(number: i128) -> usize {
     1 + sign + digits
 }
 
-/// Adds the version, and in the second one the most bidders and states. The only error is want of memory.
+/// Adds the version, and in the second one the most bidders and states. The only error is out of memory.
 pub fn add_version(text: &mut Text, bidders: usize, states: usize) -> Result<(), AllocError>
-    ensures { OnOk result (Adds text.old text.new (version_lines bidders states)) }
+    ensures { OnOk result (AddsLines text.old text.new (version_lines bidders states)) }
 {
     if has_first_version(bidders, states) {
         add_signed_line(text, b"cert", &[1])?;
@@ -97,10 +97,10 @@ pub fn add_version(text: &mut Text, bidders: usize, states: usize) -> Result<(),
     Ok(())
 }
 
-/// Adds the denominator, the value and the winning choice. The only error is want of memory.
+/// Adds the denominator, the value and the winning choice. The only error is out of memory.
 pub fn add_head(text: &mut Text, cert: &Certificate) -> Result<(), AllocError>
     requires { InRange cert.now.den × InRange cert.now.value }
-    ensures { OnOk result (Adds text.old text.new (lines_of_head cert.now)) }
+    ensures { OnOk result (AddsLines text.old text.new (lines_of_head cert.now)) }
 {
     add_signed_line(text, b"den", &[cert.den])?;
     add_signed_line(text, b"value", &[cert.value])?;
@@ -113,7 +113,7 @@ fn add_tables(alloc: Global, text: &mut Text, cert: &Certificate) -> Result<(), 
     requires table { IsTableInRange cert.now.table }
     requires parts { ArePartsInRange cert.now.withouts }
     ensures { OnOk result
-        (Adds text.old text.new (lines_of_table (codes "table") cert.now.table ++ lines_of_parts cert.now.withouts)) }
+        (AddsLines text.old text.new (lines_of_table (codes "table") cert.now.table ++ lines_of_parts cert.now.withouts)) }
 {
     let spelled = spelled_lines(alloc, &cert.table)?;
     add_signed_line(text, b"table", &[])?;
@@ -122,11 +122,11 @@ fn add_tables(alloc: Global, text: &mut Text, cert: &Certificate) -> Result<(), 
     Ok(())
 }
 
-/// Adds how many rows there are, and the rows. The only error is want of memory.
+/// Adds how many rows there are, and the rows. The only error is out of memory.
 pub fn add_rows(text: &mut Text, rows: &[CertRow]) -> Result<(), AllocError>
     requires few { length rows.now ≤ 10 }
     requires range { AllByRecursion IsRowInRange rows.now }
-    ensures { OnOk result (Adds text.old text.new (lines_of_rows rows.now)) }
+    ensures { OnOk result (AddsLines text.old text.new (lines_of_rows rows.now)) }
 {
     add_signed_line(text, b"rows", &[rows.len() as i128])?;
     for row in rows {
@@ -137,7 +137,7 @@ pub fn add_rows(text: &mut Text, rows: &[CertRow]) -> Result<(), AllocError>
 
 fn add_row(text: &mut Text, row: &CertRow) -> Result<(), AllocError>
     requires { IsRowInRange row.now }
-    ensures { OnOk result (Adds text.old text.new (lines_of_row row.now)) }
+    ensures { OnOk result (AddsLines text.old text.new (lines_of_row row.now)) }
 {
     add_number_line(text, b"row", row.members.items())?;
     add_signed_line(text, b"mult", &[row.first, row.second])?;
@@ -145,10 +145,10 @@ fn add_row(text: &mut Text, row: &CertRow) -> Result<(), AllocError>
     Ok(())
 }
 
-/// Adds the word of a table and its lines. The only error is want of memory.
+/// Adds the word of a table and its lines. The only error is out of memory.
 pub fn add_table(text: &mut Text, word: &[u8], table: &Grid) -> Result<(), AllocError>
     requires { IsTableInRange table.now }
-    ensures { OnOk result (Adds text.old text.new (lines_of_table word.now table.now)) }
+    ensures { OnOk result (AddsLines text.old text.new (lines_of_table word.now table.now)) }
 {
     add_signed_line(text, word, &[])?;
     for i in 0..table.lines() {
@@ -157,7 +157,7 @@ pub fn add_table(text: &mut Text, word: &[u8], table: &Grid) -> Result<(), Alloc
     Ok(())
 }
 
-/// Adds a line of a table. The only error is want of memory.
+/// Adds a line of a table. The only error is out of memory.
 pub(crate) fn add_table_line(text: &mut Text, table: &Grid, line: usize) -> Result<(), AllocError>
     requires line { line < length table.now }
     requires range { AllInRange (slice_index_or table.now line []) }
@@ -169,18 +169,18 @@ pub(crate) fn add_table_line(text: &mut Text, table: &Grid, line: usize) -> Resu
     Ok(())
 }
 
-/// Adds the line of a choice. The only error is want of memory.
+/// Adds the line of a choice. The only error is out of memory.
 pub fn add_choice(text: &mut Text, choice: &Choice) -> Result<(), AllocError>
-    ensures { OnOk result (Adds text.old text.new (choice_line choice.now ∷ [])) }
+    ensures { OnOk result (AddsLines text.old text.new (choice_line choice.now ∷ [])) }
 {
     add_number_line(text, b"choice", choice.numbers())?;
     Ok(())
 }
 
-/// Adds a line of a word and numbers with their signs. The only error is want of memory.
+/// Adds a line of a word and numbers with their signs. The only error is out of memory.
 pub fn add_signed_line(text: &mut Text, word: &[u8], numbers: &[i128]) -> Result<(), AllocError>
     requires { AllInRange numbers.now }
-    ensures { OnOk result (Adds text.old text.new (line word.now numbers.now ∷ [])) }
+    ensures { OnOk result (AddsLines text.old text.new (line word.now numbers.now ∷ [])) }
 {
     text.add(word)?;
     add_fields(text, numbers)?;
@@ -188,9 +188,9 @@ pub fn add_signed_line(text: &mut Text, word: &[u8], numbers: &[i128]) -> Result
     Ok(())
 }
 
-/// Adds a line of a word and numbers of bidders or bids. The only error is want of memory.
+/// Adds a line of a word and numbers of bidders or bids. The only error is out of memory.
 pub fn add_number_line(text: &mut Text, word: &[u8], numbers: &[u16]) -> Result<(), AllocError>
-    ensures { OnOk result (Adds text.old text.new (line word.now (as_numbers numbers.now) ∷ [])) }
+    ensures { OnOk result (AddsLines text.old text.new (line word.now (as_numbers numbers.now) ∷ [])) }
 {
     text.add(word)?;
     add_numbers(text, numbers)?;

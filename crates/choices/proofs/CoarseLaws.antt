@@ -1,17 +1,17 @@
 -- Lines in units, their parts, and masks.
-use Rattle.std.specs.Prelude.{◌≡◌, ℕ, suc, ◌+◌, ◌-◌, ◌*◌, ◌/◌, ◌%◌, ◌^◌, ◌≤◌, ◌<◌, nat_le, List, [], ◌∷◌, length, get_or, take, drop, ℤ, pos, ◌+ℤ◌, ◌≤ℤ◌}
-use Rattle.std.specs.Prelude.{IsTrue}
+use Rattle.std.specs.Prelude.{IsTrue, List, [], drop, get_or, length, nat_le, pos, suc, take, ℕ, ℤ, ◌%◌, ◌*◌, ◌+ℤ◌, ◌+◌, ◌-◌, ◌/◌, ◌<◌, ◌^◌, ◌∷◌, ◌≡◌}
+use Rattle.std.specs.Prelude.{◌≤ℤ◌, ◌≤◌}
 use Rattle.std.proofs.Common.{sym, ◌∙◌, ap, subst, arith}
 use Rattle.std.proofs.lemmas.Bool.{and_parts, leb-true}
 use Rattle.std.proofs.lemmas.Int.{ints}
 use Rattle.std.proofs.lemmas.List.{length-drop, length-take-le, get_or-take, get_or-drop}
 use Rattle.std.proofs.lemmas.Nat.{div_below, mod_below, div-add-mod', mul-le}
 use Rattle.std.proofs.Math.Nat.{le-div_iff_mul-le}
-use Rattle.bid_book.specs.auction_model.specs.Package.{is_within}
-use Rattle.bid_book.specs.auction_model.specs.Place.{states_of, place_of, left_at}
-use Rattle.bid_book.specs.auction_model.proofs.PlaceLaws.{states-positive, place-less}
-use Rattle.bid_book.specs.auction_model.proofs.PartReads.{read-part}
-use Rattle.bid_book.specs.wide_num.specs.Sums.{nth}
+use Rattle.auction_model.specs.Package.{is_within}
+use Rattle.auction_model.specs.Place.{left_at, place_of, states_of}
+use Rattle.auction_model.proofs.PlaceLaws.{place-less, states-positive}
+use Rattle.auction_model.proofs.PartReads.{read-part}
+use Rattle.wide_num.specs.Sums.{nth}
 use Rattle.choices.specs.Coarse.{AreCoarse, HasMask, IsCeiling, IsFloor, Marks}
 
 -- a number of a part of a list

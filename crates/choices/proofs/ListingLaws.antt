@@ -1,16 +1,16 @@
 -- Going through the numbers of a bidder, from the last in the order of ties to the first, finds the first of the greatest choices.
-use Rattle.std.specs.Prelude.{◌≡◌, ◌⊎◌, ℕ, zero, suc, ◌+◌, ◌-◌, ◌≤◌, ◌<◌, Bool, true, false, ◌&&◌, ◌||◌, nat_le, nat_lt, ◌==◌, IsTrue, List, [], ◌∷◌, ℤ, ◌≤ℤ◌}
-use Rattle.std.specs.Prelude.{◌<ℤ◌, refl}
+use Rattle.std.specs.Prelude.{Bool, IsTrue, List, [], false, nat_le, nat_lt, refl, suc, true, zero, ℕ, ℤ, ◌&&◌, ◌+◌, ◌-◌, ◌<ℤ◌, ◌<◌, ◌==◌, ◌||◌, ◌∷◌}
+use Rattle.std.specs.Prelude.{◌≡◌, ◌≤ℤ◌, ◌≤◌, ◌⊎◌}
 use Rattle.std.proofs.Common.{inl, inr, sym, ◌∙◌, arith}
 use Rattle.std.proofs.lemmas.Bool.{false≢true, and_parts, and_from, or_cases, or_left, or_right, leb-true, le-leb, ltb-true, lt-ltb, eqb-true, eq-eqb, cases_eq}
 use Rattle.std.proofs.lemmas.Int.{ints}
-use Rattle.bid_book.specs.auction_model.specs.Package.{is_within, less}
-use Rattle.bid_book.specs.auction_model.specs.Market.{sum_after, is_earlier}
-use Rattle.bid_book.specs.auction_model.specs.Greatest.{IsFirstGreatest}
-use Rattle.bid_book.specs.auction_model.specs.Menu.{Menu, fits_after}
-use Rattle.bid_book.specs.auction_model.proofs.MenuLaws.{fits-cons}
-use Rattle.bid_book.specs.auction_model.proofs.PackageLaws.{less-empty}
-use Rattle.bid_book.specs.auction_model.proofs.OrderLaws.{before-greater, before-none, before-not_both, before-self, earlier-says}
+use Rattle.auction_model.specs.Package.{is_within, less}
+use Rattle.auction_model.specs.Market.{is_earlier, sum_after}
+use Rattle.auction_model.specs.Greatest.{IsFirstGreatest}
+use Rattle.auction_model.specs.Menu.{Menu, fits_after}
+use Rattle.auction_model.proofs.MenuLaws.{fits-cons}
+use Rattle.auction_model.proofs.PackageLaws.{less-empty}
+use Rattle.auction_model.proofs.OrderLaws.{before-greater, before-none, before-not_both, before-self, earlier-says}
 
 -- a choice of the bidders after k that fits, whose first number is 0 or above i
 abbrev pub fits_past : Menu → ℕ → List ℕ → ℕ → List ℕ → Bool

@@ -2,7 +2,7 @@
 use Rattle.std.specs.Prelude.{◌≡◌, ℕ, ◌-◌, nat_le, IsTrue, List, [], ◌∷◌, length, refl}
 use Rattle.std.proofs.Common.{arith}
 use Rattle.std.proofs.lemmas.Bool.{and_parts, and_from, leb-true, le-leb}
-use Rattle.bid_book.specs.auction_model.specs.Package.{is_within, less}
+use Rattle.auction_model.specs.Package.{is_within, less}
 
 -- what a package leaves of some lots is within what it leaves of more lots
 pub less-more : (l m p : List ℕ) → length l ≡ length m → IsTrue (is_within l m) → IsTrue (is_within (less l p) (less m p))

@@ -1,8 +1,8 @@
 -- Lines in 16 bits, as whole numbers of a unit.
 use Rattle.std.specs.Prelude.{◌≡◌, ℕ, ◌-◌, ◌*◌, ◌^◌, ◌≤◌, ◌<◌, IsTrue, List, length, get_or, drop, ℤ, pos, ◌≤ℤ◌}
-use Rattle.bid_book.specs.auction_model.specs.Package.{is_within}
-use Rattle.bid_book.specs.auction_model.specs.Place.{states_of, left_at}
-use Rattle.bid_book.specs.wide_num.specs.Sums.{nth}
+use Rattle.auction_model.specs.Package.{is_within}
+use Rattle.auction_model.specs.Place.{left_at, states_of}
+use Rattle.wide_num.specs.Sums.{nth}
 
 -- where there are any of these units, they aren't above the number of the line
 abbrev pub IsFloor : ℕ → List ℤ → List ℕ → Type 0
@@ -24,6 +24,6 @@ pub record AreCoarse (unit : ℕ) (line below : List ℤ) (low high : List ℕ) 
 abbrev pub Marks : List ℕ → List ℕ → List ℕ → Type 0
 Marks supply lots mask = (n : ℕ) → n < states_of supply → IsTrue (is_within lots (left_at supply n)) → get_or mask n 0 ≡ 2 ^ 16 - 1
 
--- the same of the blocks of the last `level` categories of the package, where there are so many
+-- the same of the blocks of the last `level` categories of the package, where there are that many
 abbrev pub HasMask : ℕ → List ℕ → List ℕ → List ℕ → Type 0
 HasMask level supply lots mask = 0 < level → level ≤ length lots → Marks (drop (length lots - level) supply) (drop (length lots - level) lots) mask

@@ -1,7 +1,7 @@
 -- The condition of a search with lowered worths.
 use Rattle.std.specs.Prelude.{◌≡◌, ℕ, ◌<◌, ◌≤◌, ◌+◌, ◌*◌, ◌^◌, IsFalse, List, length, ℤ, pos, ◌≤ℤ◌, unsigned_abs}
-use Rattle.bid_book.specs.auction_model.specs.Market.{Market, value_of, uses}
-use Rattle.bid_book.specs.auction_model.specs.Lowered.{of_bidder, sum_to}
+use Rattle.auction_model.specs.Market.{Market, uses, value_of}
+use Rattle.auction_model.specs.Lowered.{of_bidder, sum_to}
 
 -- there is one surplus for each bidder, 0 for losers, and no lowered sum leaves the range; z is the winning choice
 pub record CanLower (m : Market) (z : List ℕ) (den : ℤ) (surplus : List ℤ) : Type 0 where

@@ -1,9 +1,9 @@
 -- The winners of a choice, each alone.
 use Rattle.std.specs.Prelude.{◌≡◌, ℕ, zero, suc, IsTrue, List, [], ◌∷◌, map}
 use Rattle.std.specs.List.{AllByRecursion}
-use Rattle.bid_book.specs.auction_model.specs.Market.{Market, value_of, uses}
-use Rattle.bid_book.specs.auction_model.specs.Greatest.{IsFirstGreatest}
-use Rattle.bid_book.specs.auction_model.specs.Prices.{allowed_without, IsVickreyPrice}
+use Rattle.auction_model.specs.Market.{Market, uses, value_of}
+use Rattle.auction_model.specs.Greatest.{IsFirstGreatest}
+use Rattle.auction_model.specs.Prices.{IsVickreyPrice, allowed_without}
 use Rattle.choices.specs.declared.chooser.Single.{Single}
 
 -- the bidders that the choice uses, in order, k bidders being passed

@@ -1,6 +1,6 @@
 // Choices.
 ghost use Rattle.std.specs.Prelude.{◌≡◌, ◌-◌, ◌≤◌, ◌<◌, length, slice_set, IfOk};
-ghost use Rattle.bid_book.specs.auction_model.specs.Market.{number_of};
+ghost use Rattle.auction_model.specs.Market.{number_of};
 
 use crate::Numbers;
 use std::alloc::{AllocError, Global};
@@ -54,7 +54,7 @@ impl Choice {
         self.numbers.set(j as usize - 1, number);
     }
 
-    /// The same choice once more.
+    /// The same choice again.
     pub fn copied(&self, alloc: Global) -> Result<Choice, AllocError>
         ensures { IfOk result (λ choice. choice ≡ self.now) }
     {

@@ -1,9 +1,9 @@
 // Choosers.
 ghost use Rattle.std.specs.Prelude.{◌≡◌, ◌≤◌, ◌<◌, List, ℕ, ℤ, IfOk};
-ghost use Rattle.bid_book.specs.auction_model.specs.Market.{Market, sum_after, worth_in};
-ghost use Rattle.bid_book.specs.auction_model.specs.Greatest.{IsFirstGreatest, IsWinning};
-ghost use Rattle.bid_book.specs.auction_model.specs.Lawful.{IsMarket};
-ghost use Rattle.bid_book.specs.auction_model.specs.Lowered.{lowered};
+ghost use Rattle.auction_model.specs.Market.{Market, sum_after, worth_in};
+ghost use Rattle.auction_model.specs.Greatest.{IsFirstGreatest, IsWinning};
+ghost use Rattle.auction_model.specs.Lawful.{IsMarket};
+ghost use Rattle.auction_model.specs.Lowered.{lowered};
 ghost use Rattle.choices.specs.Lowering.{CanLower};
 
 use crate::Choice;
@@ -37,7 +37,7 @@ pub struct Single {
 ///
 /// All it says is of one market: the bidders, the bids of each, the allowed choices and the worths.
 pub trait Chooser {
-    /// What a search leaves behind.
+    /// What a search leaves after.
     type Table: Drop;
 
     /// Its bidders, bids, allowed choices and worths.

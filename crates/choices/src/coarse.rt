@@ -1,9 +1,9 @@
 // Lines of tables in 16 bits: two lines are counted in one unit, the line rounded down, and the line below and the worth of a bid
 // rounded up. Then a block of the last few categories is tested in one run, with a mask of the places at which the package fits. A
-// yes is a yes of the exact numbers; where units are too coarse to tell, whoever asks tells by these.
+// yes is a yes of the exact numbers; where units are too coarse to tell, anyone who asks says by these.
 ghost use Rattle.std.specs.Prelude.{◌≡◌, ℕ, ◌+◌, ◌-◌, ◌*◌, ◌%◌, ◌^◌, ◌≤◌, ◌<◌, IsTrue, length, slice_index_or, pos, ◌≤ℤ◌};
-ghost use Rattle.bid_book.specs.auction_model.specs.Place.{states_of, widths_of};
-ghost use Rattle.bid_book.specs.limits.specs.declared.TheConstants.{MOST_STATES};
+ghost use Rattle.auction_model.specs.Place.{states_of, widths_of};
+ghost use Rattle.limits.specs.declared.TheConstants.{MOST_STATES};
 ghost use Rattle.choices.specs.Coarse.{HasMask, IsCeiling, IsFloor, Marks};
 
 /// Room for a mask. Longer blocks are tested part by part.

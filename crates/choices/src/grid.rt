@@ -1,15 +1,15 @@
 // Grids.
 ghost use Rattle.std.specs.Prelude.{◌≡◌, ◌+◌, ◌<◌, ◌≤◌, ◌++◌, ◌∷◌, [], map, length, take, drop, pos, OnOk, OnErr, IsTrue, slice_index_or};
-ghost use Rattle.bid_book.specs.auction_model.specs.Table.{entry_at};
+ghost use Rattle.auction_model.specs.Table.{entry_at};
 ghost use Rattle.choices.specs.GridLines.{numbers_in};
 ghost use Rattle.choices.specs.LentLines.{numbers_of};
 ghost use Rattle.choices.specs.Lines.{width_of, IsEven};
 
 use crate::grid_line::{GridLine, LineNumbers};
-use bid_book::line_text::wide_num::NumList;
 use std::alloc::{AllocError, Global};
 use std::marker::Model;
 use std::rc::RcSlice;
+use wide_num::NumList;
 
 /// Lines of equally many numbers. Grids may share lines. Lines and places in a line are counted from 0.
 #[derive(Drop)]
@@ -54,14 +54,14 @@ impl Grid {
         self.lines.len()
     }
 
-    /// How many numbers each line has, and 0 where there is no line.
+    /// How many numbers each line has, and 0 if there is no line.
     pub fn width(&self) -> usize
         ensures { result ≡ width_of self.now }
     {
         first_width(&self.lines)
     }
 
-    /// Adds a line at the end, which is as long as the others. For want of memory the grid stays as it is.
+    /// Adds a line at the end, which is as long as the others. If memory runs out, the grid stays as it is.
     pub fn push_line(&mut self, line: NumList) -> Result<(), AllocError>
         requires { 0 < length self.old → length line ≡ width_of self.old }
         ensures pushed { OnOk result (self.new ≡ self.old ++ line ∷ []) }
@@ -84,7 +84,7 @@ impl Grid {
     }
 
     /// Adds a line of another grid at the end, which both then share: its numbers are not copied. It is as long as the others.
-    /// For want of memory the grid stays as it is.
+    /// If memory runs out, the grid stays as it is.
     pub fn push_shared(&mut self, from: &Grid, line: usize) -> Result<(), AllocError>
         requires line { line < length from.now }
         requires width { 0 < length self.old → width_of from.now ≡ width_of self.old }

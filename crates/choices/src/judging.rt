@@ -1,11 +1,11 @@
 // What a book says of a choice.
 ghost use Rattle.std.specs.Prelude.{◌≡◌, ◌≤◌, ◌<◌, ◌*◌, pos, ◌≤ℤ◌, length, IsTrue, IsFalse, IfSome, IfNone, unsigned_abs};
-ghost use Rattle.bid_book.specs.auction_model.specs.Package.{is_within, less};
-ghost use Rattle.bid_book.specs.auction_model.specs.Place.{states_of, place_of, left_at};
-ghost use Rattle.bid_book.specs.auction_model.specs.Menu.{is_known_after, fits_after};
-ghost use Rattle.bid_book.specs.auction_model.specs.Market.{value_of};
-ghost use Rattle.bid_book.specs.auction_model.specs.Book.{bids_of, lots_of, net_of, menu_of, market_of};
-ghost use Rattle.bid_book.specs.limits.specs.declared.TheConstants.{MOST_AMOUNT, MOST_BIDDERS};
+ghost use Rattle.auction_model.specs.Package.{is_within, less};
+ghost use Rattle.auction_model.specs.Place.{left_at, place_of, states_of};
+ghost use Rattle.auction_model.specs.Menu.{fits_after, is_known_after};
+ghost use Rattle.auction_model.specs.Market.{value_of};
+ghost use Rattle.auction_model.specs.Book.{bids_of, lots_of, market_of, menu_of, net_of};
+ghost use Rattle.limits.specs.declared.TheConstants.{MOST_AMOUNT, MOST_BIDDERS};
 
 use crate::Choice;
 use bid_book::BidBook;

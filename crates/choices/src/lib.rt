@@ -10,7 +10,6 @@ mod judging;
 mod listing;
 mod numbers;
 
-pub use bid_book;
 pub use choice::Choice;
 pub use chooser::{Chooser, Found, Single};
 pub use grid::Grid;

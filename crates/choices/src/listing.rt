@@ -1,11 +1,11 @@
 // The winning choice of a small book by going through all its choices, with no table.
 ghost use Rattle.std.specs.Prelude.{◌≡◌, ◌+◌, ◌-◌, ◌*◌, ◌^◌, ◌≤◌, ◌<◌, ◌∷◌, length, IfOk, unsigned_abs, ◌+ℤ◌, ◌≤ℤ◌, ◌<ℤ◌};
-ghost use Rattle.bid_book.specs.auction_model.specs.Place.{states_of, left_at};
-ghost use Rattle.bid_book.specs.auction_model.specs.Menu.{fits_after};
-ghost use Rattle.bid_book.specs.auction_model.specs.Market.{sum_after};
-ghost use Rattle.bid_book.specs.auction_model.specs.Greatest.{IsFirstGreatest, IsWinning};
-ghost use Rattle.bid_book.specs.auction_model.specs.Book.{net_of, menu_of, market_of};
-ghost use Rattle.bid_book.specs.limits.specs.declared.TheConstants.{MOST_AMOUNT};
+ghost use Rattle.auction_model.specs.Place.{left_at, states_of};
+ghost use Rattle.auction_model.specs.Menu.{fits_after};
+ghost use Rattle.auction_model.specs.Market.{sum_after};
+ghost use Rattle.auction_model.specs.Greatest.{IsFirstGreatest, IsWinning};
+ghost use Rattle.auction_model.specs.Book.{market_of, menu_of, net_of};
+ghost use Rattle.limits.specs.declared.TheConstants.{MOST_AMOUNT};
 
 use crate::judging::{place_after, worth};
 use crate::{Choice, Numbers};
@@ -19,7 +19,7 @@ struct Best {
     value: i128,
 }
 
-/// The choice with the number of one bidder more in front.
+/// The choice with the number of one bidder more first.
 fn with_number(number: u16, worth: i128, rest: Best) -> Result<Best, AllocError>
     requires worth { unsigned_abs worth ≤ 2 ^ 100 }
     requires rest { unsigned_abs rest.value ≤ 2 ^ 100 }

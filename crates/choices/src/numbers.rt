@@ -36,7 +36,7 @@ impl Numbers {
         Ok(Numbers { numbers })
     }
 
-    /// The same list once more.
+    /// The same list again.
     pub fn copied(&self, alloc: Global) -> Result<Numbers, AllocError>
         ensures { IfOk result (λ list. list ≡ self.now) }
     {
@@ -44,7 +44,7 @@ impl Numbers {
         Ok(Numbers { numbers })
     }
 
-    /// Appends one number. For want of memory the list stays as it is.
+    /// Appends one number. If memory runs out, the list stays as it is.
     pub fn push(&mut self, item: u16) -> Result<(), AllocError>
         ensures pushed { OnOk result (self.new ≡ self.old ++ item ∷ []) }
         ensures unchanged { OnErr result (self.new ≡ self.old) }
@@ -53,7 +53,7 @@ impl Numbers {
         Ok(())
     }
 
-    /// Puts one number in front. For want of memory the list stays as it is.
+    /// Puts one number first. If memory runs out, the list stays as it is.
     pub fn push_front(&mut self, item: u16) -> Result<(), AllocError>
         ensures pushed { OnOk result (self.new ≡ item ∷ self.old) }
         ensures unchanged { OnErr result (self.new ≡ self.old) }

@@ -1,19 +1,19 @@
 -- The clock of a desk: what bids and closes make of a desk they make of its clock.
 use Rattle.std.proofs.Common.{◌≡◌, ℕ, ◌-◌, Bool, true, false, List, [], ◌∷◌, length, refl, sym, ap, subst, ◌∙◌, inl, inr}
 use Rattle.std.specs.Prelude.{if◌then◌else◌, slice_index, replicate, ◌⊎◌}
-use Rattle.award_file.specs.auction_model.specs.Package.{is_within}
-use Rattle.award_file.specs.auction_rules.specs.declared.Event.{Event}
-use Rattle.award_file.specs.auction_rules.specs.declared.Event.TheVariants.{Bid, Close}
-use Rattle.award_file.specs.auction_rules.specs.declared.Reply.{Reply}
-use Rattle.award_file.specs.auction_rules.specs.declared.Stage.{Stage}
-use Rattle.award_file.specs.auction_rules.specs.declared.Stage.TheVariants.{Clock, Sealed}
-use Rattle.award_file.specs.auction_rules.specs.declared.Stage.TheVariants as stage
-use Rattle.award_file.specs.auction_rules.specs.Terms.{Terms, entrant, no_lots}
-use Rattle.award_file.specs.auction_rules.specs.Replies.{is_clock, is_ok_reply, bid_reply, reply_to}
-use Rattle.award_file.specs.auction_rules.specs.Rounds.{listing}
-use Rattle.award_file.specs.auction_rules.specs.State.{DeskState, state_of, asked, close_reply_in, closed_state, clock_stopped, next_round, reply_in, taken}
-use Rattle.award_file.specs.auction_rules.specs.State.{state_with}
-use Rattle.award_file.specs.auction_rules.proofs.Stands.{reply_in-state_of, state_with-state_of}
+use Rattle.auction_model.specs.Package.{is_within}
+use Rattle.auction_rules.specs.declared.Event.{Event}
+use Rattle.auction_rules.specs.declared.Event.TheVariants.{Bid, Close}
+use Rattle.auction_rules.specs.declared.Reply.{Reply}
+use Rattle.auction_rules.specs.declared.Stage.{Stage}
+use Rattle.auction_rules.specs.declared.Stage.TheVariants.{Clock, Sealed}
+use Rattle.auction_rules.specs.declared.Stage.TheVariants as stage
+use Rattle.auction_rules.specs.Terms.{Terms, entrant, no_lots}
+use Rattle.auction_rules.specs.Replies.{bid_reply, is_clock, is_ok_reply, reply_to}
+use Rattle.auction_rules.specs.Rounds.{listing}
+use Rattle.auction_rules.specs.State.{DeskState, asked, clock_stopped, close_reply_in, closed_state, next_round, reply_in, state_of, state_with}
+use Rattle.auction_rules.specs.State.{taken}
+use Rattle.auction_rules.proofs.Stands.{reply_in-state_of, state_with-state_of}
 use Rattle.clock_stage.specs.ClockState.{ClockState, clock_with, clock_of, round_with, reply_to_bid, after_bid, reply_to_close, after_close, clock_closed}
 use Rattle.clock_stage.specs.declared.closes.Closed.{Closed}
 use Rattle.clock_stage.specs.declared.closes.Closed.TheVariants.{Memory}

@@ -1,16 +1,15 @@
 -- Sums of packages, and packages without a lot.
-use Rattle.std.proofs.Common.{◌≡◌, ℕ, zero, suc, ◌+◌, ◌-◌, ◌*◌, ◌/◌, ◌%◌, ◌<◌, ◌≤◌, List, [], ◌∷◌, ◌++◌, length, map, drop, take, get_or, refl, sym, ap, ◌∙◌}
-use Rattle.std.proofs.Common.{arith, add-one}
+use Rattle.std.proofs.Common.{List, [], add-one, ap, arith, drop, get_or, length, map, refl, suc, sym, take, zero, ℕ, ◌%◌, ◌*◌, ◌++◌, ◌+◌, ◌-◌, ◌/◌}
+use Rattle.std.proofs.Common.{◌<◌, ◌∙◌, ◌∷◌, ◌≡◌, ◌≤◌}
 use Rattle.std.specs.Prelude.{sum, replicate, ◌==◌}
 use Rattle.std.specs.List.{All, AllByRecursion}
 use Rattle.std.proofs.lemmas.List.{replicate_more, take-append-le, take_all, get_or_default}
 use Rattle.std.proofs.lemmas.List.Sums.{sum_by-cons}
 use Rattle.std.proofs.lemmas.List.Elements.{All-from_recursion, recursion_from_All}
-use Rattle.award_file.specs.auction_model.specs.Package.{together}
-use Rattle.award_file.specs.auction_model.specs.Place.{states_of, left_at}
-use Rattle.award_file.specs.auction_model.proofs.PlaceLaws.{states-positive}
-use Rattle.award_file.specs.auction_rules.specs.Rounds.{sum_of}
-use Rattle.award_file.specs.auction_rules.specs.Rounds.{listing}
+use Rattle.auction_model.specs.Package.{together}
+use Rattle.auction_model.specs.Place.{left_at, states_of}
+use Rattle.auction_model.proofs.PlaceLaws.{states-positive}
+use Rattle.auction_rules.specs.Rounds.{listing, sum_of}
 
 -- two packages of as many categories have as many together
 pub length-together : (p q : List ℕ) → length q ≡ length p → length (together p q) ≡ length p

@@ -1,22 +1,22 @@
 -- What bids and closes leave of what a clock keeps.
-use Rattle.std.proofs.Common.{◌≡◌, ℕ, suc, ◌<◌, ◌≤◌, ◌^◌, Bool, true, false, not, ◌&&◌, List, [], ◌∷◌, ◌++◌, Option, Some, None, length, map, set, refl, sym}
-use Rattle.std.proofs.Common.{ap, subst, ◌∙◌, arith, inl, inr}
+use Rattle.std.proofs.Common.{Bool, List, None, Option, Some, [], ap, arith, false, inl, inr, length, map, not, refl, set, subst, suc, sym, true, ℕ}
+use Rattle.std.proofs.Common.{◌&&◌, ◌++◌, ◌<◌, ◌^◌, ◌∙◌, ◌∷◌, ◌≡◌, ◌≤◌}
 use Rattle.std.specs.Prelude.{sum, replicate, nat_le, nat_lt, if◌then◌else◌}
 use Rattle.std.specs.List.{All, AllByRecursion}
 use Rattle.std.proofs.lemmas.Bool.{cases_Bool, leb-true, leb-false, cond-true}
 use Rattle.std.proofs.lemmas.List.{length-map, length-append, length-set, length-replicate}
 use Rattle.std.proofs.lemmas.List.Elements.{All-from_recursion, All-push, All-nil, All-set, All-replicate}
-use Rattle.award_file.specs.auction_model.specs.Package.{is_within, cost_of}
-use Rattle.award_file.specs.auction_rules.specs.declared.Reply.{Reply}
-use Rattle.award_file.specs.auction_rules.specs.declared.Reply.TheVariants as reply
-use Rattle.award_file.specs.auction_rules.specs.declared.Stage.TheVariants.{Clock}
-use Rattle.award_file.specs.auction_rules.specs.Terms.{Terms, no_lots, broken_cap}
-use Rattle.award_file.specs.auction_rules.specs.Rounds.{raised_prices}
-use Rattle.award_file.specs.auction_rules.specs.Replies.{first_reply, when, bid_reply, supply_reply, spectrum_reply, points_above, price_top}
-use Rattle.award_file.specs.auction_model.specs.PackageTests.{first_over}
-use Rattle.award_file.specs.auction_rules.specs.State.{asked}
-use Rattle.award_file.specs.auction_model.proofs.PackageTestLaws.{first_over-within}
-use Rattle.award_file.specs.auction_rules.proofs.LawfulBids.{sum-within}
+use Rattle.auction_model.specs.Package.{cost_of, is_within}
+use Rattle.auction_rules.specs.declared.Reply.{Reply}
+use Rattle.auction_rules.specs.declared.Reply.TheVariants as reply
+use Rattle.auction_rules.specs.declared.Stage.TheVariants.{Clock}
+use Rattle.auction_rules.specs.Terms.{Terms, broken_cap, no_lots}
+use Rattle.auction_rules.specs.Rounds.{raised_prices}
+use Rattle.auction_rules.specs.Replies.{bid_reply, first_reply, points_above, price_top, spectrum_reply, supply_reply, when}
+use Rattle.auction_model.specs.PackageTests.{first_over}
+use Rattle.auction_rules.specs.State.{asked}
+use Rattle.auction_model.proofs.PackageTestLaws.{first_over-within}
+use Rattle.auction_rules.proofs.LawfulBids.{sum-within}
 use Rattle.award_file.specs.Award.{IsAward}
 use Rattle.clock_stage.specs.ClockState.{ClockState, clock_with, round_with, reply_to_close, has_excess, next_prices, next_round}
 use Rattle.clock_stage.specs.Kept.{IsHeld, IsRound, IsClock, IsFor}
@@ -32,7 +32,7 @@ supply_passed : (over : Option ℕ) (rest : List (Option Reply)) → first_reply
 supply_passed None rest ok = refl
 supply_passed (Some category) rest ok = cc
 
--- what is tested behind the supply
+-- what is tested after the supply
 behind_supply : Terms → ℕ → ℕ → List ℕ → List (Option Reply)
 behind_supply terms eligibility j lots = spectrum_reply (broken_cap terms j lots) ∷ points_above terms lots eligibility ∷ []
 

@@ -1,13 +1,13 @@
 -- The state of a clock, and what its bids and closes make of it.
 use Rattle.std.specs.Prelude.{ℕ, suc, ◌-◌, Bool, true, false, not, List, [], ◌∷◌, ◌++◌, length, map, slice_index, slice_set, if◌then◌else◌}
-use Rattle.award_file.specs.auction_model.specs.Package.{is_within, cost_of}
-use Rattle.award_file.specs.auction_rules.specs.declared.Reply.{Reply}
-use Rattle.award_file.specs.auction_rules.specs.declared.Reply.TheVariants as reply
-use Rattle.award_file.specs.auction_rules.specs.declared.Stage.TheVariants.{Clock}
-use Rattle.award_file.specs.auction_rules.specs.Terms.{Terms, no_lots}
-use Rattle.award_file.specs.auction_rules.specs.Rounds.{raised_prices}
-use Rattle.award_file.specs.auction_rules.specs.Replies.{is_clock, is_ok_reply, closing_reply, bid_reply}
-use Rattle.award_file.specs.auction_rules.specs.State.{Round, DeskState, round_now, asked}
+use Rattle.auction_model.specs.Package.{cost_of, is_within}
+use Rattle.auction_rules.specs.declared.Reply.{Reply}
+use Rattle.auction_rules.specs.declared.Reply.TheVariants as reply
+use Rattle.auction_rules.specs.declared.Stage.TheVariants.{Clock}
+use Rattle.auction_rules.specs.Terms.{Terms, no_lots}
+use Rattle.auction_rules.specs.Rounds.{raised_prices}
+use Rattle.auction_rules.specs.Replies.{bid_reply, closing_reply, is_clock, is_ok_reply}
+use Rattle.auction_rules.specs.State.{DeskState, Round, asked, round_now}
 
 -- whether rounds are posted, the closed rounds, and the posted one. Once the clock has ended it keeps the final round as posted
 pub record ClockState : Type 0 where
@@ -63,7 +63,7 @@ reply_to_close terms clock = closing_reply false (has_excess terms clock) (suc (
 abbrev pub next_round : Terms → List ℕ → Round → Round
 next_round terms prices r = round_with prices (map (cost_of terms.points) r.held) (map (λ lots. no_lots terms) r.held)
 
--- the clock after an admitted close: it ends where there is no excess demand
+-- the clock after an admitted close: it ends if there is no excess demand
 abbrev pub clock_closed : Terms → ClockState → ClockState
 clock_closed terms clock =
     if is_within (asked terms clock.posted.held) terms.supply then clock_with false (clock.rounds ++ clock.posted ∷ []) clock.posted

@@ -1,12 +1,12 @@
 -- What a close answers.
 use Rattle.std.specs.Prelude.{◌≡◌, IsTrue, IsFalse}
-use Rattle.award_file.specs.auction_rules.specs.declared.Reply.{Reply}
-use Rattle.award_file.specs.auction_rules.specs.declared.Reply.TheVariants as reply
+use Rattle.auction_rules.specs.declared.Reply.{Reply}
+use Rattle.auction_rules.specs.declared.Reply.TheVariants as reply
 use Rattle.clock_stage.specs.declared.closes.Closed.{Closed}
 use Rattle.clock_stage.specs.declared.closes.Closed.TheVariants.{NextRound, StageEnds, Full, PriceTop, Memory}
 use Rattle.clock_stage.specs.ClockState.{ClockState, round_number}
 
--- the answer says this reply of the rules and what is posted after it; want of memory says nothing
+-- the answer says this reply of the rules and what is posted after it; out of memory says nothing
 abbrev pub Tells : Closed → Reply → ClockState → Type 0
 Tells (NextRound r) answer new = (answer ≡ reply.Ok) × IsTrue new.running × (r ≡ round_number new)
 Tells StageEnds answer new = (answer ≡ reply.Ok) × IsFalse new.running

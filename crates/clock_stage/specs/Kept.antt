@@ -1,17 +1,17 @@
 -- What each clock and each history keep.
 use Rattle.std.specs.Prelude.{◌≡◌, ℕ, ◌≤◌, ◌<◌, true, List, [], length, sum, slice_index_or, ◌-◌}
 use Rattle.std.specs.List.{All}
-use Rattle.award_file.specs.limits.specs.declared.TheConstants.{MOST_BIDDERS, MOST_CATEGORIES, MOST_LOTS, MOST_PRICE, MOST_ROUNDS}
-use Rattle.award_file.specs.auction_rules.specs.Terms.{Terms}
-use Rattle.award_file.specs.auction_rules.specs.State.{Round}
+use Rattle.limits.specs.declared.TheConstants.{MOST_BIDDERS, MOST_CATEGORIES, MOST_LOTS, MOST_PRICE, MOST_ROUNDS}
+use Rattle.auction_rules.specs.Terms.{Terms}
+use Rattle.auction_rules.specs.State.{Round}
 use Rattle.clock_stage.specs.ClockState.{ClockState, round_with}
 
--- a package that a bidder may hold where there are so many categories
+-- a package that a bidder may hold where there are that many categories
 pub record IsHeld (categories : ℕ) (lots : List ℕ) : Type 0 where
   pub count : length lots ≡ categories
   pub few : sum lots ≤ MOST_LOTS
 
--- a round of so many bidders and so many categories
+-- a round of that many bidders and that many categories
 pub record IsRound (bidders categories : ℕ) (r : Round) : Type 0 where
   pub prices : length r.prices ≡ categories
   pub most_price : All (λ p. p ≤ MOST_PRICE) r.prices
@@ -23,15 +23,15 @@ abbrev pub no_round : Round
 no_round = round_with [] [] []
 
 -- round r of these; rounds are numbered from 1
-abbrev pub round_at : List Round → ℕ → Round
-round_at rounds r = slice_index_or rounds (r - 1) no_round
+abbrev pub closed_round : List Round → ℕ → Round
+closed_round rounds r = slice_index_or rounds (r - 1) no_round
 
 -- how many bidders and how many categories the rounds have, by the first of them
 abbrev pub bidders_in : List Round → ℕ
-bidders_in rounds = length (round_at rounds 1).held
+bidders_in rounds = length (closed_round rounds 1).held
 
 abbrev pub categories_in : List Round → ℕ
-categories_in rounds = length (round_at rounds 1).prices
+categories_in rounds = length (closed_round rounds 1).prices
 
 -- what a history keeps: no more rounds than there may be, all of as many bidders and categories
 pub record IsHistory (rounds : List Round) : Type 0 where

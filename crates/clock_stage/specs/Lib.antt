@@ -4,8 +4,3 @@ pub mod Raised
 pub mod Rounds
 pub mod Closings
 pub mod Closing
-pub use Rattle.award_file.specs.auction_model
-pub use Rattle.award_file.specs.auction_rules
-pub use Rattle.award_file
-pub use Rattle.award_file.specs.bid_book.specs.book_form
-pub use Rattle.award_file.specs.lots

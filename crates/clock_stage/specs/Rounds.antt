@@ -1,6 +1,6 @@
 -- The rounds that the fields of a history and a clock hold.
 use Rattle.std.specs.Prelude.{List, map}
-use Rattle.award_file.specs.auction_rules.specs.State.{Round}
+use Rattle.auction_rules.specs.State.{Round}
 use Rattle.clock_stage.specs.declared.rounds.ClockRound.{ClockRound}
 use Rattle.clock_stage.specs.ClockState.{round_with}
 

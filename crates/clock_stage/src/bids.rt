@@ -1,15 +1,15 @@
 // The reply to a clock bid.
 ghost use Rattle.std.specs.Prelude.{◌≡◌, ◌≤◌, ◌-◌, length, slice_index, sum};
-ghost use Rattle.award_file.specs.limits.specs.declared.TheConstants.{MOST_LOTS};
-ghost use Rattle.award_file.specs.auction_rules.specs.declared.Reply.{Reply};
-ghost use Rattle.award_file.specs.auction_rules.specs.declared.Stage.{Stage};
-ghost use Rattle.award_file.specs.auction_rules.specs.Replies.{bid_reply};
+ghost use Rattle.limits.specs.declared.TheConstants.{MOST_LOTS};
+ghost use Rattle.auction_rules.specs.declared.Reply.{Reply};
+ghost use Rattle.auction_rules.specs.declared.Stage.{Stage};
+ghost use Rattle.auction_rules.specs.Replies.{bid_reply};
 
+use auction_rules::{Reply, Stage};
 use award_file::Award;
-use award_file::auction_rules::{Reply, Stage};
-use award_file::bid_book::lots::Package;
+use lots::Package;
 
-/// The reply to a package of a bidder of the award who is eligible for so many points: the first category above the supply, the
+/// The reply to a package of a bidder of the award who is eligible for that many points: the first category above the supply, the
 /// first spectrum cap that it breaks, or the eligibility where its points are above that, and else Ok. Clock bids and drafts are
 /// tested by it.
 pub fn reply_to_package(award: &Award, eligible: u64, bidder: u16, package: &Package) -> Reply

@@ -1,22 +1,22 @@
 // The clock.
 ghost use Rattle.std.specs.Prelude.{◌≡◌, ◌≢◌, ◌⊎◌, ◌∷◌, ◌++◌, ◌<◌, [], IfOk, IsTrue, List, ℕ, length, replicate, map, true, false};
-ghost use Rattle.award_file.specs.auction_rules.specs.declared.Event.{Event};
-ghost use Rattle.award_file.specs.auction_rules.specs.declared.Reply.{Reply};
-ghost use Rattle.award_file.specs.auction_rules.specs.Replies.{reply_to};
-ghost use Rattle.award_file.specs.auction_rules.specs.State.{state_of};
-ghost use Rattle.award_file.specs.auction_rules.specs.Rounds.{listing};
-ghost use Rattle.award_file.specs.auction_rules.specs.Terms.{entrant};
+ghost use Rattle.auction_rules.specs.declared.Event.{Event};
+ghost use Rattle.auction_rules.specs.declared.Reply.{Reply};
+ghost use Rattle.auction_rules.specs.Replies.{reply_to};
+ghost use Rattle.auction_rules.specs.State.{state_of};
+ghost use Rattle.auction_rules.specs.Rounds.{listing};
+ghost use Rattle.auction_rules.specs.Terms.{entrant};
 ghost use Rattle.clock_stage.specs.ClockState.{after_bid, after_close, clock_of, clock_with, reply_to_bid, reply_to_close, round_number};
 ghost use Rattle.clock_stage.specs.Closings.{IsRefusal, Tells};
 ghost use Rattle.clock_stage.specs.Kept.{IsClock, IsFor, bidders_in, categories_in};
 ghost use Rattle.clock_stage.specs.Rounds.{round_value};
 
 use crate::bids::reply_to_bid;
-use crate::closes::{Closed, Closing, closing_of};
+use crate::closes::{CloseStep, Closed, closing_of};
 use crate::rounds::{ClockRound, History, empty_packages};
+use auction_rules::{Event, Reply};
 use award_file::Award;
-use award_file::auction_rules::{Event, Reply};
-use award_file::bid_book::lots::Package;
+use lots::Package;
 use std::alloc::{AllocError, Global};
 use std::marker::Model;
 
@@ -70,7 +70,7 @@ impl Clock {
         })
     }
 
-    /// Takes a clock bid: the package that the bidder asks for in the posted round, in place of an earlier one. It takes no
+    /// Takes a clock bid: the package that the bidder asks for in the posted round, instead of an earlier one. It takes no
     /// memory. The clock has to run, and the award has to be that of its start, or one with as many bidders and categories.
     ///
     /// The reply is Ok, Unknown, Supply, SpectrumCap or Points; where it isn't Ok, nothing changes. A clock that stands for a log
@@ -96,9 +96,9 @@ impl Clock {
     }
 
     /// Closes the posted round. Where some count of what all bidders ask for is above the supply, the prices of these
-    /// categories rise and the next round is posted; else the clock stage ends. The conditions are those of a bid.
+    /// categories rise and the next round is posted, else the clock stage ends. The conditions are those of a bid.
     ///
-    /// After a refusal and for want of memory all is as it was. A clock that stands for a log answers by the rules, and then
+    /// After a refusal and when out of memory all is as it was. A clock that stands for a log answers by the rules, and then
     /// stands for the log with this line, unless there was no memory.
     pub fn close(&mut self, alloc: Global, award: &Award) -> Closed
         requires running { IsTrue self.old.running }
@@ -114,9 +114,9 @@ impl Clock {
             × (self.new ≡ clock_of (state_of award.now (Event.Close ∷ log)))) }
     {
         match closing_of(alloc, award, &self.history, &self.posted) {
-            Ok(Closing::Next(next)) => self.post(next),
-            Ok(Closing::Ends(last)) => self.end(last),
-            Ok(Closing::Refused(closed)) => closed,
+            Ok(CloseStep::Next(next)) => self.post(next),
+            Ok(CloseStep::Ends(last)) => self.end(last),
+            Ok(CloseStep::Refused(closed)) => closed,
             Err(_) => Closed::Memory,
         }
     }

@@ -9,8 +9,8 @@ use crate::demand::{demand_of, first_above_top, is_met};
 use crate::rounds::{ClockRound, History, empty_packages, points_of};
 use crate::steps::raised_prices;
 use award_file::Award;
-use award_file::bid_book::lots::Package;
-use award_file::bid_book::lots::limits::MOST_ROUNDS;
+use limits::MOST_ROUNDS;
+use lots::Package;
 use std::alloc::{AllocError, Global};
 
 /// What the close of a round answers. Categories are numbered from 1.
@@ -30,10 +30,10 @@ pub enum Closed {
 
 /// What a close leads to, with all the memory that it takes but that of the history.
 #[derive(Drop)]
-pub enum Closing {
+pub enum CloseStep {
     /// This round is posted next.
     Next(ClockRound),
-    /// The clock ends, and this is the final round once more.
+    /// The clock ends, and this is the final round again.
     Ends(ClockRound),
     /// The close is refused.
     Refused(Closed),
@@ -62,7 +62,7 @@ pub fn closing_of(
     award: &Award,
     history: &History,
     posted: &ClockRound,
-) -> Result<Closing, AllocError>
+) -> Result<CloseStep, AllocError>
     requires clock { IsClock (clock_with true history.now (round_value posted.now)) }
     requires award { IsFor award.now (clock_with true history.now (round_value posted.now)) }
     ensures { IfOk result (IsClosing award.now (clock_with true history.now (round_value posted.now))) }
@@ -70,10 +70,10 @@ pub fn closing_of(
     let supply = award.supply();
     let demand = demand_of(alloc, supply, &posted.held)?;
     if is_met(&demand, supply.counts()) {
-        return Ok(Closing::Ends(posted.copied(alloc)?));
+        return Ok(CloseStep::Ends(posted.copied(alloc)?));
     }
     if u64::from(history.rounds()) + 1 >= MOST_ROUNDS {
-        return Ok(Closing::Refused(Closed::Full(MOST_ROUNDS)));
+        return Ok(CloseStep::Refused(Closed::Full(MOST_ROUNDS)));
     }
     let prices = raised_prices(
         alloc,
@@ -83,7 +83,7 @@ pub fn closing_of(
         supply.counts(),
     )?;
     if let Some((category, price)) = first_above_top(&prices) {
-        return Ok(Closing::Refused(Closed::PriceTop { category, price }));
+        return Ok(CloseStep::Refused(Closed::PriceTop { category, price }));
     }
-    Ok(Closing::Next(round_after(alloc, award, prices, posted)?))
+    Ok(CloseStep::Next(round_after(alloc, award, prices, posted)?))
 }

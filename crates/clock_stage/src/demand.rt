@@ -1,15 +1,15 @@
 // What all bidders ask for.
 ghost use Rattle.std.specs.Prelude.{◌≡◌, ◌≤◌, ◌+◌, ◌^◌, All, IfOk, List, [], ℕ, length, map, option_map, slice_index_or};
-ghost use Rattle.award_file.specs.limits.specs.declared.TheConstants.{MOST_BIDDERS, MOST_CATEGORIES};
-ghost use Rattle.award_file.specs.auction_model.specs.Package.{is_within, together};
-ghost use Rattle.award_file.specs.auction_rules.specs.Replies.{price_top};
-ghost use Rattle.award_file.specs.auction_rules.specs.Rounds.{sum_of};
-ghost use Rattle.award_file.specs.auction_rules.specs.State.{asked_of};
+ghost use Rattle.limits.specs.declared.TheConstants.{MOST_BIDDERS, MOST_CATEGORIES};
+ghost use Rattle.auction_model.specs.Package.{is_within, together};
+ghost use Rattle.auction_rules.specs.Replies.{price_top};
+ghost use Rattle.auction_rules.specs.Rounds.{sum_of};
+ghost use Rattle.auction_rules.specs.State.{asked_of};
 ghost use Rattle.clock_stage.specs.ClockState.{top_reply};
 ghost use Rattle.clock_stage.specs.Kept.{IsHeld};
 
-use award_file::bid_book::lots::limits::MOST_PRICE;
-use award_file::bid_book::lots::{Package, Supply};
+use limits::MOST_PRICE;
+use lots::{Package, Supply};
 use std::alloc::{AllocError, Global};
 
 /// Adds the counts of a package to a sum.

@@ -8,7 +8,7 @@ mod demand;
 mod rounds;
 mod steps;
 
-pub use award_file::auction_rules::{Event, Reply, Stage};
+pub use auction_rules::{Event, Reply, Stage};
 pub use bids::reply_to_package;
 pub use clock::Clock;
 pub use closes::Closed;

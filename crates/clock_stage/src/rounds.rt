@@ -1,11 +1,11 @@
 // Rounds, and the history of the closed ones.
 ghost use Rattle.std.specs.Prelude.{◌≡◌, ◌≤◌, ◌∷◌, ◌++◌, [], All, IfOk, List, ℕ, OnErr, OnOk, length, map, replicate, slice_index, slice_index_or, ◌-◌};
-ghost use Rattle.award_file.specs.limits.specs.declared.TheConstants.{MOST_POINTS, MOST_PRICE};
-ghost use Rattle.award_file.specs.auction_model.specs.Package.{cost_of};
-ghost use Rattle.clock_stage.specs.Kept.{IsHeld, IsHistory, IsRound, bidders_in, categories_in, round_at};
+ghost use Rattle.limits.specs.declared.TheConstants.{MOST_POINTS, MOST_PRICE};
+ghost use Rattle.auction_model.specs.Package.{cost_of};
+ghost use Rattle.clock_stage.specs.Kept.{IsHeld, IsHistory, IsRound, bidders_in, categories_in, closed_round};
 ghost use Rattle.clock_stage.specs.Rounds.{round_value};
 
-use award_file::bid_book::lots::{Package, Supply};
+use lots::{Package, Supply};
 use std::alloc::{AllocError, Global};
 use std::marker::Model;
 use std::mem;
@@ -20,7 +20,7 @@ pub struct ClockRound {
 }
 
 impl ClockRound {
-    /// The same round once more.
+    /// A copy of the round.
     pub fn copied(&self, alloc: Global) -> Result<ClockRound, AllocError>
         ensures { IfOk result (λ r. round_value r ≡ round_value self.now) }
     {
@@ -35,7 +35,7 @@ impl ClockRound {
     }
 }
 
-/// The same packages once more.
+/// A copy of the packages.
 fn packages_copied(alloc: Global, packages: &[Package]) -> Result<Vec<Package>, AllocError>
     ensures { IfOk result (λ v. v.items ≡ packages.now) }
 {
@@ -46,7 +46,7 @@ fn packages_copied(alloc: Global, packages: &[Package]) -> Result<Vec<Package>, 
     Ok(copies)
 }
 
-/// So many packages without a lot.
+/// That many packages without a lot.
 pub fn empty_packages(
     alloc: Global,
     supply: &Supply,
@@ -86,7 +86,7 @@ pub struct History {
 
 impl Model for History {
     ghost use Rattle.std.specs.Prelude.{List};
-    ghost use Rattle.award_file.specs.auction_rules.specs.State.{Round};
+    ghost use Rattle.auction_rules.specs.State.{Round};
     ghost use Rattle.clock_stage.specs.Kept.{IsHistory};
     ghost use Rattle.clock_stage.specs.Rounds.{round_values};
 
@@ -107,7 +107,7 @@ impl History {
         }
     }
 
-    /// Closes the posted round: it becomes the last of the history, and `next` is posted in its place. For want of memory
+    /// Closes the posted round: it becomes the last of the history, and `next` is posted in its place. For out of memory
     /// nothing changes.
     pub(crate) fn close(
         &mut self,
@@ -141,7 +141,7 @@ impl History {
     /// Round `r`.
     fn round(&self, r: u32) -> &ClockRound
         requires { (1 ≤ r) × (r ≤ length self.now) }
-        ensures round { round_value result.now ≡ round_at self.now r }
+        ensures round { round_value result.now ≡ closed_round self.now r }
         ensures kept { IsRound (bidders_in self.now) (categories_in self.now) (round_value result.now) }
     {
         &self.rounds[r as usize - 1]
@@ -150,7 +150,7 @@ impl History {
     /// The prices of round `r`.
     pub fn prices(&self, r: u32) -> &[u64]
         requires { (1 ≤ r) × (r ≤ length self.now) }
-        ensures prices { result.now ≡ (round_at self.now r).prices }
+        ensures prices { result.now ≡ (closed_round self.now r).prices }
         ensures categories { length result.now ≡ categories_in self.now }
         ensures most { All (λ p. p ≤ MOST_PRICE) result.now }
     {
@@ -161,7 +161,7 @@ impl History {
     pub fn eligibility(&self, r: u32, j: u16) -> u64
         requires round { (1 ≤ r) × (r ≤ length self.now) }
         requires bidder { (1 ≤ j) × (j ≤ bidders_in self.now) }
-        ensures { result ≡ slice_index (round_at self.now r).eligibility (j - 1) }
+        ensures { result ≡ slice_index (closed_round self.now r).eligibility (j - 1) }
     {
         self.round(r).eligibility[j as usize - 1]
     }
@@ -170,7 +170,7 @@ impl History {
     pub fn package(&self, r: u32, j: u16) -> &Package
         requires round { (1 ≤ r) × (r ≤ length self.now) }
         requires bidder { (1 ≤ j) × (j ≤ bidders_in self.now) }
-        ensures package { result.now ≡ slice_index_or (round_at self.now r).held (j - 1) [] }
+        ensures package { result.now ≡ slice_index_or (closed_round self.now r).held (j - 1) [] }
         ensures held { IsHeld (categories_in self.now) result.now }
     {
         &self.round(r).held[j as usize - 1]

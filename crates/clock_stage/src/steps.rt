@@ -1,12 +1,12 @@
 // The price step.
 ghost use Rattle.std.specs.Prelude.{◌≡◌, ◌≤◌, ◌^◌, All, IfOk, length};
-ghost use Rattle.award_file.specs.limits.specs.declared.TheConstants.{MOST_PRICE};
-ghost use Rattle.award_file.specs.auction_rules.specs.Rounds.{raised_prices};
-ghost use Rattle.award_file.specs.auction_rules.specs.Step.{permille_at, stepped};
+ghost use Rattle.limits.specs.declared.TheConstants.{MOST_PRICE};
+ghost use Rattle.auction_rules.specs.Rounds.{raised_prices};
+ghost use Rattle.auction_rules.specs.Step.{permille_at, stepped};
 ghost use Rattle.clock_stage.specs.Raised.{IsRaisedPrice};
 
+use auction_rules::{greatest_threshold, raise_is_least};
 use award_file::StepTable;
-use award_file::auction_rules::{greatest_threshold, raise_is_least};
 use std::alloc::{AllocError, Global};
 
 /// The permille of the last threshold whose excess is reached, and 0 where none is.

@@ -3,7 +3,7 @@ use Rattle.std.specs.Prelude.{◌≡◌, ℕ, List, [], ◌∷◌, ◌++◌, map
 use Rattle.std.specs.declared.option.Option.TheVariants.{Some, None}
 use Rattle.std.proofs.Common.{sym, ◌∙◌, ap, append_assoc, append-nil}
 use Rattle.blocking.specs.declared.look.Block.{Block}
-use Rattle.blocking.specs.far_num.specs.declared.Row.{Row}
+use Rattle.far_num.specs.declared.Row.{Row}
 use Rattle.core_price.specs.Rows.{block_choices, block_rows, blocks_of, with_block}
 use Rattle.core_price.specs.declared.priced.Turn.{Turn}
 use mathlib.Core.List.{map-append}

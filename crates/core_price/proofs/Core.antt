@@ -1,27 +1,27 @@
 -- A free point with multipliers on rows is in the core: no winner pays more than its bid, though no row asks for it.
-use Rattle.std.specs.Prelude.{◌≡◌, ℕ, zero, suc, ◌-◌, ◌<◌, ◌≤◌, ◌==◌, Bool, true, false, cond, not, ◌&&◌, IsTrue, List, length, ℤ, pos, ◌+ℤ◌, ◌-ℤ◌, ◌*ℤ◌}
-use Rattle.std.specs.Prelude.{◌≤ℤ◌, refl}
+use Rattle.std.specs.Prelude.{Bool, IsTrue, List, cond, false, length, not, pos, refl, suc, true, zero, ℕ, ℤ, ◌&&◌, ◌*ℤ◌, ◌+ℤ◌, ◌-ℤ◌, ◌-◌, ◌<◌, ◌==◌}
+use Rattle.std.specs.Prelude.{◌≡◌, ◌≤ℤ◌, ◌≤◌}
 use Rattle.std.proofs.Common.{◌∙◌, ap, arith, ◌⊎◌, inl, inr}
 use Rattle.std.proofs.lemmas.Int.{ints}
 use Rattle.std.proofs.lemmas.Bool.{ne_eqb, eq-eqb}
-use Rattle.nearest_point.specs.auction_model.specs.Market.{Market, worth_in, uses}
-use Rattle.nearest_point.specs.auction_model.specs.Greatest.{IsWinning}
-use Rattle.nearest_point.specs.auction_model.specs.Lawful.{IsMarket}
-use Rattle.nearest_point.specs.auction_model.specs.Lowered.{of_bidder}
-use Rattle.nearest_point.specs.auction_model.specs.Prices.{Point, IsUnblocked, IsCorePoint}
-use Rattle.nearest_point.specs.auction_model.specs.Blocks.{excess_of}
-use Rattle.blocking.specs.far_num.specs.Members.{holds}
-use Rattle.blocking.specs.far_num.specs.declared.Row.{Row}
+use Rattle.auction_model.specs.Market.{Market, uses, worth_in}
+use Rattle.auction_model.specs.Greatest.{IsWinning}
+use Rattle.auction_model.specs.Lawful.{IsMarket}
+use Rattle.auction_model.specs.Lowered.{of_bidder}
+use Rattle.auction_model.specs.Prices.{IsCorePoint, IsUnblocked, Point}
+use Rattle.auction_model.specs.Blocks.{excess_of}
+use Rattle.far_num.specs.Members.{holds}
+use Rattle.far_num.specs.declared.Row.{Row}
 use Rattle.nearest_point.specs.Problem.{bounds, coefficients, row_at}
 use Rattle.nearest_point.proofs.Places.{lt_or}
-use Rattle.nearest_point.specs.point_laws.specs.Multipliers.{AreFirst, SumsTo}
-use Rattle.nearest_point.specs.point_laws.proofs.Order.{zero_or}
-use Rattle.blocking.specs.row_laws.specs.Rows.{IsGivenBy}
-use Rattle.blocking.specs.row_laws.specs.Winners.{for_bidders, has_bit, row_of, winners_in}
-use Rattle.blocking.specs.row_laws.proofs.Blocks.{excess-row, free-excess, idle-outside}
-use Rattle.blocking.specs.row_laws.proofs.Excess.{excess-is, terms}
-use Rattle.nearest_point.specs.wide_num.specs.Sums.{nth, dot, total}
-use Rattle.nearest_point.specs.wide_num.proofs.Sums.{total-same}
+use Rattle.projection_laws.specs.Multipliers.{AreFirst, SumsTo}
+use Rattle.projection_laws.proofs.Order.{zero_or}
+use Rattle.core_laws.specs.Rows.{IsGivenBy}
+use Rattle.core_laws.specs.Winners.{for_bidders, has_bit, has_member, winners_in}
+use Rattle.core_laws.proofs.Blocks.{excess-row, free-excess, idle-outside}
+use Rattle.core_laws.proofs.Excess.{excess-is, terms}
+use Rattle.wide_num.specs.Sums.{dot, nth, total}
+use Rattle.wide_num.proofs.Sums.{total-same}
 use Rattle.core_price.specs.SoFar.{choice_at}
 use Rattle.core_price.specs.Turns.{point_of}
 use Rattle.core_price.proofs.Places.{place-of}
@@ -54,7 +54,7 @@ module _ (m : Market) (lawful : IsMarket m) (z : List ℕ) (win : IsWinning m z)
 
   -- a price above its bid lies in a tight row, and the row without that winner would be violated
   tight-below : (i : ℕ) → i < length rows → dot (winners_in z) (coefficients rows i) (nth at) ≡ den *ℤ bounds rows i → (k : ℕ) → k < m.bidders
-      → row_of z (row_at rows i).members (suc k) ≡ true → of_bidder (for_bidders z at) (suc k) ≤ℤ (den *ℤ worth_in m z (suc k))
+      → has_member z (row_at rows i).members (suc k) ≡ true → of_bidder (for_bidders z at) (suc k) ≤ℤ (den *ℤ worth_in m z (suc k))
   tight-below i lt tight k lk member =
       let row = given i lt in
       let p : Point = point_of z den at in
@@ -62,20 +62,20 @@ module _ (m : Market) (lawful : IsMarket m) (z : List ℕ) (win : IsWinning m z)
       let bits = (row_at rows i).members in
       let e = excess-row m z len den at bits c in
       let g = ap (λ (t : ℤ). den *ℤ t) row.given in
-      let none : excess_of m z (point_of z den at) (row_of z bits) c ≡ pos 0 = omega (arith, ints) in
-      let x = excess-is m lawful z (point_of z den at) c row.allowed (row_of z bits) in
-      let y = excess-is m lawful z (point_of z den at) c row.allowed (λ j. row_of z bits j && not (j == suc k)) in
-      let w = free-excess m lawful z (point_of z den at) free c row.allowed (λ j. row_of z bits j && not (j == suc k))
-      (λ j q le u. out (row_of z bits j) (j == suc k) (idle-outside m z c (row_of z bits) row.idle j q le u)) in
-      let h = sum-change m.bidders (terms m z (point_of z den at) c (λ j. not (row_of z bits j)))
-      (terms m z (point_of z den at) c (λ j. not (row_of z bits j && not (j == suc k)))) k lk
+      let none : excess_of m z (point_of z den at) (has_member z bits) c ≡ pos 0 = omega (arith, ints) in
+      let x = excess-is m lawful z (point_of z den at) c row.allowed (has_member z bits) in
+      let y = excess-is m lawful z (point_of z den at) c row.allowed (λ j. has_member z bits j && not (j == suc k)) in
+      let w = free-excess m lawful z (point_of z den at) free c row.allowed (λ j. has_member z bits j && not (j == suc k))
+      (λ j q le u. out (has_member z bits j) (j == suc k) (idle-outside m z c (has_member z bits) row.idle j q le u)) in
+      let h = sum-change m.bidders (terms m z (point_of z den at) c (λ j. not (has_member z bits j)))
+      (terms m z (point_of z den at) c (λ j. not (has_member z bits j && not (j == suc k)))) k lk
       (λ l ll d. ap (λ t. (den *ℤ worth_in m c (suc l)) -ℤ cond t (den *ℤ worth_in m z (suc l)) (of_bidder (for_bidders z at) (suc l)))
-      (other (row_of z bits (suc l)) (suc l == suc k) (ne_eqb (suc l) (suc k) (λ q. d (let a = q in omega arith))))) in
-      let own : terms m z (point_of z den at) c (λ j. not (row_of z bits j)) k ≡ (den *ℤ worth_in m c (suc k)) -ℤ of_bidder (for_bidders z at) (suc k) =
+      (other (has_member z bits (suc l)) (suc l == suc k) (ne_eqb (suc l) (suc k) (λ q. d (let a = q in omega arith))))) in
+      let own : terms m z (point_of z den at) c (λ j. not (has_member z bits j)) k ≡ (den *ℤ worth_in m c (suc k)) -ℤ of_bidder (for_bidders z at) (suc k) =
       ap (λ t. (den *ℤ worth_in m c (suc k)) -ℤ cond (not t) (den *ℤ worth_in m z (suc k)) (of_bidder (for_bidders z at) (suc k))) member in
-      let now : terms m z (point_of z den at) c (λ j. not (row_of z bits j && not (j == suc k))) k ≡ (den *ℤ worth_in m c (suc k)) -ℤ
+      let now : terms m z (point_of z den at) c (λ j. not (has_member z bits j && not (j == suc k))) k ≡ (den *ℤ worth_in m c (suc k)) -ℤ
       (den *ℤ worth_in m z (suc k)) = ap (λ t. (den *ℤ worth_in m c (suc k)) -ℤ cond t (den *ℤ worth_in m z (suc k))
-      (of_bidder (for_bidders z at) (suc k))) (gone (row_of z bits (suc k)) (suc k == suc k) (eq-eqb (suc k) (suc k) refl)) in
+      (of_bidder (for_bidders z at) (suc k))) (gone (has_member z bits (suc k)) (suc k == suc k) (eq-eqb (suc k) (suc k) refl)) in
       omega (arith, ints)
     where
       out : (s b : Bool) → not s ≡ true → not (s && not b) ≡ true

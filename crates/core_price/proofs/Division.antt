@@ -3,16 +3,16 @@ use Rattle.std.specs.Prelude.{◌≡◌, ◌≢◌, ℕ, zero, suc, ◌+◌, ◌
 use Rattle.std.proofs.Common.{sym, ◌∙◌, ap, arith, subst}
 use Rattle.std.proofs.lemmas.Int.{ints, unsigned_abs-mul}
 use Rattle.std.proofs.Math.IntN.{*ℤ-zero}
-use Rattle.blocking.specs.far_num.specs.declared.Row.{Row}
+use Rattle.far_num.specs.declared.Row.{Row}
 use Rattle.nearest_point.specs.Numbers.{is_zero, pairs_used}
 use Rattle.nearest_point.specs.Problem.{bounds, coefficients, weight_at}
 use Rattle.nearest_point.specs.Shown.{IsShownNearest}
-use Rattle.nearest_point.specs.point_laws.specs.Multipliers.{sum_at}
-use Rattle.nearest_point.specs.point_laws.proofs.Order.{cancel_nonneg}
-use Rattle.nearest_point.specs.wide_num.proofs.Ints.{lin, mul_assoc, mul_cancel, mul-sub, mul-zero_cases, swap_mul}
-use Rattle.nearest_point.specs.wide_num.proofs.Sums.{dot-same, dot-scale, dot-scale_left, total-same}
-use Rattle.nearest_point.specs.wide_num.specs.Sums.{dot, nth}
-use Rattle.nearest_point.specs.lin_solve.specs.Elimination.{AreQuotients}
+use Rattle.projection_laws.specs.Multipliers.{sum_at}
+use Rattle.projection_laws.proofs.Order.{cancel_nonneg}
+use Rattle.wide_num.proofs.Ints.{lin, mul-sub, mul-zero_cases, mul_assoc, mul_cancel, swap_mul}
+use Rattle.wide_num.proofs.Sums.{dot-same, dot-scale, dot-scale_left, total-same}
+use Rattle.wide_num.specs.Sums.{dot, nth}
+use Rattle.lin_solve.specs.Elimination.{AreQuotients}
 use Rattle.core_price.specs.Lowest.{IsMultiple}
 
 -- a number above 0 isn't 0

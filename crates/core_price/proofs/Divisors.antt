@@ -3,12 +3,12 @@ use Rattle.std.specs.Prelude.{◌≡◌, ℕ, zero, suc, ◌+◌, ◌*◌, ◌<�
 use Rattle.std.specs.Int.{IsGcd}
 use Rattle.std.proofs.Common.{sym, ◌∙◌, ap, arith, subst, inl, inr}
 use Rattle.std.proofs.lemmas.Int.{ints}
-use Rattle.nearest_point.specs.lin_solve.proofs.Gcds.{gcd_parts}
+use Rattle.lin_solve.proofs.Gcds.{gcd_parts}
 use Rattle.nearest_point.proofs.Places.{lt_or}
-use Rattle.nearest_point.specs.wide_num.proofs.Ints.{lin, mul-add, mul_assoc, mul_cancel, swap_mul, *ℤ-one}
-use Rattle.nearest_point.specs.wide_num.specs.Range.{Divides, InRange}
-use Rattle.nearest_point.specs.wide_num.specs.Sums.{nth}
-use Rattle.nearest_point.specs.lin_solve.specs.Elimination.{AreQuotients}
+use Rattle.wide_num.proofs.Ints.{*ℤ-one, lin, mul-add, mul_assoc, mul_cancel, swap_mul}
+use Rattle.wide_num.specs.Range.{Divides, InRange}
+use Rattle.wide_num.specs.Sums.{nth}
+use Rattle.lin_solve.specs.Elimination.{AreQuotients}
 use Rattle.core_price.specs.Lowest.{DividesAll, DividesPoint, IsLowest, IsMultiple}
 
 -- a divisor of a divisor divides

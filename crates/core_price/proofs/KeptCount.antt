@@ -2,9 +2,9 @@
 use Rattle.std.specs.Prelude.{◌≡◌, ◌≢◌, ℕ, zero, suc, ◌+◌, ◌-◌, ◌*◌, ◌<◌, ◌⊎◌, filter, List, [], ◌∷◌, length, ℤ, pos, negsuc, unsigned_abs, refl}
 use Rattle.std.specs.List.{AllByRecursion}
 use Rattle.std.proofs.Common.{ap, arith, inl, inr}
-use Rattle.blocking.specs.far_num.specs.declared.Row.{Row}
+use Rattle.far_num.specs.declared.Row.{Row}
 use Rattle.nearest_point.specs.Numbers.{AreBelow, is_zero, pairs_used}
-use Rattle.nearest_point.specs.wide_num.specs.Sums.{nth}
+use Rattle.wide_num.specs.Sums.{nth}
 use Rattle.core_price.specs.Kept.{is_used, seconds, with_pairs}
 use Rattle.core_price.specs.declared.priced.PricedRow.{PricedRow}
 use Rattle.core_price.proofs.KeptSums.{AreLong, kept-each, kept_of, take_or_skip, unused-none, used-some}

@@ -1,7 +1,7 @@
 -- The rows that are kept: one row more, what they are, and that the rows left out add nothing.
 use Rattle.std.specs.Prelude.{◌≡◌, ℕ, zero, suc, ◌+◌, ◌<◌, true, false, filter, List, [], ◌∷◌, ◌++◌, length, drop, get_or, ℤ, pos, refl}
 use Rattle.std.proofs.Common.{sym, ◌∙◌, ap, arith, add-one, append_assoc, drop-cons}
-use Rattle.blocking.specs.far_num.specs.declared.Row.{Row}
+use Rattle.far_num.specs.declared.Row.{Row}
 use Rattle.core_price.specs.Kept.{is_used, pair_used, with_pairs}
 use Rattle.core_price.specs.declared.priced.PricedRow.{PricedRow}
 

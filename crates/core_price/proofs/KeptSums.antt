@@ -8,14 +8,14 @@ use Rattle.std.proofs.lemmas.Bool.{cases_Bool, false≢true}
 use Rattle.std.proofs.lemmas.Bool.Decides.{Decides-int_eq}
 use Rattle.std.proofs.lemmas.Int.{ints}
 use Rattle.std.proofs.lemmas.List.{get_or-map, length-map}
-use Rattle.blocking.specs.far_num.specs.Members.{holds}
-use Rattle.blocking.specs.far_num.specs.declared.Row.{Row}
+use Rattle.far_num.specs.Members.{holds}
+use Rattle.far_num.specs.declared.Row.{Row}
 use Rattle.nearest_point.specs.Problem.{bounds, coefficients, row_at}
-use Rattle.nearest_point.specs.point_laws.specs.Multipliers.{AreFirst, AreSecond, sum_at}
-use Rattle.nearest_point.specs.point_laws.proofs.PointLaws.{zero_times}
-use Rattle.nearest_point.specs.wide_num.specs.Range.{Divides}
-use Rattle.nearest_point.specs.wide_num.specs.Sums.{dot, nth, total}
-use Rattle.nearest_point.specs.wide_num.proofs.Sums.{total-first, total-same}
+use Rattle.projection_laws.specs.Multipliers.{AreFirst, AreSecond, sum_at}
+use Rattle.projection_laws.proofs.PointLaws.{zero_times}
+use Rattle.wide_num.specs.Range.{Divides}
+use Rattle.wide_num.specs.Sums.{dot, nth, total}
+use Rattle.wide_num.proofs.Sums.{total-first, total-same}
 use Rattle.core_price.specs.Kept.{AreAmong, firsts, is_used, pair_used, rows_in, seconds, with_pairs}
 use Rattle.core_price.specs.Lowest.{IsLowest}
 use Rattle.core_price.specs.declared.priced.PricedRow.{PricedRow}
@@ -68,7 +68,7 @@ among-take : (row : Row) (c : List ℕ) (f s : ℤ) (rows : List Row) (choices :
     → AreAmong (row ∷ rows) (c ∷ choices) (record { row = row; choice = c; first = f; second = s } ∷ kept)
 among-take row c f s rows choices kept h = inl (refl, refl, h)
 
--- the kept rows stand in order among all
+-- the kept rows are in order among all
 pub kept-among :
     (rows : List Row) (choices : List (List ℕ)) (first second : List ℤ) → AreLong rows choices first second
     → AreAmong rows choices (kept_of rows choices first second)

@@ -1,24 +1,24 @@
 -- The point of a turn meets the conditions of the look for a block, and leaves room for the whole value.
-use Rattle.std.specs.Prelude.{◌≡◌, ℕ, zero, suc, ◌+◌, ◌*◌, ◌^◌, ◌<◌, ◌≤◌, true, false, IsFalse, List, length, ℤ, pos, negsuc, ◌+ℤ◌, ◌-ℤ◌, ◌*ℤ◌, ◌≤ℤ◌, ◌<ℤ◌}
-use Rattle.std.specs.Prelude.{unsigned_abs}
+use Rattle.std.specs.Prelude.{IsFalse, List, false, length, negsuc, pos, suc, true, unsigned_abs, zero, ℕ, ℤ, ◌*ℤ◌, ◌*◌, ◌+ℤ◌, ◌+◌, ◌-ℤ◌, ◌<ℤ◌, ◌<◌}
+use Rattle.std.specs.Prelude.{◌^◌, ◌≡◌, ◌≤ℤ◌, ◌≤◌}
 use Rattle.std.proofs.Common.{◌∙◌, ap, arith, inl, inr, ◌⊎◌}
 use Rattle.std.proofs.lemmas.Int.{ints}
 use Rattle.std.proofs.lemmas.Bool.{cases_Bool}
 use Rattle.std.proofs.Math.Nat.{mul-le-mul}
-use Rattle.nearest_point.specs.auction_model.specs.Market.{Market, uses, value_of, worth_in}
-use Rattle.nearest_point.specs.auction_model.specs.Greatest.{IsWinning}
-use Rattle.nearest_point.specs.auction_model.specs.Lawful.{IsMarket}
-use Rattle.nearest_point.specs.auction_model.specs.Lowered.{of_bidder, sum_to}
-use Rattle.nearest_point.specs.auction_model.specs.Prices.{everyone, sum_over}
+use Rattle.auction_model.specs.Market.{Market, uses, value_of, worth_in}
+use Rattle.auction_model.specs.Greatest.{IsWinning}
+use Rattle.auction_model.specs.Lawful.{IsMarket}
+use Rattle.auction_model.specs.Lowered.{of_bidder, sum_to}
+use Rattle.auction_model.specs.Prices.{everyone, sum_over}
 use Rattle.blocking.specs.Look.{CanLook}
 use Rattle.nearest_point.specs.Numbers.{AreBelow}
-use Rattle.nearest_point.specs.point_laws.proofs.Order.{mul_nonneg}
-use Rattle.blocking.specs.row_laws.specs.Surplus.{surpluses_of}
-use Rattle.blocking.specs.row_laws.specs.Winners.{for_bidders, winners_in}
-use Rattle.blocking.specs.row_laws.proofs.Sizes.{unused-worth, won-low, worth-nonneg}
-use Rattle.blocking.specs.row_laws.proofs.Surplus.{surpluses-are, surpluses-length}
-use Rattle.blocking.specs.row_laws.proofs.Winners.{all-bidders, loser-zero, paid-zip}
-use Rattle.nearest_point.specs.wide_num.specs.Sums.{nth, total}
+use Rattle.projection_laws.proofs.Order.{mul_nonneg}
+use Rattle.core_laws.specs.Surplus.{surpluses_of}
+use Rattle.core_laws.specs.Winners.{for_bidders, winners_in}
+use Rattle.core_laws.proofs.Sizes.{unused-worth, won-low, worth-nonneg}
+use Rattle.core_laws.proofs.Surplus.{surpluses-are, surpluses-length}
+use Rattle.core_laws.proofs.Winners.{all-bidders, loser-zero, paid-zip}
+use Rattle.wide_num.specs.Sums.{nth, total}
 use Rattle.core_price.specs.Turns.{point_of}
 use Rattle.core_price.proofs.Division.{size-below}
 use Rattle.core_price.proofs.Places.{place-of}

@@ -1,8 +1,8 @@
 -- The members of a row, bidder by bidder.
-use Rattle.std.proofs.Common.{◌≡◌, ℕ, suc, ◌+◌, ◌-◌, ◌/◌, ◌%◌, ◌<◌, ◌==◌, Bool, true, false, cond, List, [], ◌∷◌, ◌++◌, length, get_or, drop, refl, sym, ap}
-use Rattle.std.proofs.Common.{◌∙◌, arith}
+use Rattle.std.proofs.Common.{Bool, List, [], ap, arith, cond, drop, false, get_or, length, refl, suc, sym, true, ℕ, ◌%◌, ◌++◌, ◌+◌, ◌-◌, ◌/◌, ◌<◌}
+use Rattle.std.proofs.Common.{◌==◌, ◌∙◌, ◌∷◌, ◌≡◌}
 use Rattle.std.proofs.lemmas.List.{append-nil, drop_more}
-use Rattle.blocking.specs.row_laws.specs.Winners.{has_bit, members_of, row_of}
+use Rattle.core_laws.specs.Winners.{has_bit, has_member, members_of}
 
 -- the bidder, where the lowest bit is set
 abbrev pub lowest_member : ℕ → ℕ → List ℕ
@@ -10,7 +10,7 @@ lowest_member bits bidder = cond ((bits % 2) == 1) (bidder ∷ []) []
 
 -- the members of a row, bidder by bidder
 module _ (z : List ℕ) (bits k rest : ℕ) (others : (i : ℕ) → has_bit (drop k z) rest i ≡ has_bit z bits (k + i)) where
-  this-bit : row_of z bits (suc k) ≡ has_bit (drop k z) rest 0
+  this-bit : has_member z bits (suc k) ≡ has_bit (drop k z) rest 0
   this-bit =
       let same : suc k - 1 ≡ k + 0 = omega arith in
       ap (has_bit z bits) same ∙ sym (others 0)
@@ -25,28 +25,28 @@ module _ (z : List ℕ) (bits k rest : ℕ) (others : (i : ℕ) → has_bit (dro
   one-more true bidder ms = refl
   one-more false bidder ms = sym (append-nil ms)
 
-  module _ (list new : List ℕ) (made : list ≡ members_of (row_of z bits) k) where
+  module _ (list new : List ℕ) (made : list ≡ members_of (has_member z bits) k) where
     -- a loser adds no member
-    pub loser-made : k < length z → get_or z k 0 ≡ 0 → new ≡ list → new ≡ members_of (row_of z bits) (k + 1)
+    pub loser-made : k < length z → get_or z k 0 ≡ 0 → new ≡ list → new ≡ members_of (has_member z bits) (k + 1)
     loser-made inside none is =
         let split : drop k z ≡ 0 ∷ drop (k + 1) z = drop_more z k 0 inside ∙ ap (λ (n : ℕ). n ∷ drop (k + 1) z) none in
-        let out : row_of z bits (suc k) ≡ false = this-bit ∙ ap (λ (l : List ℕ). has_bit l rest 0) split in
+        let out : has_member z bits (suc k) ≡ false = this-bit ∙ ap (λ (l : List ℕ). has_bit l rest 0) split in
         let up : k + 1 ≡ suc k = omega arith in
-        let same : members_of (row_of z bits) (k + 1) ≡ members_of (row_of z bits) k =
-        ap (members_of (row_of z bits)) up ∙ ap (λ (b : Bool). cond b (members_of (row_of z bits) k ++ suc k ∷ []) (members_of (row_of z bits) k)) out in
+        let same : members_of (has_member z bits) (k + 1) ≡ members_of (has_member z bits) k =
+        ap (members_of (has_member z bits)) up ∙ ap (λ (b : Bool). cond b (members_of (has_member z bits) k ++ suc k ∷ []) (members_of (has_member z bits) k)) out in
         is ∙ made ∙ sym same
 
     -- a winner is one member more where the lowest bit that is left is set
-    pub winner-made : (n : ℕ) → k < length z → get_or z k 0 ≡ suc n → new ≡ list ++ lowest_member rest (k + 1) → new ≡ members_of (row_of z bits) (k + 1)
+    pub winner-made : (n : ℕ) → k < length z → get_or z k 0 ≡ suc n → new ≡ list ++ lowest_member rest (k + 1) → new ≡ members_of (has_member z bits) (k + 1)
     winner-made n inside some is =
         let split : drop k z ≡ suc n ∷ drop (k + 1) z = drop_more z k 0 inside ∙ ap (λ (x : ℕ). x ∷ drop (k + 1) z) some in
-        let bit : row_of z bits (suc k) ≡ ((rest % 2) == 1) = this-bit ∙ ap (λ (l : List ℕ). has_bit l rest 0) split in
+        let bit : has_member z bits (suc k) ≡ ((rest % 2) == 1) = this-bit ∙ ap (λ (l : List ℕ). has_bit l rest 0) split in
         let up : k + 1 ≡ suc k = omega arith in
-        let more : members_of (row_of z bits) (k + 1) ≡ members_of (row_of z bits) k ++ lowest_member rest (k + 1) =
-        ap (members_of (row_of z bits)) up
-        ∙ ap (λ (b : Bool). cond b (members_of (row_of z bits) k ++ suc k ∷ []) (members_of (row_of z bits) k)) bit
-        ∙ one-more ((rest % 2) == 1) (suc k) (members_of (row_of z bits) k)
-        ∙ ap (λ (j : ℕ). members_of (row_of z bits) k ++ lowest_member rest j) (sym up) in
+        let more : members_of (has_member z bits) (k + 1) ≡ members_of (has_member z bits) k ++ lowest_member rest (k + 1) =
+        ap (members_of (has_member z bits)) up
+        ∙ ap (λ (b : Bool). cond b (members_of (has_member z bits) k ++ suc k ∷ []) (members_of (has_member z bits) k)) bit
+        ∙ one-more ((rest % 2) == 1) (suc k) (members_of (has_member z bits) k)
+        ∙ ap (λ (j : ℕ). members_of (has_member z bits) k ++ lowest_member rest j) (sym up) in
         is ∙ ap (λ (l : List ℕ). l ++ lowest_member rest (k + 1)) made ∙ sym more
 
   -- past a loser the bits that are left are those of the bidders after it

@@ -2,18 +2,18 @@
 use Rattle.std.specs.Prelude.{◌≡◌, ℕ, suc, ◌^◌, ◌<◌, List, length, ℤ, pos, ◌+ℤ◌, ◌*ℤ◌, ◌≤ℤ◌, ◌<ℤ◌}
 use Rattle.std.proofs.Common.{arith}
 use Rattle.std.proofs.lemmas.Int.{ints}
-use Rattle.nearest_point.specs.auction_model.proofs.PriceLaws.{vickrey-one}
-use Rattle.nearest_point.specs.auction_model.specs.Market.{Market, value_of}
-use Rattle.nearest_point.specs.auction_model.specs.Greatest.{IsWinning}
-use Rattle.nearest_point.specs.auction_model.specs.Lawful.{IsMarket}
-use Rattle.nearest_point.specs.auction_model.specs.Lowered.{of_bidder}
-use Rattle.nearest_point.specs.auction_model.specs.Prices.{AreVickreyPrices, IsCoreOutcome, IsCorePoint, Point, weight_of}
-use Rattle.nearest_point.specs.auction_model.specs.PricingRun.{IsPricingRun}
-use Rattle.blocking.specs.far_num.specs.declared.Row.{Row}
+use Rattle.auction_model.proofs.PriceLaws.{vickrey-one}
+use Rattle.auction_model.specs.Market.{Market, value_of}
+use Rattle.auction_model.specs.Greatest.{IsWinning}
+use Rattle.auction_model.specs.Lawful.{IsMarket}
+use Rattle.auction_model.specs.Lowered.{of_bidder}
+use Rattle.auction_model.specs.Prices.{AreVickreyPrices, IsCoreOutcome, IsCorePoint, Point, weight_of}
+use Rattle.auction_model.specs.PricingRun.{IsPricingRun}
+use Rattle.far_num.specs.declared.Row.{Row}
 use Rattle.nearest_point.specs.Problem.{row_at}
-use Rattle.blocking.specs.row_laws.specs.Winners.{for_bidders, winners_in}
-use Rattle.blocking.specs.row_laws.proofs.Blocks.{core-meets}
-use Rattle.blocking.specs.row_laws.proofs.Sizes.{worth-nonneg}
+use Rattle.core_laws.specs.Winners.{for_bidders, winners_in}
+use Rattle.core_laws.proofs.Blocks.{core-meets}
+use Rattle.core_laws.proofs.Sizes.{worth-nonneg}
 use Rattle.core_price.specs.SoFar.{CanTurn, HasEnded, choice_at}
 use Rattle.core_price.specs.Turns.{point_of, turns_of}
 use Rattle.core_price.specs.declared.priced.Turn.{Turn}

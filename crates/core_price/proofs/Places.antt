@@ -2,11 +2,11 @@
 use Rattle.std.specs.Prelude.{◌≡◌, ℕ, zero, suc, ◌-◌, ◌/◌, ◌%◌, ◌<◌, ◌==◌, true, false, List, [], ◌∷◌, length, ℤ, pos, refl}
 use Rattle.std.proofs.Common.{◌∙◌, arith}
 use Rattle.std.proofs.lemmas.Nat.{mod_below}
-use Rattle.nearest_point.specs.auction_model.specs.Market.{uses}
-use Rattle.blocking.specs.far_num.specs.Members.{holds}
-use Rattle.nearest_point.specs.wide_num.specs.Sums.{nth}
-use Rattle.blocking.specs.row_laws.specs.Winners.{winners_in, for_bidders, has_bit}
-use Rattle.blocking.specs.row_laws.proofs.Bits.{holds-front, holds-rest}
+use Rattle.auction_model.specs.Market.{uses}
+use Rattle.far_num.specs.Members.{holds}
+use Rattle.wide_num.specs.Sums.{nth}
+use Rattle.core_laws.specs.Winners.{for_bidders, has_bit, winners_in}
+use Rattle.core_laws.proofs.Bits.{holds-front, holds-rest}
 
 -- the bidder k + 1 is the winner i + 1
 pub record IsPlace (z : List ℕ) (k i : ℕ) : Type 0 where

@@ -4,25 +4,24 @@ use Rattle.std.specs.Prelude.{◌≡◌, ℕ, zero, suc, ◌-◌, ◌<◌, true,
 use Rattle.std.proofs.Common.{sym, ◌∙◌, ap, arith, subst, ◌⊎◌, inl, inr}
 use Rattle.std.proofs.lemmas.Int.{ints}
 use Rattle.std.proofs.lemmas.Bool.{cases_Bool}
-use Rattle.nearest_point.specs.auction_model.specs.Market.{Market, uses}
-use Rattle.nearest_point.specs.auction_model.specs.Lowered.{of_bidder}
-use Rattle.nearest_point.specs.auction_model.specs.Prices.{Point, everyone, paid, share, sum_over, square_distance, SamePoint, HasLeastSum, IsNearestTo}
-use Rattle.nearest_point.specs.auction_model.specs.Prices.{weight_of}
-use Rattle.blocking.specs.far_num.specs.declared.Row.{Row}
+use Rattle.auction_model.specs.Market.{Market, uses}
+use Rattle.auction_model.specs.Lowered.{of_bidder}
+use Rattle.auction_model.specs.Prices.{HasLeastSum, IsNearestTo, Point, SamePoint, everyone, paid, share, square_distance, sum_over, weight_of}
+use Rattle.far_num.specs.declared.Row.{Row}
 use Rattle.nearest_point.specs.Problem.{bounds, coefficients, row_at, share_at, weight_at}
 use Rattle.nearest_point.specs.Shown.{IsShownNearest}
-use Rattle.nearest_point.specs.point_laws.specs.Multipliers.{AreFirst, AreSecond, AreShares, SumsTo}
-use Rattle.nearest_point.specs.point_laws.specs.Points.{MeetsRows, SamePoint as SameNumbers, square_distance as distance}
-use Rattle.nearest_point.specs.point_laws.proofs.PointLaws.{least, nearest, at_each}
-use Rattle.nearest_point.specs.auction_model.proofs.Shares.{share-positive, share-whole}
-use Rattle.blocking.specs.row_laws.specs.Rows.{Meets}
-use Rattle.blocking.specs.row_laws.specs.Surplus.{AsksWinnersOnly}
-use Rattle.blocking.specs.row_laws.specs.Winners.{for_bidders, for_winners, winners_in}
-use Rattle.blocking.specs.row_laws.proofs.Sums.{over-is}
-use Rattle.blocking.specs.row_laws.proofs.Winners.{there_and_back, paid-zip, loser-zero, all-bidders}
-use Rattle.nearest_point.specs.wide_num.specs.Sums.{nth, total}
+use Rattle.projection_laws.specs.Multipliers.{AreFirst, AreSecond, AreShares, SumsTo}
+use Rattle.projection_laws.specs.Points.{MeetsRows, SameNumbers, square_distance_to}
+use Rattle.projection_laws.proofs.PointLaws.{at_each, least, nearest}
+use Rattle.auction_model.proofs.Shares.{share-positive, share-whole}
+use Rattle.core_laws.specs.Rows.{Meets}
+use Rattle.core_laws.specs.Surplus.{AsksWinnersOnly}
+use Rattle.core_laws.specs.Winners.{for_bidders, for_winners, winners_in}
+use Rattle.core_laws.proofs.Sums.{over-is}
+use Rattle.core_laws.proofs.Winners.{all-bidders, loser-zero, paid-zip, there_and_back}
+use Rattle.wide_num.specs.Sums.{nth, total}
 use Rattle.core_price.specs.Turns.{point_of}
-use Rattle.blocking.specs.row_laws.specs.Weights.{CanWeigh, weights_in}
+use Rattle.core_laws.specs.Weights.{CanWeigh, weights_in}
 use Rattle.core_price.proofs.Spots.{spot, spot-inside, spot-number}
 use Rattle.core_price.proofs.WeightLaws.{sum-spots, weight-is, weights-at}
 use Rattle.std.proofs.Math.IntN.{*ℤ-zero}
@@ -129,7 +128,7 @@ module _ (m : Market) (z : List ℕ) (len : length z ≡ m.bidders) (weights : L
         ∙ ap (λ (t : ℤ). share (weight_of weights (suc k)) *ℤ t) (square-none d)
         ∙ *ℤ-zero (share (weight_of weights (suc k)))
 
-    square-is : (d : ℤ) (xs : List ℤ) → square_distance m (weight_of weights) v (point_of z d xs) ≡ distance (winners_in z) (share_at (weights_in z weights))
+    square-is : (d : ℤ) (xs : List ℤ) → square_distance m (weight_of weights) v (point_of z d xs) ≡ square_distance_to (winners_in z) (share_at (weights_in z weights))
         (nth prices) d (nth xs)
     square-is d xs =
         over-is everyone (λ j. share (weight_of weights j) *ℤ ((of_bidder (for_bidders z xs) j -ℤ d *ℤ v j) *ℤ (of_bidder (for_bidders z xs) j -ℤ d *ℤ v j)))
@@ -177,7 +176,7 @@ module _ (m : Market) (z : List ℕ) (len : length z ≡ m.bidders) (weights : L
         q.den xs (numbers-meet q h, at_each (winners_in z) (length rows) (coefficients rows) den (nth at) (nth first) q.den xs sums) (omega (arith, ints))
         (λ all. other (same-of q h.asks all)) in
         let s = square-is den at in
-        let t : square_distance m (weight_of weights) v q ≡ distance (winners_in z) (share_at (weights_in z weights)) (nth prices) q.den xs =
+        let t : square_distance m (weight_of weights) v q ≡ square_distance_to (winners_in z) (share_at (weights_in z weights)) (nth prices) q.den xs =
         ap (λ l. square_distance m (weight_of weights) v (record { den = q.den; at = l })) (sym (back-of m z len q h.asks))
         ∙ square-is q.den (for_winners z q.at) in
         let s' = ap (λ (x : ℤ). (q.den *ℤ q.den) *ℤ x) s in

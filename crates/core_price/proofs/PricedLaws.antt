@@ -2,19 +2,19 @@
 use Rattle.std.specs.Prelude.{◌≡◌, ℕ, ◌^◌, ◌<◌, ◌≤◌, true, List, length, ℤ}
 use Rattle.std.specs.List.{AllByRecursion}
 use Rattle.std.proofs.Common.{sym, ◌∙◌, ap, subst, arith}
-use Rattle.nearest_point.specs.auction_model.specs.Market.{Market}
-use Rattle.nearest_point.specs.auction_model.specs.Greatest.{IsWinning}
-use Rattle.nearest_point.specs.auction_model.specs.Lawful.{IsMarket}
-use Rattle.blocking.specs.far_num.specs.declared.Row.{Row}
+use Rattle.auction_model.specs.Market.{Market}
+use Rattle.auction_model.specs.Greatest.{IsWinning}
+use Rattle.auction_model.specs.Lawful.{IsMarket}
+use Rattle.far_num.specs.declared.Row.{Row}
 use Rattle.nearest_point.specs.Numbers.{AreBelow}
 use Rattle.nearest_point.specs.Problem.{bounds, coefficients, weight_at}
-use Rattle.nearest_point.specs.point_laws.specs.Multipliers.{AreFirst, AreSecond, SumsTo}
-use Rattle.blocking.specs.row_laws.specs.Winners.{winners_in}
-use Rattle.nearest_point.specs.wide_num.specs.Sums.{nth}
+use Rattle.projection_laws.specs.Multipliers.{AreFirst, AreSecond, SumsTo}
+use Rattle.core_laws.specs.Winners.{winners_in}
+use Rattle.wide_num.specs.Sums.{nth}
 use Rattle.core_price.specs.Kept.{AreAmong, IsKept, firsts, is_used, rows_in, seconds}
 use Rattle.core_price.specs.Lowest.{IsLowest}
 use Rattle.core_price.specs.SoFar.{CanTurn, HasEnded}
-use Rattle.blocking.specs.row_laws.specs.Weights.{weights_in}
+use Rattle.core_laws.specs.Weights.{weights_in}
 use Rattle.core_price.specs.declared.priced.PricedRow.{PricedRow}
 use Rattle.core_price.specs.declared.priced.Turn.{Turn}
 use Rattle.core_price.proofs.KeptCount.{kept-count, kept-seconds_below}

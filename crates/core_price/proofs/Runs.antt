@@ -3,19 +3,19 @@ use Rattle.std.specs.Prelude.{◌≡◌, ℕ, zero, suc, ◌<◌, List, [], ◌�
 use Rattle.std.specs.List.{AllByRecursion}
 use Rattle.std.proofs.Common.{sym, arith, subst}
 use Rattle.std.proofs.lemmas.Int.{ints}
-use Rattle.nearest_point.specs.auction_model.specs.Market.{Market}
-use Rattle.nearest_point.specs.auction_model.specs.Lowered.{of_bidder}
-use Rattle.nearest_point.specs.auction_model.specs.Prices.{Point, weight_of}
-use Rattle.nearest_point.specs.auction_model.specs.PricingRun.{IsTurnPoint, MeetsRow, MeetsRows}
-use Rattle.blocking.specs.far_num.specs.declared.Row.{Row}
+use Rattle.auction_model.specs.Market.{Market}
+use Rattle.auction_model.specs.Lowered.{of_bidder}
+use Rattle.auction_model.specs.Prices.{Point, weight_of}
+use Rattle.auction_model.specs.PricingRun.{IsTurnPoint, MeetsBidderRows, MeetsRow}
+use Rattle.far_num.specs.declared.Row.{Row}
 use Rattle.nearest_point.specs.Problem.{row_at}
 use Rattle.nearest_point.specs.Shown.{IsShownNearest}
-use Rattle.blocking.specs.row_laws.specs.Rows.{Meets, row_in}
-use Rattle.blocking.specs.row_laws.specs.Surplus.{AsksWinnersOnly}
-use Rattle.blocking.specs.row_laws.specs.Winners.{for_bidders, for_winners, winners_in}
-use Rattle.blocking.specs.row_laws.proofs.Blocks.{meets-winners, meets-bidders}
+use Rattle.core_laws.specs.Rows.{Meets, row_in}
+use Rattle.core_laws.specs.Surplus.{AsksWinnersOnly}
+use Rattle.core_laws.specs.Winners.{for_bidders, for_winners, winners_in}
+use Rattle.core_laws.proofs.Blocks.{meets-bidders, meets-winners}
 use Rattle.core_price.specs.Turns.{point_of}
-use Rattle.blocking.specs.row_laws.specs.Weights.{CanWeigh, weights_in}
+use Rattle.core_laws.specs.Weights.{CanWeigh, weights_in}
 use Rattle.core_price.proofs.Points.{MeetsBits, asks-winners, back-of, least-of, meets, nearest-of}
 
 -- what each row of bits asks, as a list of rows of bidders
@@ -38,7 +38,7 @@ each-to m z len den at (row ∷ rows) h (suc i) lt = each-to m z len den at rows
 
 module _ (m : Market) (z : List ℕ) (len : length z ≡ m.bidders) (rows : List Row) where
   -- a point that meets the rows of bidders meets those of bits
-  pub bits-met : (q : Point) → MeetsRows m z (map (row_in z) rows) q → MeetsBits m z rows q
+  pub bits-met : (q : Point) → MeetsBidderRows m z (map (row_in z) rows) q → MeetsBits m z rows q
   bits-met q h =
       let asks : AsksWinnersOnly m z q = record { bidders = h.bidders; losers = h.losers } in
       let back = back-of m z len q asks in

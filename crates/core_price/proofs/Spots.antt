@@ -1,23 +1,23 @@
--- The winners in order, as bidders: where each stands, and the row of each alone.
+-- The winners in order, as bidders: where each is, and the row of each alone.
 use Rattle.std.specs.Prelude.{◌≡◌, ◌≢◌, ℕ, zero, suc, ◌+◌, ◌-◌, ◌*◌, ◌/◌, ◌%◌, ◌^◌, ◌<◌, ◌==◌, true, false, not, List, [], ◌∷◌, length, get_or, ℤ, refl}
 use Rattle.std.proofs.Common.{sym, ◌∙◌, ap, arith, ◌⊎◌, inl, inr}
 use Rattle.std.proofs.Math.Nat.{pow-suc}
 use Rattle.std.proofs.lemmas.Bool.{ne_eqb, eq-eqb, cases_eq}
-use Rattle.nearest_point.specs.auction_model.specs.Market.{uses}
-use Rattle.nearest_point.specs.auction_model.specs.PricingRun.{Row, single_rows}
-use Rattle.blocking.specs.choices.specs.Singles.{winners_after}
-use Rattle.nearest_point.specs.wide_num.specs.Sums.{nth}
-use Rattle.blocking.specs.row_laws.specs.Winners.{winners_in, for_bidders, has_bit}
-use Rattle.blocking.specs.row_laws.proofs.Bits.{no-bit}
+use Rattle.auction_model.specs.Market.{uses}
+use Rattle.auction_model.specs.PricingRun.{BidderRow, single_rows}
+use Rattle.choices.specs.Singles.{winners_after}
+use Rattle.wide_num.specs.Sums.{nth}
+use Rattle.core_laws.specs.Winners.{for_bidders, has_bit, winners_in}
+use Rattle.core_laws.proofs.Bits.{no-bit}
 
--- how many bidders stand before the winner i + 1
+-- how many bidders come before the winner i + 1
 abbrev pub spot : List ℕ → ℕ → ℕ
 spot [] i = 0
 spot (zero ∷ z) i = suc (spot z i)
 spot (suc n ∷ z) zero = 0
 spot (suc n ∷ z) (suc i) = suc (spot z i)
 
--- fewer bidders stand before a winner than there are
+-- fewer bidders come before a winner than there are
 pub spot-inside : (z : List ℕ) (i : ℕ) → i < winners_in z → spot z i < length z
 spot-inside [] i lt = absurd (omega arith)
 spot-inside (zero ∷ z) i lt = let h = spot-inside z i lt in omega arith
@@ -92,22 +92,22 @@ spot-bit (suc n ∷ z) (suc i) (suc k) lt inside = ap (λ b. has_bit z b k) (two
     ∙ next-same (suc k) (suc (spot z i))
 
 -- the rows of each bidder alone
-pub single-at : (v : ℕ → ℤ) (s : ℕ) (z : List ℕ) (i : ℕ) (d : Row) → i < winners_in z → get_or (single_rows v s z) i d ≡ record
+pub single-at : (v : ℕ → ℤ) (s : ℕ) (z : List ℕ) (i : ℕ) (d : BidderRow) → i < winners_in z → get_or (single_rows v s z) i d ≡ record
     { members = λ j. j == suc (s + spot z i); bound = v (suc (s + spot z i)) }
 single-at v s [] i d lt = absurd (omega arith)
 single-at v s (zero ∷ z) i d lt = single-at v (suc s) z i d lt ∙ ap (λ t. one v t)
     (let e : suc (suc s + spot z i) ≡ suc (s + suc (spot z i)) = omega arith in e)
   where
-    one : (ℕ → ℤ) → ℕ → Row
+    one : (ℕ → ℤ) → ℕ → BidderRow
     one v t = record { members = λ j. j == t; bound = v t }
 single-at v s (suc n ∷ z) zero d lt = ap (λ t. one v t) (let e : suc s ≡ suc (s + 0) = omega arith in e)
   where
-    one : (ℕ → ℤ) → ℕ → Row
+    one : (ℕ → ℤ) → ℕ → BidderRow
     one v t = record { members = λ j. j == t; bound = v t }
 single-at v s (suc n ∷ z) (suc i) d lt = single-at v (suc s) z i d (omega arith) ∙ ap (λ t. one v t)
     (let e : suc (suc s + spot z i) ≡ suc (s + suc (spot z i)) = omega arith in e)
   where
-    one : (ℕ → ℤ) → ℕ → Row
+    one : (ℕ → ℤ) → ℕ → BidderRow
     one v t = record { members = λ j. j == t; bound = v t }
 
 -- there is one single row for each winner

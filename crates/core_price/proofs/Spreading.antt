@@ -1,8 +1,8 @@
 -- A number for each bidder from one for each winner, bidder by bidder.
 use Rattle.std.specs.Prelude.{◌≡◌, ◌≢◌, ℕ, zero, suc, ◌+◌, ◌<◌, List, [], ◌∷◌, ◌++◌, length, drop, get_or, ℤ, pos, refl}
 use Rattle.std.proofs.Common.{sym, ◌∙◌, ap, arith, add-one, append_assoc, drop-cons}
-use Rattle.nearest_point.specs.wide_num.specs.Sums.{nth}
-use Rattle.blocking.specs.row_laws.specs.Winners.{for_bidders, winners_in}
+use Rattle.wide_num.specs.Sums.{nth}
+use Rattle.core_laws.specs.Winners.{for_bidders, winners_in}
 
 -- the list has the numbers of the first k bidders, of which w win
 pub record IsSpread (z : List ℕ) (at list : List ℤ) (k w : ℕ) : Type 0 where

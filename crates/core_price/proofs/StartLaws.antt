@@ -6,27 +6,27 @@ use Rattle.std.proofs.lemmas.Int.{ints}
 use Rattle.std.proofs.lemmas.Bool.{cases_Bool, ne_eqb, false≢true}
 use Rattle.std.proofs.lemmas.List.{get_or-map, length-map}
 use Rattle.std.proofs.lemmas.Nat.{pow_pos, pow_below}
-use Rattle.nearest_point.specs.auction_model.proofs.PriceLaws.{vickrey-one}
-use Rattle.nearest_point.specs.auction_model.specs.Market.{Market, uses, value_of, worth_in}
-use Rattle.nearest_point.specs.auction_model.specs.Greatest.{IsFirstGreatest, IsWinning}
-use Rattle.nearest_point.specs.auction_model.specs.Lawful.{IsMarket}
-use Rattle.nearest_point.specs.auction_model.specs.Lowered.{of_bidder}
-use Rattle.nearest_point.specs.auction_model.specs.Prices.{allowed_without, AreVickreyPrices, everyone, IsVickreyPrice, sum_over, weight_of}
-use Rattle.nearest_point.specs.auction_model.specs.PricingRun.{Row as BidderRow, single_rows}
-use Rattle.blocking.specs.choices.specs.Singles.{AreSingles, IsSingle}
-use Rattle.blocking.specs.choices.specs.declared.chooser.Single.{Single}
-use Rattle.blocking.specs.far_num.specs.declared.Row.{Row}
+use Rattle.auction_model.proofs.PriceLaws.{vickrey-one}
+use Rattle.auction_model.specs.Market.{Market, uses, value_of, worth_in}
+use Rattle.auction_model.specs.Greatest.{IsFirstGreatest, IsWinning}
+use Rattle.auction_model.specs.Lawful.{IsMarket}
+use Rattle.auction_model.specs.Lowered.{of_bidder}
+use Rattle.auction_model.specs.Prices.{AreVickreyPrices, IsVickreyPrice, allowed_without, everyone, sum_over, weight_of}
+use Rattle.auction_model.specs.PricingRun.{BidderRow, single_rows}
+use Rattle.choices.specs.Singles.{AreSingles, IsSingle}
+use Rattle.choices.specs.declared.chooser.Single.{Single}
+use Rattle.far_num.specs.declared.Row.{Row}
 use Rattle.nearest_point.specs.Problem.{row_at}
-use Rattle.nearest_point.specs.point_laws.proofs.Sums.{total-le}
-use Rattle.blocking.specs.row_laws.specs.Rows.{IsGivenBy, row_in}
-use Rattle.blocking.specs.row_laws.specs.Winners.{for_bidders, has_bit, row_of, winners_in}
-use Rattle.blocking.specs.row_laws.proofs.Sizes.{unused-worth, won-low}
-use Rattle.blocking.specs.row_laws.proofs.Sums.{over-is}
-use Rattle.blocking.specs.row_laws.proofs.Winners.{loser-zero, paid-zip}
-use Rattle.nearest_point.specs.wide_num.specs.Sums.{nth, total}
+use Rattle.projection_laws.proofs.Sums.{total-le}
+use Rattle.core_laws.specs.Rows.{IsGivenBy, row_in}
+use Rattle.core_laws.specs.Winners.{for_bidders, has_bit, has_member, winners_in}
+use Rattle.core_laws.proofs.Sizes.{unused-worth, won-low}
+use Rattle.core_laws.proofs.Sums.{over-is}
+use Rattle.core_laws.proofs.Winners.{loser-zero, paid-zip}
+use Rattle.wide_num.specs.Sums.{nth, total}
 use Rattle.core_price.specs.Rows.{prices_of, single_bits}
 use Rattle.core_price.specs.SoFar.{CanTurn, IsSoFar, choice_at}
-use Rattle.blocking.specs.row_laws.specs.Weights.{CanWeigh, FewWin}
+use Rattle.core_laws.specs.Weights.{CanWeigh, FewWin}
 use Rattle.core_price.proofs.Points.{at-bidder}
 use Rattle.core_price.proofs.SameRows.{AreSame, IsSame, go-same, same-by_place}
 use Rattle.core_price.proofs.Spots.{single-at, singles-count, spot, spot-bit, spot-inside, spot-number, spot-of, spot-winner, spot-wins, winners-count}
@@ -163,7 +163,7 @@ module _ (m : Market) (lawful : IsMarket m) (z : List ℕ) (win : IsWinning m z)
       sum = let a = ap (λ n. total n (nth (prices_of singles))) prices-count in let b = total-price in omega (arith, ints, a, b);
     }
 
-    bit-is : (i : ℕ) → i < winners_in z → (j : ℕ) → 0 < j → j ≤ m.bidders → row_of z (2 ^ i) j ≡ (j == suc (spot z i))
+    bit-is : (i : ℕ) → i < winners_in z → (j : ℕ) → 0 < j → j ≤ m.bidders → has_member z (2 ^ i) j ≡ (j == suc (spot z i))
     bit-is i lt zero some inside = absurd (omega arith)
     bit-is i lt (suc k) some inside = let b : suc k - 1 ≡ k = omega arith in ap (has_bit z (2 ^ i)) b ∙ spot-bit z i k lt (omega (arith, len))
 
@@ -180,13 +180,13 @@ module _ (m : Market) (lawful : IsMarket m) (z : List ℕ) (win : IsWinning m z)
         record {
           members = (pow_pos i, pow_below i (winners_in z) lt);
           allowed = single-allowed m lawful z win k (spot-low i lt) (spot-wins z i lt) (single_at singles i).price (price-of i lt)
-              (single_at singles i).choice first (row_of z (2 ^ i)) (bit-is i lt);
+              (single_at singles i).choice first (has_member z (2 ^ i)) (bit-is i lt);
           idle = single-idle m lawful z win k (spot-low i lt) (spot-wins z i lt) (single_at singles i).price (price-of i lt)
-              (single_at singles i).choice first (row_of z (2 ^ i)) (bit-is i lt);
+              (single_at singles i).choice first (has_member z (2 ^ i)) (bit-is i lt);
           given = single-given m lawful z win k (spot-low i lt) (spot-wins z i lt) (single_at singles i).price (price-of i lt)
-              (single_at singles i).choice first (row_of z (2 ^ i)) (bit-is i lt);
+              (single_at singles i).choice first (has_member z (2 ^ i)) (bit-is i lt);
           greatest = single-greatest m lawful z win k (spot-low i lt) (spot-wins z i lt) (single_at singles i).price (price-of i lt)
-              (single_at singles i).choice first (row_of z (2 ^ i)) (bit-is i lt);
+              (single_at singles i).choice first (has_member z (2 ^ i)) (bit-is i lt);
         }
 
     same-start : (v : ℕ → ℤ) → AreVickreyPrices m z v → AreSame m (map (row_in z) (single_bits 0 singles)) (single_rows v 0 z)

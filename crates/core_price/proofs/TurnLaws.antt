@@ -1,6 +1,6 @@
 -- The turns: a block adds a new row, there are at most 2 ^ m turns, and the last point ends the run.
-use Rattle.std.specs.Prelude.{◌≡◌, ◌≢◌, ℕ, suc, ◌^◌, ◌<◌, ◌≤◌, Bool, not, true, false, cond, eqb, List, [], ◌∷◌, ◌++◌, length, map, get_or, ℤ, pos, ◌*ℤ◌}
-use Rattle.std.specs.Prelude.{◌≤ℤ◌, ◌<ℤ◌, refl}
+use Rattle.std.specs.Prelude.{Bool, List, [], cond, eqb, false, get_or, length, map, not, pos, refl, suc, true, ℕ, ℤ, ◌*ℤ◌, ◌++◌, ◌<ℤ◌, ◌<◌, ◌^◌, ◌∷◌}
+use Rattle.std.specs.Prelude.{◌≡◌, ◌≢◌, ◌≤ℤ◌, ◌≤◌}
 use Rattle.std.specs.List.{IsDistinct, list_any}
 use Rattle.std.specs.Cmp.{nat_eq_equiv}
 use Rattle.std.specs.declared.option.Option.TheVariants.{Some}
@@ -10,37 +10,36 @@ use Rattle.std.proofs.lemmas.Bool.{eqb-true, ne_eqb, or_from, or_cases, cases_eq
 use Rattle.std.proofs.lemmas.List.{get_or-map, length-map}
 use Rattle.std.proofs.lemmas.Map.Keys.{IsDistinct-push}
 use Rattle.std.proofs.lemmas.Map.Steps.{length-le_from_distinct_below}
-use Rattle.nearest_point.specs.auction_model.proofs.ListLaws.{each-push}
-use Rattle.nearest_point.specs.auction_model.proofs.PriceLaws.{vickrey-one}
-use Rattle.nearest_point.specs.auction_model.specs.Market.{Market, value_of, worth_in}
-use Rattle.nearest_point.specs.auction_model.specs.Greatest.{IsWinning}
-use Rattle.nearest_point.specs.auction_model.specs.Lawful.{IsMarket}
-use Rattle.nearest_point.specs.auction_model.specs.Lowered.{of_bidder}
-use Rattle.nearest_point.specs.auction_model.specs.Ones.{AreOnes}
-use Rattle.nearest_point.specs.auction_model.specs.Prices.{AreVickreyPrices, IsUnblocked, weight_of}
-use Rattle.nearest_point.specs.auction_model.specs.Blocks.{IsGreatestExcess}
-use Rattle.nearest_point.specs.auction_model.specs.PricingRun.{GoOn, Turn as BidderTurn, single_rows}
+use Rattle.auction_model.proofs.ListLaws.{each-push}
+use Rattle.auction_model.proofs.PriceLaws.{vickrey-one}
+use Rattle.auction_model.specs.Market.{Market, value_of, worth_in}
+use Rattle.auction_model.specs.Greatest.{IsWinning}
+use Rattle.auction_model.specs.Lawful.{IsMarket}
+use Rattle.auction_model.specs.Lowered.{of_bidder}
+use Rattle.auction_model.specs.Ones.{AreOnes}
+use Rattle.auction_model.specs.Prices.{AreVickreyPrices, AreWeights, IsUnblocked, weight_of}
+use Rattle.auction_model.specs.Blocks.{IsGreatestExcess}
+use Rattle.auction_model.specs.PricingRun.{BidderTurn, GoOn, single_rows}
 use Rattle.blocking.specs.declared.look.Block.{Block}
 use Rattle.blocking.specs.Look.{IsBlock}
-use Rattle.blocking.specs.far_num.specs.Members.{holds}
-use Rattle.blocking.specs.far_num.specs.declared.Row.{Row}
-use Rattle.nearest_point.specs.auction_model.specs.Prices.{AreWeights}
+use Rattle.far_num.specs.Members.{holds}
+use Rattle.far_num.specs.declared.Row.{Row}
 use Rattle.nearest_point.specs.Problem.{IsNarrow, IsProblem, bounds, coefficients, row_at}
 use Rattle.nearest_point.specs.Shown.{IsShownNearest}
 use Rattle.nearest_point.proofs.Bits.{dot_single, holds_nonneg}
 use Rattle.nearest_point.proofs.Places.{lt_or}
-use Rattle.nearest_point.specs.point_laws.proofs.Order.{mul_nonneg, cancel_nonneg}
-use Rattle.nearest_point.specs.point_laws.proofs.Sums.{total-nonneg}
-use Rattle.blocking.specs.row_laws.specs.Rows.{IsGivenBy, row_in}
-use Rattle.blocking.specs.row_laws.specs.Winners.{for_bidders, row_of, winners_in}
-use Rattle.blocking.specs.row_laws.proofs.Blocks.{block-row, excess-row, free-excess, idle-outside, row-is_new}
-use Rattle.blocking.specs.row_laws.proofs.Sizes.{won-low}
-use Rattle.blocking.specs.row_laws.proofs.Sums.{over-is}
-use Rattle.nearest_point.specs.wide_num.specs.Sums.{dot, nth}
+use Rattle.projection_laws.proofs.Order.{cancel_nonneg, mul_nonneg}
+use Rattle.projection_laws.proofs.Sums.{total-nonneg}
+use Rattle.core_laws.specs.Rows.{IsGivenBy, row_in}
+use Rattle.core_laws.specs.Winners.{for_bidders, has_member, winners_in}
+use Rattle.core_laws.proofs.Blocks.{block-row, excess-row, free-excess, idle-outside, row-is_new}
+use Rattle.core_laws.proofs.Sizes.{won-low}
+use Rattle.core_laws.proofs.Sums.{over-is}
+use Rattle.wide_num.specs.Sums.{dot, nth}
 use Rattle.core_price.specs.Lowest.{IsLowest}
 use Rattle.core_price.specs.SoFar.{CanTurn, HasEnded, IsSoFar, choice_at}
 use Rattle.core_price.specs.Turns.{IsPointOfTurn, last_turn, point_of, turn_of, turns_of}
-use Rattle.blocking.specs.row_laws.specs.Weights.{WeighAlike, weights_in}
+use Rattle.core_laws.specs.Weights.{WeighAlike, weights_in}
 use Rattle.core_price.specs.declared.priced.Turn.{Turn}
 use Rattle.core_price.proofs.LookLaws.{small-product}
 use Rattle.core_price.proofs.Points.{meets}
@@ -165,9 +164,9 @@ module _ (m : Market) (lawful : IsMarket m) (z : List ℕ) (win : IsWinning m z)
       let g = ap (λ (x : ℤ). den *ℤ x) block.block.bound in
       let low = cancel_nonneg den b.row.bound answer.meets.positive (omega (arith, ints)) in
       let v = win.greatest b.choice block.block.taken.allowed in
-      let s = over-is (λ j. not (row_of z b.row.members j)) (worth_in m z) m.bidders in
-      let n = total-nonneg m.bidders (λ k. cond (not (row_of z b.row.members (suc k))) (worth_in m z (suc k)) (pos 0))
-      (λ k lt. part (not (row_of z b.row.members (suc k))) (worth_in m z (suc k)) (won-low m lawful z win.passed (suc k) (omega arith) (omega arith)).0) in
+      let s = over-is (λ j. not (has_member z b.row.members j)) (worth_in m z) m.bidders in
+      let n = total-nonneg m.bidders (λ k. cond (not (has_member z b.row.members (suc k))) (worth_in m z (suc k)) (pos 0))
+      (λ k lt. part (not (has_member z b.row.members (suc k))) (worth_in m z (suc k)) (won-low m lawful z win.passed (suc k) (omega arith) (omega arith)).0) in
       let is = block.block.bound in
       let w = can.worth in
       let f = can.few.0 in

@@ -4,14 +4,14 @@ use Rattle.std.proofs.Common.{sym, ◌∙◌, ap, arith, subst}
 use Rattle.std.proofs.lemmas.Int.{ints}
 use Rattle.std.proofs.lemmas.Bool.{and_from, and_parts, eq-eqb, eqb-true, ne_eqb}
 use Rattle.std.proofs.lemmas.List.{get_or-set_same, get_or-set_other}
-use Rattle.nearest_point.specs.auction_model.specs.Market.{Market, number_of, uses, value_of, worth_in}
-use Rattle.nearest_point.specs.auction_model.specs.Greatest.{IsFirstGreatest, IsWinning}
-use Rattle.nearest_point.specs.auction_model.specs.Lawful.{IsMarket}
-use Rattle.nearest_point.specs.auction_model.specs.Prices.{allowed_without, sum_over, IsVickreyPrice}
-use Rattle.nearest_point.specs.auction_model.specs.Blocks.{IsIdleSet, row_bound}
-use Rattle.blocking.specs.row_laws.proofs.Rows.{over-same}
-use Rattle.blocking.specs.row_laws.proofs.Sums.{choice-is, over-is}
-use Rattle.nearest_point.specs.wide_num.specs.Sums.{total}
+use Rattle.auction_model.specs.Market.{Market, number_of, uses, value_of, worth_in}
+use Rattle.auction_model.specs.Greatest.{IsFirstGreatest, IsWinning}
+use Rattle.auction_model.specs.Lawful.{IsMarket}
+use Rattle.auction_model.specs.Prices.{IsVickreyPrice, allowed_without, sum_over}
+use Rattle.auction_model.specs.Blocks.{IsIdleSet, row_bound}
+use Rattle.core_laws.proofs.Rows.{over-same}
+use Rattle.core_laws.proofs.Sums.{choice-is, over-is}
+use Rattle.wide_num.specs.Sums.{total}
 use Rattle.core_price.proofs.Core.{sum-change}
 
 -- the value of an allowed choice, bidder by bidder

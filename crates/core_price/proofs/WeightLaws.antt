@@ -3,12 +3,12 @@ use Rattle.std.specs.Prelude.{◌≡◌, ◌≢◌, ℕ, zero, suc, ◌+◌, ◌
 use Rattle.std.proofs.Common.{sym, ◌∙◌, ap, arith, add-one, append_assoc, drop-cons}
 use Rattle.std.proofs.lemmas.Bool.{ne_eqb}
 use Rattle.std.proofs.lemmas.Int.{ints}
-use Rattle.nearest_point.specs.auction_model.specs.Market.{Market, uses}
-use Rattle.nearest_point.specs.auction_model.specs.Prices.{AreWeights, weight_of}
-use Rattle.blocking.specs.row_laws.specs.Winners.{winners_in}
-use Rattle.nearest_point.specs.wide_num.specs.Sums.{total}
-use Rattle.nearest_point.specs.wide_num.proofs.Sums.{total-first}
-use Rattle.blocking.specs.row_laws.specs.Weights.{CanWeigh, WeighAlike, weights_in}
+use Rattle.auction_model.specs.Market.{Market, uses}
+use Rattle.auction_model.specs.Prices.{AreWeights, weight_of}
+use Rattle.core_laws.specs.Winners.{winners_in}
+use Rattle.wide_num.specs.Sums.{total}
+use Rattle.wide_num.proofs.Sums.{total-first}
+use Rattle.core_laws.specs.Weights.{CanWeigh, WeighAlike, weights_in}
 use Rattle.core_price.proofs.Spots.{spot, spot-inside, spot-of, spot-wins}
 
 -- there is one weight for each winner

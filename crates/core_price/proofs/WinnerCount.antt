@@ -1,7 +1,7 @@
 -- The winners of a choice, counted one by one.
 use Rattle.std.specs.Prelude.{◌≡◌, ◌≢◌, ℕ, zero, suc, ◌+◌, ◌≤◌, ◌<◌, List, [], ◌∷◌, length, drop, get_or, refl}
 use Rattle.std.proofs.Common.{arith, add-one, drop-cons}
-use Rattle.blocking.specs.row_laws.specs.Winners.{winners_in}
+use Rattle.core_laws.specs.Winners.{winners_in}
 
 one : (i : ℕ) (c : List ℕ) → i ≢ 0 → winners_in (i ∷ c) ≡ suc (winners_in c)
 one zero c some = absurd (some refl)

@@ -1,12 +1,12 @@
 -- The rows that are kept, with their pairs of multipliers.
 use Rattle.std.specs.Prelude.{◌≡◌, ◌≢◌, ℕ, Bool, not, ◌||◌, List, [], ◌∷◌, map, ℤ, pos, ◌*ℤ◌, ◌⊎◌, ⊤}
 use Rattle.std.specs.Ordering.{int_eq}
-use Rattle.nearest_point.specs.auction_model.specs.Market.{Market}
-use Rattle.blocking.specs.far_num.specs.Members.{holds}
-use Rattle.blocking.specs.far_num.specs.declared.Row.{Row}
-use Rattle.blocking.specs.row_laws.specs.Rows.{IsGivenBy}
-use Rattle.blocking.specs.row_laws.specs.Winners.{winners_in}
-use Rattle.nearest_point.specs.wide_num.specs.Sums.{nth, dot}
+use Rattle.auction_model.specs.Market.{Market}
+use Rattle.far_num.specs.Members.{holds}
+use Rattle.far_num.specs.declared.Row.{Row}
+use Rattle.core_laws.specs.Rows.{IsGivenBy}
+use Rattle.core_laws.specs.Winners.{winners_in}
+use Rattle.wide_num.specs.Sums.{dot, nth}
 use Rattle.core_price.specs.declared.priced.PricedRow.{PricedRow}
 
 abbrev pub rows_in : List PricedRow → List Row
@@ -24,7 +24,7 @@ pub record IsKept (m : Market) (z : List ℕ) (den : ℤ) (at : List ℤ) (r : P
   pub tight : dot (winners_in z) (holds r.row.members) (nth at) ≡ den *ℤ r.row.bound
   pub used : (r.first ≢ pos 0) ⊎ (r.second ≢ pos 0)
 
--- The kept rows are among these rows with their choices, and stand in their order.
+-- The kept rows are among these rows with their choices, and are in their order.
 abbrev pub AreAmong : List Row → List (List ℕ) → List PricedRow → Type 0
 AreAmong rows choices [] = ⊤
 AreAmong [] choices (r ∷ kept) = ⊥

@@ -5,8 +5,3 @@ pub mod Rows
 pub mod SoFar
 pub mod Stops
 pub mod Turns
-pub use Rattle.nearest_point.specs.auction_model
-pub use Rattle.blocking
-pub use Rattle.nearest_point
-pub use Rattle.nearest_point.specs.point_laws
-pub use Rattle.nearest_point.specs.wide_num

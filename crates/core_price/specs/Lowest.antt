@@ -1,8 +1,8 @@
 -- Points over their least denominator.
 use Rattle.std.specs.Prelude.{◌≡◌, ℕ, ◌<◌, List, length, ℤ, pos, ◌*ℤ◌, ◌<ℤ◌}
-use Rattle.nearest_point.specs.wide_num.specs.Range.{Divides}
-use Rattle.nearest_point.specs.wide_num.specs.Sums.{nth}
-use Rattle.nearest_point.specs.lin_solve.specs.Elimination.{AreQuotients}
+use Rattle.wide_num.specs.Range.{Divides}
+use Rattle.wide_num.specs.Sums.{nth}
+use Rattle.lin_solve.specs.Elimination.{AreQuotients}
 
 -- the number divides each of the list
 abbrev pub DividesAll : ℤ → List ℤ → Type 0

@@ -1,22 +1,22 @@
 -- What pricing promises: the prices, the turns that led to them, and the rows whose multipliers show that they are right.
 use Rattle.std.specs.Prelude.{◌≡◌, ℕ, ◌^◌, ◌≤◌, List, eqb, length, map, ℤ, pos, ◌+ℤ◌, ◌*ℤ◌, ◌<ℤ◌}
 use Rattle.std.specs.List.{AllByRecursion, IsDistinct}
-use Rattle.nearest_point.specs.auction_model.specs.Lowered.{of_bidder}
-use Rattle.nearest_point.specs.auction_model.specs.Market.{Market, value_of}
-use Rattle.nearest_point.specs.auction_model.specs.Prices.{AreVickreyPrices, IsCoreOutcome, weight_of}
-use Rattle.nearest_point.specs.auction_model.specs.PricingRun.{IsPricingRun}
+use Rattle.auction_model.specs.Lowered.{of_bidder}
+use Rattle.auction_model.specs.Market.{Market, value_of}
+use Rattle.auction_model.specs.Prices.{AreVickreyPrices, IsCoreOutcome, weight_of}
+use Rattle.auction_model.specs.PricingRun.{IsPricingRun}
 use Rattle.blocking.specs.Look.{IsFound}
-use Rattle.blocking.specs.choices.specs.declared.chooser.Single.{Single}
+use Rattle.choices.specs.declared.chooser.Single.{Single}
 use Rattle.nearest_point.specs.Numbers.{AreBelow}
 use Rattle.nearest_point.specs.Problem.{bounds, coefficients, weight_at}
-use Rattle.nearest_point.specs.point_laws.specs.Multipliers.{AreFirst, AreSecond, SumsTo}
-use Rattle.blocking.specs.row_laws.specs.Winners.{for_bidders, winners_in}
-use Rattle.nearest_point.specs.wide_num.specs.Sums.{nth}
+use Rattle.projection_laws.specs.Multipliers.{AreFirst, AreSecond, SumsTo}
+use Rattle.core_laws.specs.Winners.{for_bidders, winners_in}
+use Rattle.wide_num.specs.Sums.{nth}
 use Rattle.core_price.specs.Kept.{AreAmong, IsKept, firsts, rows_in, seconds}
 use Rattle.core_price.specs.Lowest.{IsLowest}
 use Rattle.core_price.specs.Rows.{asked_choices, asked_rows, prices_of}
 use Rattle.core_price.specs.Turns.{EndsWith, IsPointOfTurn, last_turn, point_of, turns_of}
-use Rattle.blocking.specs.row_laws.specs.Weights.{weights_in}
+use Rattle.core_laws.specs.Weights.{weights_in}
 use Rattle.core_price.specs.declared.priced.Priced.{Priced}
 use Rattle.core_price.specs.declared.priced.PricedRow.{PricedRow}
 use Rattle.core_price.specs.declared.priced.Turn.{Turn}

@@ -2,8 +2,8 @@
 use Rattle.std.specs.Prelude.{ℕ, suc, ◌^◌, List, [], ◌∷◌, ◌++◌, map, Option, ℤ}
 use Rattle.std.specs.declared.option.Option.TheVariants.{Some, None}
 use Rattle.blocking.specs.declared.look.Block.{Block}
-use Rattle.blocking.specs.choices.specs.declared.chooser.Single.{Single}
-use Rattle.blocking.specs.far_num.specs.declared.Row.{Row}
+use Rattle.choices.specs.declared.chooser.Single.{Single}
+use Rattle.far_num.specs.declared.Row.{Row}
 use Rattle.core_price.specs.declared.priced.Turn.{Turn}
 
 -- the Vickrey prices of the winners in order

@@ -1,20 +1,20 @@
 -- What the turns of pricing know: their conditions, the rows so far, and where they end.
 use Rattle.std.specs.Prelude.{◌≡◌, ℕ, ◌+◌, ◌*◌, ◌^◌, ◌<◌, ◌≤◌, List, [], ◌++◌, eqb, length, map, slice_index_or, ℤ, pos, ◌≤ℤ◌}
 use Rattle.std.specs.List.{AllByRecursion, IsDistinct}
-use Rattle.nearest_point.specs.auction_model.specs.Lowered.{of_bidder}
-use Rattle.nearest_point.specs.auction_model.specs.Market.{Market, value_of}
-use Rattle.nearest_point.specs.auction_model.specs.Prices.{AreVickreyPrices, IsUnblocked, weight_of}
-use Rattle.nearest_point.specs.auction_model.specs.PricingRun.{GoOn, Turn as BidderTurn, single_rows}
-use Rattle.blocking.specs.far_num.specs.declared.Row.{Row}
-use Rattle.blocking.specs.limits.specs.declared.TheConstants.{MOST_AMOUNT}
+use Rattle.auction_model.specs.Lowered.{of_bidder}
+use Rattle.auction_model.specs.Market.{Market, value_of}
+use Rattle.auction_model.specs.Prices.{AreVickreyPrices, IsUnblocked, weight_of}
+use Rattle.auction_model.specs.PricingRun.{BidderTurn, GoOn, single_rows}
+use Rattle.far_num.specs.declared.Row.{Row}
+use Rattle.limits.specs.declared.TheConstants.{MOST_AMOUNT}
 use Rattle.nearest_point.specs.Problem.{AreBounds, AreTargets, HasSingles, bounds, row_at}
 use Rattle.nearest_point.specs.Shown.{IsShownNearest}
-use Rattle.blocking.specs.row_laws.specs.Rows.{IsGivenBy, row_in}
-use Rattle.blocking.specs.row_laws.specs.Winners.{for_bidders, winners_in}
-use Rattle.nearest_point.specs.wide_num.specs.Sums.{nth, total}
+use Rattle.core_laws.specs.Rows.{IsGivenBy, row_in}
+use Rattle.core_laws.specs.Winners.{for_bidders, winners_in}
+use Rattle.wide_num.specs.Sums.{nth, total}
 use Rattle.core_price.specs.Lowest.{IsLowest}
 use Rattle.core_price.specs.Turns.{EndsWith, IsPointOfTurn, last_turn, point_of, turns_of}
-use Rattle.blocking.specs.row_laws.specs.Weights.{CanWeigh, FewWin, weights_in}
+use Rattle.core_laws.specs.Weights.{CanWeigh, FewWin, weights_in}
 use Rattle.core_price.specs.declared.priced.Turn.{Turn}
 
 -- the conditions of the turns: few bidders and winners, a weight for each bidder, small worths, and the Vickrey prices of the

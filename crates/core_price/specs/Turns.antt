@@ -2,13 +2,13 @@
 use Rattle.std.specs.Prelude.{◌≡◌, ℕ, ◌^◌, ◌<◌, List, [], ◌∷◌, ◌++◌, length, map, IfSome, ℤ, pos, ◌≤ℤ◌, ◌<ℤ◌}
 use Rattle.std.specs.Option.{option_map}
 use Rattle.std.specs.declared.option.Option.TheVariants.{None}
-use Rattle.nearest_point.specs.auction_model.specs.Prices.{Point}
-use Rattle.nearest_point.specs.auction_model.specs.PricingRun.{Turn as BidderTurn}
+use Rattle.auction_model.specs.Prices.{Point}
+use Rattle.auction_model.specs.PricingRun.{BidderTurn}
 use Rattle.blocking.specs.Look.{block_of}
 use Rattle.nearest_point.specs.Numbers.{AreBelow}
-use Rattle.blocking.specs.row_laws.specs.Winners.{for_bidders, winners_in}
-use Rattle.nearest_point.specs.wide_num.specs.Sums.{nth}
-use Rattle.blocking.specs.row_laws.specs.Weights.{WeighAlike}
+use Rattle.core_laws.specs.Winners.{for_bidders, winners_in}
+use Rattle.wide_num.specs.Sums.{nth}
+use Rattle.core_laws.specs.Weights.{WeighAlike}
 use Rattle.core_price.specs.declared.priced.Turn.{Turn}
 
 -- the payments of the winners, in order, as payments of all bidders

@@ -1,6 +1,6 @@
 // Winners as bidders.
-ghost use Rattle.blocking.specs.row_laws.specs.Winners;
-ghost use Rattle.blocking.specs.row_laws.specs.Winners.{row_of, winners_in};
+ghost use Rattle.core_laws.specs.Winners;
+ghost use Rattle.core_laws.specs.Winners.{has_member, winners_in};
 ghost use Rattle.std.specs.Prelude.{IfOk, OnOk, [], length, if◌then◌else◌, ◌++◌, ◌<◌, ◌==◌, ◌%◌, ◌^◌, ◌∷◌, ◌≡◌};
 
 use choices::{Choice, Numbers};
@@ -20,7 +20,7 @@ pub fn count_winners(winners: &Choice) -> usize
     count
 }
 
-/// A number for each bidder from one for each winner in order: 0 for losers. The only error is want of memory.
+/// A number for each bidder from one for each winner in order: 0 for losers. The only error is out of memory.
 pub fn for_bidders(alloc: Global, winners: &Choice, at: &[i128]) -> Result<Vec<i128>, AllocError>
     requires { length at.now ≡ winners_in winners.now }
     ensures { IfOk result (λ v. v.items ≡ Winners.for_bidders winners.now at.now) }
@@ -39,10 +39,10 @@ pub fn for_bidders(alloc: Global, winners: &Choice, at: &[i128]) -> Result<Vec<i
     Ok(list)
 }
 
-/// The bidders of a set of winners, rising. Bit `i` stands for the winner `i + 1` in order. The only error is want of memory.
+/// The bidders of a set of winners, rising. Bit `i` stands for the winner `i + 1` in order. The only error is out of memory.
 pub fn members_of(alloc: Global, winners: &Choice, bits: u16) -> Result<Numbers, AllocError>
     requires { length winners.now < 2 ^ 16 }
-    ensures { IfOk result (λ list. list ≡ Winners.members_of (row_of winners.now bits) (length winners.now)) }
+    ensures { IfOk result (λ list. list ≡ Winners.members_of (has_member winners.now bits) (length winners.now)) }
 {
     let mut list = Numbers::new(alloc);
     let mut rest = bits;

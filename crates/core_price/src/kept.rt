@@ -3,13 +3,17 @@ ghost use Rattle.core_price.specs.Kept;
 ghost use Rattle.core_price.specs.Kept.{pair_used, with_pairs};
 ghost use Rattle.std.specs.Prelude.{IfOk, filter, length, ◌≡◌};
 
-use crate::start::Asked;
+use crate::start::Constraints;
 use crate::{PricedRow, RowList};
 use nearest_point::Nearest;
 use std::alloc::{AllocError, Global};
 
 /// The rows whose multipliers aren't both 0, in the order in which they came.
-pub(crate) fn kept_rows(alloc: Global, asked: &Asked, near: &Nearest) -> Result<RowList, AllocError>
+pub(crate) fn kept_rows(
+    alloc: Global,
+    asked: &Constraints,
+    near: &Nearest,
+) -> Result<RowList, AllocError>
     requires choices { length asked.now.choices.items ≡ length asked.now.rows.items }
     requires first { length near.now.first ≡ length asked.now.rows.items }
     requires second { length near.now.second ≡ length asked.now.rows.items }

@@ -1,15 +1,15 @@
 //! Core-selecting prices: rows are added, turn after turn, until no coalition blocks the point.
 #![tactic(auto)]
 
-ghost use Rattle.nearest_point.specs.auction_model.specs.Market.{value_of};
-ghost use Rattle.nearest_point.specs.auction_model.specs.Prices.{AreWeights};
-ghost use Rattle.blocking.specs.choices.specs.Singles.{AreSingles};
+ghost use Rattle.auction_model.specs.Market.{value_of};
+ghost use Rattle.auction_model.specs.Prices.{AreWeights};
+ghost use Rattle.choices.specs.Singles.{AreSingles};
 ghost use Rattle.core_price.specs.Priced.{IsPriced};
 ghost use Rattle.core_price.specs.Stops.{IsStop};
-ghost use Rattle.blocking.specs.row_laws.specs.Weights.{FewWin};
-ghost use Rattle.blocking.specs.limits.specs.declared.TheConstants.{MOST_AMOUNT};
-ghost use Rattle.blocking.specs.row_laws.specs.Surplus.{surpluses_of};
-ghost use Rattle.blocking.specs.row_laws.specs.Winners.{for_bidders, winners_in};
+ghost use Rattle.core_laws.specs.Weights.{FewWin};
+ghost use Rattle.limits.specs.declared.TheConstants.{MOST_AMOUNT};
+ghost use Rattle.core_laws.specs.Surplus.{surpluses_of};
+ghost use Rattle.core_laws.specs.Winners.{for_bidders, winners_in};
 ghost use Rattle.std.specs.Prelude.{IfErr, IfOk, length, pos, ◌*◌, ◌^◌, ◌≡◌, ◌≤ℤ◌, ◌≤◌};
 
 use choices::{Chooser, Single};
@@ -25,12 +25,11 @@ mod turns;
 mod weights;
 
 pub use bidders::{count_winners, for_bidders, members_of};
-pub use blocking;
 use kept::kept_rows;
 pub use lists::{RowList, TurnList};
 pub use priced::{PriceStop, Priced, PricedRow, Turn};
 use start::{first_rows, prices_of};
-use turns::{Ended, take_turns};
+use turns::{PricingEnd, take_turns};
 pub use weights::many_win;
 
 /// The core-selecting prices of the winning choice, found by rows: the core point of least sum, and of these the nearest
@@ -74,11 +73,11 @@ pub fn price<C: Chooser>(
     if many_win(singles.len(), chooser.winners(), weights) {
         return Err(PriceStop::Winners(singles.len() as u64));
     }
-    Ok(few_priced(alloc, chooser, singles, weights)?)
+    Ok(price_at_most_six(alloc, chooser, singles, weights)?)
 }
 
 // The prices of so few winners.
-fn few_priced<C: Chooser>(
+fn price_at_most_six<C: Chooser>(
     alloc: Global,
     chooser: &C,
     singles: &[Single],
@@ -97,7 +96,7 @@ fn few_priced<C: Chooser>(
 {
     let prices = prices_of(alloc, singles)?;
     let asked = first_rows(alloc, singles)?;
-    let Ended {
+    let PricingEnd {
         near,
         last,
         asked,

@@ -4,10 +4,10 @@ ghost use Rattle.std.specs.Prelude.{◌≡◌};
 
 use crate::{RowList, TurnList};
 use blocking::Block;
-use choices::bid_book::line_text::wide_num::NumList;
 use choices::{Choice, Found};
-use nearest_point::lin_solve::far_num::Row;
+use far_num::Row;
 use std::alloc::AllocError;
+use wide_num::NumList;
 
 /// A row with the choice that gives it, and its multipliers at the last point.
 #[derive(Drop)]
@@ -52,7 +52,7 @@ pub struct Priced<T> {
 /// Why there are no prices.
 #[derive(Clone, Copy, Debug, Drop, PartialEq, Eq)]
 pub enum PriceStop {
-    /// More than six win, or more than four that don't all weigh 1: so many.
+    /// More than six win, or more than four that don't all weigh 1: that many.
     Winners(u64),
     /// There was no memory.
     Memory,

@@ -2,14 +2,14 @@
 ghost use Rattle.core_price.specs.Lowest.{DividesAll, DividesPoint, IsLowest, IsMultiple};
 ghost use Rattle.nearest_point.specs.Numbers.{AreBelow};
 ghost use Rattle.std.specs.Prelude.{IfOk, length, pos, ℕ, ℤ, ◌<ℤ◌, ◌^◌, ◌≡◌};
-ghost use Rattle.nearest_point.specs.wide_num.specs.Range.{Divides, InRange};
+ghost use Rattle.wide_num.specs.Range.{Divides, InRange};
 
-use choices::bid_book::line_text::wide_num::{div_exact, gcd};
+use lin_solve::quotients;
 use nearest_point::Nearest;
-use nearest_point::lin_solve::quotients;
 use std::alloc::{AllocError, Global};
+use wide_num::{div_exact, gcd};
 
-/// The same point and multipliers over the least denominator.
+/// The payment vector and its multipliers over the least denominator.
 pub(crate) fn reduced(alloc: Global, near: Nearest) -> Result<Nearest, AllocError>
     requires den { (pos 0 <ℤ near.den) × InRange near.den }
     requires at { AreBelow (2 ^ 120) near.at }

@@ -1,16 +1,16 @@
 // The rows of the first turn.
 ghost use Rattle.core_price.specs.Rows;
 ghost use Rattle.core_price.specs.Rows.{single_bits};
-ghost use Rattle.blocking.specs.limits.specs.declared.TheConstants.{MOST_WINNERS};
+ghost use Rattle.limits.specs.declared.TheConstants.{MOST_WINNERS};
 ghost use Rattle.std.specs.Prelude.{IfOk, length, map, ◌≡◌, ◌≤◌};
 
 use choices::{Choice, Single};
-use nearest_point::lin_solve::far_num::Row;
+use far_num::Row;
 use std::alloc::{AllocError, Global};
 
 /// The rows so far, each with the choice that gives it.
 #[derive(Drop)]
-pub(crate) struct Asked {
+pub(crate) struct Constraints {
     pub(crate) rows: Vec<Row>,
     pub(crate) choices: Vec<Choice>,
 }
@@ -27,7 +27,7 @@ pub(crate) fn prices_of(alloc: Global, singles: &[Single]) -> Result<Vec<i128>, 
 }
 
 /// Each winner alone, with its Vickrey price as bound.
-pub(crate) fn first_rows(alloc: Global, singles: &[Single]) -> Result<Asked, AllocError>
+pub(crate) fn first_rows(alloc: Global, singles: &[Single]) -> Result<Constraints, AllocError>
     requires { length singles.now ≤ MOST_WINNERS }
     ensures rows { IfOk result (λ a. a.rows.items ≡ single_bits 0 singles.now) }
     ensures choices { IfOk result (λ a. a.choices.items ≡ map (λ s. s.choice) singles.now) }
@@ -41,5 +41,5 @@ pub(crate) fn first_rows(alloc: Global, singles: &[Single]) -> Result<Asked, All
         })?;
         choices.push(single.choice.copied(alloc)?)?;
     }
-    Ok(Asked { rows, choices })
+    Ok(Constraints { rows, choices })
 }

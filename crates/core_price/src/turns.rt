@@ -1,35 +1,35 @@
 // The turns of pricing.
-ghost use Rattle.nearest_point.specs.auction_model.specs.Market.{value_of};
-ghost use Rattle.nearest_point.specs.auction_model.specs.Prices.{AreVickreyPrices, IsUnblocked};
-ghost use Rattle.nearest_point.specs.auction_model.specs.Lowered.{of_bidder};
+ghost use Rattle.auction_model.specs.Market.{value_of};
+ghost use Rattle.auction_model.specs.Prices.{AreVickreyPrices, IsUnblocked};
+ghost use Rattle.auction_model.specs.Lowered.{of_bidder};
 ghost use Rattle.nearest_point.specs.Problem.{IsProblem};
 ghost use Rattle.nearest_point.specs.Shown.{IsShownNearest};
 ghost use Rattle.blocking.specs.Look.{IsFound};
 ghost use Rattle.core_price.specs.Lowest.{IsLowest};
 ghost use Rattle.core_price.specs.Rows.{block_choices, block_rows};
 ghost use Rattle.core_price.specs.SoFar.{CanTurn, HasEnded, IsSoFar};
-ghost use Rattle.blocking.specs.row_laws.specs.Surplus.{surpluses_of};
-ghost use Rattle.blocking.specs.row_laws.specs.Winners;
+ghost use Rattle.core_laws.specs.Surplus.{surpluses_of};
+ghost use Rattle.core_laws.specs.Winners;
 ghost use Rattle.std.specs.Prelude.{IfOk, OnOk, None, Some, [], ◌∷◌, ◌≡◌, ◌++◌};
 
 use crate::bidders::for_bidders;
 use crate::reduce::reduced;
-use crate::start::Asked;
+use crate::start::Constraints;
 use crate::weights::winner_weights;
 use crate::{Turn, TurnList};
 use blocking::{Block, Looked, find_block};
-use choices::bid_book::line_text::wide_num::NumList;
 use choices::{Chooser, Found};
-use nearest_point::lin_solve::far_num::Row;
+use far_num::Row;
 use nearest_point::{Nearest, nearest};
 use std::alloc::{AllocError, Global};
+use wide_num::NumList;
 
 /// Where the turns end: the last point, what the last search found, all rows and all turns.
 #[derive(Drop)]
-pub(crate) struct Ended<T> {
+pub(crate) struct PricingEnd<T> {
     pub(crate) near: Nearest,
     pub(crate) last: Found<T>,
-    pub(crate) asked: Asked,
+    pub(crate) asked: Constraints,
     pub(crate) turns: TurnList,
 }
 
@@ -39,8 +39,8 @@ pub(crate) fn take_turns<C: Chooser>(
     chooser: &C,
     prices: &[i128],
     weights: &[u32],
-    asked: Asked,
-) -> Result<Ended<C::Table>, AllocError>
+    asked: Constraints,
+) -> Result<PricingEnd<C::Table>, AllocError>
     requires can { CanTurn (C.market chooser.now) (C.chosen chooser.now) prices.now weights.now }
     requires start { IsSoFar (C.market chooser.now)
         (C.chosen chooser.now) weights.now asked.rows.items asked.choices.items [] }
@@ -66,7 +66,7 @@ pub(crate) fn take_turns<C: Chooser>(
         match find_block(alloc, chooser, near.den, &at)? {
             Looked::Free(last) => {
                 add_last(alloc, &mut turns, &near)?;
-                return Ok(Ended {
+                return Ok(PricingEnd {
                     near,
                     last,
                     asked,
@@ -95,7 +95,7 @@ fn add_last(alloc: Global, turns: &mut TurnList, near: &Nearest) -> Result<(), A
 // Adds the turn of a point that is blocked, and what the next turn asks more.
 fn add_block(
     alloc: Global,
-    asked: &mut Asked,
+    asked: &mut Constraints,
     turns: &mut TurnList,
     near: Nearest,
     block: Block,

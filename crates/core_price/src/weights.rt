@@ -1,10 +1,10 @@
 // The weights of the winners.
-ghost use Rattle.blocking.specs.row_laws.specs.Weights.{FewWin, ManyWin, WeighAlike, weights_in};
-ghost use Rattle.blocking.specs.row_laws.specs.Winners.{winners_in};
+ghost use Rattle.core_laws.specs.Weights.{FewWin, ManyWin, WeighAlike, weights_in};
+ghost use Rattle.core_laws.specs.Winners.{winners_in};
 ghost use Rattle.std.specs.Prelude.{IfOk, IsTrue, length, not, ◌≡◌};
 
 use choices::Choice;
-use choices::bid_book::lots::limits::{MOST_WEIGHTED_WINNERS, MOST_WINNERS};
+use limits::{MOST_WEIGHTED_WINNERS, MOST_WINNERS};
 use std::alloc::{AllocError, Global};
 
 /// The weights of the winners in order, from one for each bidder.

@@ -3,11 +3,11 @@ use Rattle.std.proofs.Common.{inl, inr, ◌⊎◌, ◌≡◌, ℕ, ◌≤◌, �
 use Rattle.std.specs.Prelude.{codes}
 use Rattle.std.specs.List.{AllByRecursion}
 use Rattle.std.proofs.lemmas.Bool.{cases_eq}
-use Rattle.review.specs.bid_book.proofs.BookDecided.{at_most, decided_name, last_number, no_last}
-use Rattle.review.specs.bid_book.proofs.Numbers.{snoc_one}
-use Rattle.review.specs.limits.specs.declared.TheConstants.{MOST_STATED_AMOUNT, MOST_STATED_COUNT}
-use Rattle.review.specs.line_text.specs.Decimals.{decimals_text}
-use Rattle.review.specs.line_text.proofs.Decided.{Decided, decided_all, decided_as, decided_both, decided_le, decided_same, decided_three, some_named}
+use Rattle.bid_book.proofs.BookDecided.{at_most, decided_name, last_number, no_last}
+use Rattle.bid_book.proofs.Numbers.{snoc_one}
+use Rattle.limits.specs.declared.TheConstants.{MOST_STATED_AMOUNT, MOST_STATED_COUNT}
+use Rattle.line_format.specs.Decimals.{decimals_text}
+use Rattle.line_format.proofs.Decided.{Decided, decided_all, decided_as, decided_both, decided_le, decided_same, decided_three, some_named}
 use Rattle.edits_file.specs.EditsForm.{NamedEdit, add, raise, remove, IsNamedEdit, IsSpelledAmount, NamesPackage, edit_text}
 use Rattle.edits_file.proofs.LineLaws.{bid_small, low_small}
 use Rattle.edits_file.proofs.Reading.{IsSound, NamedStage, NamedStep, beginning, ended, finish, listing}

@@ -1,32 +1,32 @@
 -- What the fields of a line say.
-use Rattle.std.proofs.Common.{inl, inr, ◌≡◌, ◌≢◌, ℕ, ◌+◌, ◌≤◌, ◌<◌, ◌^◌, List, [], ◌∷◌, ◌++◌, length, refl, sym, ap, subst, ◌∙◌, arith, append_assoc}
-use Rattle.std.proofs.Common.{length-append}
+use Rattle.std.proofs.Common.{List, [], ap, append_assoc, arith, inl, inr, length, length-append, refl, subst, sym, ℕ, ◌++◌, ◌+◌, ◌<◌, ◌^◌, ◌∙◌, ◌∷◌}
+use Rattle.std.proofs.Common.{◌≡◌, ◌≢◌, ◌≤◌}
 use Rattle.std.specs.Prelude.{codes}
 use Rattle.std.specs.Fmt.{decimal}
 use Rattle.std.specs.List.{AllByRecursion}
 use Rattle.std.proofs.lemmas.List.{append-nil}
-use Rattle.review.specs.auction_model.proofs.ListLaws.{each-push}
-use Rattle.review.specs.auction_model.specs.Book.{Book}
-use Rattle.review.specs.book_form.specs.BookForm.{IsName}
-use Rattle.review.specs.book_form.proofs.NameLaws.{name_own}
-use Rattle.review.specs.book_form.proofs.TextLaws.{numbers-push}
-use Rattle.review.specs.limits.specs.declared.TheConstants.{MOST_STATED_AMOUNT, MOST_STATED_COUNT}
-use Rattle.review.specs.line_text.proofs.DecimalFields.{NoSpace, number_own, one_field}
-use Rattle.review.specs.line_text.specs.Decimals.{decimals_text}
-use Rattle.review.specs.line_text.specs.Fields.{FieldEnds}
-use Rattle.review.specs.wide_num.proofs.Decimal.{decimal_one}
+use Rattle.auction_model.proofs.ListLaws.{each-push}
+use Rattle.auction_model.specs.Book.{Book}
+use Rattle.book_grammar.specs.BookForm.{IsName}
+use Rattle.book_grammar.proofs.NameLaws.{name_own}
+use Rattle.book_grammar.proofs.TextLaws.{numbers-push}
+use Rattle.limits.specs.declared.TheConstants.{MOST_STATED_AMOUNT, MOST_STATED_COUNT}
+use Rattle.line_format.proofs.DecimalFields.{NoSpace, number_own, one_field}
+use Rattle.line_format.specs.Decimals.{decimals_text}
+use Rattle.line_format.specs.Fields.{FieldEnds}
+use Rattle.wide_num.proofs.Decimal.{decimal_one}
 use Rattle.edits_file.specs.Stages.{BeginsWithCounts, BeginsWithNumber, IsHead, StatesBid, StatesPackage}
 
 -- counts that a line may state
 abbrev pub AreLow : List ℕ → Type 0
 AreLow lots = AllByRecursion (λ n. n ≤ MOST_STATED_COUNT) lots
 
--- numbers behind spaces end the field before them
+-- numbers after spaces end the field before them
 pub ends_front : (ns rest : List ℕ) → FieldEnds rest → FieldEnds (decimals_text ns ++ rest)
 ends_front [] rest ends = ends
 ends_front (n ∷ ns) rest ends = refl
 
--- the number at the front of a text is one number
+-- the number at the start of a text is one number
 one_first : (m n : ℕ) (x y : List ℕ) → m < 2 ^ 120 → n < 2 ^ 120 → FieldEnds x → FieldEnds y → 32 ∷ decimal m ++ x ≡ 32 ∷ decimal n ++ y → (m ≡ n) × (x ≡ y)
 one_first m n x y sm sn ex ey is =
     let tails : decimal m ++ x ≡ decimal n ++ y = cc in
@@ -36,7 +36,7 @@ one_first m n x y sm sn ex ey is =
 first_of : (n : ℕ) (ns rest : List ℕ) → decimals_text (n ∷ ns) ++ rest ≡ 32 ∷ decimal n ++ (decimals_text ns ++ rest)
 first_of n ns rest = append_assoc (32 ∷ decimal n) (decimals_text ns) rest
 
--- so many counts at the front of a text are one list
+-- that many counts at the start of a text are one list
 pub counts_one : (xs ys a b : List ℕ) → length xs ≡ length ys → AreLow xs → AreLow ys → FieldEnds a → FieldEnds b
     → decimals_text xs ++ a ≡ decimals_text ys ++ b → (xs ≡ ys) × (a ≡ b)
 counts_one [] [] a b same lx ly ea eb is = (refl, is)
@@ -48,7 +48,7 @@ counts_one (x ∷ xs) (y ∷ ys) a b same lx ly ea eb is =
     let rest = counts_one xs ys a b (omega (arith, same)) lx.1 ly.1 ea eb first.1 in
     (cc (first.0, rest.0), rest.1)
 
--- a name and so many counts at the front of a text are one name and one list
+-- a name and that many counts at the start of a text are one name and one list
 pub heads_one : (name other xs ys a b : List ℕ) → IsName name → IsName other → length xs ≡ length ys → AreLow xs → AreLow ys → FieldEnds a → FieldEnds b
     → name ++ (decimals_text xs ++ a) ≡ other ++ (decimals_text ys ++ b) → (name ≡ other) × (xs ≡ ys) × (a ≡ b)
 heads_one name other xs ys a b is_name is_other same lx ly ea eb is =
@@ -85,7 +85,7 @@ counts_more k n text had rest more are is = record {
   ends = is.ends;
 }
 
--- behind the first counts of a text stands the next
+-- after the first counts of a text stands the next
 next_of : (had lots rest other : List ℕ) → length had < length lots → AreLow had → AreLow lots → FieldEnds rest → FieldEnds other
     → decimals_text had ++ rest ≡ decimals_text lots ++ other
     → (n : ℕ) × (more : List ℕ) × BeginsWithNumber MOST_STATED_COUNT rest n more
@@ -107,7 +107,7 @@ counts_stop k categories text had rest lt are none lots other all =
     let next = next_of had lots rest other (omega (arith, lt, a, b)) are.each all.each are.ends all.ends (sym are.spelled ∙ all.spelled) in
     none next.0 next.1 next.2
 
--- the counts behind a name
+-- the counts after a name
 pub head_counts : (book : Book) (fields name behind : List ℕ) (bidder : ℕ) (lots rest : List ℕ) → IsName name → fields ≡ name ++ behind → FieldEnds behind
     → IsHead book fields bidder lots rest
     → BeginsWithCounts (length book.supply) behind lots rest
@@ -116,7 +116,7 @@ head_counts book fields name behind bidder lots rest is_name parted ends head =
     (ends_front lots rest head.ends) (sym parted ∙ head.spelled) in
     record { count = head.named.count; each = head.named.each; spelled = parts.1; ends = head.ends }
 
--- fields have one front
+-- fields have one prefix
 rest_one : (book : Book) (fields : List ℕ) (i j : ℕ) (p q a b : List ℕ) → IsHead book fields i p a → IsHead book fields j q b → (p ≡ q) × (a ≡ b)
 rest_one book fields i j p q a b x y =
     let one = heads_one x.name y.name p q a b x.named.name_is y.named.name_is (x.named.count ∙ sym y.named.count) x.named.each y.named.each x.ends y.ends
@@ -144,7 +144,7 @@ package_head book fields bidder lots is = record {
   bidder_is = is.bidder_is;
 }
 
--- where the rest behind the counts is no amount, the fields are no bid
+-- where the rest after the counts is no amount, the fields are no bid
 pub no_bid : (book : Book) (fields : List ℕ) (j : ℕ) (q rest : List ℕ) → IsHead book fields j q rest
     → ((n : ℕ) → BeginsWithNumber MOST_STATED_AMOUNT rest n [] → ⊥)
     → (bidder : ℕ) (lots : List ℕ) (amount : ℕ) → StatesBid book fields bidder lots amount → ⊥
@@ -152,7 +152,7 @@ no_bid book fields j q rest head none bidder lots amount is =
     let one = rest_one book fields j bidder q lots rest (32 ∷ decimal amount) head (bid_head book fields bidder lots amount is) in
     none amount (record { low = is.top; spelled = one.1 ∙ sym (append-nil (32 ∷ decimal amount)); ends = tt })
 
--- where the rest behind the counts is an amount, the fields are a bid
+-- where the rest after the counts is an amount, the fields are a bid
 pub made_bid : (book : Book) (fields : List ℕ) (bidder : ℕ) (lots rest : List ℕ) (amount : ℕ) → IsHead book fields bidder lots rest
     → BeginsWithNumber MOST_STATED_AMOUNT rest amount [] → StatesBid book fields bidder lots amount
 made_bid book fields bidder lots rest amount head is = record {
@@ -164,7 +164,7 @@ made_bid book fields bidder lots rest amount head is = record {
   bidder_is = head.bidder_is;
 }
 
--- where something is behind the counts, the fields are no package
+-- where something is after the counts, the fields are no package
 pub no_package : (book : Book) (fields : List ℕ) (j : ℕ) (q rest : List ℕ) → IsHead book fields j q rest → 0 < length rest → (bidder : ℕ) (lots : List ℕ)
     → StatesPackage book fields bidder lots → ⊥
 no_package book fields j q rest head some bidder lots is =

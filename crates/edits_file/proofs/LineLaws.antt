@@ -3,18 +3,18 @@ use Rattle.std.proofs.Common.{◌≡◌, ◌≢◌, ℕ, List, [], ◌∷◌, �
 use Rattle.std.specs.Prelude.{codes}
 use Rattle.std.specs.Fmt.{decimal}
 use Rattle.std.proofs.lemmas.List.{append_cancel_left, append-nil}
-use Rattle.review.specs.auction_model.specs.Book.{Book}
-use Rattle.review.specs.bid_book.proofs.Numbers.{AreSmall}
-use Rattle.review.specs.bid_book.proofs.Spelled.{name_line, numbers_line}
-use Rattle.review.specs.line_text.specs.LineText.{IsLine}
-use Rattle.review.specs.line_text.proofs.Lines.{line_append}
+use Rattle.auction_model.specs.Book.{Book}
+use Rattle.bid_book.proofs.Numbers.{AreSmall}
+use Rattle.bid_book.proofs.Spelled.{name_line, numbers_line}
+use Rattle.line_format.specs.LineText.{IsLine}
+use Rattle.line_format.proofs.Lines.{line_append}
 use Rattle.review.specs.declared.edit.Edit.{Edit}
 use Rattle.review.specs.declared.edit.Edit.TheVariants.{Add, Raise, Remove}
-use Rattle.review.specs.line_text.specs.Decimals.{decimals_text}
-use Rattle.review.specs.wide_num.proofs.Decimal.{decimal_one}
+use Rattle.line_format.specs.Decimals.{decimals_text}
+use Rattle.wide_num.proofs.Decimal.{decimal_one}
 use Rattle.edits_file.specs.EditsForm.{NamedEdit, add, raise, remove, NamesPackage, IsNamedEdit, IsSpelledAmount, edit_text}
 use Rattle.edits_file.specs.Stages.{States, StatesBid, StatesPackage}
-use Rattle.review.specs.book_form.proofs.TextLaws.{numbers-push}
+use Rattle.book_grammar.proofs.TextLaws.{numbers-push}
 use Rattle.edits_file.proofs.FieldLaws.{AreLow, heads_one}
 
 -- the first line has no line feed
@@ -85,7 +85,7 @@ edit_feeds categories (remove name lots) is =
     line_append (codes "drop ") (name ++ decimals_text lots) drop_word (line_append name (decimals_text lots) (name_line name is.name_is)
     (numbers_line lots (low_small lots is.each)))
 
--- the first byte of a line tells its kind
+-- the first byte of a line gives its kind
 abbrev pub kind_of : NamedEdit → ℕ
 kind_of (add name lots amount) = 97
 kind_of (raise name lots amount) = 114

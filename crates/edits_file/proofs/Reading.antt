@@ -1,16 +1,16 @@
 -- The reader's stages with the edits as their lines name them. These stages read the form of a file of edits.
-use Rattle.std.proofs.Common.{inl, inr, ◌⊎◌, ◌≡◌, ℕ, ◌+◌, ◌≤◌, ◌<◌, Option, Some, None, List, [], ◌∷◌, ◌++◌, length, take, refl, sym, ap, subst, ◌∙◌, arith}
-use Rattle.std.proofs.Common.{append_assoc, length-append}
+use Rattle.std.proofs.Common.{List, None, Option, Some, [], ap, append_assoc, arith, inl, inr, length, length-append, refl, subst, sym, take, ℕ, ◌++◌}
+use Rattle.std.proofs.Common.{◌+◌, ◌<◌, ◌∙◌, ◌∷◌, ◌≡◌, ◌≤◌, ◌⊎◌}
 use Rattle.std.specs.Prelude.{codes}
 use Rattle.std.specs.List.{AllByRecursion}
 use Rattle.std.proofs.lemmas.Bool.Decides.{nat_tests}
 use Rattle.std.proofs.lemmas.List.{append-nil, length-map, take_at, take_all}
-use Rattle.review.specs.auction_model.proofs.ListLaws.{each-push}
-use Rattle.review.specs.auction_model.specs.Book.{Book}
-use Rattle.review.specs.book_form.specs.BookLines.{Excess, Line}
-use Rattle.review.specs.limits.specs.declared.LimitKind.TheVariants.{Records}
-use Rattle.review.specs.line_text.specs.Reading.{Runs, SoFar, HaltsAt, ExceedsFirst}
-use Rattle.review.specs.line_text.proofs.Runs.{FrontOf, Reads, front_reached, runs_append}
+use Rattle.auction_model.proofs.ListLaws.{each-push}
+use Rattle.auction_model.specs.Book.{Book}
+use Rattle.book_grammar.specs.BookLines.{Excess, Line}
+use Rattle.limits.specs.declared.LimitKind.TheVariants.{Records}
+use Rattle.line_format.specs.Reading.{ExceedsFirst, HaltsAt, Runs, SoFar}
+use Rattle.line_format.proofs.Runs.{FrontOf, Reads, front_reached, runs_append}
 use Rattle.review.specs.Edits.{edit_lots}
 use Rattle.review.specs.declared.edit.Edit.{Edit}
 use Rattle.edits_file.specs.EditsForm.{NamedEdit, add, raise, remove, AreNamedEdits, IsNamedEdit, edit_excess, edit_lines, edit_of, edit_text, edits_of, lines}
@@ -85,7 +85,7 @@ lifted book (listing had) l next (inr adds) = record {
 }
 lifted book (ended had) l next step = absurd step
 
--- the named stage behind such a step exceeds the same limit as the reader's
+-- the named stage after such a step exceeds the same limit as the reader's
 marked : (book : Book) (s : NamedStage) (l : List ℕ) (next : Stage) (mark : Option Excess) (up : Lifted book s l next) → excess next ≡ mark
     → named_excess up.to ≡ mark
 marked book s l next mark up is = sym (excess_held book up.to) ∙ ap excess (sym up.is) ∙ is
@@ -165,7 +165,7 @@ module _ (book : Book) (bytes : List ℕ) where
       let up = lifted_run book beginning over.behind over.stage over.run in
       record { stage = up.0; behind = over.behind; run = up.1; rest = over.rest; split = over.split; first = over.first }
 
--- the lines that a stage has behind it
+-- the lines that a stage has after it
 abbrev pub behind : NamedStage → List Line
 behind beginning = []
 behind (listing had) = (codes "edits 1", None) ∷ edit_lines 0 had
@@ -185,7 +185,7 @@ lines-push before (d ∷ had) e =
     (lines-push (before + 1) had e ∙ ap (λ (n : ℕ). edit_lines (before + 1) had ++ (edit_text e, edit_excess n) ∷ []) (omega arith))
 
 module _ (categories : ℕ) where
-  -- a step keeps a stage sound, and its line stands behind the next stage
+  -- a step keeps a stage sound, and its line comes after the next stage
   step_behind : (s t : NamedStage) (l : List ℕ) → IsSound categories s → NamedStep categories s l t → IsSound categories t
       × (behind t ≡ behind s ++ (l, named_excess t) ∷ [])
   step_behind s t l = by_stage s

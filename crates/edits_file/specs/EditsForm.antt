@@ -2,15 +2,15 @@
 use Rattle.std.specs.Prelude.{◌≡◌, ℕ, suc, ◌+◌, ◌≤◌, Option, Some, None, List, [], ◌∷◌, ◌++◌, codes, length, map, nat_le, if◌then◌else◌}
 use Rattle.std.specs.List.{AllByRecursion}
 use Rattle.std.specs.Str.{bytes_eq}
-use Rattle.review.specs.auction_model.specs.Book.{Bidder, Book}
-use Rattle.review.specs.book_form.specs.BookForm.{IsName}
-use Rattle.review.specs.book_form.specs.BookLines.{Excess, Line}
-use Rattle.review.specs.limits.specs.declared.LimitKind.TheVariants.{Records}
-use Rattle.review.specs.limits.specs.declared.TheConstants.{MOST_EDITS, MOST_STATED_AMOUNT, MOST_STATED_COUNT}
-use Rattle.review.specs.line_text.specs.LineText.{Said, Says}
+use Rattle.auction_model.specs.Book.{Bidder, Book}
+use Rattle.book_grammar.specs.BookForm.{IsName}
+use Rattle.book_grammar.specs.BookLines.{Excess, Line}
+use Rattle.limits.specs.declared.LimitKind.TheVariants.{Records}
+use Rattle.limits.specs.declared.TheConstants.{MOST_EDITS, MOST_STATED_AMOUNT, MOST_STATED_COUNT}
+use Rattle.line_format.specs.LineText.{Said, Says}
 use Rattle.review.specs.declared.edit.Edit.{Edit}
 use Rattle.review.specs.declared.edit.Edit.TheVariants.{Add, Raise, Remove}
-use Rattle.review.specs.line_text.specs.Decimals.{decimals_text}
+use Rattle.line_format.specs.Decimals.{decimals_text}
 
 -- what a line says: an edit of the bidder of a name, whether or not a book has it
 pub data NamedEdit : Type 0 where
@@ -33,7 +33,7 @@ IsNamedEdit categories (add name lots amount) = NamesPackage categories name lot
 IsNamedEdit categories (raise name lots amount) = NamesPackage categories name lots × IsSpelledAmount amount
 IsNamedEdit categories (remove name lots) = NamesPackage categories name lots
 
--- edits of a book of so many categories
+-- edits of a book of that many categories
 abbrev pub AreNamedEdits : ℕ → List NamedEdit → Type 0
 AreNamedEdits categories edits = AllByRecursion (IsNamedEdit categories) edits
 
@@ -45,7 +45,7 @@ edit_text (add name lots amount) = codes "add " ++ (name ++ decimals_text (lots 
 edit_text (raise name lots amount) = codes "raise " ++ (name ++ decimals_text (lots ++ amount ∷ []))
 edit_text (remove name lots) = codes "drop " ++ (name ++ decimals_text lots)
 
--- the edits behind so many others
+-- the edits after that many others
 abbrev pub edit_lines : ℕ → List NamedEdit → List Line
 edit_lines before [] = []
 edit_lines before (e ∷ es) = (edit_text e, edit_excess (before + 1)) ∷ edit_lines (before + 1) es
@@ -53,11 +53,11 @@ edit_lines before (e ∷ es) = (edit_text e, edit_excess (before + 1)) ∷ edit_
 abbrev pub lines : List NamedEdit → List Line
 lines edits = (codes "edits 1", None) ∷ (edit_lines 0 edits ++ (codes "end", None) ∷ [])
 
--- What bytes say for a book of so many categories: edits, the place of the first faulty line, or that there are more than there may be.
+-- What bytes say for a book of that many categories: edits, the place of the first faulty line, or that there are more than there may be.
 abbrev pub EditsSay : ℕ → List ℕ → Said (List NamedEdit) Excess → Type 0
 EditsSay categories bytes said = Says (AreNamedEdits categories) lines bytes said
 
--- the number of the first of these bidders that has the name, behind so many others; 0 where none has it
+-- the number of the first of these bidders that has the name, after that many others; 0 where none has it
 abbrev pub number_among : List ℕ → ℕ → List Bidder → ℕ
 number_among name before [] = 0
 number_among name before (b ∷ bs) = if bytes_eq b.name name then suc before else number_among name (suc before) bs

@@ -1,3 +1,2 @@
 pub mod EditsForm
 pub mod Stages
-pub use Rattle.review

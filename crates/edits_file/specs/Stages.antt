@@ -3,23 +3,23 @@
 use Rattle.std.specs.Prelude.{◌≡◌, ◌⊎◌, ℕ, ◌+◌, ◌≤◌, Option, None, List, [], ◌∷◌, ◌++◌, codes, length}
 use Rattle.std.specs.Fmt.{decimal}
 use Rattle.std.specs.List.{AllByRecursion}
-use Rattle.review.specs.auction_model.specs.Book.{Book}
-use Rattle.review.specs.book_form.specs.BookLines.{Excess}
-use Rattle.review.specs.limits.specs.declared.TheConstants.{MOST_STATED_COUNT}
+use Rattle.auction_model.specs.Book.{Book}
+use Rattle.book_grammar.specs.BookLines.{Excess}
+use Rattle.limits.specs.declared.TheConstants.{MOST_STATED_COUNT}
 use Rattle.review.specs.declared.edit.Edit.{Edit}
-use Rattle.review.specs.line_text.specs.Decimals.{decimals_text}
-use Rattle.review.specs.line_text.specs.Fields.{FieldEnds}
+use Rattle.line_format.specs.Decimals.{decimals_text}
+use Rattle.line_format.specs.Fields.{FieldEnds}
 use Rattle.edits_file.specs.EditsForm.{NamedEdit, NamesPackage, IsNamedEdit, IsSpelledAmount, edit_excess, edit_of, edit_text, number_among}
 use Rattle.edits_file.specs.declared.read.Stage.{Stage}
 use Rattle.edits_file.specs.declared.read.Stage.TheVariants.{Start, Listing, Ended}
 
--- the text is a number behind one space, and what follows it
+-- the text is a number after one space, and what follows it
 pub record BeginsWithNumber (most : ℕ) (text : List ℕ) (n : ℕ) (rest : List ℕ) : Type 0 where
   pub low : n ≤ most
   pub spelled : text ≡ 32 ∷ decimal n ++ rest
   pub ends : FieldEnds rest
 
--- the text is a count for each category, each behind one space, and what follows them
+-- the text is a count for each category, each after one space, and what follows them
 pub record BeginsWithCounts (categories : ℕ) (text lots rest : List ℕ) : Type 0 where
   pub count : length lots ≡ categories
   pub each : AllByRecursion (λ n. n ≤ MOST_STATED_COUNT) lots

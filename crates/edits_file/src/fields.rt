@@ -1,18 +1,18 @@
 // The fields of a line that states an edit.
 ghost use Rattle.std.specs.Prelude.{IfNone, IfOk, IfSome, List, [], length, ℕ, ◌++◌, ◌≡◌, ◌≢◌};
-ghost use Rattle.review.specs.line_text.specs.Fields.{FieldEnds};
-ghost use Rattle.review.specs.book_form.specs.BookForm.{IsName};
+ghost use Rattle.line_format.specs.Fields.{FieldEnds};
+ghost use Rattle.book_grammar.specs.BookForm.{IsName};
 ghost use Rattle.edits_file.specs.EditsForm.{number_among};
 ghost use Rattle.edits_file.specs.Stages.{BeginsWithCounts, BeginsWithNumber, IsHead, StatesBid, StatesPackage};
 
 use crate::LimitKind;
-use bid_book::line_text::{LineStop, field_len, read_at_most};
-use bid_book::lots::Package;
-use bid_book::lots::limits::{MOST_STATED_AMOUNT, MOST_STATED_COUNT};
 use bid_book::{BidBook, Excess, is_name};
+use limits::{MOST_STATED_AMOUNT, MOST_STATED_COUNT};
+use line_format::{LineStop, field_len, read_at_most};
+use lots::Package;
 use std::alloc::{AllocError, Global};
 
-/// The bidder, the package and the amount that a line states behind its word. Bidder 0 is one that the book doesn't have.
+/// The bidder, the package and the amount that a line states after its word. Bidder 0 is one that the book doesn't have.
 pub fn read_bid(
     alloc: Global,
     book: &BidBook,
@@ -30,7 +30,7 @@ pub fn read_bid(
     Ok((bidder, package, amount))
 }
 
-/// The bidder and the package that a line states behind its word.
+/// The bidder and the package that a line states after its word.
 pub fn read_package(
     alloc: Global,
     book: &BidBook,
@@ -48,7 +48,7 @@ pub fn read_package(
     Ok((bidder, package))
 }
 
-/// The bidder and the package at the front of the fields, and what follows them.
+/// The bidder and the package at the start of the fields, and what follows them.
 fn read_head<'a>(
     alloc: Global,
     book: &BidBook,
@@ -67,7 +67,7 @@ fn read_head<'a>(
     Ok((bidder, package, rest))
 }
 
-/// The bidder of the name at the front of a text, and what follows the name.
+/// The bidder of the name at the start of a text, and what follows the name.
 fn read_bidder<'a>(book: &BidBook, text: &'a [u8]) -> Option<(u16, &'a [u8])>
     ensures found { IfSome result
         (λ p. (name : List ℕ) × IsName name × (text.now ≡ name ++ p.1.now) × FieldEnds p.1.now
@@ -93,7 +93,7 @@ fn bidder_named(book: &BidBook, name: &[u8]) -> u16
     0
 }
 
-/// The counts of so many categories at the front of a text, each behind one space, and what follows them.
+/// The counts of that many categories at the start of a text, each after one space, and what follows them.
 fn read_counts<'a>(
     alloc: Global,
     text: &'a [u8],
@@ -127,7 +127,7 @@ fn package_of(alloc: Global, counts: &[u16]) -> Result<Package, AllocError>
     }
 }
 
-/// The number at the front of a text, behind one space, and what follows it.
+/// The number at the start of a text, after one space, and what follows it.
 fn first_number(text: &[u8], most: u64) -> Option<(u64, &[u8])>
     ensures found { IfSome result (λ p. BeginsWithNumber most text.now p.0 p.1.now) }
     ensures none { IfNone result ((n : ℕ) (rest : List ℕ) → BeginsWithNumber most text.now n rest → ⊥) }
@@ -138,7 +138,7 @@ fn first_number(text: &[u8], most: u64) -> Option<(u64, &[u8])>
     Some((number, rest))
 }
 
-/// The number that a text is, behind one space.
+/// The number that a text is, after one space.
 fn last_number(text: &[u8], most: u64) -> Option<u64>
     ensures found { IfSome result (λ n. BeginsWithNumber most text.now n []) }
     ensures none { IfNone result ((n : ℕ) → BeginsWithNumber most text.now n [] → ⊥) }

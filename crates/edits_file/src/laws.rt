@@ -1,9 +1,9 @@
-// What holds of the form of a file of edits, whoever reads it.
+// What holds of the form of a file of edits, regardless of who reads it.
 ghost use Rattle.std.specs.Prelude.{◌≡◌, ℕ, List, length};
 ghost use Rattle.std.specs.List.{AllByRecursion};
-ghost use Rattle.review.specs.auction_model.specs.Book.{Book};
-ghost use Rattle.review.specs.book_form.specs.BookLines.{Excess};
-ghost use Rattle.review.specs.line_text.specs.LineText.{Said, stated};
+ghost use Rattle.auction_model.specs.Book.{Book};
+ghost use Rattle.book_grammar.specs.BookLines.{Excess};
+ghost use Rattle.line_format.specs.LineText.{Said, stated};
 ghost use Rattle.review.specs.Edits.{edit_lots};
 ghost use Rattle.edits_file.specs.EditsForm.{EditsSay, NamedEdit, edits_of};
 

@@ -10,9 +10,9 @@ mod laws;
 mod line;
 mod read;
 
-pub use bid_book::lots::limits::LimitKind;
 pub use edits::Edits;
 pub use laws::{edit_counts, one_edits, some_edits};
+pub use limits::LimitKind;
 pub use read::read_edits;
 use std::alloc::AllocError;
 

@@ -5,8 +5,8 @@ ghost use Rattle.edits_file.specs.Stages.{States};
 
 use crate::LimitKind;
 use crate::fields::{read_bid, read_package};
-use bid_book::line_text::LineStop;
 use bid_book::{BidBook, Excess};
+use line_format::LineStop;
 use review::Edit;
 use std::alloc::Global;
 

@@ -1,8 +1,8 @@
 // The reader of a file of edits.
 ghost use Rattle.std.specs.Prelude.{Err, IfOk, IsTrue, List, None, Some, length, ℕ, ◌↔◌, ◌≡◌, ◌≤◌};
 ghost use Rattle.std.specs.List.{AllByRecursion};
-ghost use Rattle.review.specs.limits.specs.declared.TheConstants.{MOST_EDITS};
-ghost use Rattle.review.specs.line_text.specs.LineText.{beyond, faulty, stated};
+ghost use Rattle.limits.specs.declared.TheConstants.{MOST_EDITS};
+ghost use Rattle.line_format.specs.LineText.{beyond, faulty, stated};
 ghost use Rattle.review.specs.Edits.{edit_lots};
 ghost use Rattle.edits_file.specs.EditsForm.{EditsSay, NamedEdit, edits_of};
 ghost use Rattle.edits_file.specs.Stages.{Step, excess};
@@ -10,9 +10,9 @@ ghost use Rattle.edits_file.specs.declared.read.Stage.TheVariants.{Ended};
 
 use crate::line::read_edit;
 use crate::{EditStop, Edits};
-use bid_book::line_text::{LineReader, LineStop, TextStop, read_lines};
-use bid_book::lots::limits::{LimitKind, MOST_EDITS};
 use bid_book::{BidBook, Excess};
+use limits::{LimitKind, MOST_EDITS};
+use line_format::{LineReader, LineStop, TextStop, read_lines};
 use std::alloc::Global;
 
 /// What the lines so far say.

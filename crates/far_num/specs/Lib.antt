@@ -1,3 +1,2 @@
 pub mod Members
 pub mod Pairs
-pub use Rattle.wide_num

@@ -18,7 +18,7 @@ impl Model for FarList {
 }
 
 impl FarList {
-    /// The empty list, with room for so many pairs, so that it needn't grow before it has more. The only error is want of
+    /// The empty list, with room for that many pairs, so that it need not grow before it has more. The only error is want of
     /// memory.
     pub fn with_capacity(alloc: Global, pairs: usize) -> Result<Self, AllocError>
         ensures { IfOk result (λ list. list ≡ []) }
@@ -28,7 +28,7 @@ impl FarList {
         })
     }
 
-    /// Appends one pair. For want of memory the list stays as it is.
+    /// Appends one pair. If memory runs out, the list stays as it is.
     pub fn push(&mut self, pair: Far) -> Result<(), AllocError>
         ensures { self.new ≡ (if is_ok result then self.old ++ pair ∷ [] else self.old) }
     {

@@ -1,4 +1,4 @@
-//! Every limit of an auction and of its files, each once, by name; and the names by which a quantity above its limit is told.
+//! Every limit of an auction and of its files, each once, by name; and the names by which a quantity above its limit is reported.
 //!
 //! Clauses, definitions and bodies cite these constants, so a limit is changed here alone.
 #![tactic(auto)]
@@ -129,6 +129,12 @@ pub const MOST_WINNERS: usize = 6;
 
 /// The most winners that are priced where their weights aren't all 1.
 pub const MOST_WEIGHTED_WINNERS: usize = 4;
+
+/// The most rows of a certificate.
+pub const MOST_ROWS: usize = 10;
+
+/// The greatest number of a bid that a certificate may state, which need not be one of the book's.
+pub const MOST_CHOSEN: u16 = 65_535;
 
 /// The most bidders of a band.
 pub const MOST_PLACED: usize = 6;

@@ -2,20 +2,19 @@
 use Rattle.std.proofs.Common.{◌≡◌, ◌≢◌, ℕ, ◌+◌, ◌*◌, ◌^◌, ◌<◌, ◌≤◌, ℤ, pos, ◌-ℤ◌, ◌*ℤ◌, sym, ap, ◌∙◌, subst, arith, unsigned_abs, List, length}
 use Rattle.std.proofs.lemmas.Int.{ints, unsigned_abs-mul}
 use Rattle.std.proofs.Math.Nat.{mul-le-mul}
-use Rattle.far_num.specs.wide_num.proofs.Ints.{lin, abs_pos, swap_mul}
+use Rattle.wide_num.proofs.Ints.{abs_pos, lin, swap_mul}
 use Rattle.far_num.specs.declared.Far.{Far}
 use Rattle.lin_solve.specs.declared.pivots.Pivot.{Pivot}
 use Rattle.lin_solve.specs.Matrix.{row, OnlyZero}
 use Rattle.lin_solve.specs.Bounds.{bound, AreSized}
 use Rattle.lin_solve.specs.Clearing.{IsClearing}
-use Rattle.far_num.specs.wide_num.specs.Sums.{nth, dot}
+use Rattle.wide_num.specs.Sums.{dot, nth}
 use Rattle.lin_solve.specs.Pivots.{pivot, ArePivots, AreWhole, HaveCommon, IsCommonDen, AreValues}
 use Rattle.lin_solve.specs.declared.solved.Solved.TheVariants.{One}
 use Rattle.lin_solve.specs.Solved.{Satisfies, IsOnly, IsOneSolution, IsSmallAnswer, IsSystem, IsWithinLimits, most}
 use Rattle.far_num.specs.Pairs.{far_at, near_at}
-use Rattle.far_num.specs.wide_num.proofs.Sums.{dot-lin, dot-scale, dot-same, total-same}
-use Rattle.lin_solve.proofs.Inverse.{Injective, Clears, pick, solution}
-use Rattle.lin_solve.proofs.Inverse.{pivot as pivot_apart}
+use Rattle.wide_num.proofs.Sums.{dot-lin, dot-same, dot-scale, total-same}
+use Rattle.lin_solve.proofs.Inverse.{Clears, Injective, pick, pivot as pivot_apart, solution}
 use Rattle.lin_solve.proofs.CommonFacts.{den_small}
 use Rattle.lin_solve.proofs.PivotFacts.{c_small, part_small}
 use Rattle.lin_solve.proofs.Shared.{Common, common}

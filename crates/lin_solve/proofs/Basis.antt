@@ -1,12 +1,12 @@
 -- A basis of the rows that a list of equations sends to 0: one row for each free coordinate. The row of a free coordinate is 0 at the others.
-use Rattle.std.proofs.Common.{◌≡◌, ◌≢◌, ℕ, zero, suc, ◌<◌, ◌≤◌, ℤ, pos, ◌-ℤ◌, ◌*ℤ◌, refl, sym, ap, ◌∙◌, subst, arith, List, [], ◌∷◌, inl, inr, length, Bool}
-use Rattle.std.proofs.Common.{true, false, cond}
+use Rattle.std.proofs.Common.{Bool, List, [], ap, arith, cond, false, inl, inr, length, pos, refl, subst, suc, sym, true, zero, ℕ, ℤ, ◌*ℤ◌, ◌-ℤ◌, ◌<◌}
+use Rattle.std.proofs.Common.{◌∙◌, ◌∷◌, ◌≡◌, ◌≢◌, ◌≤◌}
 use Rattle.std.proofs.lemmas.Int.{ints}
 use Rattle.std.proofs.lemmas.Bool.{cases_eq}
 use Rattle.std.proofs.Math.IntN.{*ℤ_comm, *ℤ-zero}
-use Rattle.far_num.specs.wide_num.proofs.Ints.{lin, mul-zero_cases}
-use Rattle.far_num.specs.wide_num.proofs.Sums.{dot-lin, dot-scale, dot-same, dot-zero}
-use Rattle.far_num.specs.wide_num.specs.Sums.{dot}
+use Rattle.wide_num.proofs.Ints.{lin, mul-zero_cases}
+use Rattle.wide_num.proofs.Sums.{dot-lin, dot-same, dot-scale, dot-zero}
+use Rattle.wide_num.specs.Sums.{dot}
 use Rattle.lin_solve.proofs.Siegel.{Solves}
 use Rattle.lin_solve.specs.Bounds.{nat_total}
 

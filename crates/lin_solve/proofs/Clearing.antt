@@ -1,15 +1,15 @@
 -- The columns but one have a kernel row, and it clears them.
 use Rattle.std.proofs.Math.Nat.{le_of_eq, le_trans}
-use Rattle.std.proofs.Common.{◌≡◌, ℕ, zero, suc, ◌<◌, ◌≤◌, ℤ, pos, ◌*ℤ◌, refl, sym, ap, ◌∙◌, subst, arith, unsigned_abs, List, [], inl, inr, length}
-use Rattle.std.proofs.Common.{slice_index_or}
+use Rattle.std.proofs.Common.{List, [], ap, arith, inl, inr, length, pos, refl, slice_index_or, subst, suc, sym, unsigned_abs, zero, ℕ, ℤ, ◌*ℤ◌, ◌<◌}
+use Rattle.std.proofs.Common.{◌∙◌, ◌≡◌, ◌≤◌}
 use Rattle.std.proofs.lemmas.Bool.{cases_eq}
-use Rattle.far_num.specs.wide_num.proofs.Ints.{*ℤ-one}
+use Rattle.wide_num.proofs.Ints.{*ℤ-one}
 use Rattle.lin_solve.specs.Matrix.{row, IsCleared, OnlyZero}
 use Rattle.lin_solve.specs.Bounds.{nat_total, size, AreLines, AreSized, HasSizedColumns, IsBounded}
 use Rattle.lin_solve.specs.Elimination.{IsKernelRow}
 use Rattle.lin_solve.specs.Clearing.{IsKeptColumn, IsClearing}
-use Rattle.far_num.specs.wide_num.specs.Sums.{nth, dot}
-use Rattle.far_num.specs.wide_num.proofs.Sums.{total-same, dot-zero, dot_comm}
+use Rattle.wide_num.specs.Sums.{dot, nth}
+use Rattle.wide_num.proofs.Sums.{dot-zero, dot_comm, total-same}
 use Rattle.lin_solve.proofs.Siegel.{nat_total-le}
 use Rattle.lin_solve.proofs.Inverse.{Solvable, solvable, unit, unit-same}
 

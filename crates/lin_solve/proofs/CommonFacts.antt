@@ -1,15 +1,14 @@
 -- The loop of the common denominator.
-use Rattle.std.proofs.Common.{◌≡◌, ℕ, zero, suc, ◌+◌, ◌*◌, ◌<◌, ◌≤◌, ◌^◌, ℤ, pos, ◌*ℤ◌, ◌≤ℤ◌, sym, ap, ◌∙◌, subst, arith, unsigned_abs, List, length}
-use Rattle.std.proofs.Common.{below_more}
+use Rattle.std.proofs.Common.{List, [], ap, arith, below_more, length, pos, subst, suc, sym, unsigned_abs, zero, ℕ, ℤ, ◌*ℤ◌, ◌*◌, ◌++◌, ◌+◌, ◌<◌, ◌^◌}
+use Rattle.std.proofs.Common.{◌∙◌, ◌∷◌, ◌≡◌, ◌≤ℤ◌, ◌≤◌}
 use Rattle.std.proofs.lemmas.Int.{ints, unsigned_abs-mul}
 use Rattle.std.proofs.Math.IntN.{*ℤ_comm}
-use Rattle.far_num.specs.wide_num.proofs.Ints.{mul_assoc, *ℤ-one}
+use Rattle.wide_num.proofs.Ints.{*ℤ-one, mul_assoc}
 use Rattle.lin_solve.specs.declared.pivots.Pivot.{Pivot}
 use Rattle.lin_solve.specs.Clearing.{IsWholeOver, IsGrown}
 use Rattle.lin_solve.specs.Pivots.{pivot, AreWhole, HaveCommon, IsCommonDen, AreValues}
 use Rattle.far_num.specs.Pairs.{both, far_at, near_at, pair_at}
 use Rattle.far_num.specs.declared.Far.{Far}
-use Rattle.std.proofs.Common.{◌∷◌, [], ◌++◌}
 use Rattle.std.proofs.lemmas.List.{get_or_append_left, get_or_push}
 
 factor_below : (d q k t : ℕ) → k ≡ d * q → 1 ≤ k → k ≤ t → d ≤ t

@@ -1,14 +1,14 @@
 -- A denominator that shares no factor with its numerators is at most the number of lists of sums.
-use Rattle.std.proofs.Common.{◌≡◌, ℕ, zero, suc, ◌+◌, ◌-◌, ◌*◌, ◌/◌, ◌%◌, ◌^◌, ◌<◌, ◌≤◌, ℤ, pos, negsuc, ◌+ℤ◌, ◌-ℤ◌, ◌*ℤ◌, neg_ℤ, refl, sym, ap, ◌∙◌, subst}
-use Rattle.std.proofs.Common.{arith, unsigned_abs, inl, inr}
+use Rattle.std.proofs.Common.{ap, arith, inl, inr, neg_ℤ, negsuc, pos, refl, subst, suc, sym, unsigned_abs, zero, ℕ, ℤ, ◌%◌, ◌*ℤ◌, ◌*◌, ◌+ℤ◌, ◌+◌}
+use Rattle.std.proofs.Common.{◌-ℤ◌, ◌-◌, ◌/◌, ◌<◌, ◌^◌, ◌∙◌, ◌≡◌, ◌≤◌}
 use Rattle.std.proofs.lemmas.Int.{ints}
 use Rattle.std.proofs.lemmas.Bool.{cases_lt}
 use Rattle.std.proofs.lemmas.Nat.Gcd.{mod-eq-zero_of_dvd}
 use Rattle.std.proofs.Math.IntN.{*ℤ_comm, *ℤ-zero}
 use Rattle.std.proofs.Math.Nat.{mul-div_cancel_left, pow-zero, pow-suc, div-add-mod, mod-lt, div-lt_iff_lt-mul}
-use Rattle.far_num.specs.wide_num.proofs.Ints.{lin, mul-add, mul-sub, mul-neg, swap_mul, mul_assoc, mul_cancel, *ℤ-one, combined, Combined}
-use Rattle.far_num.specs.wide_num.proofs.Sums.{dot-lin, dot-scale, dot-same, total-first, dot-scale_left}
-use Rattle.far_num.specs.wide_num.specs.Sums.{dot}
+use Rattle.wide_num.proofs.Ints.{*ℤ-one, Combined, combined, lin, mul-add, mul-neg, mul-sub, mul_assoc, mul_cancel, swap_mul}
+use Rattle.wide_num.proofs.Sums.{dot-lin, dot-same, dot-scale, dot-scale_left, total-first}
+use Rattle.wide_num.specs.Sums.{dot}
 use Rattle.lin_solve.proofs.Siegel.{nat_total-le, pos-nat_total, joined_below, joined_same}
 use Rattle.lin_solve.specs.Bounds.{nat_total}
 use Rattle.lin_solve.proofs.Small.{le_mul, mul_le, nat_total-scale}

@@ -5,10 +5,10 @@ use Rattle.std.proofs.lemmas.Int.{ints}
 use Rattle.std.proofs.lemmas.Bool.{cases_eq}
 use Rattle.std.proofs.lemmas.Nat.Gcd.{mod-eq-zero_of_dvd}
 use Rattle.std.proofs.Math.Nat.{div-add-mod}
-use Rattle.far_num.specs.wide_num.proofs.Ints.{lin, swap_mul, mul_assoc, bezout}
+use Rattle.wide_num.proofs.Ints.{bezout, lin, mul_assoc, swap_mul}
 use Rattle.lin_solve.specs.Elimination.{ContentOf}
-use Rattle.far_num.specs.wide_num.specs.Sums.{dot}
-use Rattle.far_num.specs.wide_num.proofs.Sums.{total-same, total-scale}
+use Rattle.wide_num.specs.Sums.{dot}
+use Rattle.wide_num.proofs.Sums.{total-same, total-scale}
 use Rattle.lin_solve.proofs.Denominator.{sign_of, size_is, from_size}
 
 pub record GcdParts (a b g : ℤ) : Type 0 where

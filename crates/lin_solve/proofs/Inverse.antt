@@ -4,9 +4,9 @@ use Rattle.std.proofs.lemmas.Int.{ints}
 use Rattle.std.proofs.lemmas.Bool.{cases_eq}
 use Rattle.std.proofs.Math.IntN.{*ℤ_comm, *ℤ-zero}
 use Rattle.std.proofs.Math.Nat.{pow-zero, pow-suc}
-use Rattle.far_num.specs.wide_num.proofs.Ints.{lin, mul-neg, swap_mul, mul_cancel, mul-zero_cases}
-use Rattle.far_num.specs.wide_num.proofs.Sums.{dot-scale, dot-same, dot-through, total-first, total-one}
-use Rattle.far_num.specs.wide_num.specs.Sums.{dot}
+use Rattle.wide_num.proofs.Ints.{lin, mul-neg, mul-zero_cases, mul_cancel, swap_mul}
+use Rattle.wide_num.proofs.Sums.{dot-same, dot-scale, dot-through, total-first, total-one}
+use Rattle.wide_num.specs.Sums.{dot}
 use Rattle.lin_solve.proofs.Siegel.{Solves, room, box, siegel, Solution}
 use Rattle.lin_solve.specs.Bounds.{nat_total, size}
 use Rattle.lin_solve.proofs.Small.{SizesWithin, room_below, crowd}
@@ -68,7 +68,7 @@ pub record Solvable (n : ℕ) (a : ℕ → ℕ → ℤ) (b : ℕ → ℤ) : Type
   pub apart : d ≢ pos 0
   pub is : (k : ℕ) → k < n → dot n (a k) y ≡ d *ℤ b k
 
--- b in front of each row
+-- b before each row
 abbrev beside : (ℕ → ℕ → ℤ) → (ℕ → ℤ) → ℕ → ℕ → ℤ
 beside a b k zero = b k
 beside a b k (suc i) = a k i

@@ -1,6 +1,6 @@
 -- The two cases of the conditions of a system, and the limits that they give.
-use Rattle.std.proofs.Common.{◌≡◌, ◌⊎◌, inl, inr, ℕ, ◌+◌, ◌-◌, ◌*◌, ◌^◌, ◌<◌, ◌≤◌, ℤ, pos, ◌≤ℤ◌, sym, ◌∙◌, subst, arith, unsigned_abs, List, [], length}
-use Rattle.std.proofs.Common.{slice_index_or}
+use Rattle.std.proofs.Common.{List, [], arith, inl, inr, length, pos, slice_index_or, subst, sym, unsigned_abs, ℕ, ℤ, ◌*◌, ◌+◌, ◌-◌, ◌<◌, ◌^◌, ◌∙◌}
+use Rattle.std.proofs.Common.{◌≡◌, ◌≤ℤ◌, ◌≤◌, ◌⊎◌}
 use Rattle.std.proofs.lemmas.Int.{ints}
 use Rattle.std.proofs.Math.Nat.{mul-le-mul, pow-le-pow_right, le_refl, le_trans, lt_of_le_of_lt}
 use Rattle.far_num.specs.declared.Far.{Far}
@@ -11,7 +11,7 @@ use Rattle.lin_solve.specs.Bounds.{size, bound, IsWithin}
 use Rattle.lin_solve.specs.Solved.{IsSmallSystem, IsSystem, IsWithinLimits, AreParts, IsSmallAnswer, most}
 use Rattle.far_num.specs.Pairs.{far_at, near_at}
 use Rattle.lin_solve.specs.Elimination.{IsKernelRow}
-use Rattle.far_num.specs.wide_num.specs.Sums.{nth}
+use Rattle.wide_num.specs.Sums.{nth}
 use Rattle.lin_solve.proofs.PivotFacts.{size_small}
 
 -- at most `count` lines with entries up to `top`, and parts up to the edge: the limit is their product

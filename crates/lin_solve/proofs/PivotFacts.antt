@@ -6,9 +6,9 @@ use Rattle.lin_solve.specs.Bounds.{nat_total, size, reach, IsWithin, bound, HasR
 use Rattle.lin_solve.specs.Elimination.{product}
 use Rattle.lin_solve.specs.Clearing.{IsColumn, IsClearing, IsPivot}
 use Rattle.lin_solve.specs.Solved.{IsSystem, most}
-use Rattle.far_num.specs.wide_num.specs.Sums.{nth, dot}
+use Rattle.wide_num.specs.Sums.{dot, nth}
 use Rattle.lin_solve.proofs.Siegel.{nat_total-le}
-use Rattle.far_num.specs.wide_num.proofs.Sums.{dot-same, dot_comm}
+use Rattle.wide_num.proofs.Sums.{dot-same, dot_comm}
 use Rattle.lin_solve.proofs.Rooms.{dot_small, reach_small, reach_room, bound_some}
 
 nat_total-const : (n h : ℕ) → nat_total n (λ (i : ℕ). h) ≡ n * h

@@ -1,7 +1,7 @@
 -- A list that grows by one number a turn, with a fact on the number at each place.
 use Rattle.std.proofs.Common.{◌≡◌, ℕ, ◌+◌, ◌<◌, ℤ, pos, length, List, [], ◌∷◌, ◌++◌, arith, below_more, ◌∙◌, sym, ap, subst}
 use Rattle.std.proofs.lemmas.List.{length_push, get_or_push, get_or_append_left}
-use Rattle.far_num.specs.wide_num.specs.Sums.{nth}
+use Rattle.wide_num.specs.Sums.{nth}
 
 -- the number at the end of a list with x pushed is x
 pub nth-push : (xs : List ℤ) (x : ℤ) (i : ℕ) → length xs ≡ i → nth (xs ++ x ∷ []) i ≡ x

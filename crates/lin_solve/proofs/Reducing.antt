@@ -1,12 +1,12 @@
 -- A row divided by its content is primitive.
-use Rattle.std.proofs.Common.{◌≡◌, ◌≢◌, ℕ, ◌+◌, ◌*◌, ◌<◌, ◌≤◌, ◌^◌, ℤ, pos, ◌-ℤ◌, ◌*ℤ◌, length, List, arith, refl, ◌∙◌, sym, ap, subst, unsigned_abs, Result}
-use Rattle.std.proofs.Common.{Ok, Err, IfOk, Option, Some, None, MatchOption}
+use Rattle.std.proofs.Common.{Err, IfOk, List, MatchOption, None, Ok, Option, Result, Some, ap, arith, length, pos, refl, subst, sym, unsigned_abs, ℕ}
+use Rattle.std.proofs.Common.{ℤ, ◌*ℤ◌, ◌*◌, ◌+◌, ◌-ℤ◌, ◌<◌, ◌^◌, ◌∙◌, ◌≡◌, ◌≢◌, ◌≤◌}
 use Rattle.std.proofs.lemmas.Int.{ints, unsigned_abs-mul}
 use Rattle.std.proofs.Math.IntN.{*ℤ_comm, *ℤ-zero}
-use Rattle.far_num.specs.wide_num.proofs.Ints.{mul_cancel, *ℤ-one}
+use Rattle.wide_num.proofs.Ints.{*ℤ-one, mul_cancel}
 use Rattle.lin_solve.specs.Elimination.{ContentOf, AreQuotients, IsPrimitivePart, IsMix, Reduces}
-use Rattle.far_num.specs.wide_num.specs.Sums.{nth, dot}
-use Rattle.far_num.specs.wide_num.proofs.Sums.{dot-same, dot-scale}
+use Rattle.wide_num.specs.Sums.{dot, nth}
+use Rattle.wide_num.proofs.Sums.{dot-same, dot-scale}
 
 -- the content of a row with a number other than 0 isn't 0
 pub content_apart : (v : List ℤ) (g : ℤ) → ContentOf (length v) (nth v) g → (p : ℕ) → p < length v → nth v p ≢ pos 0 → g ≢ pos 0

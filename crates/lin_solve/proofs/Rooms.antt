@@ -2,10 +2,10 @@
 use Rattle.std.proofs.Common.{◌≡◌, ◌≢◌, ℕ, zero, suc, ◌+◌, ◌-◌, ◌*◌, ◌^◌, ◌<◌, ◌≤◌, ℤ, pos, ◌-ℤ◌, ◌*ℤ◌, length, List, arith, ap, unsigned_abs}
 use Rattle.std.proofs.Math.Nat.{mul-le-mul, one-le-pow}
 use Rattle.std.proofs.Math.IntN.{*ℤ-zero}
-use Rattle.far_num.specs.wide_num.proofs.Ints.{lin, mul-zero_cases}
+use Rattle.wide_num.proofs.Ints.{lin, mul-zero_cases}
 use Rattle.lin_solve.specs.Bounds.{nat_total, size, reach, bound, IsWithin}
 use Rattle.lin_solve.specs.Elimination.{product}
-use Rattle.far_num.specs.wide_num.specs.Sums.{dot, nth}
+use Rattle.wide_num.specs.Sums.{dot, nth}
 use Rattle.lin_solve.proofs.Siegel.{nat_total-le, abs_dot}
 use Rattle.lin_solve.proofs.Small.{le_mul, mul_le, nat_total-scale}
 

@@ -2,10 +2,10 @@
 use Rattle.std.proofs.Common.{◌≡◌, ◌≢◌, ℕ, zero, suc, ◌*◌, ◌^◌, ◌<◌, ◌≤◌, ℤ, pos, ◌+ℤ◌, ◌*ℤ◌, refl, sym, ap, ◌∙◌, arith, unsigned_abs}
 use Rattle.std.proofs.lemmas.Int.{ints}
 use Rattle.std.proofs.Math.IntN.{*ℤ_comm}
-use Rattle.far_num.specs.wide_num.proofs.Ints.{lin, mul-add, swap_mul, mul_assoc, mul_cancel, mul-zero_cases, *ℤ-one, abs_pos}
+use Rattle.wide_num.proofs.Ints.{*ℤ-one, abs_pos, lin, mul-add, mul-zero_cases, mul_assoc, mul_cancel, swap_mul}
 use Rattle.lin_solve.specs.Bounds.{nat_total}
-use Rattle.far_num.specs.wide_num.specs.Sums.{dot}
-use Rattle.far_num.specs.wide_num.proofs.Sums.{dot-scale, dot-same, dot-scale_left}
+use Rattle.wide_num.specs.Sums.{dot}
+use Rattle.wide_num.proofs.Sums.{dot-same, dot-scale, dot-scale_left}
 use Rattle.lin_solve.proofs.Inverse.{Injective, Solvable, solvable}
 use Rattle.lin_solve.proofs.Denominator.{Content, content, least_den, sign_of, size_is}
 

@@ -1,12 +1,12 @@
 -- Few equations in many unknowns have a small solution that isn't zero.
-use Rattle.std.proofs.Common.{◌≡◌, ◌≢◌, ◌⊎◌, ℕ, zero, suc, ◌+◌, ◌-◌, ◌*◌, ◌/◌, ◌%◌, ◌<◌, ◌≤◌, ℤ, pos, negsuc, ◌+ℤ◌, ◌-ℤ◌, ◌*ℤ◌, refl, sym, ap, ◌∙◌, subst}
-use Rattle.std.proofs.Common.{arith, unsigned_abs, List, [], ◌∷◌, inl, inr}
+use Rattle.std.proofs.Common.{List, [], ap, arith, inl, inr, negsuc, pos, refl, subst, suc, sym, unsigned_abs, zero, ℕ, ℤ, ◌%◌, ◌*ℤ◌, ◌*◌, ◌+ℤ◌, ◌+◌}
+use Rattle.std.proofs.Common.{◌-ℤ◌, ◌-◌, ◌/◌, ◌<◌, ◌∙◌, ◌∷◌, ◌≡◌, ◌≢◌, ◌≤◌, ◌⊎◌}
 use Rattle.std.proofs.lemmas.Int.{ints, unsigned_abs-mul}
 use Rattle.std.proofs.lemmas.Bool.{cases_eq}
 use Rattle.std.proofs.Math.Nat.{div-add-mod, mod-lt, mul-le-mul, div-lt_iff_lt-mul}
-use Rattle.far_num.specs.wide_num.proofs.Ints.{lin}
-use Rattle.far_num.specs.wide_num.proofs.Sums.{total-same, total-add, dot-lin}
-use Rattle.far_num.specs.wide_num.specs.Sums.{total, dot}
+use Rattle.wide_num.proofs.Ints.{lin}
+use Rattle.wide_num.proofs.Sums.{dot-lin, total-add, total-same}
+use Rattle.wide_num.specs.Sums.{dot, total}
 use Rattle.lin_solve.specs.Bounds.{nat_total}
 use Rattle.lin_solve.proofs.Pigeon.{collide, Collision}
 

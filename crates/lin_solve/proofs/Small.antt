@@ -1,18 +1,16 @@
 -- The rows of a basis are small where they are primitive.
-use Rattle.std.proofs.Common.{◌≡◌, ◌≢◌, ℕ, zero, suc, ◌+◌, ◌*◌, ◌^◌, ◌<◌, ◌≤◌, ℤ, pos, ◌-ℤ◌, ◌*ℤ◌, sym, ap, ◌∙◌, subst, arith, unsigned_abs, List, [], ◌∷◌}
-use Rattle.std.proofs.Common.{inl, inr, length, Bool, true, false, cond}
+use Rattle.std.proofs.Common.{Bool, List, [], ap, arith, cond, false, inl, inr, length, pos, subst, suc, sym, true, unsigned_abs, zero, zero-add, ℕ}
+use Rattle.std.proofs.Common.{ℤ, ◌*ℤ◌, ◌*◌, ◌+◌, ◌-ℤ◌, ◌<◌, ◌^◌, ◌∙◌, ◌∷◌, ◌≡◌, ◌≢◌, ◌≤◌}
 use Rattle.std.proofs.lemmas.Int.{unsigned_abs-mul}
 use Rattle.std.proofs.lemmas.Bool.{cases_eq}
 use Rattle.std.proofs.Math.IntN.{*ℤ_comm, *ℤ-zero}
 use Rattle.std.proofs.Math.Numerals.{one-add}
-use Rattle.far_num.specs.wide_num.proofs.Ints.{*ℤ-one}
+use Rattle.wide_num.proofs.Ints.{*ℤ-one, abs-zero, abs_pos, lin, mul_assoc, mul_cancel}
 use Rattle.std.proofs.lemmas.Nat.{mul-pow}
-use Rattle.std.proofs.Common.{zero-add}
 use Rattle.std.proofs.Math.Nat.{pow-zero, pow-suc, pow-le-pow_left, pow-le-pow_right, one-le-pow, mul-le-mul, le_trans}
-use Rattle.far_num.specs.wide_num.proofs.Ints.{lin, mul_assoc, mul_cancel, abs_pos, abs-zero}
 use Rattle.lin_solve.specs.Bounds.{size, nat_total}
-use Rattle.far_num.specs.wide_num.proofs.Sums.{dot-scale, dot-same}
-use Rattle.far_num.specs.wide_num.specs.Sums.{dot}
+use Rattle.wide_num.proofs.Sums.{dot-same, dot-scale}
+use Rattle.wide_num.specs.Sums.{dot}
 use Rattle.lin_solve.proofs.Siegel.{Solves, nat_total-le, weight, room, box, siegel, Solution}
 use Rattle.lin_solve.proofs.Basis.{Basis, Solves-lin, minus_same, minus_zero, held, taken, taken_one}
 

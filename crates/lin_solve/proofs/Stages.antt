@@ -1,17 +1,17 @@
 -- The state of the elimination: a flag and a row for each coordinate.
-use Rattle.std.proofs.Common.{◌≡◌, ◌≢◌, ℕ, zero, suc, ◌-◌, ◌^◌, ◌<◌, ◌≤◌, ℤ, pos, ◌-ℤ◌, ◌*ℤ◌, refl, sym, ap, ◌∙◌, subst, arith, unsigned_abs, List, [], ◌∷◌}
-use Rattle.std.proofs.Common.{inl, inr, length, Bool, true, false, set, get_or, replicate}
+use Rattle.std.proofs.Common.{Bool, List, [], ap, arith, false, get_or, inl, inr, length, pos, refl, replicate, set, subst, suc, sym, true}
+use Rattle.std.proofs.Common.{unsigned_abs, zero, ℕ, ℤ, ◌*ℤ◌, ◌-ℤ◌, ◌-◌, ◌<◌, ◌^◌, ◌∙◌, ◌∷◌, ◌≡◌, ◌≢◌, ◌≤◌}
 use Rattle.std.proofs.lemmas.Bool.{cases_eq, cases_lt}
 use Rattle.std.proofs.lemmas.List.{get_or-set_same, get_or-set_other, get_or_past, get_or-replicate}
 use Rattle.std.proofs.Math.Nat.{pow-le-pow_right, le_trans}
 use Rattle.lin_solve.specs.Matrix.{row, IsCleared}
 use Rattle.lin_solve.specs.Bounds.{size, AreLines, AreSized, IsWithin, HasRoom, bound}
 use Rattle.lin_solve.specs.Elimination.{flag, IsPrimitive, Reduces, Ready, IsNext, product, IsUnit, IsKernelRow}
-use Rattle.far_num.specs.wide_num.specs.Sums.{nth, dot}
+use Rattle.wide_num.specs.Sums.{dot, nth}
 use Rattle.lin_solve.proofs.Siegel.{Solves}
 use Rattle.lin_solve.proofs.Basis.{Basis, Cleared, start, step, taken, held, taken_one, true_false, Solves-part, minus_same, minus_zero}
 use Rattle.lin_solve.proofs.Small.{SizesWithin, small}
-use Rattle.far_num.specs.wide_num.proofs.Sums.{dot-lin, total-one}
+use Rattle.wide_num.proofs.Sums.{dot-lin, total-one}
 use Rattle.std.proofs.Math.IntN.{*ℤ-zero}
 
 -- the state after the first k lines

@@ -1,7 +1,7 @@
 -- How large the numbers of an elimination can get.
 use Rattle.lin_solve.specs.Matrix.{row}
 use Rattle.std.specs.Prelude.{List, [], length, slice_index_or, suc, unsigned_abs, zero, ℕ, ℤ, ◌*◌, ◌+◌, ◌-◌, ◌<◌, ◌^◌, ◌≡◌, ◌≤◌}
-use Rattle.far_num.specs.wide_num.specs.Sums.{nth}
+use Rattle.wide_num.specs.Sums.{nth}
 
 -- the sum of f over the numbers below n
 abbrev pub nat_total : ℕ → (ℕ → ℕ) → ℕ

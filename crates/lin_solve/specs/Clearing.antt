@@ -2,7 +2,7 @@
 use Rattle.lin_solve.specs.Matrix.{row}
 use Rattle.lin_solve.specs.Bounds.{bound, HasSizedColumns, IsWithin}
 use Rattle.std.specs.Prelude.{List, length, pos, ℕ, ℤ, ◌*ℤ◌, ◌<◌, ◌≡◌, ◌≢◌, ◌≤ℤ◌, ◌≤◌}
-use Rattle.far_num.specs.wide_num.specs.Sums.{dot, nth}
+use Rattle.wide_num.specs.Sums.{dot, nth}
 
 -- y is column i of the lines
 pub record IsColumn (lines : List (List ℤ)) (i : ℕ) (y : List ℤ) : Type 0 where

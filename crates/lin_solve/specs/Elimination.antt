@@ -2,7 +2,7 @@
 use Rattle.lin_solve.specs.Matrix.{row, IsCleared}
 use Rattle.lin_solve.specs.Bounds.{size, bound, AreSized, IsWithin, HasRoom}
 use Rattle.std.specs.Prelude.{Bool, List, [], false, length, pos, slice_index_or, true, ℕ, ℤ, ◌*ℤ◌, ◌-ℤ◌, ◌<◌, ◌≡◌, ◌≢◌, ◌≤◌}
-use Rattle.far_num.specs.wide_num.specs.Sums.{dot, nth}
+use Rattle.wide_num.specs.Sums.{dot, nth}
 
 -- the sum of the products of two rows
 abbrev pub product : List ℤ → List ℤ → ℤ

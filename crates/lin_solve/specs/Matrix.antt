@@ -1,6 +1,6 @@
 -- Square matrices, and what they send to 0.
 use Rattle.std.specs.Prelude.{List, [], length, pos, slice_index_or, ℕ, ℤ, ◌<◌, ◌≡◌, ◌≤◌}
-use Rattle.far_num.specs.wide_num.specs.Sums.{dot, nth}
+use Rattle.wide_num.specs.Sums.{dot, nth}
 
 -- the number at place i of row j, and 0 past the end
 abbrev pub row : List (List ℤ) → ℕ → ℕ → ℤ

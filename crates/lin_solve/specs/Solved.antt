@@ -6,7 +6,7 @@ use Rattle.lin_solve.specs.declared.solved.Solved.TheVariants.{One, Dependent}
 use Rattle.lin_solve.specs.Matrix.{row, IsCleared}
 use Rattle.lin_solve.specs.Bounds.{bound, AreSized, HasRoom, HasSizedColumns, IsWithin}
 use Rattle.far_num.specs.Pairs.{far_at, near_at}
-use Rattle.far_num.specs.wide_num.specs.Sums.{nth, dot}
+use Rattle.wide_num.specs.Sums.{dot, nth}
 
 -- the matrix times x is d times b
 abbrev pub Satisfies : List (List ℤ) → (ℕ → ℤ) → ℤ → (ℕ → ℤ) → Type 0

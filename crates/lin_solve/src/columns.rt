@@ -2,7 +2,7 @@ ghost use Rattle.lin_solve.specs.Matrix.{OnlyZero};
 ghost use Rattle.lin_solve.specs.Bounds.{IsBounded};
 ghost use Rattle.lin_solve.specs.Clearing.{IsClearing, IsColumn, IsKeptColumn};
 ghost use Rattle.std.specs.Prelude.{IfOk, [], length, pos, slice_index_or, ℕ, ◌<◌, ◌≡◌};
-ghost use Rattle.far_num.specs.wide_num.specs.Sums.{nth};
+ghost use Rattle.wide_num.specs.Sums.{nth};
 
 use crate::kernel::kernel;
 use std::alloc::{AllocError, Global};
@@ -32,7 +32,7 @@ fn zeros(alloc: Global, width: usize) -> Result<NumList, AllocError>
     Ok(out)
 }
 
-/// Column `i`, and zeros in place of the column `left_out`.
+/// Column `i`, and zeros instead of the column `left_out`.
 fn kept_column(
     alloc: Global,
     lines: &[NumList],
@@ -49,7 +49,7 @@ fn kept_column(
     }
 }
 
-/// The columns of a square matrix, with zeros in place of the column `left_out`.
+/// The columns of a square matrix, with zeros instead of the column `left_out`.
 fn kept_columns(
     alloc: Global,
     lines: &[NumList],

@@ -3,8 +3,8 @@ ghost use Rattle.lin_solve.specs.Pivots.{ArePivots, AreValues, HaveCommon, IsCom
 ghost use Rattle.lin_solve.specs.Matrix.{OnlyZero};
 ghost use Rattle.lin_solve.specs.Solved.{IsSystem};
 ghost use Rattle.std.specs.Prelude.{IfOk, length, pos, unsigned_abs, ◌*ℤ◌, ◌*◌, ◌<◌, ◌^◌, ◌≡◌, ◌≢◌};
-ghost use Rattle.far_num.specs.wide_num.specs.Range.{Divides};
-ghost use Rattle.far_num.specs.wide_num.specs.Sums.{nth};
+ghost use Rattle.wide_num.specs.Range.{Divides};
+ghost use Rattle.wide_num.specs.Sums.{nth};
 
 use crate::pivots::{Pivot, grow, pivot_at};
 use crate::rows::times;

@@ -2,7 +2,7 @@ ghost use Rattle.lin_solve.specs.Matrix.{OnlyZero};
 ghost use Rattle.lin_solve.specs.Bounds.{AreLines};
 ghost use Rattle.lin_solve.specs.Elimination.{CanClear, CanCombine, IsKernelRow, IsNext, IsUnit, NoneCanClear, Ready, Reduces, flag, product};
 ghost use Rattle.std.specs.Prelude.{IfOk, MatchOption, [], false, length, pos, slice_index_or, true, ℕ, ◌<◌, ◌≡◌, ◌≢◌, ◌≤◌};
-ghost use Rattle.far_num.specs.wide_num.specs.Sums.{nth};
+ghost use Rattle.wide_num.specs.Sums.{nth};
 
 use crate::rows::{dot, reduced};
 use std::alloc::{AllocError, Global};

@@ -18,7 +18,6 @@ mod rows;
 mod solved;
 mod square;
 
-pub use far_num;
 pub use rows::quotients;
 pub use solved::{Solved, solve};
 pub use square::Square;

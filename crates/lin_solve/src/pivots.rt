@@ -2,7 +2,7 @@ ghost use Rattle.lin_solve.specs.Matrix.{OnlyZero};
 ghost use Rattle.lin_solve.specs.Clearing.{IsGrown, IsPivot};
 ghost use Rattle.lin_solve.specs.Solved.{IsSystem};
 ghost use Rattle.std.specs.Prelude.{IfOk, length, pos, unsigned_abs, ◌*◌, ◌<◌, ◌^◌, ◌≡◌, ◌≢◌, ◌≤ℤ◌};
-ghost use Rattle.far_num.specs.wide_num.specs.Sums.{nth};
+ghost use Rattle.wide_num.specs.Sums.{nth};
 
 use crate::columns::{clearing, column};
 use crate::rows::{dot, times};

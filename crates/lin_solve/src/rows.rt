@@ -1,8 +1,8 @@
 ghost use Rattle.lin_solve.specs.Bounds.{reach};
 ghost use Rattle.lin_solve.specs.Elimination.{AreQuotients, ContentOf, IsMix, IsPrimitivePart, Reduces, product};
 ghost use Rattle.std.specs.Prelude.{IfOk, length, pos, unsigned_abs, ℕ, ◌*ℤ◌, ◌*◌, ◌+ℤ◌, ◌+◌, ◌-ℤ◌, ◌<◌, ◌^◌, ◌≡◌, ◌≢◌};
-ghost use Rattle.far_num.specs.wide_num.specs.Range.{Divides};
-ghost use Rattle.far_num.specs.wide_num.specs.Sums.{nth};
+ghost use Rattle.wide_num.specs.Range.{Divides};
+ghost use Rattle.wide_num.specs.Sums.{nth};
 
 use std::alloc::{AllocError, Global};
 use wide_num::{NumList, div_exact, gcd};
@@ -70,7 +70,7 @@ fn mix(alloc: Global, s: i128, v: &[i128], t: i128, w: &[i128]) -> Result<NumLis
     Ok(out)
 }
 
-/// Each number divided by `g`, a divisor of all. The only error is want of memory.
+/// Each number divided by `g`, a divisor of all. The only error is out of memory.
 pub fn quotients(alloc: Global, g: i128, v: &[i128]) -> Result<NumList, AllocError>
     requires apart { g ≢ pos 0 }
     requires divides { (i : ℕ) → i < length v.now → Divides g (nth v.now i) }

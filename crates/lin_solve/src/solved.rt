@@ -2,7 +2,7 @@ ghost use Rattle.far_num.specs.Pairs.{far_at, near_at};
 ghost use Rattle.lin_solve.specs.Solved.{AreParts, IsAnswer, IsSmallAnswer, IsSmallSystem, IsSystem, IsWithinLimits, most};
 ghost use Rattle.lin_solve.specs.Matrix.{OnlyZero};
 ghost use Rattle.std.specs.Prelude.{IfOk, length, ℕ, ◌+◌, ◌^◌, ◌≡◌, ◌⊎◌};
-ghost use Rattle.far_num.specs.wide_num.specs.Sums.{nth};
+ghost use Rattle.wide_num.specs.Sums.{nth};
 
 use crate::common::{all_pivots, common_den, values};
 use crate::kernel::kernel;
@@ -80,7 +80,7 @@ fn near_parts(alloc: Global, right: &[Far]) -> Result<NumList, AllocError>
 /// Solves the system that has `matrix` and the right side `right`, both parts of it at once.
 ///
 /// Where the only row that the matrix sends to 0 is 0 itself, the answer is the only solution, and else a row other
-/// than 0 that the matrix sends to 0. The method and its bounds are told at the head of this crate.
+/// than 0 that the matrix sends to 0. The method and its bounds are reported at the head of this crate.
 ///
 /// The entries aren't negative. Either there are at most six lines with entries up to 6 and a right side up to 2^46 in
 /// size, or at most four lines with entries up to 80 and a right side up to 2^45.

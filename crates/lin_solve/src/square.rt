@@ -1,6 +1,6 @@
 ghost use Rattle.lin_solve.specs.Matrix.{IsSquare, row};
 ghost use Rattle.std.specs.Prelude.{IfOk, List, length, ℕ, ℤ, ◌*◌, ◌+◌, ◌<◌, ◌≡◌, ◌≤◌};
-ghost use Rattle.far_num.specs.wide_num.specs.Sums.{nth};
+ghost use Rattle.wide_num.specs.Sums.{nth};
 
 use std::alloc::{AllocError, Global};
 use std::marker::Model;

@@ -3,14 +3,14 @@ use Rattle.std.proofs.Common.{◌≡◌, ℕ, suc, ◌-◌, ◌≤◌, ◌<◌, 
 use Rattle.std.specs.List.{AllByRecursion}
 use Rattle.std.specs.Fmt.{decimal}
 use Rattle.std.proofs.lemmas.List.{take_all}
-use Rattle.award_file.specs.bid_book.specs.line_text.specs.Decimals.{decimals_text}
-use Rattle.award_file.specs.bid_book.specs.line_text.specs.Fields.{FieldEnds}
-use Rattle.award_file.specs.bid_book.specs.line_text.proofs.DecimalFields.{NoSpace, one_field, decimals_stop, number_own}
+use Rattle.line_format.specs.Decimals.{decimals_text}
+use Rattle.line_format.specs.Fields.{FieldEnds}
+use Rattle.line_format.proofs.DecimalFields.{NoSpace, decimals_stop, number_own, one_field}
 use Rattle.log_file.specs.LogForm.{AreCounts, counts_text}
 
 -- ---- counts
 
--- the first count that a text spells stands before its first space
+-- the first count that a text spells comes before its first space
 pub record FirstCount (field more ns : List ℕ) : Type 0 where
   pub count : ℕ
   pub later : List ℕ
@@ -48,7 +48,7 @@ pub first_of : (categories : ℕ) (text field more ns : List ℕ) → 0 < catego
     → FirstCount field more ns
 first_of categories text field more ns some at are is = first_count categories text field more ns some at.split at.own at.stops are is
 
--- with nothing behind the first count it is the only one
+-- with nothing after the first count it is the only one
 pub only_count : (categories : ℕ) (field more ns : List ℕ) → FirstCount field more ns → AreCounts categories ns → length more < 1 → categories ≡ 1
 only_count categories field more ns first are short = only categories more first.later short first.more_is (sym are.0 ∙ ap length first.whole)
   where
@@ -56,7 +56,7 @@ only_count categories field more ns first are short = only categories more first
     only categories more [] short is count = count
     only categories more (n ∷ later) short is count = absurd (omega (arith, short, ap length is))
 
--- with something behind it there is another one
+-- with something after it there is another one
 pub other_counts : (categories : ℕ) (field more ns : List ℕ) (first : FirstCount field more ns) → AreCounts categories ns → 1 ≤ length more
     → (1 < categories) × AreCounts (categories - 1) first.later × (take (length more - 1) (drop 1 more) ≡ counts_text first.later)
 other_counts categories field more ns first are long =
@@ -73,7 +73,7 @@ other_counts categories field more ns first are long =
           ∙ take_all (length (decimals_text (n ∷ later)) - 1) (counts_text (n ∷ later)) (omega arith),
     )
 
--- counts behind a space are spelled as those behind the first count
+-- counts after a space are spelled as those after the first count
 pub behind_space : (ns : List ℕ) → 0 < length ns → decimals_text ns ≡ 32 ∷ counts_text ns
 behind_space [] some = absurd (omega (arith, some))
 behind_space (n ∷ ns) some = refl

@@ -9,3 +9,5 @@ mod WorkedCases
 mod Categories
 mod WrittenLog
 mod ReadSoFar
+mod WideLaws
+mod WideLogs

@@ -1,8 +1,8 @@
 -- The records of a log, one after the other.
 use Rattle.std.proofs.Common.{◌≡◌, ℕ, suc, ◌<◌, List, [], ◌∷◌, ◌++◌, length, refl, sym, ap, subst, ◌∙◌, arith, append_assoc, length-append}
 use Rattle.std.proofs.lemmas.List.{append-nil}
-use Rattle.award_file.specs.auction_rules.specs.Terms.{Terms}
-use Rattle.award_file.specs.auction_rules.specs.declared.Event.{Event}
+use Rattle.auction_rules.specs.Terms.{Terms}
+use Rattle.auction_rules.specs.declared.Event.{Event}
 use Rattle.std.specs.Prelude.{Result, Err, IfErr}
 use Rattle.log_file.specs.declared.LogStop.{LogStop}
 use Rattle.log_file.specs.declared.LogStop.TheVariants.{Memory}
@@ -11,7 +11,7 @@ use Rattle.log_file.specs.Statements.{IsUntaken, untaken_stop}
 use Rattle.log_file.specs.declared.read.RecordFault.{RecordFault}
 use Rattle.log_file.specs.declared.read.RecordFault.TheVariants.{NoEvent, TooMany}
 use Rattle.log_file.specs.LogReading.{AllState, AreLog, AreTooMany, BeginWith, IsFirstFault, IsStop}
-use Rattle.award_file.specs.limits.specs.declared.TheConstants.{MOST_RECORDS}
+use Rattle.limits.specs.declared.TheConstants.{MOST_RECORDS}
 
 abbrev pub Rows : Type 0
 Rows = List (List (List ℕ))
@@ -38,13 +38,13 @@ begin_more terms rows events left r later e had is few states = record {
   few = omega (arith, few, length-append events (e ∷ []));
 }
 
--- behind the last record
+-- after the last record
 pub log_ends : (terms : Terms) (rows : Rows) (events : List Event) (left : Rows) → BeginWith terms rows events left → left ≡ [] → AreLog terms rows events
 log_ends terms rows events left had none =
     let whole : rows ≡ had.before = had.whole ∙ ap (λ (l : Rows). had.before ++ l) none ∙ append-nil had.before in
     (subst (λ (l : Rows). AllState terms l events) (sym whole) had.states, had.few)
 
--- what is left behind the events may be given by any equal records
+-- what is left after the events may be given by any equal records
 pub begin_at : (terms : Terms) (rows : Rows) (events : List Event) (left other : Rows) → BeginWith terms rows events left → left ≡ other
     → BeginWith terms rows events other
 begin_at terms rows events left other had is = subst (BeginWith terms rows events) is had
@@ -56,7 +56,7 @@ pub first_fault :
     → StatesNone terms r → IsFirstFault terms rows (suc (length events))
 first_fault terms rows events left r later had is few none = (events, r, later, begin_at terms rows events left (r ∷ later) had is, none, few, refl)
 
--- a record behind the greatest number of them
+-- a record after the greatest number of them
 pub too_many :
     (terms : Terms) (rows : Rows) (events : List Event) (left : Rows) (r : List (List ℕ)) (later : Rows) → BeginWith terms rows events left
     → left ≡ r ∷ later → length events ≡ MOST_RECORDS
@@ -65,7 +65,7 @@ too_many terms rows events left r later had is many = (events, r, later, begin_a
 
 -- ---- answers
 
--- a stop for want of memory may stand for any records
+-- a stop when out of memory may stand for any records
 pub memory_stop : {T : Type 0} (Has : Rows → Type 0) (terms : Terms) (r : Result T LogStop) (e : LogStop) → r ≡ Err e
     → ((rows : Rows) → Has rows → e ≡ Memory) → IfErr r (λ stop. (rows : Rows) → Has rows → IsStop terms rows stop)
 memory_stop Has terms r e is memory = rw is (λ rows has. subst (IsStop terms rows) (sym (memory rows has)) tt)

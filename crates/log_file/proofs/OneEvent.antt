@@ -2,14 +2,14 @@
 use Rattle.std.proofs.Common.{◌≡◌, ℕ, suc, ◌+◌, ◌*◌, ◌≤◌, List, [], ◌∷◌, ◌++◌, length, refl, sym, ap, ◌∙◌, arith}
 use Rattle.std.specs.List.{AllByRecursion}
 use Rattle.std.specs.Fmt.{decimal}
-use Rattle.award_file.specs.bid_book.specs.wide_num.proofs.Decimal.{decimal_one}
-use Rattle.award_file.specs.bid_book.specs.line_text.specs.Decimals.{decimals_text}
-use Rattle.award_file.specs.auction_rules.specs.Terms.{Terms}
-use Rattle.award_file.specs.auction_rules.specs.declared.Event.{Event}
-use Rattle.award_file.specs.auction_rules.specs.declared.Event.TheVariants.{Bid, Draft, Drop, Submit, Close}
+use Rattle.wide_num.proofs.Decimal.{decimal_one}
+use Rattle.line_format.specs.Decimals.{decimals_text}
+use Rattle.auction_rules.specs.Terms.{Terms}
+use Rattle.auction_rules.specs.declared.Event.{Event}
+use Rattle.auction_rules.specs.declared.Event.TheVariants.{Bid, Close, Draft, Drop, Submit}
 use Rattle.award_file.specs.Award.{number_of}
 use Rattle.log_file.specs.LogForm.{AreCounts, IsNameOf, States, counts_text, four}
-use Rattle.award_file.specs.bid_book.specs.line_text.proofs.DecimalFields.{one_field, decimals_stop, number_own}
+use Rattle.line_format.proofs.DecimalFields.{decimals_stop, number_own, one_field}
 
 one_number : (m n : ℕ) (ms ns : List ℕ) → m ≤ 65535 → n ≤ 65535 → decimal m ++ decimals_text ms ≡ decimal n ++ decimals_text ns
     → (m ≡ n) × (decimals_text ms ≡ decimals_text ns)

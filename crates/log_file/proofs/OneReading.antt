@@ -1,7 +1,7 @@
 -- Records have one reading.
 use Rattle.std.proofs.Common.{◌≡◌, ℕ, suc, ◌<◌, List, [], ◌∷◌, ◌++◌, length, refl, sym, ap, subst, ◌∙◌, arith, length-append}
-use Rattle.award_file.specs.auction_rules.specs.Terms.{Terms}
-use Rattle.award_file.specs.auction_rules.specs.declared.Event.{Event}
+use Rattle.auction_rules.specs.Terms.{Terms}
+use Rattle.auction_rules.specs.declared.Event.{Event}
 use Rattle.log_file.specs.LogForm.{States, StatesNone}
 use Rattle.log_file.specs.LogReading.{AllState, AreLog, AreTooMany, IsFirstFault}
 use Rattle.log_file.proofs.OneEvent.{one_event}
@@ -55,7 +55,7 @@ log_or_many terms rows es log (events, r, later, had, many) =
       length-append had.before (r ∷ later),
     )
 
--- a record that states nothing isn't behind as many as state an event
+-- a record that states nothing isn't after as many as state an event
 not_before : (terms : Terms) (before other : Rows) (es fs : List Event) (r : List (List ℕ)) (later left : Rows) → AllState terms before es
     → StatesNone terms r → AllState terms other fs
     → before ++ r ∷ later ≡ other ++ left → length es < length fs → ⊥

@@ -1,9 +1,9 @@
 -- How far the records of a text are read.
 use Rattle.std.proofs.Common.{Bor, ◌≡◌, ℕ, ◌<◌, List, [], ◌∷◌, ◌++◌, Bool, true, false, Some, length}
 use Rattle.csv.specs.declared.reader.Reader.{Reader}
-use Rattle.award_file.specs.limits.specs.declared.TheConstants.{MOST_RECORDS}
-use Rattle.award_file.specs.auction_rules.specs.Terms.{Terms}
-use Rattle.award_file.specs.auction_rules.specs.declared.Event.{Event}
+use Rattle.limits.specs.declared.TheConstants.{MOST_RECORDS}
+use Rattle.auction_rules.specs.Terms.{Terms}
+use Rattle.auction_rules.specs.declared.Event.{Event}
 use Rattle.log_file.specs.LogForm.{States}
 use Rattle.log_file.specs.LogReading.{AreLog, BeginWith}
 use Rattle.log_file.specs.RecordsLeft.{HasLeft, Takes}
@@ -49,6 +49,6 @@ module _ (terms : Terms) (rows : Rows) (old new : Reader (Bor (List ℕ))) (even
         begins = rw pushed (begin_more terms rows events so_far.left fields one.0 e so_far.begins one.1 few states);
       }
 
-  -- behind the last record
+  -- after the last record
   pub read-all : found ≡ false → AreLog terms rows events
   read-all is = log_ends terms rows events so_far.left so_far.begins (found_none _ new so_far.left found fields is (took so_far.left so_far.has))

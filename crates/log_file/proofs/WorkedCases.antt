@@ -1,6 +1,6 @@
 -- Worked cases of the texts.
 use Rattle.std.proofs.Common.{◌≡◌, Some, None, [], ◌∷◌, refl, codes}
-use Rattle.award_file.specs.auction_rules.specs.declared.Reply.TheVariants as reply
+use Rattle.auction_rules.specs.declared.Reply.TheVariants as reply
 use Rattle.std.specs.Fmt.{digits}
 use Rattle.csv.proofs.OnLiterals.{csv_on_literals}
 use Rattle.log_file.specs.declared.CloseDone.TheVariants as done

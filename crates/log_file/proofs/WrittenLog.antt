@@ -1,6 +1,6 @@
 -- The text of a log is read as its events.
-use Rattle.std.proofs.Common.{◌≡◌, ℕ, ◌+◌, ◌≤◌, ◌<◌, ◌^◌, false, List, [], ◌∷◌, ◌++◌, length, map, Some, None}
-use Rattle.std.proofs.Common.{refl, sym, ap, subst, ◌∙◌, inl, inr, arith, append_assoc}
+use Rattle.std.proofs.Common.{List, None, Some, [], ap, append_assoc, arith, false, inl, inr, length, map, refl, subst, sym, ℕ, ◌++◌, ◌+◌, ◌<◌, ◌^◌}
+use Rattle.std.proofs.Common.{◌∙◌, ◌∷◌, ◌≡◌, ◌≤◌}
 use Rattle.std.specs.List.{AllByRecursion, list_any}
 use Rattle.std.specs.Fmt.{decimal}
 use Rattle.std.proofs.lemmas.Bool.{ne_eqb}
@@ -9,13 +9,13 @@ use Rattle.csv.specs.Reading.{default_config, records, records_from, strip_bom}
 use Rattle.csv.specs.Writing.{default_writer, fields_text, is_blank, needs_byte, row_text}
 use Rattle.csv.specs.declared.parser.State.TheVariants as st
 use Rattle.csv.proofs.RoundTrip.{read-write-many}
-use Rattle.award_file.specs.limits.specs.declared.TheConstants.{MOST_RECORDS, MOST_STATED_COUNT}
-use Rattle.award_file.specs.bid_book.specs.book_form.specs.BookForm.{IsName, IsNameByte}
-use Rattle.award_file.specs.bid_book.specs.line_text.specs.Decimals.{decimals_text}
-use Rattle.award_file.specs.bid_book.specs.wide_num.proofs.Decimal.{AreDigits, numeral_decimal}
-use Rattle.award_file.specs.auction_rules.specs.Terms.{Terms}
-use Rattle.award_file.specs.auction_rules.specs.declared.Event.{Event}
-use Rattle.award_file.specs.auction_rules.specs.declared.Event.TheVariants.{Bid, Draft, Drop, Submit, Close}
+use Rattle.limits.specs.declared.TheConstants.{MOST_RECORDS, MOST_STATED_COUNT}
+use Rattle.book_grammar.specs.BookForm.{IsName, IsNameByte}
+use Rattle.line_format.specs.Decimals.{decimals_text}
+use Rattle.wide_num.proofs.Decimal.{AreDigits, numeral_decimal}
+use Rattle.auction_rules.specs.Terms.{Terms}
+use Rattle.auction_rules.specs.declared.Event.{Event}
+use Rattle.auction_rules.specs.declared.Event.TheVariants.{Bid, Close, Draft, Drop, Submit}
 use Rattle.log_file.specs.LogForm.{States, counts_text, four}
 use Rattle.log_file.specs.LogReading.{AllState, AreLog, log_records}
 use Rattle.log_file.specs.LogText.{IsStatable, event_fields, event_text, fields_behind, log_text, record_text}

@@ -4,6 +4,4 @@ pub mod LogReading
 pub mod Statements
 pub mod ReplyText
 pub mod RecordsLeft
-pub use Rattle.award_file
-pub use Rattle.award_file.specs.bid_book
-pub use Rattle.award_file.specs.limits
+pub mod WideRecords

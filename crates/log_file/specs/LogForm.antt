@@ -2,12 +2,12 @@
 use Rattle.std.specs.Prelude.{◌≡◌, ℕ, ◌≤◌, Option, Some, None, List, [], ◌∷◌, ◌++◌, codes, length}
 use Rattle.std.specs.List.{AllByRecursion}
 use Rattle.std.specs.Fmt.{decimal}
-use Rattle.award_file.specs.limits.specs.declared.TheConstants.{MOST_STATED_AMOUNT, MOST_STATED_COUNT}
-use Rattle.award_file.specs.bid_book.specs.book_form.specs.BookForm.{IsName}
-use Rattle.award_file.specs.bid_book.specs.line_text.specs.Decimals.{decimals_text}
-use Rattle.award_file.specs.auction_rules.specs.Terms.{Terms}
-use Rattle.award_file.specs.auction_rules.specs.declared.Event.{Event}
-use Rattle.award_file.specs.auction_rules.specs.declared.Event.TheVariants.{Bid, Draft, Drop, Submit, Close}
+use Rattle.limits.specs.declared.TheConstants.{MOST_STATED_AMOUNT, MOST_STATED_COUNT}
+use Rattle.book_grammar.specs.BookForm.{IsName}
+use Rattle.line_format.specs.Decimals.{decimals_text}
+use Rattle.auction_rules.specs.Terms.{Terms}
+use Rattle.auction_rules.specs.declared.Event.{Event}
+use Rattle.auction_rules.specs.declared.Event.TheVariants.{Bid, Close, Draft, Drop, Submit}
 use Rattle.award_file.specs.Award.{number_of}
 
 -- counts, with one space between each two

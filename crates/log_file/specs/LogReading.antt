@@ -1,15 +1,15 @@
 -- What the bytes of a log state, and which is the first faulty record.
 use Rattle.std.specs.Prelude.{◌≡◌, ℕ, suc, ◌<◌, ◌≤◌, List, [], ◌∷◌, ◌++◌, length}
-use Rattle.award_file.specs.limits.specs.declared.TheConstants.{MOST_RECORDS}
+use Rattle.limits.specs.declared.TheConstants.{MOST_RECORDS}
 use Rattle.csv.specs.Reading.{records, default_config, strip_bom}
-use Rattle.award_file.specs.limits.specs.declared.LimitKind.TheVariants.{Records}
-use Rattle.award_file.specs.auction_rules.specs.Terms.{Terms}
-use Rattle.award_file.specs.auction_rules.specs.declared.Event.{Event}
+use Rattle.limits.specs.declared.LimitKind.TheVariants.{Records}
+use Rattle.auction_rules.specs.Terms.{Terms}
+use Rattle.auction_rules.specs.declared.Event.{Event}
 use Rattle.log_file.specs.declared.LogStop.{LogStop}
 use Rattle.log_file.specs.declared.LogStop.TheVariants.{Form, Limit, Memory}
 use Rattle.log_file.specs.LogForm.{States, StatesNone}
 
--- the fields of each record, as the crate csv defines them; a byte order mark at the front is no part of them
+-- the fields of each record, as the crate csv defines them; a byte order mark at the start is no part of them
 abbrev pub log_records : List ℕ → List (List (List ℕ))
 log_records bytes = records default_config (strip_bom bytes)
 
@@ -20,7 +20,7 @@ AllState terms (r ∷ rs) (e ∷ es) = States terms r e × AllState terms rs es
 AllState terms [] (e ∷ es) = ⊥
 AllState terms (r ∷ rs) [] = ⊥
 
--- the records begin with so many that state these events, and these are left
+-- the records begin with that many that state these events, and these are left
 pub record BeginWith (terms : Terms) (rows : List (List (List ℕ))) (events : List Event) (left : List (List (List ℕ))) : Type 0 where
   pub before : List (List (List ℕ))
   pub whole : rows ≡ before ++ left
@@ -38,7 +38,7 @@ IsFirstFault terms rows number =
     × BeginWith terms rows events (fields ∷ later) × StatesNone terms fields × (length events < MOST_RECORDS)
     × (number ≡ suc (length events))
 
--- behind as many records as a log may have, each of which states an event, follows another one
+-- after as many records as a log may have, each of which states an event, follows another one
 abbrev pub AreTooMany : Terms → List (List (List ℕ)) → Type 0
 AreTooMany terms rows =
     (events : List Event) × (fields : List (List ℕ)) × (later : List (List (List ℕ)))

@@ -1,10 +1,10 @@
 -- The text of a log: a record for each line, its fields between commas, none of them in quotation marks.
 use Rattle.std.specs.Prelude.{ℕ, ◌≤◌, List, [], ◌∷◌, ◌++◌, codes, flat_map, length}
 use Rattle.std.specs.Fmt.{decimal}
-use Rattle.award_file.specs.limits.specs.declared.TheConstants.{MOST_STATED_AMOUNT}
-use Rattle.award_file.specs.auction_rules.specs.Terms.{Terms}
-use Rattle.award_file.specs.auction_rules.specs.declared.Event.{Event}
-use Rattle.award_file.specs.auction_rules.specs.declared.Event.TheVariants.{Bid, Draft, Drop, Submit, Close}
+use Rattle.limits.specs.declared.TheConstants.{MOST_STATED_AMOUNT}
+use Rattle.auction_rules.specs.Terms.{Terms}
+use Rattle.auction_rules.specs.declared.Event.{Event}
+use Rattle.auction_rules.specs.declared.Event.TheVariants.{Bid, Close, Draft, Drop, Submit}
 use Rattle.log_file.specs.LogForm.{AreCounts, IsNameOf, counts_text, four}
 
 -- the fields of the record of an event: kind, bidder, package, amount; bidder k is named so
@@ -15,7 +15,7 @@ event_fields name (Drop k lots) = four (codes "drop") (name k) (counts_text lots
 event_fields name (Submit k) = four (codes "submit") (name k) [] []
 event_fields name Close = four (codes "close") [] [] []
 
--- fields behind another one, each behind a comma, and the line feed
+-- fields after another one, each after a comma, and the line feed
 abbrev pub fields_behind : List (List ℕ) → List ℕ
 fields_behind [] = 10 ∷ []
 fields_behind (f ∷ fields) = 44 ∷ (f ++ fields_behind fields)

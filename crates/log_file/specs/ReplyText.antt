@@ -1,9 +1,9 @@
 -- The text of a reply.
 use Rattle.std.specs.Prelude.{ℕ, Option, Some, None, List, [], ◌∷◌, ◌++◌, codes}
 use Rattle.std.specs.Fmt.{decimal}
-use Rattle.award_file.specs.bid_book.specs.line_text.specs.Decimals.{decimals_text}
-use Rattle.award_file.specs.auction_rules.specs.declared.Reply.{Reply}
-use Rattle.award_file.specs.auction_rules.specs.declared.Reply.TheVariants as reply
+use Rattle.line_format.specs.Decimals.{decimals_text}
+use Rattle.auction_rules.specs.declared.Reply.{Reply}
+use Rattle.auction_rules.specs.declared.Reply.TheVariants as reply
 use Rattle.log_file.specs.declared.CloseDone.{CloseDone}
 use Rattle.log_file.specs.declared.CloseDone.TheVariants as done
 

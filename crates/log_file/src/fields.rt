@@ -1,15 +1,15 @@
 // The fields of a record.
 ghost use Rattle.std.specs.Prelude.{◌≡◌, ◌≢◌, ℕ, ◌+◌, ◌≤◌, ◌<◌, ◌^◌, ◌++◌, List, true, false, length, take, drop, IfNone, IfSome};
-ghost use Rattle.award_file.specs.limits.specs.declared.TheConstants.{MOST_CATEGORIES, MOST_STATED_AMOUNT};
+ghost use Rattle.limits.specs.declared.TheConstants.{MOST_CATEGORIES, MOST_STATED_AMOUNT};
 ghost use Rattle.std.specs.Fmt.{decimal};
-ghost use Rattle.award_file.specs.bid_book.specs.book_form.specs.BookForm.{IsName};
+ghost use Rattle.book_grammar.specs.BookForm.{IsName};
 ghost use Rattle.log_file.specs.LogForm.{AreCounts, IsNameOf, counts_text};
 
 use arrayvec::ArrayVec;
 use award_file::Award;
-use award_file::bid_book::line_text::{field_len, read_at_most};
-use award_file::bid_book::lots::limits::{MOST_CATEGORIES, MOST_STATED_AMOUNT, MOST_STATED_COUNT};
-use award_file::bid_book::name_text;
+use bid_book::name_text;
+use limits::{MOST_CATEGORIES, MOST_STATED_AMOUNT, MOST_STATED_COUNT};
+use line_format::{field_len, read_at_most};
 
 /// The counts of a package, which take no memory.
 pub type Counts = ArrayVec<u16, MOST_CATEGORIES>;
@@ -56,7 +56,7 @@ fn categories(award: &Award) -> usize
     award.supply().counts().len()
 }
 
-/// Adds so many counts that a text spells, with one space between each two, and says whether it spells them.
+/// Adds that many counts that a text spells, with one space between each two, and says whether it spells them.
 fn add_counts(counts: &mut Counts, categories: usize, text: &[u8]) -> bool
     requires some { 0 < categories }
     requires room { length counts.old.items + categories ≤ MOST_CATEGORIES }

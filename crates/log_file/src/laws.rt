@@ -1,10 +1,10 @@
 // Laws of the form of logs. Each function here does nothing, and its contract is the law.
 ghost use Rattle.std.specs.Prelude.{◌≡◌, ◌≤◌, ℕ, List, length};
 ghost use Rattle.std.specs.List.{AllByRecursion};
-ghost use Rattle.award_file.specs.limits.specs.declared.TheConstants.{MOST_RECORDS};
-ghost use Rattle.award_file.specs.auction_rules.specs.Lawful.{HasCategories};
-ghost use Rattle.award_file.specs.auction_rules.specs.Terms.{Terms};
-ghost use Rattle.award_file.specs.auction_rules.specs.declared.Event.{Event};
+ghost use Rattle.limits.specs.declared.TheConstants.{MOST_RECORDS};
+ghost use Rattle.auction_rules.specs.Lawful.{HasCategories};
+ghost use Rattle.auction_rules.specs.Terms.{Terms};
+ghost use Rattle.auction_rules.specs.declared.Event.{Event};
 ghost use Rattle.log_file.specs.LogForm.{States};
 ghost use Rattle.log_file.specs.LogReading.{AreLog, AreTooMany, IsFirstFault, log_records};
 ghost use Rattle.log_file.specs.LogText.{IsStatable, log_text};

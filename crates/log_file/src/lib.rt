@@ -10,12 +10,12 @@ mod laws;
 mod read;
 mod record;
 mod reply;
+mod wide;
 
-pub use award_file;
-pub use award_file::auction_rules::{Event, Reply};
-pub use award_file::bid_book::lots::limits::LimitKind;
+pub use auction_rules::{Event, Reply};
 pub use events::Events;
 pub use laws::{one_reading, packages_of_log, written_log};
+pub use limits::LimitKind;
 pub use read::read_log;
 pub use reply::reply_line;
 use std::alloc::{AllocError, AllocFailed};

@@ -1,6 +1,6 @@
 // The reader of log files.
 ghost use Rattle.std.specs.Prelude.{◌≡◌, ◌≤◌, ◌<◌, ℕ, suc, List, [], length, Some, Err, IfErr, IfOk, OnOk, if◌then◌else◌};
-ghost use Rattle.award_file.specs.limits.specs.declared.TheConstants.{MOST_RECORDS};
+ghost use Rattle.limits.specs.declared.TheConstants.{MOST_RECORDS};
 ghost use Rattle.csv.specs.Reading.{error_kind, stops_reader};
 ghost use Rattle.csv.specs.Records.{fields_of};
 ghost use Rattle.log_file.specs.LogForm.{States};
@@ -8,11 +8,12 @@ ghost use Rattle.log_file.specs.LogReading.{AreLog, IsStop, log_records};
 ghost use Rattle.log_file.specs.RecordsLeft.{HasLeft, Takes};
 ghost use Rattle.log_file.specs.Statements.{IsUntaken, event_stated, untaken_stop};
 
-use crate::record::{Statement, read_statement};
+use crate::record::{LogRecord, read_statement};
+use crate::wide::up_to_wide_record;
 use crate::{Events, LimitKind, LogStop};
 use award_file::Award;
-use award_file::bid_book::lots::limits::MOST_RECORDS;
 use csv::{ByteRecord, Error, ErrorKind, Reader, ReaderBuilder};
+use limits::MOST_RECORDS;
 use std::alloc::Global;
 
 /// Why a record isn't taken. Memory has no part in it.
@@ -37,8 +38,16 @@ impl From<RecordFault> for LogStop {
 
 /// Reads a log: records of comma-separated fields, each of which states an event by the names and the categories of the award.
 /// Records are counted from 1, and blank lines are none. The reader stops at the first record that states no event, at the
-/// record behind the greatest number of them, or for want of memory. A name that the award doesn't have is a stranger's.
+/// record after the greatest number of them, or when out of memory. A name that the award doesn't have is a stranger's.
 pub fn read_log(alloc: Global, bytes: &[u8], award: &Award) -> Result<Events, LogStop>
+    ensures ok { IfOk result (AreLog award.now (log_records bytes.now)) }
+    ensures err { IfErr result (IsStop award.now (log_records bytes.now)) }
+{
+    read_text(alloc, up_to_wide_record(bytes), award)
+}
+
+/// Reads a text to its end.
+fn read_text(alloc: Global, bytes: &[u8], award: &Award) -> Result<Events, LogStop>
     ensures ok { IfOk result (AreLog award.now (log_records bytes.now)) }
     ensures err { IfErr result (IsStop award.now (log_records bytes.now)) }
 {
@@ -81,8 +90,8 @@ fn read_records(
     Ok(())
 }
 
-/// What a record states behind so many that state events.
-fn statement_behind(before: u64, award: &Award, row: &ByteRecord) -> Result<Statement, RecordFault>
+/// What a record states after that many that state events.
+fn statement_behind(before: u64, award: &Award, row: &ByteRecord) -> Result<LogRecord, RecordFault>
     requires { before ≤ MOST_RECORDS }
     ensures ok { IfOk result
         (λ statement. (before < MOST_RECORDS) × States award.now (fields_of row.now) (event_stated statement)) }

@@ -5,15 +5,15 @@ ghost use Rattle.log_file.specs.LogForm.{ReadsAs, four};
 ghost use Rattle.log_file.specs.Statements.{event_stated};
 
 use crate::fields::{Counts, read_amount, read_bidder, read_counts};
+use auction_rules::Event;
 use award_file::Award;
-use award_file::auction_rules::Event;
-use award_file::bid_book::lots::Package;
 use csv::ByteRecord;
+use lots::Package;
 use std::alloc::{AllocError, Global};
 
 /// What a record states: an event whose package has no memory yet. So whether a record states an event doesn't depend on memory.
 #[derive(Drop)]
-pub enum Statement {
+pub enum LogRecord {
     Bid {
         bidder: u16,
         counts: Counts,
@@ -33,20 +33,20 @@ pub enum Statement {
     Close,
 }
 
-impl Statement {
-    /// The event that is stated. The only error is want of memory.
+impl LogRecord {
+    /// The event that is stated. The only error is out of memory.
     pub fn event(&self, alloc: Global) -> Result<Event, AllocError>
         ensures { IfOk result (λ event. event ≡ event_stated self.now) }
     {
         match self {
-            Statement::Bid { bidder, counts } => {
+            LogRecord::Bid { bidder, counts } => {
                 let package = package_of(alloc, counts.as_slice())?;
                 Ok(Event::Bid {
                     bidder: *bidder,
                     package,
                 })
             }
-            Statement::Draft {
+            LogRecord::Draft {
                 bidder,
                 counts,
                 amount,
@@ -58,15 +58,15 @@ impl Statement {
                     amount: *amount,
                 })
             }
-            Statement::Drop { bidder, counts } => {
+            LogRecord::Drop { bidder, counts } => {
                 let package = package_of(alloc, counts.as_slice())?;
                 Ok(Event::Drop {
                     bidder: *bidder,
                     package,
                 })
             }
-            Statement::Submit { bidder } => Ok(Event::Submit { bidder: *bidder }),
-            Statement::Close => Ok(Event::Close),
+            LogRecord::Submit { bidder } => Ok(Event::Submit { bidder: *bidder }),
+            LogRecord::Close => Ok(Event::Close),
         }
     }
 }
@@ -91,7 +91,7 @@ struct Fields<'a> {
 }
 
 /// What a record states, and None where it states no event.
-pub fn read_statement(award: &Award, row: &ByteRecord) -> Option<Statement>
+pub fn read_statement(award: &Award, row: &ByteRecord) -> Option<LogRecord>
     ensures { ReadsAs award.now (fields_of row.now) (option_map event_stated result) }
 {
     match four_fields(row) {
@@ -125,7 +125,7 @@ fn field(row: &ByteRecord, i: usize) -> &[u8]
 }
 
 /// What these fields state.
-fn statement_of(award: &Award, fields: Fields<'_>) -> Option<Statement>
+fn statement_of(award: &Award, fields: Fields<'_>) -> Option<LogRecord>
     ensures { ReadsAs award.now
         (four fields.entry.kind.now fields.entry.bidder.now fields.entry.lots.now fields.entry.amount.now)
         (option_map event_stated result) }
@@ -157,7 +157,7 @@ fn is_word(field: &[u8], word: &[u8]) -> bool
 }
 
 /// The clock bid that these fields state.
-fn bid_of(award: &Award, bidder: &[u8], lots: &[u8], amount: &[u8]) -> Option<Statement>
+fn bid_of(award: &Award, bidder: &[u8], lots: &[u8], amount: &[u8]) -> Option<LogRecord>
     ensures { ReadsAs award.now (four (codes "bid") bidder.now lots.now amount.now) (option_map event_stated result) }
 {
     if !amount.is_empty() {
@@ -167,13 +167,13 @@ fn bid_of(award: &Award, bidder: &[u8], lots: &[u8], amount: &[u8]) -> Option<St
         return None;
     };
     match read_counts(award, lots) {
-        Some(counts) => Some(Statement::Bid { bidder, counts }),
+        Some(counts) => Some(LogRecord::Bid { bidder, counts }),
         None => None,
     }
 }
 
 /// The draft that these fields state.
-fn draft_of(award: &Award, bidder: &[u8], lots: &[u8], amount: &[u8]) -> Option<Statement>
+fn draft_of(award: &Award, bidder: &[u8], lots: &[u8], amount: &[u8]) -> Option<LogRecord>
     ensures { ReadsAs award.now (four (codes "draft") bidder.now lots.now amount.now)
         (option_map event_stated result) }
 {
@@ -184,7 +184,7 @@ fn draft_of(award: &Award, bidder: &[u8], lots: &[u8], amount: &[u8]) -> Option<
         return None;
     };
     match read_counts(award, lots) {
-        Some(counts) => Some(Statement::Draft {
+        Some(counts) => Some(LogRecord::Draft {
             bidder,
             counts,
             amount: number,
@@ -194,7 +194,7 @@ fn draft_of(award: &Award, bidder: &[u8], lots: &[u8], amount: &[u8]) -> Option<
 }
 
 /// The drop that these fields state.
-fn drop_of(award: &Award, bidder: &[u8], lots: &[u8], amount: &[u8]) -> Option<Statement>
+fn drop_of(award: &Award, bidder: &[u8], lots: &[u8], amount: &[u8]) -> Option<LogRecord>
     ensures { ReadsAs award.now (four (codes "drop") bidder.now lots.now amount.now)
         (option_map event_stated result) }
 {
@@ -205,13 +205,13 @@ fn drop_of(award: &Award, bidder: &[u8], lots: &[u8], amount: &[u8]) -> Option<S
         return None;
     };
     match read_counts(award, lots) {
-        Some(counts) => Some(Statement::Drop { bidder, counts }),
+        Some(counts) => Some(LogRecord::Drop { bidder, counts }),
         None => None,
     }
 }
 
 /// The submission that these fields state.
-fn submit_of(award: &Award, bidder: &[u8], lots: &[u8], amount: &[u8]) -> Option<Statement>
+fn submit_of(award: &Award, bidder: &[u8], lots: &[u8], amount: &[u8]) -> Option<LogRecord>
     ensures { ReadsAs award.now (four (codes "submit") bidder.now lots.now amount.now)
         (option_map event_stated result) }
 {
@@ -219,18 +219,18 @@ fn submit_of(award: &Award, bidder: &[u8], lots: &[u8], amount: &[u8]) -> Option
         return None;
     }
     match read_bidder(award, bidder) {
-        Some(bidder) => Some(Statement::Submit { bidder }),
+        Some(bidder) => Some(LogRecord::Submit { bidder }),
         None => None,
     }
 }
 
 /// The close that these fields state.
-fn close_of(award: &Award, bidder: &[u8], lots: &[u8], amount: &[u8]) -> Option<Statement>
+fn close_of(award: &Award, bidder: &[u8], lots: &[u8], amount: &[u8]) -> Option<LogRecord>
     ensures { ReadsAs award.now (four (codes "close") bidder.now lots.now amount.now)
         (option_map event_stated result) }
 {
     if !bidder.is_empty() || !lots.is_empty() || !amount.is_empty() {
         return None;
     }
-    Some(Statement::Close)
+    Some(LogRecord::Close)
 }

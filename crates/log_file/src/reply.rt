@@ -1,19 +1,19 @@
 // The lines of replies.
 ghost use Rattle.std.specs.Prelude.{◌≡◌, ◌∷◌, ◌++◌, [], codes, IfOk, OnOk};
 ghost use Rattle.std.specs.Fmt.{decimal};
-ghost use Rattle.award_file.specs.bid_book.specs.line_text.specs.Decimals.{decimals_text};
+ghost use Rattle.line_format.specs.Decimals.{decimals_text};
 ghost use Rattle.log_file.specs.ReplyText.{admitted_text, reply_line, reply_text};
 
 use crate::CloseDone;
-use award_file::auction_rules::Reply;
-use award_file::bid_book::line_text::wide_num::Text;
-use award_file::bid_book::line_text::{add_decimal, add_number};
+use auction_rules::Reply;
+use line_format::{add_decimal, add_number};
 use std::alloc::{AllocError, Global};
+use wide_num::Text;
 
 /// The line of the reply to the record of this number, counted from 1.
 ///
 /// `done` says what the close did where the record is a close that was admitted, and is None else. `prices` are those that are
-/// posted after the record, by categories, and are printed of a new round alone. The only error is want of memory.
+/// posted after the record, by categories, and are printed of a new round alone. The only error is out of memory.
 pub fn reply_line(
     alloc: Global,
     number: u64,
@@ -96,7 +96,7 @@ fn add_word(text: &mut Text, word: &[u8]) -> Result<(), AllocError>
     Ok(())
 }
 
-/// Adds a word and a number behind it.
+/// Adds a word and a number after it.
 fn add_one(text: &mut Text, word: &[u8], n: u64) -> Result<(), AllocError>
     ensures { OnOk result (text.new ≡ text.old ++ (word.now ++ decimals_text (n ∷ []))) }
 {
@@ -105,7 +105,7 @@ fn add_one(text: &mut Text, word: &[u8], n: u64) -> Result<(), AllocError>
     Ok(())
 }
 
-/// Adds a word and two numbers behind it.
+/// Adds a word and two numbers after it.
 fn add_two(text: &mut Text, word: &[u8], m: u64, n: u64) -> Result<(), AllocError>
     ensures { OnOk result (text.new ≡ text.old ++ (word.now ++ decimals_text (m ∷ n ∷ []))) }
 {

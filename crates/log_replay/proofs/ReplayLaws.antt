@@ -1,30 +1,30 @@
 -- What a replay makes of one line more, and where it ends.
-use Rattle.std.proofs.Common.{◌≡◌, ℕ, zero, suc, ◌+◌, ◌<◌, ◌≤◌, true, false, List, Option, [], ◌∷◌, ◌++◌, refl, sym, ap, subst, ◌∙◌, inl, inr, arith}
-use Rattle.std.proofs.Common.{length, take, reverse, get_or}
+use Rattle.std.proofs.Common.{List, Option, [], ap, arith, false, get_or, inl, inr, length, refl, reverse, subst, suc, sym, take, true, zero, ℕ, ◌++◌}
+use Rattle.std.proofs.Common.{◌+◌, ◌<◌, ◌∙◌, ◌∷◌, ◌≡◌, ◌≤◌}
 use Rattle.std.specs.Prelude.{Err, Ok}
 use Rattle.std.specs.Option.{option_or}
 use Rattle.std.specs.List.{AllByRecursion}
 use Rattle.std.proofs.lemmas.List.{length-reverse, length-take, reverse-append, take_all, take_more}
-use Rattle.log_file.specs.award_file.specs.auction_model.specs.Book.{Book}
-use Rattle.log_file.specs.award_file.specs.auction_rules.specs.BookOfLog.{book_of_log, is_complete}
-use Rattle.log_file.specs.award_file.specs.auction_rules.specs.Lawful.{HasCategories}
-use Rattle.log_file.specs.award_file.specs.auction_rules.specs.Replies.{is_closed, log_prices, log_round, log_stage, reply_to}
-use Rattle.log_file.specs.award_file.specs.auction_rules.specs.State.{DeskState, round_in, state_of}
-use Rattle.log_file.specs.award_file.specs.auction_rules.specs.Terms.{Terms}
-use Rattle.log_file.specs.award_file.specs.auction_rules.specs.declared.Event.{Event}
-use Rattle.log_file.specs.award_file.specs.auction_rules.specs.declared.Reply.{Reply}
-use Rattle.log_file.specs.award_file.specs.auction_rules.specs.declared.Reply.TheVariants as reply
-use Rattle.log_file.specs.award_file.specs.auction_rules.specs.declared.Stage.{Stage}
-use Rattle.log_file.specs.award_file.specs.auction_rules.specs.declared.Stage.TheVariants as stage
-use Rattle.log_file.specs.award_file.specs.auction_rules.proofs.Telling.{prices-state_of, round-state_of, stage-state_of}
+use Rattle.auction_model.specs.Book.{Book}
+use Rattle.auction_rules.specs.BookOfLog.{book_of_log, is_complete}
+use Rattle.auction_rules.specs.Lawful.{HasCategories}
+use Rattle.auction_rules.specs.Replies.{is_closed, log_prices, log_round, log_stage, reply_to}
+use Rattle.auction_rules.specs.State.{DeskState, round_in, state_of}
+use Rattle.auction_rules.specs.Terms.{Terms}
+use Rattle.auction_rules.specs.declared.Event.{Event}
+use Rattle.auction_rules.specs.declared.Reply.{Reply}
+use Rattle.auction_rules.specs.declared.Reply.TheVariants as reply
+use Rattle.auction_rules.specs.declared.Stage.{Stage}
+use Rattle.auction_rules.specs.declared.Stage.TheVariants as stage
+use Rattle.auction_rules.proofs.Telling.{prices-state_of, round-state_of, stage-state_of}
 use Rattle.log_file.specs.ReplyText.{reply_line}
 use Rattle.bid_desk.specs.Reached.{StandsNext}
-use Rattle.bid_desk.specs.clock_stage.proofs.ClockLaws.{terms-state_of}
+use Rattle.clock_stage.proofs.ClockLaws.{terms-state_of}
 use Rattle.log_replay.specs.Course.{Answers, IsAnswered, IsCourse, TakesLine, line_at}
 use Rattle.log_replay.specs.ReplyLines.{book_or_open, done_by, first_refusal, line_of, refusal_of, reply_lines}
 use Rattle.log_replay.specs.declared.results.ReplayStop.{ReplayStop}
 use Rattle.log_replay.specs.declared.results.ReplayStop.TheVariants.{Open}
-use Rattle.log_replay.specs.declared.lines.Course.{Course}
+use Rattle.log_replay.specs.declared.lines.ReplayState.{ReplayState}
 
 -- and so does a desk that stands for a log
 pub terms-in : (terms : Terms) (log : List Event) (desk : DeskState) → desk ≡ state_of terms log → desk.terms ≡ terms
@@ -58,7 +58,7 @@ line-told terms log line answer new is =
     ∙ ap (reply_line n (reply_to terms log line) (done_by line (reply_to terms log line) (log_stage terms whole) (log_round terms whole))) prices
 
 -- what a line makes of the replies and of the first refusal, where the desk answered it
-pub takes-line : (old new : Course) (number : ℕ) (line : Event) (answer : Reply) → Answers old.desk line answer new.desk
+pub takes-line : (old new : ReplayState) (number : ℕ) (line : Event) (answer : Reply) → Answers old.desk line answer new.desk
     → new.replies ≡ old.replies ++ line_at number line answer new.desk → new.stop ≡ option_or old.stop (refusal_of line answer)
     → TakesLine old number line new
 takes-line old new number line answer answered replies stop terms log had count =
@@ -99,8 +99,8 @@ book-open desk other terms log is =
     let complete : is_complete terms log ≡ false = ap is_closed (told-stage terms log desk is) ∙ not-closed desk.stage other in
     rw complete refl
 
--- a course over one more line of the events, of which so many were taken
-pub takes-next : (terms : Terms) (events given : List Event) (i : ℕ) (line : Event) (old new : Course) → given ≡ events → i < length given
+-- a course over one more line of the events, of which that many were taken
+pub takes-next : (terms : Terms) (events given : List Event) (i : ℕ) (line : Event) (old new : ReplayState) → given ≡ events → i < length given
     → line ≡ get_or given i line
     → IsCourse terms (reverse (take i events)) old → TakesLine old (i + 1) line new → IsCourse terms (reverse (take (i + 1) events)) new
 takes-next terms events given i line old new same lt is had takes =
@@ -111,8 +111,8 @@ takes-next terms events given i line old new same lt is had takes =
     let behind : reverse (take (i + 1) events) ≡ line ∷ reverse (take i events) = ap reverse more ∙ reverse-append (take i events) (line ∷ []) in
     subst (λ (log : List Event). IsCourse terms log new) (sym behind) (takes terms (reverse (take i events)) had count)
 
--- behind the last line
-pub takes-all : (terms : Terms) (events given : List Event) (i : ℕ) (course : Course) → given ≡ events → length given ≤ i
+-- after the last line
+pub takes-all : (terms : Terms) (events given : List Event) (i : ℕ) (course : ReplayState) → given ≡ events → length given ≤ i
     → IsCourse terms (reverse (take i events)) course → IsCourse terms (reverse events) course
 takes-all terms events given i course same le had =
     subst (λ (es : List Event). IsCourse terms (reverse es) course) (take_all i events (omega (arith, le, ap length same))) had

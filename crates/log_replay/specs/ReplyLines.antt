@@ -1,30 +1,30 @@
 -- What a log is answered by, line for line, and where it leads. A log has its newest line first.
 use Rattle.std.specs.Prelude.{ℕ, suc, Option, Some, None, Result, Ok, Err, List, [], ◌∷◌, ◌++◌, length, if◌then◌else◌}
 use Rattle.std.specs.Option.{option_or}
-use Rattle.log_file.specs.limits.specs.declared.TheConstants.{MOST_ROUNDS}
-use Rattle.log_file.specs.award_file.specs.auction_model.specs.Book.{Book}
-use Rattle.log_file.specs.award_file.specs.auction_rules.specs.BookOfLog.{book_of_log, is_complete}
-use Rattle.log_file.specs.award_file.specs.auction_rules.specs.Replies.{log_prices, log_round, log_stage, reply_to}
-use Rattle.log_file.specs.award_file.specs.auction_rules.specs.Terms.{Terms}
-use Rattle.log_file.specs.award_file.specs.auction_rules.specs.declared.Event.{Event}
-use Rattle.log_file.specs.award_file.specs.auction_rules.specs.declared.Event.TheVariants.{Close}
-use Rattle.log_file.specs.award_file.specs.auction_rules.specs.declared.Reply.{Reply}
-use Rattle.log_file.specs.award_file.specs.auction_rules.specs.declared.Reply.TheVariants as reply
-use Rattle.log_file.specs.award_file.specs.auction_rules.specs.declared.Stage.{Stage}
-use Rattle.log_file.specs.award_file.specs.auction_rules.specs.declared.Stage.TheVariants as stage
+use Rattle.limits.specs.declared.TheConstants.{MOST_ROUNDS}
+use Rattle.auction_model.specs.Book.{Book}
+use Rattle.auction_rules.specs.BookOfLog.{book_of_log, is_complete}
+use Rattle.auction_rules.specs.Replies.{log_prices, log_round, log_stage, reply_to}
+use Rattle.auction_rules.specs.Terms.{Terms}
+use Rattle.auction_rules.specs.declared.Event.{Event}
+use Rattle.auction_rules.specs.declared.Event.TheVariants.{Close}
+use Rattle.auction_rules.specs.declared.Reply.{Reply}
+use Rattle.auction_rules.specs.declared.Reply.TheVariants as reply
+use Rattle.auction_rules.specs.declared.Stage.{Stage}
+use Rattle.auction_rules.specs.declared.Stage.TheVariants as stage
 use Rattle.log_file.specs.ReplyText.{reply_line}
 use Rattle.log_file.specs.declared.CloseDone.{CloseDone}
 use Rattle.log_file.specs.declared.CloseDone.TheVariants as done
 use Rattle.log_replay.specs.declared.results.ReplayStop.{ReplayStop}
 use Rattle.log_replay.specs.declared.results.ReplayStop.TheVariants.{Rounds, Price, Open}
 
--- what an admitted close did, by the stage behind it and the number of the round that is posted there
+-- what an admitted close did, by the stage after it and the number of the round that is posted there
 abbrev pub done_at : Stage → ℕ → CloseDone
 done_at stage.Clock round = done.Round round
 done_at stage.Sealed round = done.Sealed
 done_at stage.Closed round = done.Closed
 
--- what a line did that got this reply, by the stage and the posted round behind it: something is told of an admitted close alone
+-- what a line did that got this reply, by the stage and the posted round after it: something is reported of an admitted close alone
 abbrev pub done_by : Event → Reply → Stage → ℕ → Option CloseDone
 done_by Close reply.Ok stage round = Some (done_at stage round)
 done_by line answer stage round = None

@@ -5,7 +5,7 @@ mod lines;
 mod replaying;
 mod results;
 
+pub use auction_rules::Event;
 pub use log_file::Events;
-pub use log_file::award_file::auction_rules::Event;
 pub use replaying::replay;
 pub use results::{Replay, ReplayStop};

@@ -1,44 +1,44 @@
 // One line of a log after the other.
 ghost use Rattle.std.specs.Prelude.{◌≡◌, [], IfOk, OnOk};
 ghost use Rattle.std.specs.Option.{option_or};
-ghost use Rattle.log_file.specs.award_file.specs.auction_rules.specs.Lawful.{HasCategories};
-ghost use Rattle.log_file.specs.award_file.specs.auction_rules.specs.State.{round_in};
+ghost use Rattle.auction_rules.specs.Lawful.{HasCategories};
+ghost use Rattle.auction_rules.specs.State.{round_in};
 ghost use Rattle.log_replay.specs.Course.{Answers, IsCourse, TakesLine, line_at};
 ghost use Rattle.log_replay.specs.ReplyLines.{done_at, done_by, refusal_of};
 
 use crate::ReplayStop;
+use auction_rules::{Event, Reply, Stage};
+use award_file::Award;
 use bid_desk::Desk;
-use log_file::award_file::Award;
-use log_file::award_file::auction_rules::{Event, Reply, Stage};
-use log_file::award_file::bid_book::line_text::wide_num::Text;
-use log_file::award_file::bid_book::lots::limits::MOST_ROUNDS;
+use limits::MOST_ROUNDS;
 use log_file::{CloseDone, reply_line};
 use std::alloc::{AllocError, Global};
+use wide_num::Text;
 
 /// How far a replay is: the desk, the lines of the replies, and the first limit for which a close was refused.
 #[derive(Drop)]
-pub struct Course {
+pub struct ReplayState {
     pub desk: Desk,
     pub replies: Text,
     pub stop: Option<ReplayStop>,
 }
 
 /// The replay of an award at which no line has been taken.
-pub fn start(alloc: Global, award: Award) -> Result<Course, AllocError>
+pub fn start(alloc: Global, award: Award) -> Result<ReplayState, AllocError>
     ensures { IfOk result (IsCourse award []) }
 {
     let desk = Desk::new(alloc, award)?;
-    Ok(Course {
+    Ok(ReplayState {
         desk,
         replies: Text::new(alloc),
         stop: None,
     })
 }
 
-/// Takes the line of this number, counted from 1. The only error is want of memory.
+/// Takes the line of this number, counted from 1. The only error is out of memory.
 pub fn take_line(
     alloc: Global,
-    course: &mut Course,
+    course: &mut ReplayState,
     number: u64,
     line: &Event,
 ) -> Result<(), AllocError>
@@ -88,13 +88,13 @@ fn done_by(desk: &Desk, line: &Event, reply: Reply) -> Option<CloseDone>
     ensures { result ≡ done_by line.now reply desk.now.stage (round_in desk.now) }
 {
     match (line, reply) {
-        (Event::Close, Reply::Ok) => Some(done_in(desk)),
+        (Event::Close, Reply::Ok) => Some(close_result(desk)),
         _ => None,
     }
 }
 
 /// What the close did that led to this desk.
-fn done_in(desk: &Desk) -> CloseDone
+fn close_result(desk: &Desk) -> CloseDone
     ensures { result ≡ done_at desk.now.stage (round_in desk.now) }
 {
     match desk.stage() {

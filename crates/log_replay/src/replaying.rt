@@ -1,25 +1,25 @@
 // The whole log, line by line.
 ghost use Rattle.std.specs.Prelude.{◌≡◌, List, IfOk, reverse};
 ghost use Rattle.std.specs.List.{AllByRecursion};
-ghost use Rattle.log_file.specs.award_file.specs.auction_rules.specs.Lawful.{HasCategories};
-ghost use Rattle.log_file.specs.award_file.specs.auction_rules.specs.State.{state_of};
-ghost use Rattle.log_file.specs.award_file.specs.auction_rules.specs.Terms.{Terms};
-ghost use Rattle.log_file.specs.award_file.specs.auction_rules.specs.declared.Event.{Event};
+ghost use Rattle.auction_rules.specs.Lawful.{HasCategories};
+ghost use Rattle.auction_rules.specs.State.{state_of};
+ghost use Rattle.auction_rules.specs.Terms.{Terms};
+ghost use Rattle.auction_rules.specs.declared.Event.{Event};
 ghost use Rattle.log_replay.specs.Course.{IsCourse};
 ghost use Rattle.log_replay.specs.ReplyLines.{book_or_open, end_of, reply_lines};
 
-use crate::lines::{Course, start, take_line};
+use crate::lines::{ReplayState, start, take_line};
 use crate::{Replay, ReplayStop};
+use award_file::Award;
+use bid_book::BidBook;
 use bid_desk::{Desk, Stage};
 use log_file::Events;
-use log_file::award_file::Award;
-use log_file::award_file::bid_book::BidBook;
 use std::alloc::{AllocError, Global};
 
 /// Replays a log of this award, whose packages have the award's number of categories.
 ///
-/// Each line is answered by the rules, also those behind a close that is refused for a limit; the first such limit is why there is no
-/// book then, even where a later close completes the log. The only error is want of memory.
+/// Each line is answered by the rules, also those after a close that is refused for a limit; the first such limit is why there is no
+/// book then, even where a later close completes the log. The only error is out of memory.
 pub fn replay(alloc: Global, award: Award, log: &Events) -> Result<Replay, AllocError>
     requires { AllByRecursion (HasCategories award) log.now }
     ensures replies { IfOk result (λ replay. replay.replies ≡ reply_lines award (reverse log.now)) }
@@ -30,7 +30,7 @@ pub fn replay(alloc: Global, award: Award, log: &Events) -> Result<Replay, Alloc
 }
 
 /// Takes all lines of a log.
-fn take_all(alloc: Global, award: Award, log: &Events) -> Result<Course, AllocError>
+fn take_all(alloc: Global, award: Award, log: &Events) -> Result<ReplayState, AllocError>
     requires { AllByRecursion (HasCategories award) log.now }
     ensures { IfOk result (IsCourse award (reverse log.now)) }
 {
@@ -42,7 +42,7 @@ fn take_all(alloc: Global, award: Award, log: &Events) -> Result<Course, AllocEr
 }
 
 /// What the lines lead to that were taken.
-fn finish(alloc: Global, course: Course) -> Result<Replay, AllocError>
+fn finish(alloc: Global, course: ReplayState) -> Result<Replay, AllocError>
     ensures { IfOk result (λ replay. (terms : Terms) (log : List Event) → IsCourse terms log course
         → (replay.replies ≡ reply_lines terms log) × (replay.end ≡ end_of terms log)) }
 {

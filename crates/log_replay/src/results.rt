@@ -1,6 +1,6 @@
 // What a replay leads to.
-use log_file::award_file::bid_book::BidBook;
-use log_file::award_file::bid_book::line_text::wide_num::Text;
+use bid_book::BidBook;
+use wide_num::Text;
 
 /// Why a log has no book.
 #[derive(Clone, Copy, Debug, PartialEq, Eq)]
@@ -10,7 +10,7 @@ pub enum ReplayStop {
     Rounds(u64),
     /// A close was refused because it would raise a price to this, which is above the greatest price.
     Price(u64),
-    /// No close was refused, but the sealed round isn't closed behind the last line.
+    /// No close was refused, but the sealed round isn't closed after the last line.
     Open,
 }
 

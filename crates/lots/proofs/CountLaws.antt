@@ -43,7 +43,7 @@ states-so_far s i states h few short e =
     let most = states-small s few short in
     omega arith
 
--- of the categories from one on, a package is within a supply if it is there and in those behind
+-- of the categories from one on, a package is within a supply if it is there and in those after
 pub within-step : (p s : List ℕ) (i : ℕ) → i < length p → length p ≡ length s → is_within (drop i p) (drop i s) ≡ leb (get_or p i 0)
     (get_or s i 0) && is_within (drop (i + 1) p) (drop (i + 1) s)
 within-step p s i h e =
@@ -55,7 +55,7 @@ pub within-fails : (p s : List ℕ) (i : ℕ) → i < length p → length p ≡ 
 within-fails p s i h e low =
     within-step p s i h e ∙ and_left _ (is_within (drop (i + 1) p) (drop (i + 1) s)) (lt-leb (get_or p i 0) (get_or s i 0) low)
 
--- where a count isn't above the supply's, the categories behind tell whether the package is within it
+-- where a count isn't above the supply's, the categories after show whether the package is within it
 pub within-goes_on : (p s : List ℕ) (i : ℕ) → i < length p → length p ≡ length s → get_or p i 0 ≤ get_or s i 0
     → is_within (drop i p) (drop i s) ≡ is_within (drop (i + 1) p) (drop (i + 1) s)
 within-goes_on p s i h e low =

@@ -10,7 +10,6 @@ mod places;
 mod supply;
 
 pub use counts::used_categories;
-pub use limits;
 pub use package::{Bid, Package};
 use std::alloc::AllocError;
 pub use supply::Supply;
@@ -18,13 +17,13 @@ pub use supply::Supply;
 /// Why counts make no package or no supply.
 #[derive(Clone, Copy, Debug, PartialEq, Eq)]
 pub enum LotStop {
-    /// There aren't 1 to 6 categories, but so many.
+    /// There aren't 1 to 6 categories, but that many.
     Categories(u64),
     /// This category, counted from 1, has no lot. It is the first that has none.
     Zero(u64),
-    /// There are so many lots, which is more than 40.
+    /// There are that many lots, which is more than 40.
     Lots(u64),
-    /// There are so many states, which is more than 16,384.
+    /// There are that many states, which is more than 16,384.
     States(u64),
     /// There was no memory.
     Memory,

@@ -80,7 +80,7 @@ impl Package {
         }
     }
 
-    /// The same package once more.
+    /// A copy of the package.
     pub fn copied(&self, _alloc: Global) -> Result<Package, AllocError>
         ensures { IfOk result (λ p. p ≡ self.now) }
     {
@@ -122,7 +122,7 @@ impl Package {
         self.held()
     }
 
-    /// The same, with what the type keeps.
+    /// The counts, with the invariant of the type.
     fn held(&self) -> &[u16]
         ensures value { result.now ≡ self.now }
         ensures kept { IsPackage self.now }
@@ -172,7 +172,7 @@ impl Package {
     }
 }
 
-/// The counts, and zeros behind them.
+/// The counts, and zeros after them.
 fn padded(counts: &[u16]) -> [u16; MOST_CATEGORIES]
     requires { length counts.now ≤ MOST_CATEGORIES }
     ensures { take (length counts.now) result ≡ counts.now }

@@ -2,16 +2,16 @@
 use Rattle.std.proofs.Common.{◌≡◌, ℕ, zero, suc, ◌<◌, ◌≤◌, arith, refl, sym, ap, ◌∙◌, List, [], length, subst}
 use Rattle.std.specs.Prelude.{ℤ, pos, ◌*ℤ◌, ◌-ℤ◌, ◌≤ℤ◌, ◌<ℤ◌}
 use Rattle.std.proofs.lemmas.Int.{ints}
-use Rattle.point_laws.specs.wide_num.specs.Sums.{dot}
+use Rattle.wide_num.specs.Sums.{dot}
 use Rattle.nearest_point.specs.Search.{Near, ByParts}
 use Rattle.nearest_point.specs.Numbers.{place, at_t, pairs_used, spread}
-use Rattle.point_laws.specs.wide_num.proofs.Sums.{total-zero, total-same}
-use Rattle.point_laws.proofs.Order.{mul_nonneg}
-use Rattle.point_laws.specs.Points.{MeetsRows}
-use Rattle.point_laws.specs.Multipliers.{AreFirst, AreSecond, SumsTo}
-use Rattle.point_laws.proofs.PointLaws.{times_zero}
-use Rattle.nearest_point.proofs.Parts.{dot-at_t, far_nonneg, plain, columns_first, spread_sum, FarSign, sign-at_t, spread_first, spread_second, spread_listed}
-use Rattle.nearest_point.proofs.Parts.{spread_few}
+use Rattle.wide_num.proofs.Sums.{total-same, total-zero}
+use Rattle.projection_laws.proofs.Order.{mul_nonneg}
+use Rattle.projection_laws.specs.Points.{MeetsRows}
+use Rattle.projection_laws.specs.Multipliers.{AreFirst, AreSecond, SumsTo}
+use Rattle.projection_laws.proofs.PointLaws.{times_zero}
+use Rattle.nearest_point.proofs.Parts.{FarSign, columns_first, dot-at_t, far_nonneg, plain, sign-at_t, spread_few, spread_first, spread_listed}
+use Rattle.nearest_point.proofs.Parts.{spread_second, spread_sum}
 
 -- the answer of `nearest`
 pub record Answer (m r : ℕ) (a : ℕ → ℕ → ℤ) (b target weight : ℕ → ℤ) (den : ℤ) (point first second : ℕ → ℤ) : Type 0 where

@@ -3,11 +3,11 @@ use Rattle.std.proofs.Common.{◌≡◌, ℕ, zero, suc, ◌+◌, ◌*◌, ◌/�
 use Rattle.std.specs.Prelude.{ℤ, pos, ◌*ℤ◌, ◌≤ℤ◌}
 use Rattle.std.proofs.lemmas.Int.{ints}
 use Rattle.std.proofs.lemmas.Nat.{shr-shr, div-add-mod', mod_below, pow_pos, pow-add, div_below}
-use Rattle.point_laws.specs.wide_num.specs.Sums.{dot}
-use Rattle.lin_solve.specs.far_num.specs.Members.{holds}
-use Rattle.point_laws.proofs.Order.{mul_nonneg}
-use Rattle.point_laws.specs.wide_num.proofs.Sums.{total-zero}
-use Rattle.point_laws.proofs.Sums.{term-le}
+use Rattle.wide_num.specs.Sums.{dot}
+use Rattle.far_num.specs.Members.{holds}
+use Rattle.projection_laws.proofs.Order.{mul_nonneg}
+use Rattle.wide_num.proofs.Sums.{total-zero}
+use Rattle.projection_laws.proofs.Sums.{term-le}
 use Rattle.nearest_point.proofs.Places.{lt_or}
 
 -- no coefficient of a set of members is negative

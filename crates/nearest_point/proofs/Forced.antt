@@ -3,13 +3,13 @@ use Rattle.std.proofs.Common.{◌≡◌, ℕ, zero, suc, ◌<◌, ◌≤◌, ari
 use Rattle.std.specs.Prelude.{ℤ, pos, ◌+ℤ◌, ◌*ℤ◌, ◌-ℤ◌, ◌≤ℤ◌, ◌<ℤ◌}
 use Rattle.std.proofs.lemmas.Int.{ints, by_lt_z}
 use Rattle.std.proofs.Math.IntN.{*ℤ_comm}
-use Rattle.point_laws.proofs.Order.{mul_nonneg, mul_positive, square_nonneg, square_positive, zero_or}
-use Rattle.point_laws.proofs.Ring.{var, con, add, sub, mul, ring}
-use Rattle.point_laws.specs.wide_num.specs.Sums.{total, dot}
+use Rattle.projection_laws.proofs.Order.{mul_nonneg, mul_positive, square_nonneg, square_positive, zero_or}
+use Rattle.projection_laws.proofs.Ring.{var, con, add, sub, mul, ring}
+use Rattle.wide_num.specs.Sums.{dot, total}
 use Rattle.nearest_point.specs.Search.{Solved, Taken}
-use Rattle.point_laws.specs.wide_num.proofs.Sums.{total-same, total-zero, total-scale}
-use Rattle.point_laws.proofs.Sums.{total-sub, total-nonneg, total-le, term-le, dual}
-use Rattle.point_laws.proofs.PointLaws.{gap_of, dot-gap, times_zero}
+use Rattle.wide_num.proofs.Sums.{total-same, total-scale, total-zero}
+use Rattle.projection_laws.proofs.Sums.{total-sub, total-nonneg, total-le, term-le, dual}
+use Rattle.projection_laws.proofs.PointLaws.{gap_of, dot-gap, times_zero}
 
 -- a number is 0 where its square times a positive weight is at most 0
 pub nothing_left : (w u : ℤ) → pos 0 <ℤ w → (w *ℤ (u *ℤ u)) ≤ℤ pos 0 → u ≡ pos 0

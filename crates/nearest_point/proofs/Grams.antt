@@ -2,7 +2,7 @@
 use Rattle.std.proofs.Common.{ℕ, ◌+◌, ◌*◌, ◌/◌, ◌%◌, ◌<◌, ◌≤◌, arith, subst, List}
 use Rattle.std.specs.Prelude.{ℤ}
 use Rattle.std.proofs.lemmas.Nat.{div-mul-add, mod-mul-add, mul-add-lt}
-use Rattle.point_laws.specs.wide_num.specs.Sums.{nth}
+use Rattle.wide_num.specs.Sums.{nth}
 
 -- what holds of each listed number at its line and column holds at line i and column k of the square
 pub entry_at : (n place : ℕ) (xs : List ℤ) (P : ℕ → ℕ → ℤ → Type 0) → ((p : ℕ) → p < place → P (p / n) (p % n) (nth xs p)) → n * n ≤ place

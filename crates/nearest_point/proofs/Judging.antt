@@ -1,7 +1,7 @@
 -- What a point has that was settled for some rows.
 use Rattle.std.proofs.Common.{ℕ, arith, sym, ◌∙◌, List}
 use Rattle.std.specs.Prelude.{ℤ}
-use Rattle.lin_solve.specs.far_num.specs.declared.Row.{Row}
+use Rattle.far_num.specs.declared.Row.{Row}
 use Rattle.nearest_point.specs.declared.settle.Held.{Held}
 use Rattle.nearest_point.specs.Problem.{IsProblem}
 use Rattle.nearest_point.specs.Found.{IsSettledFor, IsSized}

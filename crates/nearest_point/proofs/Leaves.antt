@@ -1,17 +1,17 @@
 -- What the numbers of one row and one coordinate come to, and their sizes.
-use Rattle.std.proofs.Common.{◌≡◌, FitsSigned, subst, ℕ, zero, suc, ◌*◌, ◌^◌, ◌<◌, ◌≤◌, refl, sym, arith, ap, ◌∙◌, ◌⊎◌, inl, inr, to_z, of_z, unsigned_abs}
-use Rattle.std.proofs.Common.{List, [], ◌∷◌, length}
+use Rattle.std.proofs.Common.{FitsSigned, List, [], ap, arith, inl, inr, length, of_z, refl, subst, suc, sym, to_z, unsigned_abs, zero, ℕ, ◌*◌, ◌<◌}
+use Rattle.std.proofs.Common.{◌^◌, ◌∙◌, ◌∷◌, ◌≡◌, ◌≤◌, ◌⊎◌}
 use Rattle.std.specs.Prelude.{ℤ, pos, ◌+ℤ◌, ◌-ℤ◌, ◌*ℤ◌, ◌≤ℤ◌, ◌<ℤ◌, min}
 use Rattle.std.specs.Int.{bit_at, w128}
 use Rattle.std.specs.Int.Bits.{bit_and}
 use Rattle.std.proofs.lemmas.Int.{ints, fits_signed_from_abs, to_z_pos, unsigned_abs-mul}
 use Rattle.std.proofs.lemmas.Nat.{mul-le}
 use Rattle.std.proofs.lemmas.Nat.Bits.{bit_at_and, bit_at-lt}
-use Rattle.lin_solve.specs.far_num.specs.Members.{holds}
-use Rattle.point_laws.specs.wide_num.specs.Sums.{total, dot, nth}
-use Rattle.point_laws.specs.wide_num.proofs.Sums.{total-zero, total-add}
-use Rattle.point_laws.proofs.Ring.{var, con, add, sub, mul, ring}
-use Rattle.point_laws.proofs.Sums.{term-le}
+use Rattle.far_num.specs.Members.{holds}
+use Rattle.wide_num.specs.Sums.{dot, nth, total}
+use Rattle.wide_num.proofs.Sums.{total-add, total-zero}
+use Rattle.projection_laws.proofs.Ring.{var, con, add, sub, mul, ring}
+use Rattle.projection_laws.proofs.Sums.{term-le}
 use Rattle.nearest_point.specs.Problem.{AreTargets}
 use Rattle.nearest_point.specs.Found.{common}
 use Rattle.nearest_point.proofs.Sizes.{back}

@@ -3,17 +3,17 @@ use Rattle.std.proofs.Common.{◌≡◌, ℕ, zero, suc, ◌-◌, ◌*◌, ◌<�
 use Rattle.std.specs.Prelude.{ℤ, pos, negsuc, ◌+ℤ◌, ◌*ℤ◌, ◌-ℤ◌, ◌≤ℤ◌, ◌<ℤ◌}
 use Rattle.std.proofs.lemmas.Int.{ints, by_lt_z}
 use Rattle.std.proofs.lemmas.Bool.Decides.{nat_tests}
-use Rattle.point_laws.specs.wide_num.specs.Sums.{total, dot}
+use Rattle.wide_num.specs.Sums.{dot, total}
 use Rattle.nearest_point.specs.Search.{Solved, gram}
 use Rattle.nearest_point.specs.Numbers.{at_t, is_zero, pairs_used, spread, when}
 use Rattle.std.proofs.Math.IntN.{*ℤ_comm}
-use Rattle.point_laws.proofs.Ring.{var, con, add, sub, mul, ring}
-use Rattle.point_laws.proofs.Order.{mul_nonneg, mul_positive, zero_or}
-use Rattle.point_laws.specs.wide_num.proofs.Ints.{mul-zero_cases}
-use Rattle.point_laws.specs.wide_num.proofs.Sums.{total-same, total-zero, total-add, total-scale, total-swap}
-use Rattle.point_laws.proofs.Sums.{total-nonneg, term-le}
+use Rattle.projection_laws.proofs.Ring.{var, con, add, sub, mul, ring}
+use Rattle.projection_laws.proofs.Order.{mul_nonneg, mul_positive, zero_or}
+use Rattle.wide_num.proofs.Ints.{mul-zero_cases}
+use Rattle.wide_num.proofs.Sums.{total-add, total-same, total-scale, total-swap, total-zero}
+use Rattle.projection_laws.proofs.Sums.{total-nonneg, term-le}
 use Rattle.nearest_point.proofs.Places.{lt_or}
-use Rattle.point_laws.proofs.PointLaws.{times_zero}
+use Rattle.projection_laws.proofs.PointLaws.{times_zero}
 use Rattle.nearest_point.proofs.Vectors.{gram_times, zeros_or}
 
 -- the equations of the solver give the point: gram * mult = den * (b - over a target), part by part

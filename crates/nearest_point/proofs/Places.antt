@@ -1,4 +1,4 @@
--- Where a number stands beside another.
+-- Where a number is beside another.
 use Rattle.std.proofs.Common.{◌≡◌, ℕ, suc, ◌<◌, arith, ◌⊎◌, inl, inr}
 use Rattle.std.proofs.lemmas.Bool.{cases_eq}
 

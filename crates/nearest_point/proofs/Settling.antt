@@ -3,18 +3,18 @@ use Rattle.std.proofs.Common.{◌≡◌, ℕ, ◌+◌, ◌^◌, ◌<◌, refl, s
 use Rattle.std.specs.Int.{w128}
 use Rattle.std.specs.Prelude.{ℤ, pos, ◌+ℤ◌, ◌-ℤ◌, ◌*ℤ◌, ◌<ℤ◌}
 use Rattle.std.proofs.lemmas.Int.{ints}
-use Rattle.lin_solve.specs.far_num.specs.Pairs.{far_at, near_at}
-use Rattle.lin_solve.specs.far_num.specs.declared.Far.{Far}
-use Rattle.lin_solve.specs.far_num.specs.declared.Row.{Row}
+use Rattle.far_num.specs.Pairs.{far_at, near_at}
+use Rattle.far_num.specs.declared.Far.{Far}
+use Rattle.far_num.specs.declared.Row.{Row}
 use Rattle.lin_solve.specs.Matrix.{row}
 use Rattle.lin_solve.specs.Solved.{IsAnswer, IsDependence, IsOneSolution, IsSmallAnswer, Satisfies}
 use Rattle.lin_solve.specs.declared.solved.Solved.{Solved as Answer}
 use Rattle.lin_solve.specs.declared.solved.Solved.TheVariants.{One, Dependent}
-use Rattle.point_laws.specs.wide_num.specs.Sums.{dot, nth, total}
-use Rattle.point_laws.specs.wide_num.proofs.Sums.{dot-same, total-add, total-same, total-zero}
-use Rattle.point_laws.specs.wide_num.proofs.Ints.{mul-zero_cases}
-use Rattle.point_laws.proofs.PointLaws.{times_zero}
-use Rattle.point_laws.proofs.Ring.{var, add, mul, ring}
+use Rattle.wide_num.specs.Sums.{dot, nth, total}
+use Rattle.wide_num.proofs.Sums.{dot-same, total-add, total-same, total-zero}
+use Rattle.wide_num.proofs.Ints.{mul-zero_cases}
+use Rattle.projection_laws.proofs.PointLaws.{times_zero}
+use Rattle.projection_laws.proofs.Ring.{var, add, mul, ring}
 use Rattle.nearest_point.specs.declared.settle.Held.{Held}
 use Rattle.nearest_point.specs.declared.settle.Multipliers.{Multipliers}
 use Rattle.nearest_point.specs.Numbers.{AreBelow, at_t, large, place}

@@ -4,7 +4,7 @@ use Rattle.std.specs.Prelude.{ℤ, pos, negsuc, ◌+ℤ◌, ◌*ℤ◌, ◌≤�
 use Rattle.std.specs.Int.{w128}
 use Rattle.std.proofs.lemmas.Int.{ints}
 use Rattle.std.proofs.lemmas.Nat.{mul-le}
-use Rattle.point_laws.specs.wide_num.specs.Sums.{total}
+use Rattle.wide_num.specs.Sums.{total}
 use Rattle.nearest_point.specs.Numbers.{large}
 
 -- a sum of one term more is the sum and this term

@@ -2,9 +2,9 @@
 use Rattle.std.proofs.Common.{◌≡◌, ◌⊎◌, inl, inr, ℕ, ◌*◌, ◌^◌, ◌<◌, ◌≤◌, arith, refl, List, length, slice_index_or, unsigned_abs}
 use Rattle.std.specs.Prelude.{ℤ, pos, ◌≤ℤ◌}
 use Rattle.std.proofs.lemmas.Int.{ints}
-use Rattle.lin_solve.specs.far_num.specs.Pairs.{far_at, near_at}
-use Rattle.lin_solve.specs.far_num.specs.declared.Far.{Far}
-use Rattle.lin_solve.specs.far_num.specs.declared.Row.{Row}
+use Rattle.far_num.specs.Pairs.{far_at, near_at}
+use Rattle.far_num.specs.declared.Far.{Far}
+use Rattle.far_num.specs.declared.Row.{Row}
 use Rattle.lin_solve.specs.Matrix.{row}
 use Rattle.lin_solve.specs.Solved.{IsSmallSystem}
 use Rattle.nearest_point.specs.Found.{IsBelowBy, IsEdge, IsLowered}

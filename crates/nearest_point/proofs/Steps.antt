@@ -4,14 +4,14 @@ use Rattle.std.specs.Prelude.{ℤ, pos, ◌+ℤ◌, ◌*ℤ◌, ◌-ℤ◌, ◌�
 use Rattle.std.proofs.lemmas.Int.{ints}
 use Rattle.std.proofs.lemmas.List.{get_or_push, length-append}
 use Rattle.std.proofs.Math.ListN.{get_or-append}
-use Rattle.point_laws.specs.wide_num.specs.Sums.{dot}
+use Rattle.wide_num.specs.Sums.{dot}
 use Rattle.nearest_point.specs.Search.{Solved, Taken, Independent, Near, Owed}
 use Rattle.nearest_point.specs.Numbers.{place}
-use Rattle.point_laws.proofs.Ring.{var, add, sub, mul, ring}
-use Rattle.point_laws.proofs.Order.{mul_nonneg, mul_positive}
-use Rattle.point_laws.proofs.PointLaws.{gap_of, dot-gap}
-use Rattle.point_laws.specs.wide_num.proofs.Sums.{total-same}
-use Rattle.point_laws.specs.wide_num.proofs.Ints.{swap_mul}
+use Rattle.projection_laws.proofs.Ring.{var, add, sub, mul, ring}
+use Rattle.projection_laws.proofs.Order.{mul_nonneg, mul_positive}
+use Rattle.projection_laws.proofs.PointLaws.{gap_of, dot-gap}
+use Rattle.wide_num.proofs.Sums.{total-same}
+use Rattle.wide_num.proofs.Ints.{swap_mul}
 use Rattle.nearest_point.proofs.Places.{lt_or}
 use Rattle.nearest_point.proofs.Forced.{newly_forced, cases_at}
 use Rattle.nearest_point.proofs.Vectors.{independent_more, between, between_equal, between_above, between_crosses}

@@ -1,9 +1,9 @@
 -- The steps of the search as the code takes them.
 use Rattle.std.proofs.Common.{◌≡◌, ℕ, suc, ◌+◌, ◌<◌, ◌≤◌, arith, add-one, subst, List, [], ◌∷◌, ◌++◌, length}
 use Rattle.std.specs.Prelude.{ℤ, pos, ◌-ℤ◌, ◌*ℤ◌, ◌<ℤ◌, ◌≤ℤ◌}
-use Rattle.lin_solve.specs.far_num.specs.declared.Row.{Row}
+use Rattle.far_num.specs.declared.Row.{Row}
 use Rattle.nearest_point.specs.declared.settle.Held.{Held}
-use Rattle.point_laws.specs.wide_num.specs.Sums.{dot, nth}
+use Rattle.wide_num.specs.Sums.{dot, nth}
 use Rattle.nearest_point.specs.Problem.{IsProblem, weight_at, coefficients, bounds}
 use Rattle.nearest_point.specs.Numbers.{at_t, large}
 use Rattle.nearest_point.specs.Found.{HasParts, IsNear, IsOwed, point_at, multiplier_at}

@@ -3,15 +3,15 @@ use Rattle.std.proofs.Common.{◌≡◌, ℕ, zero, suc, ◌+◌, ◌<◌, ◌�
 use Rattle.std.specs.Prelude.{ℤ, pos, ◌+ℤ◌, ◌*ℤ◌, ◌-ℤ◌, ◌≤ℤ◌, ◌<ℤ◌}
 use Rattle.std.proofs.lemmas.Int.{ints}
 use Rattle.std.proofs.Math.IntN.{*ℤ_comm}
-use Rattle.point_laws.proofs.Order.{mul_nonneg, square_nonneg, zero_or}
-use Rattle.point_laws.specs.wide_num.proofs.Ints.{mul-zero_cases}
-use Rattle.point_laws.proofs.Ring.{var, con, add, sub, mul, ring}
-use Rattle.point_laws.specs.wide_num.specs.Sums.{total, dot}
+use Rattle.projection_laws.proofs.Order.{mul_nonneg, square_nonneg, zero_or}
+use Rattle.wide_num.proofs.Ints.{mul-zero_cases}
+use Rattle.projection_laws.proofs.Ring.{var, con, add, sub, mul, ring}
+use Rattle.wide_num.specs.Sums.{dot, total}
 use Rattle.nearest_point.specs.Search.{Independent, gram}
-use Rattle.point_laws.specs.wide_num.proofs.Sums.{total-same, total-zero, total-add, total-scale}
-use Rattle.point_laws.proofs.Sums.{total-sub, term-le, dual}
+use Rattle.wide_num.proofs.Sums.{total-add, total-same, total-scale, total-zero}
+use Rattle.projection_laws.proofs.Sums.{total-sub, term-le, dual}
 use Rattle.nearest_point.proofs.Places.{lt_or}
-use Rattle.point_laws.proofs.PointLaws.{times_zero}
+use Rattle.projection_laws.proofs.PointLaws.{times_zero}
 use Rattle.nearest_point.proofs.Forced.{nothing_left}
 
 -- f below n, k from n on
@@ -126,7 +126,7 @@ independent_fits m a h = go (more_rows_depend m a)
     go : Depends m (suc m) a → ⊥
     go (c, z, (i, lt, nz)) = nz (h.only_zero c z i lt)
 
--- rows that agree on a direction z but for the last one stay independent with it
+-- rows that agree on a direction z except for the last one stay independent with it
 pub independent_more : (m n : ℕ) (a : ℕ → ℕ → ℤ) (z : ℕ → ℤ) → Independent m n a → ((i : ℕ) → i < n → dot m (a i) z ≡ pos 0) → ¬ (dot m (a n) z ≡ pos 0)
     → Independent m (suc n) a
 independent_more m n a z h flat apart = record { only_zero = all }
@@ -233,7 +233,7 @@ sum_cut-long k (suc d) c a =
     let z : cut k c (pos 0) (d + k) *ℤ a (d + k) ≡ pos 0 *ℤ a (d + k) = ap (λ (t : ℤ). t *ℤ a (d + k)) (cut-above k c (pos 0) (d + k) (omega arith)) in
     omega (arith, ints))
 
--- the front of independent rows is independent
+-- the prefix of independent rows is independent
 pub independent_front : (m k d : ℕ) (a : ℕ → ℕ → ℤ) → Independent m (d + k) a → Independent m k a
 independent_front m k d a h = record {
   only_zero = λ c z i lt. sym (cut-below k c (pos 0) i lt) ∙ h.only_zero (cut k c (pos 0)) (λ j lj. sum_cut-long k d c (λ i. a i j) ∙ z j lj) i (omega arith);

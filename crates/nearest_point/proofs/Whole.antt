@@ -2,15 +2,15 @@
 use Rattle.std.proofs.Common.{◌≡◌, ℕ, zero, suc, ◌*◌, ◌^◌, ◌<◌, ◌≤◌, arith, refl, ap, ◌∙◌, List, [], length, slice_index_or, unsigned_abs}
 use Rattle.std.specs.Prelude.{ℤ, pos, negsuc, ◌*ℤ◌, ◌≤ℤ◌, ◌<ℤ◌}
 use Rattle.std.proofs.lemmas.Int.{ints}
-use Rattle.lin_solve.specs.far_num.specs.Members.{holds}
-use Rattle.lin_solve.specs.far_num.specs.declared.Row.{Row}
-use Rattle.point_laws.specs.wide_num.specs.Sums.{nth, dot, total}
+use Rattle.far_num.specs.Members.{holds}
+use Rattle.far_num.specs.declared.Row.{Row}
+use Rattle.wide_num.specs.Sums.{dot, nth, total}
 use Rattle.std.proofs.lemmas.Nat.{mul-le}
-use Rattle.point_laws.proofs.Order.{mul_nonneg}
-use Rattle.point_laws.proofs.Sums.{term-le}
-use Rattle.point_laws.specs.Points.{IsNearestTo, HasLeastSum, MeetsRows}
-use Rattle.point_laws.specs.Multipliers.{AreShares}
-use Rattle.point_laws.proofs.PointLaws.{at_each, least, nearest}
+use Rattle.projection_laws.proofs.Order.{mul_nonneg}
+use Rattle.projection_laws.proofs.Sums.{term-le}
+use Rattle.projection_laws.specs.Points.{IsNearestTo, HasLeastSum, MeetsRows}
+use Rattle.projection_laws.specs.Multipliers.{AreShares}
+use Rattle.projection_laws.proofs.PointLaws.{at_each, least, nearest}
 use Rattle.auction_model.proofs.Shares.{share-positive, share-whole}
 use Rattle.nearest_point.specs.declared.settle.Held.{Held}
 use Rattle.nearest_point.specs.Numbers.{AreBelow, large, place, spread}

@@ -1,5 +1,5 @@
 -- What the search holds: a point and its multipliers by parts, the rows that made it, and their sizes.
-use Rattle.lin_solve.specs.far_num.specs.declared.Row.{Row}
+use Rattle.far_num.specs.declared.Row.{Row}
 use Rattle.nearest_point.specs.Numbers.{AreBelow, at_t, large, place}
 use Rattle.auction_model.specs.Ones.{AreOnes}
 use Rattle.nearest_point.specs.Problem.{bounds, coefficients, weight_at}
@@ -7,7 +7,7 @@ use Rattle.nearest_point.specs.Search.{ByParts, Independent, Near, Owed, gram}
 use Rattle.nearest_point.specs.declared.settle.Held.{Held}
 use Rattle.nearest_point.specs.declared.settle.Multipliers.{Multipliers}
 use Rattle.std.specs.Prelude.{List, [], length, pos, ℕ, ℤ, ◌*ℤ◌, ◌+ℤ◌, ◌-ℤ◌, ◌<ℤ◌, ◌<◌, ◌^◌, ◌≡◌, ◌≤ℤ◌, ◌≤◌}
-use Rattle.point_laws.specs.wide_num.specs.Sums.{dot, nth, total}
+use Rattle.wide_num.specs.Sums.{dot, nth, total}
 
 -- each place is one of a row
 abbrev pub AreWithin : List ℕ → List Row → Type 0

@@ -4,7 +4,3 @@ pub mod Problem
 pub mod Search
 pub mod Shown
 pub mod Tried
-pub use Rattle.auction_model
-pub use Rattle.lin_solve
-pub use Rattle.point_laws
-pub use Rattle.point_laws.specs.wide_num

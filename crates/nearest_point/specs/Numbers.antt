@@ -1,12 +1,12 @@
 -- Numbers by far and near parts, numbers listed by place, and their sizes.
 use Rattle.std.specs.Prelude.{Bool, List, if◌then◌else◌, length, nat_eq, pos, slice_index_or, suc, unsigned_abs, zero, ℕ, ℤ, ◌*ℤ◌, ◌*◌, ◌+ℤ◌, ◌+◌, ◌-◌, ◌<◌, ◌^◌}
-use Rattle.point_laws.specs.wide_num.specs.Sums.{nth, total}
+use Rattle.wide_num.specs.Sums.{nth, total}
 
 -- each number is below the limit in size
 abbrev pub AreBelow : ℕ → List ℤ → Type 0
 AreBelow limit xs = (i : ℕ) → i < length xs → unsigned_abs (nth xs i) < limit
 
--- a number above every near part, in place of one above every number
+-- a number above every near part, instead of one above every number
 abbrev pub large : ℤ
 large = pos (2 ^ 120)
 
@@ -14,7 +14,7 @@ large = pos (2 ^ 120)
 abbrev pub at_t : ℤ → (ℕ → ℤ) → (ℕ → ℤ) → ℕ → ℤ
 at_t t far near j = far j *ℤ t +ℤ near j
 
--- what stands at a place of a list of places
+-- what is at a place of a list of places
 abbrev pub place : List ℕ → ℕ → ℕ
 place list i = slice_index_or list i 0
 

@@ -1,10 +1,10 @@
 -- What the search for the nearest point is given: targets, weights, and rows as sets of bits with bounds.
 use Rattle.auction_model.specs.Ones.{AreOnes}
 use Rattle.auction_model.specs.Prices.{AreWeights, share}
-use Rattle.lin_solve.specs.far_num.specs.Members.{holds}
-use Rattle.lin_solve.specs.far_num.specs.declared.Row.{Row}
+use Rattle.far_num.specs.Members.{holds}
+use Rattle.far_num.specs.declared.Row.{Row}
 use Rattle.std.specs.Prelude.{List, length, pos, slice_index_or, ℕ, ℤ, ◌<◌, ◌^◌, ◌≡◌, ◌≤ℤ◌, ◌≤◌, ◌⊎◌}
-use Rattle.point_laws.specs.wide_num.specs.Sums.{nth, total}
+use Rattle.wide_num.specs.Sums.{nth, total}
 
 -- the weight of a coordinate
 abbrev pub weight_at : List ℕ → ℕ → ℤ
@@ -49,7 +49,7 @@ HasMembers m rows = (i : ℕ) → i < length rows → (0 < (row_at rows i).membe
 abbrev pub HasSingles : ℕ → List Row → Type 0
 HasSingles m rows = (j : ℕ) → j < m → (i : ℕ) × (i < length rows) × ((row_at rows i).members ≡ 2 ^ j)
 
--- A target, weights and rows with a nearest point that the search can work out. There are at most six coordinates, and each is a
+-- A target, weights and rows with a nearest point that the search can compute. There are at most six coordinates, and each is a
 -- row of its own. Where a weight isn't 1, all is narrow.
 pub record IsProblem (target : List ℤ) (weights : List ℕ) (rows : List Row) : Type 0 where
   pub few : length target ≤ 6

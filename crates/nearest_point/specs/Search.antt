@@ -1,7 +1,7 @@
 -- What the search for the nearest point knows of a point and its multipliers.
 use Rattle.nearest_point.specs.Numbers.{place}
 use Rattle.std.specs.Prelude.{List, length, pos, ℕ, ℤ, ◌*ℤ◌, ◌+ℤ◌, ◌-ℤ◌, ◌<ℤ◌, ◌<◌, ◌≡◌, ◌≤ℤ◌, ◌≤◌}
-use Rattle.point_laws.specs.wide_num.specs.Sums.{total, dot}
+use Rattle.wide_num.specs.Sums.{dot, total}
 
 -- point = den * target + weight * (the sum of the multipliers of the rows that hold the coordinate)
 pub record Solved (m r : ℕ) (a : ℕ → ℕ → ℤ) (den : ℤ) (point mult target weight : ℕ → ℤ) : Type 0 where

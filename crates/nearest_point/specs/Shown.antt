@@ -1,11 +1,11 @@
 -- What the search for the nearest point answers.
 use Rattle.auction_model.specs.Ones.{AreOnes}
-use Rattle.lin_solve.specs.far_num.specs.declared.Row.{Row}
+use Rattle.far_num.specs.declared.Row.{Row}
 use Rattle.nearest_point.specs.Numbers.{AreBelow, pairs_used}
 use Rattle.nearest_point.specs.Problem.{bounds, coefficients, weight_at}
-use Rattle.point_laws.specs.Multipliers.{AreFirst, AreSecond, SumsTo}
-use Rattle.point_laws.specs.Points.{MeetsRows}
-use Rattle.point_laws.specs.wide_num.specs.Sums.{nth}
+use Rattle.projection_laws.specs.Multipliers.{AreFirst, AreSecond, SumsTo}
+use Rattle.projection_laws.specs.Points.{MeetsRows}
+use Rattle.wide_num.specs.Sums.{nth}
 use Rattle.std.specs.Prelude.{List, length, pos, ℕ, ℤ, ◌<ℤ◌, ◌^◌, ◌≡◌, ◌≤ℤ◌, ◌≤◌}
 
 -- A point that meets the rows, with multipliers that show its least sum and that it is nearest to the target by the weights. At most

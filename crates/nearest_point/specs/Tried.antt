@@ -1,5 +1,5 @@
 -- Sets of rows that are tried.
-use Rattle.lin_solve.specs.far_num.specs.declared.Row.{Row}
+use Rattle.far_num.specs.declared.Row.{Row}
 use Rattle.nearest_point.specs.Found.{IsRight}
 use Rattle.nearest_point.specs.declared.guess.Step.{Step}
 use Rattle.nearest_point.specs.declared.guess.Step.TheVariants.{Right, Next}

@@ -5,13 +5,13 @@ ghost use Rattle.std.specs.Prelude.{IfOk, length, ◌<◌, ◌≡◌, ◌≤◌}
 use crate::members::member_part;
 use crate::settle::lowered_target;
 use crate::system::{far_parts, gram_matrix, right_sides};
-use lin_solve::far_num::Row;
+use far_num::Row;
 use lin_solve::{Solved, solve};
 use std::alloc::{AllocError, Global};
 
-/// The set with its last row in place of another: the first of those that the last row is made of with a factor above 0.
+/// The set with its last row instead of another: the first of those that the last row is made of with a factor above 0.
 ///
-/// So where the rows before stand in the order of their multipliers, one of the least goes.
+/// So where the rows before are in the order of their multipliers, one of the least goes.
 pub(crate) fn exchanged(
     alloc: Global,
     target: &[i128],

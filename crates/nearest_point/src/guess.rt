@@ -7,10 +7,10 @@ ghost use Rattle.std.specs.Prelude.{IfOk, IfSome, IsTrue, length, ℕ, ◌<◌};
 use crate::exchange::exchanged;
 use crate::judge::next_set;
 use crate::settle::{Held, settle_if_independent};
-use lin_solve::far_num::Row;
+use far_num::Row;
 use std::alloc::{AllocError, Global};
 
-// So many sets of rows are tried. In a turn two are usual and seventeen the most that were seen, on drawn rows twenty-nine.
+// That many sets of rows are tried. In a turn two are usual and seventeen the most that were seen, on drawn rows twenty-nine.
 const MOST_TRIES: u32 = 64;
 
 /// The nearest point that meets all rows, where a few sets of rows lead to one that passes the test.
@@ -18,7 +18,7 @@ const MOST_TRIES: u32 = 64;
 /// A set gives the point that meets its rows with equality. That point is the nearest of all where no multiplier is
 /// below 0 and no row is violated, so nothing has to be known of how the sets are chosen. The first has the last rows that
 /// are independent. The next set is made without the rows whose multipliers are below 0, or with the row that is violated
-/// most, in place of another one where it depends on the others. `systems` counts the sets for which systems are solved.
+/// most, instead of another one where it depends on the others. `systems` counts the sets for which systems are solved.
 pub(crate) fn guess(
     alloc: Global,
     target: &[i128],
@@ -101,7 +101,7 @@ fn take_step(
     }
 }
 
-// Whether each place is one of so many rows.
+// Whether each place is one of that many rows.
 fn are_within(places: &[usize], count: usize) -> bool
     ensures { IsTrue result → (i : ℕ) → i < length places.now → place places.now i < count }
 {

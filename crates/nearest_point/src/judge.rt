@@ -1,18 +1,18 @@
 ghost use Rattle.nearest_point.specs.Found.{IsSized, Passes, multiplier_at, point_at};
 ghost use Rattle.nearest_point.specs.Problem.{AreBounds, bounds, coefficients};
 ghost use Rattle.std.specs.Prelude.{IfNone, IfOk, IsTrue, length, pos, ℕ, ◌*ℤ◌, ◌<◌, ◌≤ℤ◌};
-ghost use Rattle.point_laws.specs.wide_num.specs.Sums.{dot};
+ghost use Rattle.wide_num.specs.Sums.{dot};
 
 use crate::members::{is_less, sum_over};
 use crate::settle::{Held, is_violated};
-use lin_solve::far_num::Row;
+use far_num::Row;
 use std::alloc::{AllocError, Global};
 
 /// The set to be tried after that of the point, or None where the point passes the test: no multiplier is below 0, and it
 /// meets all rows.
 ///
 /// The next set is that of the point without the rows whose multipliers are below 0. Where there are none, it has the row that
-/// the point violates most too, as its last one, and the others stand in the order of their multipliers.
+/// the point violates most too, as its last one, and the others are in the order of their multipliers.
 pub(crate) fn next_set(
     alloc: Global,
     held: &Held,

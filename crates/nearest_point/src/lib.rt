@@ -11,11 +11,11 @@
 ghost use Rattle.nearest_point.specs.Found.{IsRight};
 ghost use Rattle.nearest_point.specs.Problem.{IsProblem, bounds, coefficients, share_at};
 ghost use Rattle.nearest_point.specs.Shown.{IsShownNearest};
-ghost use Rattle.point_laws.specs.Points.{HasLeastSum, IsNearestTo, MeetsRows};
+ghost use Rattle.projection_laws.specs.Points.{HasLeastSum, IsNearestTo, MeetsRows};
 ghost use Rattle.std.specs.Prelude.{IfOk, length, ◌≤◌};
-ghost use Rattle.point_laws.specs.wide_num.specs.Sums.{nth};
+ghost use Rattle.wide_num.specs.Sums.{nth};
 
-use lin_solve::far_num::Row;
+use far_num::Row;
 use std::alloc::{AllocError, Global};
 use wide_num::NumList;
 
@@ -33,7 +33,6 @@ mod tests;
 
 pub use found::Nearest;
 use guess::guess;
-pub use lin_solve;
 use search::search_from;
 use settle::Held;
 use spread::spread_out;
@@ -45,7 +44,7 @@ use spread::spread_out;
 /// members of a row stands for coordinate `j`. Each row has a member, and each single coordinate is a row, so a point
 /// exists. No target and no bound is negative, and neither the sum of the targets nor a bound is above 2^46. Where a
 /// weight isn't 1, there are at most four coordinates, and neither that sum nor a bound is above 2^45. The only error is
-/// want of memory.
+/// out of memory.
 ///
 /// The rule is that of Day and Cramton (Quadratic core-selecting payment rules for combinatorial auctions, Operations
 /// Research 60, 2012).

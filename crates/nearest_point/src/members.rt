@@ -1,9 +1,9 @@
-ghost use Rattle.lin_solve.specs.far_num.specs.Members.{holds};
+ghost use Rattle.far_num.specs.Members.{holds};
 ghost use Rattle.nearest_point.specs.Numbers.{AreBelow, at_t, large};
 ghost use Rattle.std.specs.Prelude.{IsTrue, if◌then◌else◌, length, not, pos, unsigned_abs, ◌*ℤ◌, ◌*◌, ◌+ℤ◌, ◌<ℤ◌, ◌<◌, ◌^◌, ◌≡◌, ◌≤ℤ◌, ◌≤◌, ◌⊎◌};
-ghost use Rattle.point_laws.specs.wide_num.specs.Sums.{dot, nth};
+ghost use Rattle.wide_num.specs.Sums.{dot, nth};
 
-use lin_solve::far_num::Row;
+use far_num::Row;
 
 fn is_member(members: u16, j: usize) -> bool
     requires { j < 16 }

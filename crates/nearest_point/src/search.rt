@@ -3,7 +3,7 @@ ghost use Rattle.nearest_point.specs.Problem.{IsProblem};
 ghost use Rattle.std.specs.Prelude.{IfOk, [], length, ◌++◌, ◌+◌, ◌<◌, ◌∷◌, ◌≤◌};
 
 use crate::settle::{Held, is_violated, settle};
-use lin_solve::far_num::Row;
+use far_num::Row;
 use std::alloc::{AllocError, Global};
 
 /// The nearest point with equality in the forced rows that meets the rows from `from` on.
@@ -39,7 +39,7 @@ pub(crate) fn search_from(
     Ok(best)
 }
 
-// The same with row `k` forced too.
+// Searches with row `k` forced too.
 #[cycle(search)]
 fn force(
     alloc: Global,

@@ -4,11 +4,11 @@ ghost use Rattle.auction_model.specs.Prices.{AreWeights};
 ghost use Rattle.nearest_point.specs.Problem.{IsProblem, bounds, coefficients, weight_at};
 ghost use Rattle.nearest_point.specs.Search.{Independent};
 ghost use Rattle.std.specs.Prelude.{IfOk, IsTrue, MatchOption, length, not, pos, unsigned_abs, ℕ, ◌*ℤ◌, ◌*◌, ◌+ℤ◌, ◌<ℤ◌, ◌<◌, ◌^◌, ◌≡◌, ◌≤ℤ◌, ◌≤◌};
-ghost use Rattle.point_laws.specs.wide_num.specs.Sums.{dot, nth, total};
+ghost use Rattle.wide_num.specs.Sums.{dot, nth, total};
 
 use crate::members::{is_below, member_part};
 use crate::system::{far_parts, gram_matrix, near_parts, right_sides};
-use lin_solve::far_num::Row;
+use far_num::Row;
 use lin_solve::{Solved, solve};
 use std::alloc::{AllocError, Global};
 

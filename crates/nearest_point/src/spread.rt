@@ -1,6 +1,6 @@
 ghost use Rattle.nearest_point.specs.Numbers.{AreBelow, place, spread};
 ghost use Rattle.std.specs.Prelude.{IfOk, length, ℕ, ◌<◌, ◌^◌, ◌≡◌, ◌≤◌};
-ghost use Rattle.point_laws.specs.wide_num.specs.Sums.{nth};
+ghost use Rattle.wide_num.specs.Sums.{nth};
 
 use std::alloc::{AllocError, Global};
 

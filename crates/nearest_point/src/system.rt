@@ -1,15 +1,15 @@
-ghost use Rattle.lin_solve.specs.far_num.specs.Members.{holds};
-ghost use Rattle.lin_solve.specs.far_num.specs.Pairs.{far_at, near_at};
+ghost use Rattle.far_num.specs.Members.{holds};
+ghost use Rattle.far_num.specs.Pairs.{far_at, near_at};
 ghost use Rattle.lin_solve.specs.Matrix.{row};
 ghost use Rattle.nearest_point.specs.Found.{AreWithin, IsBelowBy, IsEdge, common, row_of};
 ghost use Rattle.nearest_point.specs.Numbers.{place};
 ghost use Rattle.nearest_point.specs.Problem.{AreBounds, AreTargets, bounds};
 ghost use Rattle.std.specs.Prelude.{IfOk, length, pos, unsigned_abs, ℕ, ◌*◌, ◌-ℤ◌, ◌<◌, ◌^◌, ◌≡◌, ◌≤ℤ◌, ◌≤◌};
-ghost use Rattle.point_laws.specs.wide_num.specs.Sums.{dot, nth, total};
+ghost use Rattle.wide_num.specs.Sums.{dot, nth, total};
 
 use crate::members::sum_over;
+use far_num::{Far, FarList, Row};
 use lin_solve::Square;
-use lin_solve::far_num::{Far, FarList, Row};
 use std::alloc::{AllocError, Global};
 
 /// The matrix of the forced rows: what the common members of each two weigh.

@@ -1,9 +1,9 @@
 ghost use Rattle.nearest_point.specs.Problem.{HasSingles, IsProblem, bounds, row_at};
 ghost use Rattle.std.specs.Prelude.{IfOk, IfSome, IsTrue, length, pos, slice_index_or, ℕ, ◌<◌, ◌^◌, ◌≡◌, ◌≤ℤ◌, ◌≤◌};
-ghost use Rattle.point_laws.specs.wide_num.specs.Sums.{nth, total};
+ghost use Rattle.wide_num.specs.Sums.{nth, total};
 
 use super::{Nearest, guess, nearest, search_all};
-use lin_solve::far_num::Row;
+use far_num::Row;
 use std::alloc::{AllocError, Global};
 use std::process::Abort;
 use std::test::Fail;

@@ -1,23 +1,23 @@
 -- The JSON values of winners and rounds, list by list, and that an outcome has no float.
-use Rattle.std.proofs.Common.{◌≡◌, ℕ, zero, suc, ◌+◌, ◌*◌, ◌^◌, ◌<◌, ◌≤◌, ◌≤ℤ◌, unsigned_abs, false, Option, Some, None, List, [], ◌∷◌, ◌++◌, append_assoc}
-use Rattle.std.proofs.Common.{length, get_or, drop, map, ℤ, pos, negsuc, ◌+ℤ◌, codes, refl, sym, ap, subst, ◌∙◌, arith}
+use Rattle.std.proofs.Common.{List, None, Option, Some, [], ap, append_assoc, arith, codes, drop, false, get_or, length, map, negsuc, pos, refl}
+use Rattle.std.proofs.Common.{subst, suc, sym, unsigned_abs, zero, ℕ, ℤ, ◌*◌, ◌++◌, ◌+ℤ◌, ◌+◌, ◌<◌, ◌^◌, ◌∙◌, ◌∷◌, ◌≡◌, ◌≤ℤ◌, ◌≤◌}
 use Rattle.std.proofs.lemmas.Int.{ints}
 use Rattle.std.proofs.lemmas.List.{append-nil, drop_more}
 use Rattle.serde_json.specs.Data.{Data, Members, member, object, string}
 use Rattle.serde_json.specs.Find.{is_float, of_integer}
 use Rattle.serde_json.specs.View.{items_of}
 use Rattle.serde_json.specs.Written.{has_float, items_have_float, members_have_float}
-use Rattle.core_price.specs.auction_model.specs.Book.{Book, BookBid, bidder_of, bid_of, market_of}
-use Rattle.core_price.specs.auction_model.specs.Market.{value_of}
-use Rattle.core_price.specs.auction_model.specs.Prices.{Point}
-use Rattle.core_price.specs.auction_model.specs.PricingRun.{Turn as BidderTurn}
-use Rattle.cert_facts.specs.cert_text.specs.choices.specs.declared.chooser.Single.{Single}
-use Rattle.cert_facts.specs.cert_text.specs.choices.specs.Singles.{winners_after}
+use Rattle.auction_model.specs.Book.{Book, BookBid, bid_of, bidder_of, market_of}
+use Rattle.auction_model.specs.Market.{value_of}
+use Rattle.auction_model.specs.Prices.{Point}
+use Rattle.auction_model.specs.PricingRun.{BidderTurn}
+use Rattle.choices.specs.declared.chooser.Single.{Single}
+use Rattle.choices.specs.Singles.{winners_after}
 use Rattle.core_price.specs.Turns.{turn_of, turns_of}
 use Rattle.core_price.specs.declared.priced.Turn.{Turn}
-use Rattle.print_form.specs.Json.{AreLastMembers, AreRounds, AreWinners, IsOutcome, IsRound, amount_json, count_json, winner_json}
-use Rattle.print_form.specs.Fractions.{IsFractionText}
-use Rattle.print_form.specs.Prices.{reserve_of, gross_of, revenue_of}
+use Rattle.print_grammar.specs.Json.{AreLastMembers, AreRounds, AreWinners, IsOutcome, IsRound, amount_json, count_json, winner_json}
+use Rattle.print_grammar.specs.Fractions.{IsFractionText}
+use Rattle.print_grammar.specs.Prices.{reserve_of, gross_of, revenue_of}
 use Rattle.outcome.specs.declared.prices.WinnerPrice.{WinnerPrice}
 use Rattle.outcome.specs.declared.fraction.Fraction.{Fraction}
 use Rattle.outcome.specs.Fractions.{IsFractionOf, fraction_text}

@@ -1,13 +1,13 @@
 -- A fraction by division and a greatest common divisor, and a fraction that is greater by a whole number.
-use Rattle.std.proofs.Common.{◌≡◌, ℕ, zero, suc, ◌+◌, ◌*◌, ◌/◌, ◌%◌, ◌<◌, ◌≤◌, ℤ, pos, ◌+ℤ◌, ◌*ℤ◌, ◌^◌, FitsSigned, unsigned_abs, to_z, of_z, refl, sym, ap}
-use Rattle.std.proofs.Common.{subst, ◌∙◌, arith}
+use Rattle.std.proofs.Common.{FitsSigned, ap, arith, of_z, pos, refl, subst, suc, sym, to_z, unsigned_abs, zero, ℕ, ℤ, ◌%◌, ◌*ℤ◌, ◌*◌, ◌+ℤ◌, ◌+◌, ◌/◌}
+use Rattle.std.proofs.Common.{◌<◌, ◌^◌, ◌∙◌, ◌≡◌, ◌≤◌}
 use Rattle.std.specs.Int.{IsGcd, ◌∣◌, w128}
 use Rattle.std.proofs.lemmas.Int.{to_z-of_z, to_z_pos}
 use Rattle.std.proofs.lemmas.Nat.Gcd.{le_of_dvd}
 use Rattle.std.proofs.Math.Nat.{div-add-mod, mod-lt, dvd-mul_right, mul-div_cancel'}
 use Rattle.std.proofs.Math.IntN.{*ℤ_comm}
-use Rattle.core_price.specs.wide_num.proofs.Ints.{lin, mul-add, mul_assoc}
-use Rattle.print_form.specs.Fractions.{IsFraction}
+use Rattle.wide_num.proofs.Ints.{lin, mul-add, mul_assoc}
+use Rattle.print_grammar.specs.Fractions.{IsFraction}
 
 some-divisor : (g d b : ℕ) → 0 < d → d ≡ g * b → (0 < g) × (0 < b)
 some-divisor zero d b some e = absurd (omega arith)

@@ -1,6 +1,7 @@
 -- Fractions and the lines of turns are of plain bytes, which are below 128.
-use Rattle.std.proofs.Common.{◌≡◌, ◌∙◌, ℕ, zero, suc, ◌+◌, ◌/◌, ◌%◌, ◌<◌, ◌≤◌, ◌==◌, Bool, true, false, cond, ◌&&◌, IsTrue, Option, Some, None, Result, Ok}
-use Rattle.std.proofs.Common.{Err, List, [], ◌∷◌, ◌++◌, ◌-◌, take, length, length-append, codes, ℤ, refl, sym, ap, subst, append_assoc, arith}
+use Rattle.std.proofs.Common.{Bool, Err, IsTrue, List, None, Ok, Option, Result, Some, [], ap, append_assoc, arith, codes, cond, false, length}
+use Rattle.std.proofs.Common.{length-append, refl, subst, suc, sym, take, true, zero, ℕ, ℤ, ◌%◌, ◌&&◌, ◌++◌, ◌+◌, ◌-◌, ◌/◌, ◌<◌, ◌==◌, ◌∙◌, ◌∷◌, ◌≡◌}
+use Rattle.std.proofs.Common.{◌≤◌}
 use Rattle.std.specs.Prelude.{nat_lt, MatchResult}
 use Rattle.std.specs.Result.{result_unwrap_or}
 use Rattle.std.specs.List.{AllByRecursion}
@@ -11,12 +12,12 @@ use Rattle.std.proofs.Math.Seq.{take-append_seam}
 use Rattle.std.proofs.lemmas.Bool.{and_from, and_parts, ltb-true, lt-ltb}
 use Rattle.std.proofs.lemmas.List.Elements.{All-from_recursion}
 use Rattle.std.proofs.lemmas.Str.Ascii.{IsAscii-from_all}
-use Rattle.core_price.specs.auction_model.specs.Prices.{Point}
-use Rattle.core_price.specs.auction_model.specs.PricingRun.{Block, Turn}
-use Rattle.print_form.specs.book_form.specs.line_text.specs.Decimals.{decimals_text}
-use Rattle.print_form.specs.Fractions.{IsFractionText, parts_text}
-use Rattle.print_form.specs.Turns.{ArePoints, IsTurnEnd, IsTurnLine}
-use Rattle.print_form.specs.row_laws.specs.Winners.{members_of}
+use Rattle.auction_model.specs.Prices.{Point}
+use Rattle.auction_model.specs.PricingRun.{BidderBlock, BidderTurn}
+use Rattle.line_format.specs.Decimals.{decimals_text}
+use Rattle.print_grammar.specs.Fractions.{IsFractionText, parts_text}
+use Rattle.print_grammar.specs.Turns.{ArePoints, IsTurnEnd, IsTurnLine}
+use Rattle.core_laws.specs.Winners.{members_of}
 use Rattle.outcome.specs.Json.{EndsLine}
 
 -- whether all bytes are plain
@@ -98,11 +99,11 @@ four-plain a b c d p q r s = plain-append ((a ++ b) ++ c) d (plain-append (a ++ 
 six-plain : (a b c d e f : List ℕ) → IsPlain a → IsPlain b → IsPlain c → IsPlain d → IsPlain e → IsPlain f → IsPlain (((((a ++ b) ++ c) ++ d) ++ e) ++ f)
 six-plain a b c d e f p q r s t u = plain-append ((((a ++ b) ++ c) ++ d) ++ e) f (plain-append (((a ++ b) ++ c) ++ d) e (four-plain a b c d p q r s) t) u
 
--- what stands before the line feed
+-- what comes before the line feed
 abbrev IsPlainLine : List ℕ → Type 0
 IsPlainLine line = (front : List ℕ) × (line ≡ front ++ codes "\n") × IsPlain front
 
-end-plain : (bidders : ℕ) (den : ℤ) (block : Option Block) (text : List ℕ) → IsTurnEnd bidders den block text → IsPlainLine text
+end-plain : (bidders : ℕ) (den : ℤ) (block : Option BidderBlock) (text : List ℕ) → IsTurnEnd bidders den block text → IsPlainLine text
 end-plain bidders den None text is = (codes " end", is, refl)
 end-plain bidders den (Some b) text is =
     let members = decimals_text (members_of b.row.members bidders) in (
@@ -113,7 +114,7 @@ end-plain bidders den (Some b) text is =
     )
 
 -- the line of a turn
-pub turn-ends : (z : List ℕ) (number : ℕ) (t : Turn) (line : List ℕ) → IsTurnLine z number t line → EndsLine line
+pub turn-ends : (z : List ℕ) (number : ℕ) (t : BidderTurn) (line : List ℕ) → IsTurnLine z number t line → EndsLine line
 turn-ends z number t line is =
     let points = points-plain t.point 0 z is.0 is.2 in
     let end = end-plain (length z) t.point.den t.block is.1 is.3 in

@@ -1,19 +1,19 @@
 -- Lists of what is printed of the winners: how they grow, their lines, and the sum of their reserves.
-use Rattle.std.proofs.Common.{◌≡◌, ℕ, zero, suc, ◌+◌, ◌-◌, ◌<◌, ◌≤◌, List, [], ◌∷◌, ◌++◌, length, get_or, take, drop, map, IsTrue, ℤ, pos, ◌+ℤ◌, refl, sym}
-use Rattle.std.proofs.Common.{ap, subst, ◌∙◌, arith}
+use Rattle.std.proofs.Common.{IsTrue, List, [], ap, arith, drop, get_or, length, map, pos, refl, subst, suc, sym, take, zero, ℕ, ℤ, ◌++◌, ◌+ℤ◌, ◌+◌}
+use Rattle.std.proofs.Common.{◌-◌, ◌<◌, ◌∙◌, ◌∷◌, ◌≡◌, ◌≤◌}
 use Rattle.std.proofs.lemmas.Int.{ints}
 use Rattle.std.proofs.lemmas.List.{take_more, take_all}
 use Rattle.std.specs.List.{AllByRecursion}
-use Rattle.core_price.specs.auction_model.specs.Book.{Book, bidder_of, bids_of, bid_of, menu_of}
-use Rattle.core_price.specs.auction_model.specs.Package.{cost_of}
-use Rattle.core_price.specs.auction_model.specs.Market.{number_of, sum_after}
-use Rattle.core_price.specs.auction_model.specs.Menu.{is_known_after}
-use Rattle.core_price.specs.auction_model.specs.Prices.{Point}
-use Rattle.cert_facts.proofs.Winners.{Wins}
-use Rattle.cert_facts.specs.cert_text.specs.choices.specs.declared.chooser.Single.{Single}
-use Rattle.cert_facts.specs.cert_text.specs.choices.specs.Singles.{winners_after}
-use Rattle.print_form.specs.Fractions.{IsFractionText}
-use Rattle.print_form.specs.Prices.{reserve_of, gross_of, priced_line, ArePricedLines}
+use Rattle.auction_model.specs.Book.{Book, bid_of, bidder_of, bids_of, menu_of}
+use Rattle.auction_model.specs.Package.{cost_of}
+use Rattle.auction_model.specs.Market.{number_of, sum_after}
+use Rattle.auction_model.specs.Menu.{is_known_after}
+use Rattle.auction_model.specs.Prices.{Point}
+use Rattle.cert_summary.proofs.Winners.{Wins}
+use Rattle.choices.specs.declared.chooser.Single.{Single}
+use Rattle.choices.specs.Singles.{winners_after}
+use Rattle.print_grammar.specs.Fractions.{IsFractionText}
+use Rattle.print_grammar.specs.Prices.{reserve_of, gross_of, priced_line, ArePricedLines}
 use Rattle.outcome.specs.declared.prices.WinnerPrice.{WinnerPrice}
 use Rattle.outcome.specs.Fractions.{fraction_text}
 use Rattle.outcome.specs.Prices.{IsWinnerPrice, AreWinnerPrices, line_of, lines_of, reserves_of, CanPrintPrice}

@@ -1,27 +1,27 @@
 -- The facts of a certificate can be printed, and what is printed is of the certificate.
-use Rattle.std.proofs.Common.{◌≡◌, ℕ, zero, suc, ◌-◌, ◌<◌, ◌≤◌, ◌^◌, ◌==◌, Bool, not, true, false, IsTrue, List, length, ℤ, pos, ◌+ℤ◌, ◌*ℤ◌, ◌≤ℤ◌, ◌<ℤ◌, refl}
-use Rattle.std.proofs.Common.{sym, ap, subst, ◌∙◌, arith}
+use Rattle.std.proofs.Common.{Bool, IsTrue, List, ap, arith, false, length, not, pos, refl, subst, suc, sym, true, zero, ℕ, ℤ, ◌*ℤ◌, ◌+ℤ◌, ◌-◌, ◌<ℤ◌}
+use Rattle.std.proofs.Common.{◌<◌, ◌==◌, ◌^◌, ◌∙◌, ◌≡◌, ◌≤ℤ◌, ◌≤◌}
 use Rattle.std.proofs.Math.IntN.{*ℤ-zero}
 use Rattle.std.proofs.lemmas.Int.{ints}
 use Rattle.std.proofs.lemmas.Bool.{eqb-true}
-use Rattle.core_price.specs.auction_model.specs.Book.{Book, net_of, menu_of, market_of}
-use Rattle.core_price.specs.auction_model.specs.Lowered.{of_bidder}
-use Rattle.core_price.specs.auction_model.specs.Market.{number_of, uses, value_of}
-use Rattle.core_price.specs.auction_model.specs.Menu.{is_known_after}
-use Rattle.core_price.specs.auction_model.specs.Prices.{Point}
-use Rattle.cert_facts.specs.bid_book.specs.Kept.{IsBidBook}
-use Rattle.cert_facts.specs.declared.shown.CertFacts.{CertFacts}
-use Rattle.cert_facts.specs.Facts.{AreFacts, HasFacts}
-use Rattle.cert_facts.proofs.FactLaws.{prices-are, prices-small, winners-are}
-use Rattle.cert_facts.proofs.Known.{choice-known, value-is}
-use Rattle.cert_facts.specs.cert_form.specs.Certificate.{CertValue}
-use Rattle.cert_facts.specs.cert_laws.specs.Sound.{cert_point, cert_prices}
-use Rattle.cert_facts.specs.cert_laws.specs.Tests.{C5, won}
+use Rattle.auction_model.specs.Book.{Book, market_of, menu_of, net_of}
+use Rattle.auction_model.specs.Lowered.{of_bidder}
+use Rattle.auction_model.specs.Market.{number_of, uses, value_of}
+use Rattle.auction_model.specs.Menu.{is_known_after}
+use Rattle.auction_model.specs.Prices.{Point}
+use Rattle.bid_book.specs.Kept.{IsBidBook}
+use Rattle.cert_summary.specs.declared.shown.CertFacts.{CertFacts}
+use Rattle.cert_summary.specs.Facts.{AreFacts, HasFacts}
+use Rattle.cert_summary.proofs.FactLaws.{prices-are, prices-small, winners-are}
+use Rattle.cert_summary.proofs.Known.{choice-known, value-is}
+use Rattle.cert_grammar.specs.Certificate.{CertValue}
+use Rattle.cert_soundness.specs.Sound.{cert_point, cert_prices}
+use Rattle.cert_soundness.specs.Tests.{C5, won}
 use Rattle.outcome.specs.Printable.{HavePrices, IsPrintable, point_of}
-use Rattle.print_form.specs.row_laws.proofs.Sums.{choice-is}
-use Rattle.core_price.specs.wide_num.specs.Range.{InRange}
-use Rattle.core_price.specs.wide_num.specs.Sums.{nth, total}
-use Rattle.core_price.specs.wide_num.proofs.Ints.{lin, mul-add, *ℤ-one}
+use Rattle.core_laws.proofs.Sums.{choice-is}
+use Rattle.wide_num.specs.Range.{InRange}
+use Rattle.wide_num.specs.Sums.{nth, total}
+use Rattle.wide_num.proofs.Ints.{*ℤ-one, lin, mul-add}
 
 no-number : (n : ℕ) → not (n == 0) ≡ false → n ≡ 0
 no-number n h = elim (n == 0) as (λ (b : Bool). (n == 0) ≡ b → not b ≡ false → n ≡ 0) [ true ↦ λ e q. eqb-true n 0 e | false ↦ λ e q. absurd (lie q) ] refl h

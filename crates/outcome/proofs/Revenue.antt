@@ -2,20 +2,20 @@
 use Rattle.std.proofs.Common.{◌≡◌, ℕ, zero, suc, ◌-◌, ◌≤◌, IsTrue, List, [], ◌∷◌, ◌++◌, codes, length, ℤ, pos, ◌+ℤ◌, ◌*ℤ◌, refl, sym, ap, ◌∙◌, arith}
 use Rattle.std.proofs.Math.IntN.{*ℤ-zero}
 use Rattle.std.proofs.lemmas.List.{length-map}
-use Rattle.core_price.specs.auction_model.specs.Book.{Book, market_of, menu_of}
-use Rattle.core_price.specs.auction_model.specs.Lowered.{of_bidder}
-use Rattle.core_price.specs.auction_model.specs.Market.{number_of, value_of}
-use Rattle.core_price.specs.auction_model.specs.Menu.{is_known_after}
-use Rattle.core_price.specs.auction_model.specs.Prices.{Point, sum_over, everyone}
-use Rattle.core_price.specs.auction_model.proofs.ChoiceLaws.{known-length}
-use Rattle.print_form.specs.WinText.{net_line}
-use Rattle.cert_facts.specs.cert_text.specs.choices.specs.declared.chooser.Single.{Single}
-use Rattle.cert_facts.specs.cert_text.specs.choices.specs.Singles.{winners_after}
-use Rattle.print_form.specs.Prices.{reserve_of, revenue_of, IsPriceText}
-use Rattle.print_form.specs.row_laws.proofs.Sums.{over-is, choice-is}
-use Rattle.core_price.specs.wide_num.specs.Sums.{nth, total}
-use Rattle.core_price.specs.wide_num.proofs.Ints.{lin, mul-add}
-use Rattle.core_price.specs.wide_num.proofs.Sums.{total-same}
+use Rattle.auction_model.specs.Book.{Book, market_of, menu_of}
+use Rattle.auction_model.specs.Lowered.{of_bidder}
+use Rattle.auction_model.specs.Market.{number_of, value_of}
+use Rattle.auction_model.specs.Menu.{is_known_after}
+use Rattle.auction_model.specs.Prices.{Point, everyone, sum_over}
+use Rattle.auction_model.proofs.ChoiceLaws.{known-length}
+use Rattle.print_grammar.specs.WinText.{net_line}
+use Rattle.choices.specs.declared.chooser.Single.{Single}
+use Rattle.choices.specs.Singles.{winners_after}
+use Rattle.print_grammar.specs.Prices.{reserve_of, revenue_of, IsPriceText}
+use Rattle.core_laws.proofs.Sums.{choice-is, over-is}
+use Rattle.wide_num.specs.Sums.{nth, total}
+use Rattle.wide_num.proofs.Ints.{lin, mul-add}
+use Rattle.wide_num.proofs.Sums.{total-same}
 use Rattle.outcome.specs.declared.fraction.Fraction.{Fraction}
 use Rattle.outcome.specs.declared.prices.WinnerPrice.{WinnerPrice}
 use Rattle.outcome.specs.Fractions.{IsFractionOf, fraction_text}

@@ -1,9 +1,9 @@
 -- What the lines of edits add to a text.
 use Rattle.std.proofs.Common.{◌≡◌, ℕ, suc, ◌+◌, ◌≤◌, ◌<◌, List, [], ◌∷◌, ◌++◌, length, get_or, drop, refl, sym, ap, subst, ◌∙◌, arith, append_assoc, drop-cons}
 use Rattle.std.proofs.lemmas.List.{append-nil, drop_all}
-use Rattle.review.specs.auction_model.specs.Book.{Book, market_of}
-use Rattle.review.specs.auction_model.specs.Greatest.{IsWinning}
-use Rattle.outcome.specs.print_form.specs.WinText.{win_text}
+use Rattle.auction_model.specs.Book.{Book, market_of}
+use Rattle.auction_model.specs.Greatest.{IsWinning}
+use Rattle.print_grammar.specs.WinText.{win_text}
 use Rattle.review.specs.Edits.{edit_reply}
 use Rattle.review.specs.declared.edit.Edit.{Edit}
 use Rattle.review.specs.declared.edit.Edit.TheVariants.{Add, Raise, Remove}
@@ -11,7 +11,7 @@ use Rattle.review.specs.declared.edit.EditReply.{EditReply}
 use Rattle.review.specs.declared.edit.EditReply.TheVariants as reply
 use Rattle.outcome.specs.ReviewText.{AreEditLines, IsReplyLine, IsReviewText, IsStateLine, behind, behind_all, behind_reply}
 
--- the book behind an edit has the supply of the book before it
+-- the book after an edit has the supply of the book before it
 pub behind_supply : (book : Book) (e : Edit) → (behind book e).supply ≡ book.supply
 behind_supply book e = by_reply (edit_reply book e) e
   where
@@ -33,7 +33,7 @@ behind_supply book e = by_reply (edit_reply book e) e
     by_reply (reply.Full count) e = refl
     by_reply reply.Memory e = refl
 
--- The first edits have been taken: the book behind them, and the text so far. Whatever lines go on from here make all lines.
+-- The first edits have been taken: the book after them, and the text so far. Whatever lines go on from here make all lines.
 pub record IsSoFar (book : Book) (edits : List Edit) (k : ℕ) (now : Book) (text : List ℕ) : Type 0 where
   pub supply : now.supply ≡ book.supply
   pub first : List ℕ
@@ -77,7 +77,7 @@ one_more book edits k now next text more line e inside is so_far reply_line next
       whole = more_is ∙ ap (λ (l : List ℕ). l ++ line) so_far.whole ∙ append_assoc so_far.first so_far.lines line;
     }))
 
--- behind the last edit
+-- after the last edit
 pub all_done : (book now : Book) (edits : List Edit) (k : ℕ) (text more winners c : List ℕ) → length edits ≤ k → IsSoFar book edits k now text
     → IsWinning (market_of now) c → winners ≡ win_text now c → more ≡ text ++ winners
     → IsReviewText book edits more

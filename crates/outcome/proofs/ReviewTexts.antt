@@ -2,15 +2,15 @@
 use Rattle.std.proofs.Common.{◌≡◌, ℕ, suc, ◌+◌, ◌-◌, ◌≤◌, ◌<◌, ◌^◌, List, [], ◌∷◌, ◌++◌, length, refl, sym, ap, subst, ◌∙◌, arith}
 use Rattle.std.specs.Prelude.{pos, ◌≤ℤ◌}
 use Rattle.std.specs.List.{AllByRecursion}
-use Rattle.review.specs.auction_model.specs.Book.{Book, bids_of, market_of, net_of}
-use Rattle.review.specs.auction_model.specs.Greatest.{IsWinning}
-use Rattle.review.specs.auction_model.specs.Lawful.{IsMarket}
-use Rattle.review.specs.auction_model.specs.Market.{Market}
-use Rattle.review.specs.bid_book.proofs.PutLaws.{book-order, less-within, put-within}
-use Rattle.review.specs.bid_book.proofs.Within.{kept}
-use Rattle.review.specs.bid_book.specs.Changes.{with_bids}
-use Rattle.review.specs.book_form.specs.BookLines.{IsBookWithinLimits}
-use Rattle.outcome.specs.print_form.specs.WinText.{win_text}
+use Rattle.auction_model.specs.Book.{Book, bids_of, market_of, net_of}
+use Rattle.auction_model.specs.Greatest.{IsWinning}
+use Rattle.auction_model.specs.Lawful.{IsMarket}
+use Rattle.auction_model.specs.Market.{Market}
+use Rattle.bid_book.proofs.PutLaws.{book-order, less-within, put-within}
+use Rattle.bid_book.proofs.Within.{kept}
+use Rattle.bid_book.specs.Changes.{with_bids}
+use Rattle.book_grammar.specs.BookLines.{IsBookWithinLimits}
+use Rattle.print_grammar.specs.WinText.{win_text}
 use Rattle.review.proofs.RemoveLaws.{without-removed}
 use Rattle.review.proofs.ReplyLaws.{add-can, amount-bid, raise-can, remove-has}
 use Rattle.review.specs.Edits.{edit_lots, edit_reply, edited}

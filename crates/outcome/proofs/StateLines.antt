@@ -1,10 +1,10 @@
 -- The line of a book's state that is put together in two parts.
 use Rattle.std.proofs.Common.{◌≡◌, ◌∙◌, ap, refl, ℕ, ℤ, List, ◌++◌, codes, append_assoc}
 use Rattle.std.specs.Fmt.{decimal, signed_decimal}
-use Rattle.review.specs.auction_model.specs.Book.{Book, market_of}
-use Rattle.review.specs.auction_model.specs.Greatest.{IsWinning}
-use Rattle.review.specs.auction_model.specs.Market.{value_of}
-use Rattle.review.specs.line_text.specs.Decimals.{decimals_text}
+use Rattle.auction_model.specs.Book.{Book, market_of}
+use Rattle.auction_model.specs.Greatest.{IsWinning}
+use Rattle.auction_model.specs.Market.{value_of}
+use Rattle.line_format.specs.Decimals.{decimals_text}
 use Rattle.outcome.specs.ReviewText.{IsStateLine, state_line}
 
 pub regroup : (t n w v c d e : List ℕ) → (((((t ++ n) ++ w) ++ v) ++ c) ++ d) ++ e ≡ t ++ (((((n ++ w) ++ v) ++ c) ++ d) ++ e)

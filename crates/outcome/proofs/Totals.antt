@@ -3,8 +3,8 @@ use Rattle.std.proofs.Common.{◌≡◌, ℕ, zero, suc, ◌+◌, ◌<◌, ◌�
 use Rattle.std.specs.Int.{w128}
 use Rattle.std.proofs.lemmas.Bool.{cases_lt}
 use Rattle.std.proofs.lemmas.Int.{ints}
-use Rattle.core_price.specs.point_laws.proofs.Sums.{total-nonneg}
-use Rattle.core_price.specs.wide_num.specs.Sums.{total}
+use Rattle.projection_laws.proofs.Sums.{total-nonneg}
+use Rattle.wide_num.specs.Sums.{total}
 
 -- a sum of fewer is at most the sum
 pub total-up : (n k : ℕ) (f : ℕ → ℤ) → k ≤ n → ((i : ℕ) → i < n → pos 0 ≤ℤ f i) → total k f ≤ℤ total n f

@@ -1,18 +1,18 @@
 -- The lines of turns, piece by piece.
-use Rattle.std.proofs.Common.{◌≡◌, ℕ, zero, suc, ◌+◌, ◌-◌, ◌<◌, ◌≤◌, List, [], ◌∷◌, ◌++◌, append_assoc, codes, length, get_or, drop, ℤ, pos, refl, sym, ap}
-use Rattle.std.proofs.Common.{subst, ◌∙◌, arith}
+use Rattle.std.proofs.Common.{List, [], ap, append_assoc, arith, codes, drop, get_or, length, pos, refl, subst, suc, sym, zero, ℕ, ℤ, ◌++◌, ◌+◌, ◌-◌}
+use Rattle.std.proofs.Common.{◌<◌, ◌∙◌, ◌∷◌, ◌≡◌, ◌≤◌}
 use Rattle.std.specs.Fmt.{decimal}
 use Rattle.std.proofs.lemmas.List.{append-nil, drop_more}
-use Rattle.core_price.specs.auction_model.specs.Lowered.{of_bidder}
-use Rattle.core_price.specs.auction_model.specs.Prices.{Point}
+use Rattle.auction_model.specs.Lowered.{of_bidder}
+use Rattle.auction_model.specs.Prices.{Point}
 use Rattle.core_price.specs.declared.priced.Turn.{Turn}
 use Rattle.core_price.specs.Turns.{point_of, turn_of, turns_of}
-use Rattle.print_form.specs.Fractions.{IsFractionText}
-use Rattle.print_form.specs.Turns.{ArePoints, IsTurnEnd, IsTurnLine, AreTurnLines}
-use Rattle.print_form.specs.row_laws.specs.Winners.{winners_in, for_bidders}
+use Rattle.print_grammar.specs.Fractions.{IsFractionText}
+use Rattle.print_grammar.specs.Turns.{ArePoints, IsTurnEnd, IsTurnLine, AreTurnLines}
+use Rattle.core_laws.specs.Winners.{for_bidders, winners_in}
 use Rattle.outcome.specs.Turns.{Grows, AreFractions}
 
--- behind its end nothing is left of a list
+-- after its end nothing is left of a list
 pub nothing-left : {A : Type 0} (i : ℕ) (l : List A) → length l ≤ i → drop i l ≡ []
 nothing-left zero [] le = refl
 nothing-left zero (x ∷ l) le = absurd (omega arith)
@@ -78,7 +78,7 @@ turn-line z number t text pointed new long points end = (
     grouped : (t r s d p q e : List ℕ) → ((((t ++ r) ++ (s ++ d)) ++ p) ++ q) ++ e ≡ t ++ (((((r ++ s) ++ d) ++ p) ++ q) ++ e)
     grouped t r s d p q e = simp append_assoc
 
--- the pieces of the line of a block, put one by one behind a text, are the whole line behind it
+-- the pieces of the line of a block, put one by one after a text, are the whole line after it
 pub block-line : (t r m c n e f l : List ℕ) → ((((((t ++ r) ++ m) ++ c) ++ n) ++ e) ++ f) ++ l ≡ t ++ ((((((r ++ m) ++ c) ++ n) ++ e) ++ f) ++ l)
 block-line t r m c n e f l = simp append_assoc
 

@@ -2,9 +2,9 @@
 use Rattle.std.specs.Prelude.{◌≡◌, ◌≢◌, ℕ, zero, suc, ◌+◌, ◌-◌, ◌≤◌, ◌<◌, List, [], ◌∷◌, ◌++◌, length, drop, refl}
 use Rattle.std.proofs.Common.{sym, ◌∙◌, ap, arith, append_assoc, length-drop}
 use Rattle.std.proofs.lemmas.List.{append-nil, drop_more}
-use Rattle.core_price.specs.auction_model.specs.Market.{number_of}
-use Rattle.core_price.specs.auction_model.specs.Book.{Book, BookBid, bidder_of, bid_of, lots_of}
-use Rattle.print_form.specs.WinText.{winner_line, winner_lines}
+use Rattle.auction_model.specs.Market.{number_of}
+use Rattle.auction_model.specs.Book.{Book, BookBid, bid_of, bidder_of, lots_of}
+use Rattle.print_grammar.specs.WinText.{winner_line, winner_lines}
 
 here : (c : List ℕ) (k : ℕ) → k < length c → drop k c ≡ number_of c (k + 1) ∷ drop (k + 1) c
 here c k h = let same : k + 1 - 1 ≡ k = omega arith in rw same (drop_more c k 0 h)

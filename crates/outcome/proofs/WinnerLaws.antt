@@ -1,21 +1,21 @@
 -- A winner of the facts: its bid is one of the book, and what is printed of it stays within the range.
-use Rattle.std.proofs.Common.{◌≡◌, ℕ, zero, suc, ◌+◌, ◌-◌, ◌<◌, ◌≤◌, ◌^◌, ◌==◌, not, true, IsTrue, List, length, get_or, map, ℤ, pos, ◌+ℤ◌, ◌*ℤ◌, to_z, of_z}
-use Rattle.std.proofs.Common.{unsigned_abs, sym, ap, subst, ◌∙◌, arith}
+use Rattle.std.proofs.Common.{IsTrue, List, ap, arith, get_or, length, map, not, of_z, pos, subst, suc, sym, to_z, true, unsigned_abs, zero, ℕ, ℤ}
+use Rattle.std.proofs.Common.{◌*ℤ◌, ◌+ℤ◌, ◌+◌, ◌-◌, ◌<◌, ◌==◌, ◌^◌, ◌∙◌, ◌≡◌, ◌≤◌}
 use Rattle.std.specs.Int.{w128}
 use Rattle.std.specs.List.{AllByRecursion}
 use Rattle.std.proofs.lemmas.Int.{ints, to_z_pos}
-use Rattle.core_price.specs.auction_model.specs.Book.{Book, bids_of, menu_of}
-use Rattle.core_price.specs.auction_model.specs.Lowered.{of_bidder}
-use Rattle.core_price.specs.auction_model.specs.Market.{number_of, uses}
-use Rattle.core_price.specs.auction_model.specs.Menu.{is_known_after}
-use Rattle.core_price.specs.auction_model.proofs.ChoiceLaws.{known-length, known-of}
-use Rattle.cert_facts.specs.bid_book.proofs.Within.{each_at}
-use Rattle.cert_facts.specs.declared.shown.CertFacts.{CertFacts}
-use Rattle.cert_facts.proofs.Winners.{Wins, all-win, each-of_map}
-use Rattle.cert_facts.specs.cert_text.specs.choices.specs.declared.chooser.Single.{Single}
-use Rattle.cert_facts.specs.cert_text.specs.choices.specs.Singles.{winners_after}
-use Rattle.print_form.specs.limits.specs.declared.TheConstants.{MOST_AMOUNT}
-use Rattle.print_form.specs.Prices.{reserve_of}
+use Rattle.auction_model.specs.Book.{Book, bids_of, menu_of}
+use Rattle.auction_model.specs.Lowered.{of_bidder}
+use Rattle.auction_model.specs.Market.{number_of, uses}
+use Rattle.auction_model.specs.Menu.{is_known_after}
+use Rattle.auction_model.proofs.ChoiceLaws.{known-length, known-of}
+use Rattle.bid_book.proofs.Within.{each_at}
+use Rattle.cert_summary.specs.declared.shown.CertFacts.{CertFacts}
+use Rattle.cert_summary.proofs.Winners.{Wins, all-win, each-of_map}
+use Rattle.choices.specs.declared.chooser.Single.{Single}
+use Rattle.choices.specs.Singles.{winners_after}
+use Rattle.limits.specs.declared.TheConstants.{MOST_AMOUNT}
+use Rattle.print_grammar.specs.Prices.{reserve_of}
 use Rattle.outcome.specs.declared.prices.WinnerPrice.{WinnerPrice}
 use Rattle.outcome.specs.Fractions.{IsFractionOf}
 use Rattle.outcome.specs.Prices.{IsWinnerPrice}

@@ -1,6 +1,6 @@
 -- Fractions of the program.
 use Rattle.std.specs.Prelude.{ℕ, List, ℤ}
-use Rattle.print_form.specs.Fractions.{IsFraction, parts_text}
+use Rattle.print_grammar.specs.Fractions.{IsFraction, parts_text}
 use Rattle.outcome.specs.declared.fraction.Fraction.{Fraction}
 
 -- it is n over d

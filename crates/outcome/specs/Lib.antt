@@ -5,12 +5,3 @@ pub mod Prices
 pub mod Printable
 pub mod ReviewText
 pub mod Turns
-pub use Rattle.core_price.specs.auction_model
-pub use Rattle.core_price.specs.blocking
-pub use Rattle.cert_facts.specs.cert_form
-pub use Rattle.cert_facts.specs.cert_laws
-pub use Rattle.core_price
-pub use Rattle.print_form
-pub use Rattle.print_form.specs.row_laws
-pub use Rattle.review
-pub use Rattle.review.specs.value_table

@@ -1,8 +1,8 @@
 -- Payments of the winners that can be printed.
 use Rattle.std.specs.Prelude.{◌≡◌, ℕ, ◌<◌, List, length, ℤ, pos, ◌≤ℤ◌}
-use Rattle.print_form.specs.row_laws.specs.Winners.{winners_in}
-use Rattle.core_price.specs.wide_num.specs.Range.{InRange}
-use Rattle.core_price.specs.wide_num.specs.Sums.{nth}
+use Rattle.core_laws.specs.Winners.{winners_in}
+use Rattle.wide_num.specs.Range.{InRange}
+use Rattle.wide_num.specs.Sums.{nth}
 
 -- a payment for each winner of z, none below 0, over a denominator of the range
 pub record ArePayments (z : List ℕ) (den : ℤ) (at : List ℤ) : Type 0 where

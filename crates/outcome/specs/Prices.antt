@@ -1,10 +1,10 @@
 -- What is printed of each winner, gross.
 use Rattle.std.specs.Prelude.{◌≡◌, ℕ, ◌+◌, ◌<◌, ◌≤◌, ◌^◌, length, List, [], ◌∷◌, ◌++◌, pos, ◌+ℤ◌, unsigned_abs}
-use Rattle.core_price.specs.auction_model.specs.Book.{Book, bidder_of, bids_of, bid_of}
-use Rattle.core_price.specs.auction_model.specs.Market.{number_of}
-use Rattle.core_price.specs.auction_model.specs.Prices.{Point}
-use Rattle.cert_facts.specs.cert_text.specs.choices.specs.declared.chooser.Single.{Single}
-use Rattle.print_form.specs.Prices.{reserve_of, gross_of, priced_line}
+use Rattle.auction_model.specs.Book.{Book, bid_of, bidder_of, bids_of}
+use Rattle.auction_model.specs.Market.{number_of}
+use Rattle.auction_model.specs.Prices.{Point}
+use Rattle.choices.specs.declared.chooser.Single.{Single}
+use Rattle.print_grammar.specs.Prices.{reserve_of, gross_of, priced_line}
 use Rattle.outcome.specs.declared.prices.WinnerPrice.{WinnerPrice}
 use Rattle.outcome.specs.Fractions.{IsFractionOf, fraction_text}
 

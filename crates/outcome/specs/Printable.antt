@@ -1,15 +1,15 @@
 -- The facts that can be printed.
 use Rattle.std.specs.Prelude.{◌≡◌, ℕ, ◌<◌, ◌≤◌, ◌^◌, IsTrue, List, length, map, ℤ, pos, ◌≤ℤ◌, ◌<ℤ◌, unsigned_abs}
 use Rattle.std.specs.List.{AllByRecursion}
-use Rattle.core_price.specs.auction_model.specs.Book.{Book, menu_of, market_of}
-use Rattle.core_price.specs.auction_model.specs.Market.{value_of, uses}
-use Rattle.core_price.specs.auction_model.specs.Menu.{is_known_after}
-use Rattle.core_price.specs.auction_model.specs.Prices.{Point}
-use Rattle.cert_facts.specs.declared.shown.CertFacts.{CertFacts}
-use Rattle.cert_facts.specs.cert_text.specs.choices.specs.declared.chooser.Single.{Single}
-use Rattle.cert_facts.specs.cert_text.specs.choices.specs.Singles.{winners_after}
-use Rattle.core_price.specs.wide_num.specs.Range.{InRange}
-use Rattle.core_price.specs.wide_num.specs.Sums.{nth, total}
+use Rattle.auction_model.specs.Book.{Book, market_of, menu_of}
+use Rattle.auction_model.specs.Market.{uses, value_of}
+use Rattle.auction_model.specs.Menu.{is_known_after}
+use Rattle.auction_model.specs.Prices.{Point}
+use Rattle.cert_summary.specs.declared.shown.CertFacts.{CertFacts}
+use Rattle.choices.specs.declared.chooser.Single.{Single}
+use Rattle.choices.specs.Singles.{winners_after}
+use Rattle.wide_num.specs.Range.{InRange}
+use Rattle.wide_num.specs.Sums.{nth, total}
 
 -- the book knows their choice, they have its winners with small prices, and their payments aren't below 0 and have a sum of the range
 pub record IsPrintable (book : Book) (facts : CertFacts) : Type 0 where

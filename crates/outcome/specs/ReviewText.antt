@@ -1,21 +1,21 @@
--- What is printed of a review: a line for the book, a line for each edit, and the winners behind the last.
+-- What is printed of a review: a line for the book, a line for each edit, and the winners after the last.
 use Rattle.std.specs.Prelude.{◌≡◌, ℕ, suc, List, [], ◌∷◌, ◌++◌, codes}
 use Rattle.std.specs.Fmt.{decimal, signed_decimal}
-use Rattle.review.specs.auction_model.specs.Book.{Book, market_of}
-use Rattle.review.specs.auction_model.specs.Greatest.{IsWinning}
-use Rattle.review.specs.auction_model.specs.Market.{value_of}
-use Rattle.outcome.specs.print_form.specs.WinText.{win_text}
+use Rattle.auction_model.specs.Book.{Book, market_of}
+use Rattle.auction_model.specs.Greatest.{IsWinning}
+use Rattle.auction_model.specs.Market.{value_of}
+use Rattle.print_grammar.specs.WinText.{win_text}
 use Rattle.review.specs.Edits.{edit_reply, edited}
 use Rattle.review.specs.declared.edit.Edit.{Edit}
 use Rattle.review.specs.declared.edit.EditReply.{EditReply}
 use Rattle.review.specs.declared.edit.EditReply.TheVariants as reply
-use Rattle.review.specs.line_text.specs.Decimals.{decimals_text}
+use Rattle.line_format.specs.Decimals.{decimals_text}
 
 -- a word and a number
 abbrev pub worded : List ℕ → ℕ → List ℕ
 worded word n = word ++ 32 ∷ decimal n
 
--- the text of a refusal; an edit that was taken has a line of another form, and want of memory has none
+-- the text of a refusal; an edit that was taken has a line of another form, and out of memory has none
 abbrev pub refusal_text : EditReply → List ℕ
 refusal_text reply.Ok = []
 refusal_text reply.Unknown = codes "unknown"
@@ -37,12 +37,12 @@ state_line n book c = decimal n ++ codes " net " ++ signed_decimal (value_of (ma
 abbrev pub IsStateLine : ℕ → Book → List ℕ → Type 0
 IsStateLine n book line = (c : List ℕ) × IsWinning (market_of book) c × (line ≡ state_line n book c)
 
--- the line of an edit of this number, by its reply: the state behind it, or the text of the refusal
+-- the line of an edit of this number, by its reply: the state after it, or the text of the refusal
 abbrev pub IsReplyLine : EditReply → ℕ → Book → List ℕ → Type 0
 IsReplyLine reply.Ok n book line = IsStateLine n book line
 IsReplyLine r n book line = line ≡ decimal n ++ 32 ∷ refusal_text r ++ codes "\n"
 
--- the book behind an edit, by its reply: a refused edit changes nothing
+-- the book after an edit, by its reply: a refused edit changes nothing
 abbrev pub behind_reply : EditReply → Book → Edit → Book
 behind_reply reply.Ok book edit = edited book edit
 behind_reply r book edit = book
@@ -50,12 +50,12 @@ behind_reply r book edit = book
 abbrev pub behind : Book → Edit → Book
 behind book edit = behind_reply (edit_reply book edit) book edit
 
--- the book behind all edits
+-- the book after all edits
 abbrev pub behind_all : Book → List Edit → Book
 behind_all book [] = book
 behind_all book (e ∷ es) = behind_all (behind book e) es
 
--- the lines of these edits of a book, behind so many others
+-- the lines of these edits of a book, after that many others
 abbrev pub AreEditLines : ℕ → Book → List Edit → List ℕ → Type 0
 AreEditLines before book [] text = text ≡ []
 AreEditLines before book (e ∷ es) text =
@@ -63,7 +63,7 @@ AreEditLines before book (e ∷ es) text =
     × AreEditLines (suc before) (behind book e) es rest × (text ≡ line ++ rest)
 
 -- The whole text of the edits of a book: the line of the book as it is, with number 0, the lines of the edits, and the winners of the book
--- behind all of them.
+-- after all of them.
 pub record IsReviewText (book : Book) (edits : List Edit) (text : List ℕ) : Type 0 where
   pub first : List ℕ
   pub is_first : IsStateLine 0 book first

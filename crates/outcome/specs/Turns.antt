@@ -1,7 +1,7 @@
 -- The turns that can be printed, and texts that grow.
 use Rattle.std.specs.Prelude.{◌≡◌, ℕ, List, [], ◌∷◌, ◌++◌, IfSome, ℤ, pos, ◌≤ℤ◌}
 use Rattle.core_price.specs.declared.priced.Turn.{Turn}
-use Rattle.print_form.specs.Fractions.{IsFractionText}
+use Rattle.print_grammar.specs.Fractions.{IsFractionText}
 use Rattle.outcome.specs.Payments.{ArePayments}
 
 -- its point is payments of the winners, and its excess isn't below 0
@@ -13,7 +13,7 @@ pub record CanPrintTurn (z : List ℕ) (t : Turn) : Type 0 where
 abbrev pub Grows : List ℕ → List ℕ → (List ℕ → Type 0) → Type 0
 Grows old new Is = (added : List ℕ) × Is added × (new ≡ old ++ added)
 
--- fractions over one denominator, each behind one space
+-- fractions over one denominator, each after one space
 abbrev pub AreFractions : ℤ → List ℤ → List ℕ → Type 0
 AreFractions den [] text = text ≡ []
 AreFractions den (n ∷ ns) text = (price rest : List ℕ) × IsFractionText n den price × AreFractions den ns rest

@@ -1,26 +1,26 @@
 // The text of the outcome that a certificate shows.
 ghost use Rattle.std.specs.Prelude.{ℕ, ℤ, IfOk};
-ghost use Rattle.cert_facts.specs.Facts.{AreFacts};
-ghost use Rattle.cert_facts.specs.cert_form.specs.Certificate.{CertValue};
-ghost use Rattle.cert_facts.specs.cert_laws.specs.Sound.{cert_point, cert_prices};
-ghost use Rattle.cert_facts.specs.cert_laws.specs.Tests.{bidders_of};
+ghost use Rattle.cert_summary.specs.Facts.{AreFacts};
+ghost use Rattle.cert_grammar.specs.Certificate.{CertValue};
+ghost use Rattle.cert_soundness.specs.Sound.{cert_point, cert_prices};
+ghost use Rattle.cert_soundness.specs.Tests.{bidders_of};
 ghost use Rattle.outcome.specs.Fractions.{IsFractionOf};
 ghost use Rattle.outcome.specs.Prices.{AreWinnerPrices};
 ghost use Rattle.outcome.specs.Printable.{HavePrices, IsPrintable, point_of};
-ghost use Rattle.print_form.specs.Prices.{IsPriceText, revenue_of};
+ghost use Rattle.print_grammar.specs.Prices.{IsPriceText, revenue_of};
 
 use crate::lines::{add_prices, add_revenue, revenue};
 use crate::prices::{WinnerPrice, winner_prices};
 use crate::{Fraction, add_net};
-use cert_facts::CertFacts;
-use choices::bid_book::BidBook;
-use choices::bid_book::line_text::wide_num::Text;
+use bid_book::BidBook;
+use cert_summary::CertFacts;
 use std::alloc::{AllocError, Global};
+use wide_num::Text;
 
 /// The text of the outcome that a certificate of a book shows, from its facts: a line for each winner in order, with its bid, its
 /// Vickrey price and what it pays, then the net value, then the revenue. What is printed is gross.
 ///
-/// The only error is want of memory.
+/// The only error is out of memory.
 pub fn outcome_text(alloc: Global, book: &BidBook, facts: &CertFacts) -> Result<Text, AllocError>
     requires facts { (c : CertValue) × AreFacts book.now c facts.now }
     ensures { (c : CertValue) → AreFacts book.now c facts.now
@@ -30,7 +30,7 @@ pub fn outcome_text(alloc: Global, book: &BidBook, facts: &CertFacts) -> Result<
     printed(alloc, book, facts)
 }
 
-// The same for facts of which no more holds than the text needs; v are their Vickrey prices.
+// The printed text of facts of which only what the text needs is known. Their Vickrey prices are v.
 pub(crate) fn printed(alloc: Global, book: &BidBook, facts: &CertFacts) -> Result<Text, AllocError>
     requires { IsPrintable book.now facts.now }
     ensures { IfOk result

@@ -1,11 +1,11 @@
 // Fractions as they are printed.
 ghost use Rattle.std.specs.Prelude.{◌≡◌, ℤ, ◌+◌, ◌<◌, ◌^◌, ◌++◌, ◌+ℤ◌, ◌*ℤ◌, ◌≤ℤ◌, pos, OnOk};
-ghost use Rattle.core_price.specs.wide_num.specs.Range.{InRange};
+ghost use Rattle.wide_num.specs.Range.{InRange};
 ghost use Rattle.outcome.specs.Fractions.{IsFractionOf, fraction_text};
 
-use choices::bid_book::line_text::add_decimal;
-use choices::bid_book::line_text::wide_num::{Text, gcd};
+use line_format::add_decimal;
 use std::alloc::AllocError;
+use wide_num::{Text, gcd};
 
 /// A fraction that isn't negative: its whole part, and a rest over its least denominator.
 #[derive(Clone, Copy, Debug, Drop, PartialEq, Eq)]
@@ -58,7 +58,7 @@ fn mixed(n: u128, d: u128) -> Fraction
     }
 }
 
-/// Adds a fraction: `W`, or `W+R/D` where it isn't whole. The only error is want of memory.
+/// Adds a fraction: `W`, or `W+R/D` where it isn't whole. The only error is out of memory.
 pub fn add_fraction(text: &mut Text, fraction: Fraction) -> Result<(), AllocError>
     ensures { OnOk result (text.new ≡ text.old ++ fraction_text fraction) }
 {

@@ -2,11 +2,11 @@
 ghost use Rattle.std.specs.Prelude.{◌≡◌, ℕ, ◌<◌, ◌^◌, ◌++◌, ℤ, IfOk, OnOk, IfSome, IsFalse, List, codes, length};
 ghost use Rattle.std.specs.List.{AllByRecursion};
 ghost use Rattle.std.specs.Option.{option_map};
-ghost use Rattle.cert_facts.specs.Facts.{AreFacts};
-ghost use Rattle.cert_facts.specs.cert_form.specs.Certificate.{CertValue};
-ghost use Rattle.cert_facts.specs.cert_laws.specs.Sound.{cert_point, cert_prices};
+ghost use Rattle.cert_summary.specs.Facts.{AreFacts};
+ghost use Rattle.cert_grammar.specs.Certificate.{CertValue};
+ghost use Rattle.cert_soundness.specs.Sound.{cert_point, cert_prices};
 ghost use Rattle.core_price.specs.Turns.{turns_of};
-ghost use Rattle.print_form.specs.Json.{AreLastMembers, IsOutcome, IsOutcomeJson};
+ghost use Rattle.print_grammar.specs.Json.{AreLastMembers, IsOutcome, IsOutcomeJson};
 ghost use Rattle.serde_json.specs.Data.{Data, Members, array, member, no_members, object};
 ghost use Rattle.serde_json.specs.View.{items_of, members_view, view};
 ghost use Rattle.serde_json.specs.Written.{compact_text, has_float};
@@ -16,19 +16,19 @@ ghost use Rattle.outcome.specs.Turns.{CanPrintTurn};
 use crate::certified::paid_in_all;
 use crate::json_values::{amount_value, fraction_value, round_values, winner_values};
 use crate::prices::winner_prices;
-use cert_facts::CertFacts;
+use bid_book::BidBook;
+use cert_summary::CertFacts;
 use choices::Choice;
-use choices::bid_book::BidBook;
-use choices::bid_book::line_text::wide_num::Text;
 use core_price::Turn;
 use serde_json::{Map, Value, put};
 use std::alloc::{AllocError, Global};
+use wide_num::Text;
 
 /// The JSON of the outcome that a certificate of a book shows, from its facts: one object on one line, with a line feed. Its keys are
 /// `net`, `revenue`, `rounds` where turns are given, with the line of each turn, and `winners`, and those of a winner `bid`, `name`,
-/// `package`, `pays` and `vickrey`. What is printed is gross, but for the lines of turns.
+/// `package`, `pays` and `vickrey`. What is printed is gross, except for the lines of turns.
 ///
-/// The only error is want of memory.
+/// The only error is out of memory.
 pub fn outcome_json(
     alloc: Global,
     book: &BidBook,
@@ -45,7 +45,7 @@ pub fn outcome_json(
     json_line(alloc, book, facts, turns)
 }
 
-// The same for facts of which no more holds than the text needs; v are their Vickrey prices.
+// The JSON line of facts of which only what the text needs is known. Their Vickrey prices are v.
 pub(crate) fn json_line(
     alloc: Global,
     book: &BidBook,

@@ -3,8 +3,8 @@ ghost use Rattle.std.specs.Prelude.{◌≡◌, ℕ, ◌<◌, ◌^◌, ◌++◌, 
 ghost use Rattle.std.specs.List.{AllByRecursion};
 ghost use Rattle.std.specs.Str.{IsAscii};
 ghost use Rattle.core_price.specs.Turns.{turn_of, turns_of};
-ghost use Rattle.print_form.specs.Json.{AreRounds, IsRound, amount_json, count_json};
-ghost use Rattle.print_form.specs.Turns.{IsTurnLine};
+ghost use Rattle.print_grammar.specs.Json.{AreRounds, IsRound, amount_json, count_json};
+ghost use Rattle.print_grammar.specs.Turns.{IsTurnLine};
 ghost use Rattle.serde_json.specs.Data.{Data, array, string, object, member, no_members};
 ghost use Rattle.serde_json.specs.View.{items_of, members_view, view};
 ghost use Rattle.outcome.specs.Fractions.{fraction_text};
@@ -15,12 +15,12 @@ ghost use Rattle.outcome.specs.Turns.{CanPrintTurn};
 use crate::prices::WinnerPrice;
 use crate::turns::add_turn;
 use crate::{Fraction, add_fraction};
+use bid_book::BidBook;
 use choices::Choice;
-use choices::bid_book::BidBook;
-use choices::bid_book::line_text::wide_num::Text;
 use core_price::Turn;
 use serde_json::{Map, Value, put};
 use std::alloc::{AllocError, Global};
+use wide_num::Text;
 
 /// An amount as a number.
 pub(crate) fn amount_value(amount: i128) -> Value
@@ -108,7 +108,7 @@ fn put_bid(
     put(members, alloc, "package", package_value(alloc, counts)?)
 }
 
-// Puts the members of the prices behind those of the bid.
+// Puts the members of the prices after those of the bid.
 fn put_prices(
     alloc: Global,
     members: &mut Map<String, Value>,

@@ -19,7 +19,6 @@ pub use certified::outcome_text;
 pub use fraction::{Fraction, add_fraction};
 pub use json::outcome_json;
 pub use numbers::{add_net, add_numbers};
-pub use print_form;
 pub use reviewing::{one_review_text, review_text};
 pub use turns::rounds_text;
 pub use win::win_text;

@@ -1,19 +1,19 @@
 // The lines of the winners, and the revenue.
 ghost use Rattle.std.specs.Prelude.{◌≡◌, ℕ, ◌≤◌, ◌<◌, ◌^◌, ◌++◌, ◌+ℤ◌, ◌*ℤ◌, ◌<ℤ◌, ◌≤ℤ◌, pos, length, codes, OnOk};
 ghost use Rattle.std.specs.List.{AllByRecursion};
-ghost use Rattle.core_price.specs.wide_num.specs.Sums.{nth, total};
-ghost use Rattle.core_price.specs.wide_num.specs.Range.{InRange};
+ghost use Rattle.wide_num.specs.Sums.{nth, total};
+ghost use Rattle.wide_num.specs.Range.{InRange};
 ghost use Rattle.std.specs.Fmt.{decimal, signed_decimal};
-ghost use Rattle.print_form.specs.book_form.specs.line_text.specs.Decimals.{decimals_text};
+ghost use Rattle.line_format.specs.Decimals.{decimals_text};
 ghost use Rattle.outcome.specs.Fractions.{IsFractionOf, fraction_text};
 ghost use Rattle.outcome.specs.Prices.{line_of, lines_of, reserves_of, CanPrintPrice};
 
 use crate::prices::WinnerPrice;
 use crate::{Fraction, add_fraction, add_numbers};
-use choices::bid_book::BidBook;
-use choices::bid_book::line_text::wide_num::Text;
-use choices::bid_book::line_text::{add_decimal, add_signed};
+use bid_book::BidBook;
+use line_format::{add_decimal, add_signed};
 use std::alloc::AllocError;
+use wide_num::Text;
 
 /// Adds the line of each winner.
 pub(crate) fn add_prices(

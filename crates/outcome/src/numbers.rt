@@ -1,13 +1,13 @@
 // Numbers in a text.
 ghost use Rattle.std.specs.Prelude.{◌≡◌, ◌++◌, OnOk};
-ghost use Rattle.print_form.specs.book_form.specs.line_text.specs.Decimals.{decimals_text};
-ghost use Rattle.print_form.specs.WinText.{net_line};
+ghost use Rattle.line_format.specs.Decimals.{decimals_text};
+ghost use Rattle.print_grammar.specs.WinText.{net_line};
 
-use choices::bid_book::line_text::wide_num::Text;
-use choices::bid_book::line_text::{add_number, add_signed};
+use line_format::{add_number, add_signed};
 use std::alloc::AllocError;
+use wide_num::Text;
 
-/// Adds numbers, each behind one space. The only error is want of memory.
+/// Adds numbers, each after one space. The only error is out of memory.
 pub fn add_numbers(text: &mut Text, numbers: &[u16]) -> Result<(), AllocError>
     ensures { OnOk result (text.new ≡ text.old ++ decimals_text numbers.now) }
 {
@@ -17,7 +17,7 @@ pub fn add_numbers(text: &mut Text, numbers: &[u16]) -> Result<(), AllocError>
     Ok(())
 }
 
-/// Adds the line of a net value: `net` and the value. The only error is want of memory.
+/// Adds the line of a net value: `net` and the value. The only error is out of memory.
 pub fn add_net(text: &mut Text, net: i128) -> Result<(), AllocError>
     ensures { OnOk result (text.new ≡ text.old ++ net_line net) }
 {

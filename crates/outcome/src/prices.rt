@@ -1,15 +1,15 @@
 // What is printed of each winner.
 ghost use Rattle.std.specs.Prelude.{◌≡◌, ◌≤◌, ◌<◌, pos, length, IfOk};
-ghost use Rattle.core_price.specs.auction_model.specs.Book.{bids_of};
-ghost use Rattle.print_form.specs.limits.specs.declared.TheConstants.{MOST_AMOUNT};
-ghost use Rattle.print_form.specs.Prices.{reserve_of};
+ghost use Rattle.auction_model.specs.Book.{bids_of};
+ghost use Rattle.limits.specs.declared.TheConstants.{MOST_AMOUNT};
+ghost use Rattle.print_grammar.specs.Prices.{reserve_of};
 ghost use Rattle.outcome.specs.Prices.{IsWinnerPrice, AreWinnerPrices};
 ghost use Rattle.outcome.specs.Printable.{IsPrintable, IsWinnerOf, point_of};
 
 use crate::Fraction;
-use cert_facts::CertFacts;
+use bid_book::BidBook;
+use cert_summary::CertFacts;
 use choices::Single;
-use choices::bid_book::BidBook;
 use std::alloc::{AllocError, Global};
 
 /// What is printed of a winner. All amounts are gross.
@@ -27,7 +27,7 @@ pub(crate) struct WinnerPrice {
     pub pays: Fraction,
 }
 
-/// What is printed of each winner of the facts, in order. The only error is want of memory.
+/// What is printed of each winner of the facts, in order. The only error is out of memory.
 pub(crate) fn winner_prices(
     alloc: Global,
     book: &BidBook,

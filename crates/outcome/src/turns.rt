@@ -2,20 +2,20 @@
 ghost use Rattle.std.specs.Prelude.{ℕ, ◌<◌, ◌^◌, ◌≤ℤ◌, pos, length, IfOk, OnOk};
 ghost use Rattle.std.specs.List.{AllByRecursion};
 ghost use Rattle.std.specs.declared.option.Option.TheVariants.{Some};
-ghost use Rattle.core_price.specs.blocking.specs.Look.{block_of};
+ghost use Rattle.blocking.specs.Look.{block_of};
 ghost use Rattle.core_price.specs.Turns.{turn_of, turns_of};
-ghost use Rattle.print_form.specs.Turns.{AreTurnLines, IsTurnEnd, IsTurnLine};
-ghost use Rattle.core_price.specs.wide_num.specs.Range.{InRange};
-ghost use Rattle.core_price.specs.wide_num.specs.Sums.{nth};
+ghost use Rattle.print_grammar.specs.Turns.{AreTurnLines, IsTurnEnd, IsTurnLine};
+ghost use Rattle.wide_num.specs.Range.{InRange};
+ghost use Rattle.wide_num.specs.Sums.{nth};
 ghost use Rattle.outcome.specs.Turns.{AreFractions, CanPrintTurn, Grows};
 
 use crate::{Fraction, add_fraction, add_numbers};
+use blocking::Block;
 use choices::Choice;
-use choices::bid_book::line_text::add_number;
-use choices::bid_book::line_text::wide_num::Text;
-use core_price::blocking::Block;
 use core_price::{Turn, members_of};
+use line_format::add_number;
 use std::alloc::{AllocError, Global};
+use wide_num::Text;
 
 /// The lines of the turns of a pricing run: for each its point, and what blocks it.
 ///
@@ -66,7 +66,7 @@ fn add_payments(text: &mut Text, den: i128, at: &[i128]) -> Result<(), AllocErro
     Ok(())
 }
 
-// What stands behind the point.
+// What follows the point.
 fn add_end(alloc: Global, text: &mut Text, winners: &Choice, turn: &Turn) -> Result<(), AllocError>
     requires turn { CanPrintTurn winners.now turn.now }
     requires few { length winners.now < 2 ^ 16 }

@@ -1,20 +1,20 @@
 // The text of a winning choice.
 ghost use Rattle.std.specs.Prelude.{◌≡◌, ◌∷◌, ◌++◌, IfOk, OnOk, IsTrue};
-ghost use Rattle.core_price.specs.auction_model.specs.Menu.{is_known_after};
-ghost use Rattle.core_price.specs.auction_model.specs.Book.{menu_of};
-ghost use Rattle.print_form.specs.WinText;
-ghost use Rattle.print_form.specs.WinText.{winner_line, winner_lines};
+ghost use Rattle.auction_model.specs.Menu.{is_known_after};
+ghost use Rattle.auction_model.specs.Book.{menu_of};
+ghost use Rattle.print_grammar.specs.WinText;
+ghost use Rattle.print_grammar.specs.WinText.{winner_line, winner_lines};
 
 use crate::{add_net, add_numbers};
-use choices::bid_book::BidBook;
-use choices::bid_book::line_text::add_number;
-use choices::bid_book::line_text::wide_num::Text;
-use choices::bid_book::lots::Bid;
+use bid_book::BidBook;
 use choices::{Choice, value};
+use line_format::add_number;
+use lots::Bid;
 use std::alloc::{AllocError, Global};
+use wide_num::Text;
 
 /// The lines of the winners of a choice, in order, and the line of their net value. The book knows the choice. The only error is
-/// want of memory.
+/// out of memory.
 pub fn win_text(alloc: Global, book: &BidBook, choice: &Choice) -> Result<Text, AllocError>
     requires { IsTrue (is_known_after (menu_of book.now) 0 choice.now) }
     ensures { IfOk result (λ text. text ≡ WinText.win_text book.now choice.now) }

@@ -4,27 +4,27 @@ use Rattle.std.proofs.Common.{inl, inr, sym, ◌∙◌, ap, subst, arith}
 use Rattle.std.proofs.lemmas.Bool.{and_parts, cases_lt, false≢true}
 use Rattle.std.proofs.lemmas.Int.{ints}
 use Rattle.std.proofs.lemmas.List.{get_or_past}
-use Rattle.book_price.specs.cert_laws.specs.auction_model.specs.Lawful.{IsMarket}
-use Rattle.book_price.specs.cert_laws.specs.auction_model.specs.Greatest.{IsFirstGreatest}
-use Rattle.book_price.specs.cert_laws.specs.auction_model.specs.Market.{Market, number_of, uses, value_of, worth_in}
-use Rattle.book_price.specs.cert_laws.specs.auction_model.specs.Prices.{IsVickreyPrice, allowed_without}
+use Rattle.auction_model.specs.Lawful.{IsMarket}
+use Rattle.auction_model.specs.Greatest.{IsFirstGreatest}
+use Rattle.auction_model.specs.Market.{Market, number_of, uses, value_of, worth_in}
+use Rattle.auction_model.specs.Prices.{IsVickreyPrice, allowed_without}
 use Rattle.book_price.proofs.Worths.{sum-most}
-use Rattle.book_price.specs.cert_laws.specs.cert_form.specs.CertText.{AtMost, IsChoice}
-use Rattle.book_price.specs.row_laws.specs.Winners.{winners_in}
-use Rattle.place_check.specs.slot_places.specs.Board.{joined, menu_of, nobody, is_known, can_place, board_of, market_of}
-use Rattle.place_check.specs.slot_places.specs.Kept.{AreSlots}
-use Rattle.place_check.specs.slot_places.specs.Orders.{IsPlacement, are_new}
-use Rattle.place_check.specs.slot_places.specs.Slots.{SlotBidder, SlotList, amount_of, bidder_of, bids_of, no_bidder}
-use Rattle.place_check.specs.slot_places.proofs.FirstOrders.{allowed-says}
-use Rattle.place_check.specs.slot_places.proofs.MarketLaws.{market-of_slots}
-use Rattle.place_check.specs.slot_places.proofs.OrderLaws.{new-parts}
+use Rattle.cert_grammar.specs.CertText.{AtMost, IsChoice}
+use Rattle.core_laws.specs.Winners.{winners_in}
+use Rattle.slot_places.specs.Board.{board_of, can_place, is_known, joined, market_of_slots, menu_of, nobody}
+use Rattle.slot_places.specs.Kept.{AreSlots}
+use Rattle.slot_places.specs.Orders.{IsPlacement, are_new}
+use Rattle.slot_places.specs.Slots.{SlotBidder, SlotList, amount_of, bidder_of, bids_of, no_bidder}
+use Rattle.slot_places.proofs.FirstOrders.{allowed-says}
+use Rattle.slot_places.proofs.MarketLaws.{market-of_slots}
+use Rattle.slot_places.proofs.OrderLaws.{new-parts}
 
 -- an allowed choice is known
-pub allowed-known : (slots : SlotList) (c : List ℕ) → IsTrue ((market_of slots).allowed c) → IsTrue (is_known (board_of slots) c)
+pub allowed-known : (slots : SlotList) (c : List ℕ) → IsTrue ((market_of_slots slots).allowed c) → IsTrue (is_known (board_of slots) c)
 allowed-known slots c t = (and_parts (is_known (board_of slots) c) (can_place (board_of slots) c (length slots.bidders) nobody) t).0
 
 -- slots are a lawful market
-pub lawful : (slots : SlotList) → AreSlots slots → IsMarket (market_of slots)
+pub lawful : (slots : SlotList) → AreSlots slots → IsMarket (market_of_slots slots)
 lawful slots kept = market-of_slots slots (let f = kept.few in omega (arith, f))
 
 -- no bid is for more than the limit
@@ -40,11 +40,11 @@ bid-most slots kept j (suc i) some known =
     ]
 
 -- an allowed choice is worth at most 2^42 for each of its winners
-pub value-most : (slots : SlotList) → AreSlots slots → (z : List ℕ) → IsTrue ((market_of slots).allowed z)
-    → value_of (market_of slots) z ≤ℤ pos (winners_in z * 2 ^ 42)
+pub value-most : (slots : SlotList) → AreSlots slots → (z : List ℕ) → IsTrue ((market_of_slots slots).allowed z)
+    → value_of (market_of_slots slots) z ≤ℤ pos (winners_in z * 2 ^ 42)
 value-most slots kept z t = sum-most (menu_of (board_of slots)) (amount_of slots) (λ j. refl) (bid-most slots kept) 0 z (allowed-known slots z t)
 
--- a placement is an order of so many bidders
+-- a placement is an order of that many bidders
 new-most : (n : ℕ) (s : ℕ → Bool) (order : List ℕ) → n ≤ 65535 → IsTrue (are_new n s order) → AtMost 65535 order
 new-most n s [] le t = tt
 new-most n s (j ∷ order) le t = let p = new-parts n s j order t in (omega (arith, le, p.1), new-most n (joined j s) order le p.3)
@@ -56,8 +56,8 @@ order-shape slots c order kept is =
     (a.count, new-most (length slots.bidders) nobody order (let f = kept.few in omega (arith, f)) a.passes.0)
 
 -- what a winner wins with is small, and so is its price
-pub own-small : (slots : SlotList) → AreSlots slots → (z : List ℕ) → IsTrue ((market_of slots).allowed z) → (j : ℕ) → 0 < j → j ≤ length slots.bidders
-    → unsigned_abs (worth_in (market_of slots) z j) ≤ 2 ^ 42
+pub own-small : (slots : SlotList) → AreSlots slots → (z : List ℕ) → IsTrue ((market_of_slots slots).allowed z) → (j : ℕ) → 0 < j → j ≤ length slots.bidders
+    → unsigned_abs (worth_in (market_of_slots slots) z j) ≤ 2 ^ 42
 own-small slots kept z t j some low = let b = bid-most slots kept j (number_of z j) some ((lawful slots kept).numbers z j t some low) in omega (arith, ints, b)
 
 -- what is left of a value without one bid fits in 128 bits

@@ -4,20 +4,20 @@ use Rattle.std.specs.List.{AllByRecursion}
 use Rattle.std.proofs.Common.{inl, inr, sym, ◌∙◌, ap, subst, arith, length-append}
 use Rattle.std.proofs.lemmas.Bool.{cases_eq, eq-eqb, ne_eqb}
 use Rattle.std.proofs.lemmas.List.{get_or-map, length-map, map-append}
-use Rattle.book_price.specs.cert_laws.specs.auction_model.specs.Market.{uses}
-use Rattle.book_price.specs.cert_laws.specs.auction_model.proofs.ListLaws.{each-push}
+use Rattle.auction_model.specs.Market.{uses}
+use Rattle.auction_model.proofs.ListLaws.{each-push}
 use Rattle.book_price.specs.Made.{parts_from}
 use Rattle.book_price.proofs.Places.{part-of_winner, rank}
-use Rattle.book_price.specs.cert_laws.specs.cert_form.specs.Certificate.{WithoutValue, part_of}
-use Rattle.book_price.specs.cert_laws.specs.cert_form.specs.PlaceCert.{order_without}
-use Rattle.book_price.specs.choices.specs.Singles.{AreSingles}
-use Rattle.book_price.specs.choices.specs.declared.chooser.Single.{Single}
-use Rattle.place_check.specs.place_cert.specs.Parts.{part_order, part_value}
-use Rattle.place_check.specs.place_cert.specs.declared.certificate.PlaceWithout.{PlaceWithout}
-use Rattle.place_check.specs.PlacePriced.{IsBestPlacedPart}
+use Rattle.cert_grammar.specs.Certificate.{WithoutValue, part_of}
+use Rattle.cert_grammar.specs.PlaceCert.{order_without}
+use Rattle.choices.specs.Singles.{AreSingles}
+use Rattle.choices.specs.declared.chooser.Single.{Single}
+use Rattle.placement_cert.specs.Parts.{part_order, part_value}
+use Rattle.placement_cert.specs.declared.certificate.PlaceWithout.{PlaceWithout}
+use Rattle.placement_check.specs.PlacePriced.{IsBestPlacedPart}
 use Rattle.place_price.specs.PlacedParts.{ArePartsOf, IsBest, IsPartOf, tables_of}
-use Rattle.place_check.specs.slot_places.specs.Board.{market_of}
-use Rattle.place_check.specs.slot_places.specs.Slots.{SlotList}
+use Rattle.slot_places.specs.Board.{market_of_slots}
+use Rattle.slot_places.specs.Slots.{SlotList}
 
 parts-push : (singles : List Single) (s : Single) (tables : List (List (List ℤ))) (t : List (List ℤ)) → length tables ≡ length singles
     → parts_from (singles ++ s ∷ []) (tables ++ t ∷ []) ≡ parts_from singles tables ++ record { winner = s.winner; choice = s.choice; table = t } ∷ []
@@ -81,7 +81,7 @@ best-at slots (w ∷ parts) all j i lt e =
     behind (suc k) low is other next = next k (omega (arith, low)) is
 
 -- each winner has one
-pub best-parts : (slots : SlotList) (z : List ℕ) (singles : List Single) (parts : List PlaceWithout) → AreSingles (market_of slots) z singles
+pub best-parts : (slots : SlotList) (z : List ℕ) (singles : List Single) (parts : List PlaceWithout) → AreSingles (market_of_slots slots) z singles
     → ArePartsOf slots singles parts
     → (j : ℕ) → 0 < j → j ≤ length z → IsTrue (uses z j) → IsBestPlacedPart slots j (part_of (parts_from singles (tables_of parts)) j)
     (order_without (parts_from singles (tables_of parts)) (map part_order parts) j)

@@ -3,28 +3,28 @@ use Rattle.std.specs.Prelude.{◌≡◌, ℕ, ◌<◌, ◌≤◌, IsTrue, List, 
 use Rattle.std.specs.List.{AllByRecursion}
 use Rattle.std.proofs.Common.{◌∙◌, subst, arith}
 use Rattle.std.proofs.lemmas.Int.{ints}
-use Rattle.book_price.specs.cert_laws.specs.auction_model.specs.Market.{uses, value_of}
-use Rattle.book_price.specs.cert_laws.specs.auction_model.specs.Greatest.{IsGreatest}
-use Rattle.book_price.specs.cert_laws.specs.auction_model.specs.Prices.{IsCorePoint, paid}
+use Rattle.auction_model.specs.Market.{uses, value_of}
+use Rattle.auction_model.specs.Greatest.{IsGreatest}
+use Rattle.auction_model.specs.Prices.{IsCorePoint, paid}
 use Rattle.book_price.specs.Made.{cert_made, parts_from, row_from}
 use Rattle.book_price.proofs.Multipliers.{kept_firsts, kept_seconds}
 use Rattle.book_price.proofs.Payments.{kept_payments}
 use Rattle.book_price.proofs.Rows.{kept_rows}
-use Rattle.book_price.specs.cert_laws.specs.cert_form.specs.Certificate.{CertValue, RowValue, part_of, row_of}
-use Rattle.book_price.specs.cert_laws.specs.cert_form.specs.PlaceCert.{PlaceCertValue, order_in_row, order_without}
-use Rattle.book_price.specs.cert_laws.specs.MarketTests.{PaysWithinBids}
-use Rattle.book_price.specs.cert_laws.specs.Sound.{cert_point}
-use Rattle.book_price.specs.choices.specs.declared.chooser.Found.{Found}
-use Rattle.book_price.specs.choices.specs.declared.chooser.Single.{Single}
-use Rattle.book_price.specs.core_price.specs.Priced.{IsPriced}
-use Rattle.book_price.specs.core_price.specs.declared.priced.Priced.{Priced}
-use Rattle.place_check.specs.place_cert.specs.Parts.{part_order, row_order, row_value}
-use Rattle.place_check.specs.place_cert.specs.declared.certificate.PlaceRow.{PlaceRow}
-use Rattle.place_check.specs.place_cert.specs.declared.certificate.PlaceWithout.{PlaceWithout}
-use Rattle.place_check.specs.PlacePriced.{IsBestPlacedPart, IsPricedPlaceCert}
-use Rattle.place_check.specs.PlaceTests.{Holds, P1, P4, P6, P8, P9}
-use Rattle.place_check.proofs.ExactTests.{head-choice, head-table, lowered-table, part-passes}
-use Rattle.place_check.proofs.Sound.{sound}
+use Rattle.cert_grammar.specs.Certificate.{CertValue, RowValue, part_of, row_of}
+use Rattle.cert_grammar.specs.PlaceCert.{PlaceCertValue, order_in_row, order_without}
+use Rattle.cert_soundness.specs.MarketTests.{PaysWithinBids}
+use Rattle.cert_soundness.specs.Sound.{cert_point}
+use Rattle.choices.specs.declared.chooser.Found.{Found}
+use Rattle.choices.specs.declared.chooser.Single.{Single}
+use Rattle.core_price.specs.Priced.{IsPriced}
+use Rattle.core_price.specs.declared.priced.Priced.{Priced}
+use Rattle.placement_cert.specs.Parts.{part_order, row_order, row_value}
+use Rattle.placement_cert.specs.declared.certificate.PlaceRow.{PlaceRow}
+use Rattle.placement_cert.specs.declared.certificate.PlaceWithout.{PlaceWithout}
+use Rattle.placement_check.specs.PlacePriced.{IsBestPlacedPart, IsPricedPlaceCert}
+use Rattle.placement_check.specs.PlaceTests.{PlacementHolds, P1, P4, P6, P8, P9}
+use Rattle.placement_check.proofs.ExactTests.{head-choice, head-table, lowered-table, part-passes}
+use Rattle.placement_check.proofs.Sound.{sound}
 use Rattle.place_price.specs.Found.{AreFound}
 use Rattle.place_price.specs.Ones.{ones}
 use Rattle.place_price.specs.PlacedParts.{tables_of}
@@ -33,18 +33,18 @@ use Rattle.place_price.proofs.Alike.{nearest-alike}
 use Rattle.place_price.proofs.Allowed.{lawful}
 use Rattle.place_price.proofs.Parts.{best-parts, tables-count}
 use Rattle.place_price.proofs.RowOrders.{row-placed}
-use Rattle.book_price.specs.row_laws.specs.Surplus.{AsksWinnersOnly, lowered_sum, surpluses_of}
-use Rattle.book_price.specs.row_laws.proofs.Excess.{unblocked-free}
-use Rattle.book_price.specs.row_laws.proofs.Sizes.{worth-nonneg}
-use Rattle.book_price.specs.row_laws.proofs.Surplus.{surpluses-are}
-use Rattle.place_check.specs.slot_places.specs.Board.{market_of}
-use Rattle.place_check.specs.slot_places.specs.Kept.{AreSlots}
-use Rattle.place_check.specs.slot_places.specs.Orders.{IsPlacement}
-use Rattle.place_check.specs.slot_places.specs.Slots.{SlotList}
+use Rattle.core_laws.specs.Surplus.{AsksWinnersOnly, lowered_sum, surpluses_of}
+use Rattle.core_laws.proofs.Excess.{unblocked-free}
+use Rattle.core_laws.proofs.Sizes.{worth-nonneg}
+use Rattle.core_laws.proofs.Surplus.{surpluses-are}
+use Rattle.slot_places.specs.Board.{market_of_slots}
+use Rattle.slot_places.specs.Kept.{AreSlots}
+use Rattle.slot_places.specs.Orders.{IsPlacement}
+use Rattle.slot_places.specs.Slots.{SlotList}
 
 -- the certificate of what was found, with an order of its choice and rows with their orders
 abbrev pub cert_found : SlotList → Found (List (List ℤ)) → List Single → List PlaceWithout → Priced (List (List ℤ)) → CertValue
-cert_found slots whole singles parts priced = cert_made whole.choice (value_of (market_of slots) whole.choice) whole.table singles
+cert_found slots whole singles parts priced = cert_made whole.choice (value_of (market_of_slots slots) whole.choice) whole.table singles
     (tables_of parts) priced.den priced.at priced.rows priced.last.table
 
 abbrev pub places_found : SlotList → Found (List (List ℤ)) → List Single → List PlaceWithout → Priced (List (List ℤ)) → List ℕ → List PlaceRow → PlaceCertValue
@@ -59,11 +59,11 @@ places_found slots whole singles parts priced order rows = record {
 module _ (slots : SlotList) (kept : AreSlots slots) (whole : Found (List (List ℤ))) (singles : List Single) (parts : List PlaceWithout)
     (priced : Priced (List (List ℤ))) (found : AreFound slots whole singles parts priced) where
   -- what pricing promises
-  pub own : IsPriced (market_of slots) whole.choice (ones slots) singles priced
+  pub own : IsPriced (market_of_slots slots) whole.choice (ones slots) singles priced
   own = found.priced_is
 
   -- the payments that were found are a core point
-  pub core : IsCorePoint (market_of slots) whole.choice (cert_point (cert_found slots whole singles parts priced))
+  pub core : IsCorePoint (market_of_slots slots) whole.choice (cert_point (cert_found slots whole singles parts priced))
   core = own.prices.outcome.core
 
   -- the choice that was found has a number for each bidder
@@ -75,26 +75,26 @@ module _ (slots : SlotList) (kept : AreSlots slots) (whole : Found (List (List �
   count = tables-count parts ∙ found.are_parts.count
 
   -- the value of the choice that was found isn't below 0
-  pub least : pos 0 ≤ℤ value_of (market_of slots) whole.choice
-  least = worth-nonneg (market_of slots) (lawful slots kept) whole.choice found.winning.passed
+  pub least : pos 0 ≤ℤ value_of (market_of_slots slots) whole.choice
+  least = worth-nonneg (market_of_slots slots) (lawful slots kept) whole.choice found.winning.passed
 
-  greatest : IsGreatest (market_of slots).allowed (value_of (market_of slots)) whole.choice
+  greatest : IsGreatest (market_of_slots slots).allowed (value_of (market_of_slots slots)) whole.choice
   greatest = record { passed = found.winning.passed; greatest = found.winning.greatest }
 
   -- the certificate of what was found passes P5
-  pub passes-5 : (place : ℕ) → PaysWithinBids (market_of slots) (cert_found slots whole singles parts priced) place
-  passes-5 = kept_payments (market_of slots) whole.choice (value_of (market_of slots) whole.choice) whole.table singles
+  pub passes-5 : (place : ℕ) → PaysWithinBids (market_of_slots slots) (cert_found slots whole singles parts priced) place
+  passes-5 = kept_payments (market_of_slots slots) whole.choice (value_of (market_of_slots slots) whole.choice) whole.table singles
       (tables_of parts) priced.den priced.at priced.rows priced.last.table core
 
   -- no allowed choice counts more by the lowered worths than all that is paid
-  free : (f : List ℕ) → IsTrue ((market_of slots).allowed f) → lowered_sum (market_of slots) whole.choice
-      (cert_point (cert_found slots whole singles parts priced)) f ≤ℤ paid (market_of slots) (cert_point (cert_found slots whole singles parts priced))
+  free : (f : List ℕ) → IsTrue ((market_of_slots slots).allowed f) → lowered_sum (market_of_slots slots) whole.choice
+      (cert_point (cert_found slots whole singles parts priced)) f ≤ℤ paid (market_of_slots slots) (cert_point (cert_found slots whole singles parts priced))
   free f t =
       let p = cert_point (cert_found slots whole singles parts priced) in
-      let asks : AsksWinnersOnly (market_of slots) whole.choice p = record { bidders = core.bidders; losers = core.losers } in
+      let asks : AsksWinnersOnly (market_of_slots slots) whole.choice p = record { bidders = core.bidders; losers = core.losers } in
       let most = own.last.first.greatest f t in
-      let all = unblocked-free (market_of slots) (lawful slots kept) whole.choice p (surpluses_of (market_of slots) whole.choice priced.den p.at)
-      (surpluses-are (market_of slots) whole.choice p asks) priced.last.choice own.last.first core.unblocked in
+      let all = unblocked-free (market_of_slots slots) (lawful slots kept) whole.choice p (surpluses_of (market_of_slots slots) whole.choice priced.den p.at)
+      (surpluses-are (market_of_slots slots) whole.choice p asks) priced.last.choice own.last.first core.unblocked in
       omega (arith, ints, most, all)
 
   module _ (order : List ℕ) (placement : IsPlacement slots whole.choice order) (rows : List PlaceRow)
@@ -121,22 +121,22 @@ module _ (slots : SlotList) (kept : AreSlots slots) (whole : Found (List (List �
 
     passes-6 : (place : ℕ) → P6 slots (places_found slots whole singles parts priced order rows) place
     passes-6 place = record {
-      row = kept_rows (market_of slots) whole.choice long (value_of (market_of slots) whole.choice) whole.table singles
+      row = kept_rows (market_of_slots slots) whole.choice long (value_of (market_of_slots slots) whole.choice) whole.table singles
           (tables_of parts) priced.den priced.at priced.rows priced.last.table own.shown.kept place;
       order = λ some low. (row-at place some low).allowed;
     }
 
     passes-8 : (place : ℕ) → P8 slots (places_found slots whole singles parts priced order rows) place
     passes-8 place =
-        nearest-alike (market_of slots) (cert_found slots whole singles parts priced) place
-        (kept_seconds (market_of slots) whole.choice long (ones slots) (value_of (market_of slots) whole.choice) whole.table singles
+        nearest-alike (market_of_slots slots) (cert_found slots whole singles parts priced) place
+        (kept_seconds (market_of_slots slots) whole.choice long (ones slots) (value_of (market_of_slots slots) whole.choice) whole.table singles
         (tables_of parts) priced.den priced.at priced.rows priced.last.table refl found.are_singles count own.shown.first own.shown.second place)
 
     -- the certificate of what was found passes P9
     pub passes-9 : (place : ℕ) → P9 slots (places_found slots whole singles parts priced order rows) place
     passes-9 = lowered-table slots (places_found slots whole singles parts priced order rows) core.bidders passes-5 found.lowered free
 
-    holds : Holds slots (places_found slots whole singles parts priced order rows)
+    holds : PlacementHolds slots (places_found slots whole singles parts priced order rows)
     holds = record {
       p1 = passes-1;
       p2 = head-choice slots (places_found slots whole singles parts priced order rows) placement.allowed refl;
@@ -144,7 +144,7 @@ module _ (slots : SlotList) (kept : AreSlots slots) (whole : Found (List (List �
       p4 = passes-4;
       p5 = passes-5;
       p6 = passes-6;
-      p7 = kept_firsts (market_of slots) whole.choice long (ones slots) (value_of (market_of slots) whole.choice) whole.table singles
+      p7 = kept_firsts (market_of_slots slots) whole.choice long (ones slots) (value_of (market_of_slots slots) whole.choice) whole.table singles
           (tables_of parts) priced.den priced.at priced.rows priced.last.table own.shown.first own.shown.first_sums;
       p8 = passes-8;
       p9 = passes-9;

@@ -1,25 +1,25 @@
 -- The lines of a placement, put together piece by piece, and the certificates of which they can be printed.
-use Rattle.std.proofs.Common.{◌≡◌, ◌∙◌, ℕ, zero, suc, ◌+◌, ◌-◌, ◌<◌, ◌≤◌, Bool, true, cond, not, IsTrue, List, [], ◌∷◌, ◌++◌, length, drop, take, get_or, ℤ}
-use Rattle.std.proofs.Common.{pos, ◌≤ℤ◌, inl, inr, refl, sym, ap, subst, arith, append_assoc}
+use Rattle.std.proofs.Common.{Bool, IsTrue, List, [], ap, append_assoc, arith, cond, drop, get_or, inl, inr, length, not, pos, refl, subst, suc, sym}
+use Rattle.std.proofs.Common.{take, true, zero, ℕ, ℤ, ◌++◌, ◌+◌, ◌-◌, ◌<◌, ◌∙◌, ◌∷◌, ◌≡◌, ◌≤ℤ◌, ◌≤◌}
 use Rattle.std.specs.Prelude.{◌&&◌, ◌==◌, slice_index}
 use Rattle.std.specs.List.{AllByRecursion}
 use Rattle.std.proofs.lemmas.Bool.{and_parts, cases_Bool, eqb-true}
 use Rattle.std.proofs.lemmas.Int.{ints}
 use Rattle.std.proofs.lemmas.List.{drop_more, take_all}
-use Rattle.outcome.specs.auction_model.specs.Lowered.{of_bidder}
-use Rattle.outcome.specs.auction_model.specs.Market.{Market, number_of, uses}
-use Rattle.outcome.specs.cert_form.specs.Certificate.{CertValue}
-use Rattle.outcome.specs.cert_laws.specs.MarketTests.{vickrey_in}
-use Rattle.place_check.specs.PlaceSound.{prices_in}
-use Rattle.outcome.specs.print_form.specs.Fractions.{IsFractionText}
-use Rattle.outcome.specs.auction_model.specs.Prices.{Point, everyone, sum_over}
-use Rattle.place_check.specs.place_cert.specs.CertValues.{place_cert_value}
-use Rattle.place_check.specs.place_cert.specs.declared.certificate.PlaceCertificate.{PlaceCertificate}
-use Rattle.place_check.specs.PlaceTests.{Holds}
-use Rattle.place_check.specs.slot_places.specs.Board.{board_of, is_known, joined, nobody}
-use Rattle.place_check.specs.slot_places.specs.Orders.{are_new, gives, is_order}
-use Rattle.place_check.specs.slot_places.specs.Slots.{SlotList, bid_of, bidder_of}
-use Rattle.place_check.specs.slot_places.proofs.OrderLaws.{new-parts}
+use Rattle.auction_model.specs.Lowered.{of_bidder}
+use Rattle.auction_model.specs.Market.{Market, number_of, uses}
+use Rattle.cert_grammar.specs.Certificate.{CertValue}
+use Rattle.cert_soundness.specs.MarketTests.{vickrey_in}
+use Rattle.cert_soundness.specs.MarketPrices.{prices_in}
+use Rattle.print_grammar.specs.Fractions.{IsFractionText}
+use Rattle.auction_model.specs.Prices.{Point, everyone, sum_over}
+use Rattle.placement_cert.specs.CertValues.{place_cert_value}
+use Rattle.placement_cert.specs.declared.certificate.PlaceCertificate.{PlaceCertificate}
+use Rattle.placement_check.specs.PlaceTests.{PlacementHolds}
+use Rattle.slot_places.specs.Board.{board_of, is_known, joined, nobody}
+use Rattle.slot_places.specs.Orders.{are_new, gives, is_order}
+use Rattle.slot_places.specs.Slots.{SlotList, bid_of, bidder_of}
+use Rattle.slot_places.proofs.OrderLaws.{new-parts}
 use Rattle.place_price.specs.PlaceText.{ArePricedLines, priced_line}
 use Rattle.place_price.specs.PlacePrintable.{CanPrint, IsBidder, IsLineOf, IsRestOf}
 
@@ -29,7 +29,7 @@ order-bidders n s [] new = tt
 order-bidders n s (j ∷ order) new = let p = new-parts n s j order new in ((p.0, p.1), order-bidders n (joined j s) order p.3)
 
 -- a certificate for which all tests hold can be printed
-pub can-print : (slots : SlotList) (c : PlaceCertificate) → length c.choice ≡ length slots.bidders → Holds slots (place_cert_value c) → CanPrint slots c
+pub can-print : (slots : SlotList) (c : PlaceCertificate) → length c.choice ≡ length slots.bidders → PlacementHolds slots (place_cert_value c) → CanPrint slots c
 can-print slots c shape holds =
     let n = length slots.bidders in
     let allowed = (holds.p2 (n + 1)).allowed refl in
@@ -58,13 +58,13 @@ sum-low f (suc n) each = let rest = sum-low f n (λ j some le. each j some (omeg
 pub rest-is : {A : Type 0} (x : A) (xs : List A) → take (length (x ∷ xs) - 1) (drop 1 (x ∷ xs)) ≡ xs
 rest-is x xs = take_all (length (x ∷ xs) - 1) xs (omega arith)
 
--- the line of the next bidder, and those of the others behind it
+-- the line of the next bidder, and those of the others after it
 lines-on : (slots : SlotList) (v : ℕ → ℤ) (p : Point) (k n : ℕ) (rest line lines : List ℕ) → IsLineOf slots v p (suc k) n line
     → ArePricedLines slots v p (suc k) rest lines → ArePricedLines slots v p k (n ∷ rest) (line ++ lines)
 lines-on slots v p k zero rest line lines is are = subst (λ (l : List ℕ). ArePricedLines slots v p (suc k) rest (l ++ lines)) (sym is) are
 lines-on slots v p k (suc i) rest line lines is are = (is.0, lines, is.1, are, ap (λ (l : List ℕ). l ++ lines) is.2)
 
--- the numbers behind the first of those that are left
+-- the numbers after the first of those that are left
 rest-on : (c : List ℕ) (before n : ℕ) (rest : List ℕ) → IsRestOf c before (n ∷ rest) → (number_of c (before + 1) ≡ n) × IsRestOf c (before + 1) rest
 rest-on c before n rest is =
     let inside : before < length c = (let e = is.count in omega (arith, e)) in
@@ -92,7 +92,7 @@ used n some =
 pub price-of : (m : Market) (c : CertValue) (j : ℕ) → 0 < number_of c.choice j → prices_in m c j ≡ vickrey_in m c j
 price-of m c j some = ap (λ (b : Bool). cond b (vickrey_in m c j) (pos 0)) (used (number_of c.choice j) some)
 
--- over a slice that has a first number: the numbers behind it
+-- over a slice that has a first number: the numbers after it
 pub slice-rest : (c numbers : List ℕ) (before : ℕ) → 1 ≤ length numbers → IsRestOf c before numbers → IsRestOf c (before + 1)
     (take (length numbers - 1) (drop 1 numbers))
 slice-rest c [] before some is = absurd (omega (arith, some))

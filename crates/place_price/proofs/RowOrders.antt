@@ -3,23 +3,23 @@ use Rattle.std.specs.Prelude.{ℕ, zero, suc, ◌-◌, ◌<◌, ◌≤◌, List,
 use Rattle.std.specs.List.{AllByRecursion}
 use Rattle.std.proofs.Common.{arith}
 use Rattle.std.proofs.lemmas.List.{length-map}
-use Rattle.book_price.specs.cert_laws.specs.cert_form.specs.Certificate.{RowValue, row_of}
-use Rattle.book_price.specs.cert_laws.specs.cert_form.specs.CertText.{AreRows}
-use Rattle.book_price.specs.cert_laws.specs.cert_form.specs.PlaceCert.{order_in_row}
-use Rattle.book_price.specs.core_price.specs.Kept.{IsKept}
-use Rattle.book_price.specs.core_price.specs.declared.priced.PricedRow.{PricedRow}
-use Rattle.place_check.specs.place_cert.specs.Parts.{row_order, row_value}
-use Rattle.place_check.specs.place_cert.specs.PlaceText.{AreOrderedRows}
-use Rattle.place_check.specs.place_cert.specs.declared.certificate.PlaceRow.{PlaceRow}
+use Rattle.cert_grammar.specs.Certificate.{RowValue, row_of}
+use Rattle.cert_grammar.specs.CertText.{AreRows}
+use Rattle.cert_grammar.specs.PlaceCert.{order_in_row}
+use Rattle.core_price.specs.Kept.{IsKept}
+use Rattle.core_price.specs.declared.priced.PricedRow.{PricedRow}
+use Rattle.placement_cert.specs.Parts.{row_order, row_value}
+use Rattle.placement_cert.specs.PlaceText.{AreOrderedRows}
+use Rattle.placement_cert.specs.declared.certificate.PlaceRow.{PlaceRow}
 use Rattle.place_price.specs.PlacedRows.{HasAllowedChoice, IsPlacedRow}
 use Rattle.place_price.proofs.Allowed.{order-shape}
-use Rattle.place_check.specs.slot_places.specs.Board.{market_of}
-use Rattle.place_check.specs.slot_places.specs.Kept.{AreSlots}
-use Rattle.place_check.specs.slot_places.specs.Orders.{IsPlacement}
-use Rattle.place_check.specs.slot_places.specs.Slots.{SlotList}
+use Rattle.slot_places.specs.Board.{market_of_slots}
+use Rattle.slot_places.specs.Kept.{AreSlots}
+use Rattle.slot_places.specs.Orders.{IsPlacement}
+use Rattle.slot_places.specs.Slots.{SlotList}
 
 -- the choices of kept rows are allowed
-pub kept-allowed : (slots : SlotList) (z : List ℕ) (den : ℤ) (at : List ℤ) (rows : List PricedRow) → AllByRecursion (IsKept (market_of slots) z den at) rows
+pub kept-allowed : (slots : SlotList) (z : List ℕ) (den : ℤ) (at : List ℤ) (rows : List PricedRow) → AllByRecursion (IsKept (market_of_slots slots) z den at) rows
     → AllByRecursion (HasAllowedChoice slots) rows
 kept-allowed slots z den at [] all = tt
 kept-allowed slots z den at (r ∷ rows) all = (all.0.given.allowed, kept-allowed slots z den at rows all.1)

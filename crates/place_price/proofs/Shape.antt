@@ -5,29 +5,29 @@ use Rattle.std.proofs.Common.{inl, inr, sym, ◌∙◌, ap, subst, arith}
 use Rattle.std.proofs.lemmas.Bool.{and_parts, cases_Bool}
 use Rattle.std.proofs.lemmas.Int.{ints}
 use Rattle.std.proofs.Math.IntN.{*ℤ-zero}
-use Rattle.book_price.specs.cert_laws.specs.auction_model.specs.Lawful.{IsMarket}
-use Rattle.book_price.specs.cert_laws.specs.auction_model.specs.Lowered.{of_bidder}
-use Rattle.book_price.specs.cert_laws.specs.auction_model.specs.Market.{Market, uses, value_of, worth_in}
-use Rattle.book_price.specs.cert_laws.specs.auction_model.specs.Prices.{IsCorePoint, Point, paid}
-use Rattle.book_price.specs.cert_laws.specs.auction_model.specs.Table.{entry_at}
+use Rattle.auction_model.specs.Lawful.{IsMarket}
+use Rattle.auction_model.specs.Lowered.{of_bidder}
+use Rattle.auction_model.specs.Market.{Market, uses, value_of, worth_in}
+use Rattle.auction_model.specs.Prices.{IsCorePoint, Point, paid}
+use Rattle.auction_model.specs.Table.{entry_at}
 use Rattle.book_price.specs.Made.{parts_from, row_from}
 use Rattle.book_price.proofs.Ones.{winners-few}
 use Rattle.book_price.proofs.Places.{front_of, rest}
 use Rattle.book_price.proofs.Shapes.{choice_shape, numbers_shape, pay_shape, rows_few, rows_shape}
-use Rattle.book_price.specs.cert_laws.specs.cert_form.specs.Certificate.{RowValue, WithoutValue}
-use Rattle.book_price.specs.cert_laws.specs.Sound.{cert_point}
-use Rattle.book_price.specs.cert_laws.specs.cert_form.specs.CertText.{AreRows, InRange, IsChoice}
-use Rattle.book_price.specs.choices.specs.Singles.{winners_after}
-use Rattle.book_price.specs.choices.specs.declared.chooser.Found.{Found}
-use Rattle.book_price.specs.choices.specs.declared.chooser.Single.{Single}
-use Rattle.book_price.specs.core_price.specs.declared.priced.Priced.{Priced}
-use Rattle.place_check.specs.place_cert.specs.Parts.{part_order, part_value, place_cert_from, row_order, row_value}
-use Rattle.place_check.specs.place_cert.specs.PlaceText.{AreOrderedRows, AreOrderedWithouts, HasSets, IsOrderedWithout, IsPlaceCertificate}
-use Rattle.place_check.specs.place_cert.specs.declared.certificate.PlaceRow.{PlaceRow}
-use Rattle.place_check.specs.place_cert.specs.declared.certificate.PlaceWithout.{PlaceWithout}
-use Rattle.place_check.specs.PlaceTests.{lowered_in}
-use Rattle.place_check.proofs.Exact.{lowered-obeys, plain-obeys}
-use Rattle.place_check.proofs.FirstEntry.{whole-entry}
+use Rattle.cert_grammar.specs.Certificate.{RowValue, WithoutValue}
+use Rattle.cert_soundness.specs.Sound.{cert_point}
+use Rattle.cert_grammar.specs.CertText.{AreRows, InRange, IsChoice}
+use Rattle.choices.specs.Singles.{winners_after}
+use Rattle.choices.specs.declared.chooser.Found.{Found}
+use Rattle.choices.specs.declared.chooser.Single.{Single}
+use Rattle.core_price.specs.declared.priced.Priced.{Priced}
+use Rattle.placement_cert.specs.Parts.{part_order, part_value, place_cert_from, row_order, row_value}
+use Rattle.placement_cert.specs.PlaceText.{AreOrderedRows, AreOrderedWithouts, HasSets, IsOrderedWithout, IsPlaceCertificate}
+use Rattle.placement_cert.specs.declared.certificate.PlaceRow.{PlaceRow}
+use Rattle.placement_cert.specs.declared.certificate.PlaceWithout.{PlaceWithout}
+use Rattle.cert_soundness.specs.MarketPrices.{lowered_in}
+use Rattle.placement_check.proofs.Exact.{lowered-obeys, plain-obeys}
+use Rattle.placement_check.proofs.FirstEntry.{whole-entry}
 use Rattle.place_price.specs.Found.{AreFound}
 use Rattle.place_price.specs.PlacedParts.{IsBest, tables_of}
 use Rattle.place_price.specs.PlacedRows.{IsPlacedRow}
@@ -35,18 +35,18 @@ use Rattle.place_price.proofs.Allowed.{lawful, order-shape}
 use Rattle.place_price.proofs.Passes.{cert_found, core, least, long, passes-5, passes-9, places_found}
 use Rattle.place_price.proofs.RowOrders.{ordered-rows}
 use Rattle.place_price.proofs.Tables.{below-range, part-sets, sets-shape}
-use Rattle.book_price.specs.point_laws.proofs.Sums.{total-le}
-use Rattle.book_price.specs.row_laws.proofs.Excess.{everyone-is}
-use Rattle.book_price.specs.row_laws.proofs.Sizes.{unused-worth}
-use Rattle.book_price.specs.row_laws.proofs.Sums.{choice-is}
-use Rattle.book_price.specs.row_laws.specs.Winners.{for_bidders}
-use Rattle.place_check.specs.slot_places.specs.Board.{board_of, market_of}
-use Rattle.place_check.specs.slot_places.specs.Kept.{AreSlots}
-use Rattle.place_check.specs.slot_places.specs.Orders.{IsPlacement}
-use Rattle.place_check.specs.slot_places.specs.Slots.{SlotList, amount_of}
-use Rattle.book_price.specs.cert_laws.specs.wide_num.specs.Sums.{total}
-use Rattle.book_price.specs.cert_laws.specs.wide_num.proofs.Ints.{*ℤ-one, mul-add}
-use Rattle.book_price.specs.cert_laws.specs.wide_num.proofs.Sums.{total-scale}
+use Rattle.projection_laws.proofs.Sums.{total-le}
+use Rattle.core_laws.proofs.Excess.{everyone-is}
+use Rattle.core_laws.proofs.Sizes.{unused-worth}
+use Rattle.core_laws.proofs.Sums.{choice-is}
+use Rattle.core_laws.specs.Winners.{for_bidders}
+use Rattle.slot_places.specs.Board.{board_of, market_of_slots}
+use Rattle.slot_places.specs.Kept.{AreSlots}
+use Rattle.slot_places.specs.Orders.{IsPlacement}
+use Rattle.slot_places.specs.Slots.{SlotList, amount_of}
+use Rattle.wide_num.specs.Sums.{total}
+use Rattle.wide_num.proofs.Ints.{*ℤ-one, mul-add}
+use Rattle.wide_num.proofs.Sums.{total-scale}
 
 -- at a core point no more is paid than the choice is worth
 paid-most : (m : Market) → IsMarket m → (z : List ℕ) (p : Point) → IsTrue (m.allowed z)
@@ -80,8 +80,8 @@ paid-below den value paid some most small =
     omega (arith, ints, apart, one, some, most, small)
 
 module _ (slots : SlotList) (kept : AreSlots slots) where
-  choices : (c : List ℕ) → IsTrue ((market_of slots).allowed c) → IsChoice (length slots.bidders) c
-  choices = choice_shape (market_of slots) (lawful slots kept) (λ j some low. (let f = (kept.bidders j some low).few in omega (arith, f)))
+  choices : (c : List ℕ) → IsTrue ((market_of_slots slots).allowed c) → IsChoice (length slots.bidders) c
+  choices = choice_shape (market_of_slots slots) (lawful slots kept) (λ j some low. (let f = (kept.bidders j some low).few in omega (arith, f)))
 
   -- the parts of the winners, s bidders being passed
   parts-shape : (s : ℕ) (z : List ℕ) (parts : List PlaceWithout) → map (λ w. w.winner) parts ≡ winners_after s z → AllByRecursion (IsBest slots) parts
@@ -99,7 +99,7 @@ module _ (slots : SlotList) (kept : AreSlots slots) where
       one = record {
         winner = front;
         order = order-shape slots w.choice w.order kept all.0.placement;
-        choice = choices w.choice (and_parts ((market_of slots).allowed w.choice) (not (uses w.choice w.winner)) all.0.choice.passed).0;
+        choice = choices w.choice (and_parts ((market_of_slots slots).allowed w.choice) (not (uses w.choice w.winner)) all.0.choice.passed).0;
         table = part-sets slots kept w.winner (part_value w) w.order (omega (arith, front)) all.0;
       }
 
@@ -107,8 +107,8 @@ module _ (slots : SlotList) (kept : AreSlots slots) (whole : Found (List (List �
     (priced : Priced (List (List ℤ))) (found : AreFound slots whole singles parts priced)
     (order : List ℕ) (placement : IsPlacement slots whole.choice order) (rows : List PlaceRow)
     (rows_are : map row_value rows ≡ map (row_from whole.choice) priced.rows) (placed : AllByRecursion (IsPlacedRow slots) rows) where
-  numbers : InRange priced.den × InRange (value_of (market_of slots) whole.choice)
-  numbers = numbers_shape priced.den (value_of (market_of slots) whole.choice) (core slots kept whole singles parts priced found).den_positive
+  numbers : InRange priced.den × InRange (value_of (market_of_slots slots) whole.choice)
+  numbers = numbers_shape priced.den (value_of (market_of_slots slots) whole.choice) (core slots kept whole singles parts priced found).den_positive
       (least slots kept whole singles parts priced found) found.priced_is.prices.range
 
   table-shape : HasSets (length slots.bidders) whole.table
@@ -116,18 +116,18 @@ module _ (slots : SlotList) (kept : AreSlots slots) (whole : Found (List (List �
       let first = (whole-entry slots (amount_of slots) whole.table found.table).reached in
       let most = found.winning.greatest first.0 first.1 in
       sets-shape (board_of slots) (amount_of slots) (amount_of slots) whole.table found.table (plain-obeys slots whole.table found.table)
-      (below-range (entry_at whole.table 0 0) (value_of (market_of slots) whole.choice) (omega (arith, ints, most, first.2)) numbers.1)
+      (below-range (entry_at whole.table 0 0) (value_of (market_of_slots slots) whole.choice) (omega (arith, ints, most, first.2)) numbers.1)
 
   lowered-shape : HasSets (length slots.bidders) priced.last.table
   lowered-shape =
       let c = cert_found slots whole singles parts priced in
       let point = core slots kept whole singles parts priced found in
       let top = (passes-9 slots kept whole singles parts priced found order placement rows rows_are placed (2 ^ length slots.bidders)).top refl in
-      let most = paid-most (market_of slots) (lawful slots kept) whole.choice (cert_point c) found.winning.passed
-      (core-each (market_of slots) (lawful slots kept) whole.choice (cert_point c) point) in
-      let low = paid-below priced.den (value_of (market_of slots) whole.choice) (paid (market_of slots) (cert_point c)) point.den_positive most
+      let most = paid-most (market_of_slots slots) (lawful slots kept) whole.choice (cert_point c) found.winning.passed
+      (core-each (market_of_slots slots) (lawful slots kept) whole.choice (cert_point c) point) in
+      let low = paid-below priced.den (value_of (market_of_slots slots) whole.choice) (paid (market_of_slots slots) (cert_point c)) point.den_positive most
       found.priced_is.prices.range in
-      sets-shape (board_of slots) _ (lowered_in (market_of slots) c) priced.last.table found.lowered
+      sets-shape (board_of slots) _ (lowered_in (market_of_slots slots) c) priced.last.table found.lowered
       (lowered-obeys slots c priced.last.table point.bidders (passes-5 slots kept whole singles parts priced found) found.lowered)
       (omega (arith, ints, top, low))
 
@@ -140,7 +140,7 @@ module _ (slots : SlotList) (kept : AreSlots slots) (whole : Found (List (List �
   orders-shape =
       let shown = found.priced_is.shown in
       let shape : AreRows (length slots.bidders) (map (row_from whole.choice) priced.rows) =
-      rows_shape (market_of slots) whole.choice (long slots kept whole singles parts priced found) (choices slots kept) priced.den priced.at priced.rows
+      rows_shape (market_of_slots slots) whole.choice (long slots kept whole singles parts priced found) (choices slots kept) priced.den priced.at priced.rows
       shown.kept shown.first shown.first_sums numbers.0 shown.small_seconds in
       subst (λ (values : List RowValue). AreOrderedRows (length slots.bidders) values (map row_order rows)) rows_are
       (ordered-rows slots kept rows placed (subst (AreRows (length slots.bidders)) (sym rows_are) shape))
@@ -154,7 +154,7 @@ module _ (slots : SlotList) (kept : AreSlots slots) (whole : Found (List (List �
     choice = choices slots kept whole.choice found.winning.passed;
     table = table-shape;
     withouts = withouts-shape;
-    pay = pay_shape (market_of slots) whole.choice (long slots kept whole singles parts priced found) priced.at found.priced_is.prices.small;
+    pay = pay_shape (market_of_slots slots) whole.choice (long slots kept whole singles parts priced found) priced.at found.priced_is.prices.small;
     few = rows_few whole.choice priced.rows found.priced_is.shown.few
         (let w = winners-few whole.choice in let l = long slots kept whole singles parts priced found in let f = kept.few in omega (arith, w, l, f));
     rows = orders-shape;
@@ -163,7 +163,7 @@ module _ (slots : SlotList) (kept : AreSlots slots) (whole : Found (List (List �
 
   -- the fields that the program fills
   module _ (den value : ℤ) (choice : List ℕ) (table : List (List ℤ)) (pay : List ℤ) (lowered_lines : List (List ℤ))
-      (den_is : den ≡ priced.den) (value_is : value ≡ value_of (market_of slots) whole.choice) (choice_is : choice ≡ whole.choice)
+      (den_is : den ≡ priced.den) (value_is : value ≡ value_of (market_of_slots slots) whole.choice) (choice_is : choice ≡ whole.choice)
       (table_is : table ≡ whole.table)
       (pay_is : pay ≡ for_bidders whole.choice priced.at) (lowered_is : lowered_lines ≡ priced.last.table) where
     -- the fields that the program fills make the certificate of what was found

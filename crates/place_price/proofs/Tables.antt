@@ -3,22 +3,22 @@ use Rattle.std.specs.Prelude.{ℕ, suc, ◌^◌, ◌<◌, not, List, [], ◌∷�
 use Rattle.std.proofs.Common.{arith}
 use Rattle.std.proofs.lemmas.Bool.{and_parts}
 use Rattle.std.proofs.lemmas.Int.{ints}
-use Rattle.book_price.specs.cert_laws.specs.auction_model.specs.Market.{uses, value_of}
-use Rattle.book_price.specs.cert_laws.specs.auction_model.specs.Table.{entry_at}
+use Rattle.auction_model.specs.Market.{uses, value_of}
+use Rattle.auction_model.specs.Table.{entry_at}
 use Rattle.book_price.proofs.Shapes.{not_negative-small}
-use Rattle.book_price.specs.cert_laws.specs.cert_form.specs.Certificate.{WithoutValue}
-use Rattle.book_price.specs.cert_laws.specs.cert_form.specs.CertText.{AllInRange, InRange}
-use Rattle.place_check.specs.place_cert.specs.PlaceText.{HasSets}
-use Rattle.place_check.specs.PlacePriced.{IsBestPlacedPart}
-use Rattle.place_check.specs.PlaceTests.{ObeysSets}
-use Rattle.place_check.proofs.Exact.{without-obeys}
-use Rattle.place_check.proofs.FirstEntry.{without-entry}
-use Rattle.place_check.proofs.SetSizes.{entry-least, entry-most}
-use Rattle.place_check.specs.slot_places.specs.Board.{Board, board_without, market_of}
-use Rattle.place_check.specs.slot_places.specs.Kept.{AreSlots}
-use Rattle.place_check.specs.slot_places.specs.SetTable.{IsSetTable}
-use Rattle.place_check.specs.slot_places.specs.Slots.{SlotList, amount_of}
-use Rattle.place_check.specs.slot_places.proofs.PlainSearch.{value-small}
+use Rattle.cert_grammar.specs.Certificate.{WithoutValue}
+use Rattle.cert_grammar.specs.CertText.{AllInRange, InRange}
+use Rattle.placement_cert.specs.PlaceText.{HasSets}
+use Rattle.placement_check.specs.PlacePriced.{IsBestPlacedPart}
+use Rattle.placement_check.specs.PlaceTests.{ObeysSets}
+use Rattle.placement_check.proofs.Exact.{without-obeys}
+use Rattle.placement_check.proofs.FirstEntry.{without-entry}
+use Rattle.placement_check.proofs.SetSizes.{entry-least, entry-most}
+use Rattle.slot_places.specs.Board.{Board, board_without, market_of_slots}
+use Rattle.slot_places.specs.Kept.{AreSlots}
+use Rattle.slot_places.specs.SetTable.{IsSetTable}
+use Rattle.slot_places.specs.Slots.{SlotList, amount_of}
+use Rattle.slot_places.proofs.PlainSearch.{value-small}
 
 all-in_range : (line : List ℤ) → ((i : ℕ) → i < length line → InRange (slice_index_or line i (pos 0))) → AllInRange line
 all-in_range [] small = tt
@@ -49,7 +49,7 @@ pub part-sets : (slots : SlotList) → AreSlots slots → (j : ℕ) (part : With
 part-sets slots kept j part order some best =
     let first = (without-entry slots j (amount_of slots) part.table some best.table).reached in
     let most = best.choice.greatest first.0 first.1 in
-    let value = value_of (market_of slots) part.choice in
-    let allowed = (and_parts ((market_of slots).allowed part.choice) (not (uses part.choice j)) best.choice.passed).0 in
+    let value = value_of (market_of_slots slots) part.choice in
+    let allowed = (and_parts ((market_of_slots slots).allowed part.choice) (not (uses part.choice j)) best.choice.passed).0 in
     sets-shape (board_without slots j) (amount_of slots) (amount_of slots) part.table best.table (without-obeys slots j part.table best.table)
     (below-range (entry_at part.table 0 0) value (omega (arith, ints, most, first.2)) (let v = value-small slots part.choice kept allowed in omega (arith, v)))

@@ -4,10 +4,3 @@ pub mod Ones
 pub mod Found
 pub mod PlacePrintable
 pub mod PlaceText
-pub use Rattle.book_price.specs.cert_laws.specs.auction_model
-pub use Rattle.book_price
-pub use Rattle.book_price.specs.cert_laws
-pub use Rattle.book_price.specs.core_price
-pub use Rattle.book_price.specs.row_laws
-pub use Rattle.outcome
-pub use Rattle.place_check

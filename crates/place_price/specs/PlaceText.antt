@@ -2,12 +2,12 @@
 -- the value and the revenue. There are no reserves, so amounts are printed as they are.
 use Rattle.std.specs.Prelude.{◌≡◌, ℕ, zero, suc, ◌+◌, List, [], ◌∷◌, ◌++◌, codes, length, ℤ}
 use Rattle.std.specs.Fmt.{decimal, signed_decimal}
-use Rattle.outcome.specs.auction_model.specs.Lowered.{of_bidder}
-use Rattle.outcome.specs.auction_model.specs.Market.{value_of}
-use Rattle.outcome.specs.auction_model.specs.Prices.{Point, paid}
-use Rattle.outcome.specs.print_form.specs.Fractions.{IsFractionText}
-use Rattle.place_check.specs.slot_places.specs.Board.{market_of}
-use Rattle.place_check.specs.slot_places.specs.Slots.{SlotBid, SlotList, bid_of, bidder_of, width_of}
+use Rattle.auction_model.specs.Lowered.{of_bidder}
+use Rattle.auction_model.specs.Market.{value_of}
+use Rattle.auction_model.specs.Prices.{Point, paid}
+use Rattle.print_grammar.specs.Fractions.{IsFractionText}
+use Rattle.slot_places.specs.Board.{market_of_slots}
+use Rattle.slot_places.specs.Slots.{SlotBid, SlotList, bid_of, bidder_of, width_of}
 
 -- the line of bidder j that is placed from this slot on
 abbrev pub placed_line : SlotList → ℕ → ℕ → List ℕ
@@ -40,5 +40,5 @@ pub record IsPlaceText (slots : SlotList) (order z : List ℕ) (v : ℕ → ℤ)
   pub lines : List ℕ
   pub are_lines : ArePricedLines slots v p 0 z lines
   pub revenue : List ℕ
-  pub is_revenue : IsFractionText (paid (market_of slots) p) p.den revenue
-  pub whole : text ≡ placed_lines slots 1 order ++ lines ++ value_line (value_of (market_of slots) z) ++ codes "revenue " ++ revenue ++ codes "\n"
+  pub is_revenue : IsFractionText (paid (market_of_slots slots) p) p.den revenue
+  pub whole : text ≡ placed_lines slots 1 order ++ lines ++ value_line (value_of (market_of_slots slots) z) ++ codes "revenue " ++ revenue ++ codes "\n"

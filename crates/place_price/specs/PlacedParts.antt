@@ -1,12 +1,12 @@
 -- The parts of a placement certificate, from the winners, each alone: words of private contracts.
 use Rattle.std.specs.Prelude.{◌≡◌, List, length, map, ℤ}
 use Rattle.std.specs.List.{AllByRecursion}
-use Rattle.book_price.specs.choices.specs.declared.chooser.Single.{Single}
+use Rattle.choices.specs.declared.chooser.Single.{Single}
 use Rattle.book_price.specs.Made.{parts_from}
-use Rattle.place_check.specs.place_cert.specs.Parts.{part_value}
-use Rattle.place_check.specs.place_cert.specs.declared.certificate.PlaceWithout.{PlaceWithout}
-use Rattle.place_check.specs.PlacePriced.{IsBestPlacedPart}
-use Rattle.place_check.specs.slot_places.specs.Slots.{SlotList}
+use Rattle.placement_cert.specs.Parts.{part_value}
+use Rattle.placement_cert.specs.declared.certificate.PlaceWithout.{PlaceWithout}
+use Rattle.placement_check.specs.PlacePriced.{IsBestPlacedPart}
+use Rattle.slot_places.specs.Slots.{SlotList}
 
 -- the first of the greatest choices without its winner, with the placement and the exact table
 abbrev pub IsBest : SlotList → PlaceWithout → Type 0

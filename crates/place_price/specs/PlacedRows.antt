@@ -1,13 +1,13 @@
 -- The rows of pricing, and those of a placement certificate: words of private contracts.
 use Rattle.std.specs.Prelude.{IsTrue}
-use Rattle.book_price.specs.core_price.specs.declared.priced.PricedRow.{PricedRow}
-use Rattle.place_check.specs.place_cert.specs.declared.certificate.PlaceRow.{PlaceRow}
-use Rattle.place_check.specs.slot_places.specs.Board.{market_of}
-use Rattle.place_check.specs.slot_places.specs.Orders.{IsPlacement}
-use Rattle.place_check.specs.slot_places.specs.Slots.{SlotList}
+use Rattle.core_price.specs.declared.priced.PricedRow.{PricedRow}
+use Rattle.placement_cert.specs.declared.certificate.PlaceRow.{PlaceRow}
+use Rattle.slot_places.specs.Board.{market_of_slots}
+use Rattle.slot_places.specs.Orders.{IsPlacement}
+use Rattle.slot_places.specs.Slots.{SlotList}
 
 abbrev pub HasAllowedChoice : SlotList → PricedRow → Type 0
-HasAllowedChoice slots r = IsTrue ((market_of slots).allowed r.choice)
+HasAllowedChoice slots r = IsTrue ((market_of_slots slots).allowed r.choice)
 
 -- its order is the placement of its choice
 abbrev pub IsPlacedRow : SlotList → PlaceRow → Type 0

@@ -1,21 +1,21 @@
 // The winners, each alone.
 ghost use Rattle.std.specs.Prelude.{◌≡◌, ◌≤◌, ◌<◌, ◌++◌, ◌∷◌, [], IfOk, OnOk, IsTrue, length};
-ghost use Rattle.book_price.specs.cert_laws.specs.auction_model.specs.Market.{uses, value_of};
-ghost use Rattle.book_price.specs.choices.specs.Singles.{AreSingles, IsSingle};
-ghost use Rattle.book_price.specs.choices.specs.declared.chooser.Single.{Single};
-ghost use Rattle.place_check.specs.place_cert.specs.declared.certificate.PlaceWithout.{PlaceWithout};
+ghost use Rattle.auction_model.specs.Market.{uses, value_of};
+ghost use Rattle.choices.specs.Singles.{AreSingles, IsSingle};
+ghost use Rattle.choices.specs.declared.chooser.Single.{Single};
+ghost use Rattle.placement_cert.specs.declared.certificate.PlaceWithout.{PlaceWithout};
 ghost use Rattle.place_price.specs.PlacedParts.{ArePartsOf, IsPartOf};
-ghost use Rattle.place_check.specs.slot_places.specs.Board.{market_of};
+ghost use Rattle.slot_places.specs.Board.{market_of_slots};
 
 use crate::placing::placement;
-use place_cert::cert_text::choices::{Chooser, Single};
-use place_cert::{PlaceWithout, PlaceWithouts};
-use place_check::slot_places::SlotChooser;
+use choices::{Chooser, Single};
+use placement_cert::{PlaceWithout, PlaceWithouts};
+use slot_places::SlotChooser;
 use std::alloc::{AllocError, Global};
 
 /// All winners in order, each alone, with the parts of the certificate without each of them.
 #[derive(Drop)]
-pub struct Alone {
+pub struct WithoutEach {
     pub singles: Vec<Single>,
     pub parts: PlaceWithouts,
 }
@@ -32,15 +32,15 @@ pub(crate) fn each_winner(
     alloc: Global,
     chooser: &SlotChooser,
     value: i128,
-) -> Result<Alone, AllocError>
-    requires { value ≡ value_of (market_of chooser.now.slots.now) chooser.now.winners }
+) -> Result<WithoutEach, AllocError>
+    requires { value ≡ value_of (market_of_slots chooser.now.slots.now) chooser.now.winners }
     ensures singles { IfOk result
-        (λ a. AreSingles (market_of chooser.now.slots.now) chooser.now.winners a.singles.items) }
+        (λ a. AreSingles (market_of_slots chooser.now.slots.now) chooser.now.winners a.singles.items) }
     ensures parts { IfOk result (λ a. ArePartsOf chooser.now.slots.now a.singles.items a.parts) }
 {
     let singles = Vec::new(alloc);
     let parts = PlaceWithouts::new(alloc);
-    let mut alone = Alone { singles, parts };
+    let mut alone = WithoutEach { singles, parts };
     for k in 0..chooser.slots.bidders() {
         let j = k as u16 + 1;
         if chooser.winners.number(j) != 0 {
@@ -56,14 +56,14 @@ fn add_winner(
     chooser: &SlotChooser,
     value: i128,
     j: u16,
-    alone: &mut Alone,
+    alone: &mut WithoutEach,
 ) -> Result<(), AllocError>
-    requires value { value ≡ value_of (market_of chooser.now.slots.now) chooser.now.winners }
+    requires value { value ≡ value_of (market_of_slots chooser.now.slots.now) chooser.now.winners }
     requires bidder { (0 < j) × (j ≤ length chooser.now.slots.now.bidders) }
     requires used { IsTrue (uses chooser.now.winners j) }
     ensures { OnOk result
         ((single : Single) × (part : PlaceWithout) × (single.winner ≡ j)
-        × IsSingle (market_of chooser.now.slots.now) chooser.now.winners single
+        × IsSingle (market_of_slots chooser.now.slots.now) chooser.now.winners single
         × IsPartOf chooser.now.slots.now single part
         × (alone.new.singles.items ≡ alone.old.singles.items ++ single ∷ [])
         × (alone.new.parts ≡ alone.old.parts ++ part ∷ [])) }
@@ -81,11 +81,11 @@ fn without_winner(
     value: i128,
     j: u16,
 ) -> Result<One, AllocError>
-    requires value { value ≡ value_of (market_of chooser.now.slots.now) chooser.now.winners }
+    requires value { value ≡ value_of (market_of_slots chooser.now.slots.now) chooser.now.winners }
     requires bidder { (0 < j) × (j ≤ length chooser.now.slots.now.bidders) }
     requires used { IsTrue (uses chooser.now.winners j) }
     ensures winner { IfOk result (λ o. o.single.winner ≡ j) }
-    ensures single { IfOk result (λ o. IsSingle (market_of chooser.now.slots.now) chooser.now.winners o.single) }
+    ensures single { IfOk result (λ o. IsSingle (market_of_slots chooser.now.slots.now) chooser.now.winners o.single) }
     ensures part { IfOk result (λ o. IsPartOf chooser.now.slots.now o.single o.part) }
 {
     chooser.slots.kept();

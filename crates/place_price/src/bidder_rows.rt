@@ -2,14 +2,14 @@
 ghost use Rattle.std.specs.List.{AllByRecursion};
 ghost use Rattle.std.specs.Prelude.{◌≡◌, ◌<◌, ◌^◌, IfOk, length, map};
 ghost use Rattle.book_price.specs.Made.{row_from};
-ghost use Rattle.place_check.specs.place_cert.specs.Parts.{row_value};
+ghost use Rattle.placement_cert.specs.Parts.{row_value};
 ghost use Rattle.place_price.specs.PlacedRows.{HasAllowedChoice, IsPlacedRow};
 
 use crate::placing::placement;
-use book_price::core_price::{PricedRow, members_of};
-use place_cert::cert_text::choices::Choice;
-use place_cert::{PlaceRow, PlaceRows};
-use place_check::slot_places::Slots;
+use choices::Choice;
+use core_price::{PricedRow, members_of};
+use placement_cert::{PlaceRow, PlaceRows};
+use slot_places::Slots;
 use std::alloc::{AllocError, Global};
 
 /// The rows with their members, multipliers, choices and placements, in order.

@@ -1,28 +1,28 @@
 // The certificate of the prices of slots.
 ghost use Rattle.std.specs.Prelude.{◌≡◌, ◌<◌, ◌^◌, IfOk, IsTrue, List, length, map};
 ghost use Rattle.std.specs.List.{AllByRecursion};
-ghost use Rattle.book_price.specs.cert_laws.specs.Sound.{cert_point};
-ghost use Rattle.book_price.specs.choices.specs.declared.chooser.Single.{Single};
+ghost use Rattle.cert_soundness.specs.Sound.{cert_point};
+ghost use Rattle.choices.specs.declared.chooser.Single.{Single};
 ghost use Rattle.book_price.specs.Made.{row_from};
-ghost use Rattle.book_price.specs.core_price.specs.Turns.{point_of};
-ghost use Rattle.book_price.specs.row_laws.specs.Winners;
-ghost use Rattle.place_check.specs.place_cert.specs.CertValues.{place_cert_value};
-ghost use Rattle.place_check.specs.place_cert.specs.Parts.{row_value};
-ghost use Rattle.place_check.specs.PlacePriced.{IsPricedPlaceCert};
-ghost use Rattle.place_check.specs.slot_places.specs.Board.{market_of};
-ghost use Rattle.place_check.specs.slot_places.specs.Orders.{IsPlacement};
+ghost use Rattle.core_price.specs.Turns.{point_of};
+ghost use Rattle.core_laws.specs.Winners;
+ghost use Rattle.placement_cert.specs.CertValues.{place_cert_value};
+ghost use Rattle.placement_cert.specs.Parts.{row_value};
+ghost use Rattle.placement_check.specs.PlacePriced.{IsPricedPlaceCert};
+ghost use Rattle.slot_places.specs.Board.{market_of_slots};
+ghost use Rattle.slot_places.specs.Orders.{IsPlacement};
 ghost use Rattle.place_price.specs.Found.{AreFound};
 ghost use Rattle.place_price.specs.PlacedRows.{HasAllowedChoice, IsPlacedRow};
 
 use crate::bidder_rows::all_rows;
 use crate::placing::placement;
 use crate::pricing::PricedPlaces;
-use book_price::core_price::{Priced, for_bidders};
-use place_cert::cert_text::choices::bid_book::line_text::wide_num::NumList;
-use place_cert::cert_text::choices::{Choice, Found, Grid, Numbers};
-use place_cert::{PlaceCertificate, PlaceRows, PlaceWithouts};
-use place_check::slot_places::Slots;
+use choices::{Choice, Found, Grid, Numbers};
+use core_price::{Priced, for_bidders};
+use placement_cert::{PlaceCertificate, PlaceRows, PlaceWithouts};
+use slot_places::Slots;
 use std::alloc::{AllocError, Global};
+use wide_num::NumList;
 
 /// What the certificate has beside what was found: the placement of its choice, what each bidder pays, and its rows.
 #[derive(Drop)]
@@ -74,7 +74,7 @@ fn what_is_added(
     choice: &Choice,
     priced: &Priced<Grid>,
 ) -> Result<Added, AllocError>
-    requires allowed { IsTrue ((market_of slots.now).allowed choice.now) }
+    requires allowed { IsTrue ((market_of_slots slots.now).allowed choice.now) }
     requires few { length choice.now < 2 ^ 16 }
     requires points { length priced.now.at ≡ Winners.winners_in choice.now }
     requires kept { AllByRecursion (HasAllowedChoice slots.now) priced.now.rows }

@@ -1,19 +1,19 @@
 // The placement of an allowed choice.
 ghost use Rattle.std.specs.Prelude.{IfOk, IsTrue};
-ghost use Rattle.place_check.specs.slot_places.specs.Board.{market_of};
-ghost use Rattle.place_check.specs.slot_places.specs.Orders.{IsPlacement};
+ghost use Rattle.slot_places.specs.Board.{market_of_slots};
+ghost use Rattle.slot_places.specs.Orders.{IsPlacement};
 
-use place_cert::cert_text::choices::{Choice, Numbers};
-use place_check::slot_places::Slots;
+use choices::{Choice, Numbers};
+use slot_places::Slots;
 use std::alloc::{AllocError, Global};
 
-/// The placement of an allowed choice: the first order that allows it. The only error is want of memory.
+/// The placement of an allowed choice: the first order that allows it. The only error is out of memory.
 pub(crate) fn placement(
     alloc: Global,
     slots: &Slots,
     choice: &Choice,
 ) -> Result<Numbers, AllocError>
-    requires { IsTrue ((market_of slots.now).allowed choice.now) }
+    requires { IsTrue ((market_of_slots slots.now).allowed choice.now) }
     ensures { IfOk result (λ order. IsPlacement slots.now choice.now order) }
 {
     match slots.order_of(alloc, choice)? {

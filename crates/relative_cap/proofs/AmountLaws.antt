@@ -1,20 +1,20 @@
 -- Amounts: their bounds, and the greatest for a package.
-use Rattle.std.proofs.Common.{◌≡◌, ℕ, zero, suc, ◌+◌, ◌-◌, ◌*◌, ◌^◌, ◌<◌, ◌≤◌, max, false, List, [], ◌∷◌, ◌++◌, length, map, get_or, sym, ◌∙◌, ap, subst, inl}
-use Rattle.std.proofs.Common.{inr, arith}
+use Rattle.std.proofs.Common.{List, [], ap, arith, false, get_or, inl, inr, length, map, max, subst, suc, sym, zero, ℕ, ◌*◌, ◌++◌, ◌+◌, ◌-◌, ◌<◌, ◌^◌}
+use Rattle.std.proofs.Common.{◌∙◌, ◌∷◌, ◌≡◌, ◌≤◌}
 use Rattle.std.specs.Prelude.{sum, ◌==◌, if◌then◌else◌}
 use Rattle.std.specs.List.{All}
 use Rattle.std.proofs.lemmas.Bool.{cases_Bool, cond-true, cond-false}
 use Rattle.std.proofs.lemmas.List.{length-map}
 use Rattle.std.proofs.lemmas.List.Sums.{sum_by-cons}
 use Rattle.std.proofs.Math.Nat.{mul-le-mul, mul-le-mul_left}
-use Rattle.clock_stage.specs.auction_model.specs.Book.{BookBid}
-use Rattle.clock_stage.specs.auction_model.specs.Package.{cost_of}
-use Rattle.clock_stage.specs.auction_model.specs.PackageTests.{is_empty, is_same}
-use Rattle.clock_stage.specs.auction_rules.specs.Rounds.{OwnRound}
-use Rattle.clock_stage.specs.auction_rules.specs.State.{Round, own_of}
-use Rattle.clock_stage.specs.auction_rules.specs.Caps.{no_round, clock_bid, greatest, highest}
-use Rattle.clock_stage.specs.auction_model.proofs.PackageTestLaws.{is_same-refl}
-use Rattle.clock_stage.specs.auction_rules.proofs.BookCaps.{greatest-append, cost_of-empty}
+use Rattle.auction_model.specs.Book.{BookBid}
+use Rattle.auction_model.specs.Package.{cost_of}
+use Rattle.auction_model.specs.PackageTests.{is_empty, is_same}
+use Rattle.auction_rules.specs.Rounds.{OwnRound}
+use Rattle.auction_rules.specs.State.{Round, own_of}
+use Rattle.auction_rules.specs.Caps.{clock_bid, greatest, highest, no_round}
+use Rattle.auction_model.proofs.PackageTestLaws.{is_same-refl}
+use Rattle.auction_rules.proofs.BookCaps.{cost_of-empty, greatest-append}
 use Rattle.relative_cap.specs.OwnRounds.{rounds_of, own_in}
 use Rattle.relative_cap.proofs.RoundLaws.{own-at}
 

@@ -1,12 +1,12 @@
 -- Caps, by the rounds of a history.
 use Rattle.std.proofs.Common.{◌≡◌, ℕ, ◌≤◌, min, Bool, true, false, List, Some, None, length, sym, ◌∙◌, ap}
 use Rattle.std.proofs.lemmas.Bool.{cond-true, cond-false}
-use Rattle.clock_stage.specs.auction_model.specs.Book.{BookBid}
-use Rattle.clock_stage.specs.auction_model.specs.Package.{cost_of}
-use Rattle.clock_stage.specs.auction_model.specs.PackageTests.{is_same}
-use Rattle.clock_stage.specs.auction_rules.specs.Rounds.{OwnRound}
-use Rattle.clock_stage.specs.auction_rules.specs.State.{Round}
-use Rattle.clock_stage.specs.auction_rules.specs.Caps.{last_round, constraining, cap_by, cap_among, cap_of}
+use Rattle.auction_model.specs.Book.{BookBid}
+use Rattle.auction_model.specs.Package.{cost_of}
+use Rattle.auction_model.specs.PackageTests.{is_same}
+use Rattle.auction_rules.specs.Rounds.{OwnRound}
+use Rattle.auction_rules.specs.State.{Round}
+use Rattle.auction_rules.specs.Caps.{cap_among, cap_by, cap_of, constraining, last_round}
 use Rattle.relative_cap.specs.OwnRounds.{rounds_of, own_in, IsConstraining}
 use Rattle.relative_cap.proofs.RoundLaws.{constraining-is, last_round-is}
 

@@ -1,14 +1,14 @@
 -- The first place at which a package was held.
-use Rattle.std.proofs.Common.{◌≡◌, ◌⊎◌, ℕ, zero, suc, ◌+◌, ◌-◌, ◌<◌, ◌≤◌, true, false, List, [], ◌∷◌, length, get_or, drop, refl, sym, subst, ◌∙◌, ap, inl}
-use Rattle.std.proofs.Common.{inr, arith}
+use Rattle.std.proofs.Common.{List, [], ap, arith, drop, false, get_or, inl, inr, length, refl, subst, suc, sym, true, zero, ℕ, ◌+◌, ◌-◌, ◌<◌, ◌∙◌}
+use Rattle.std.proofs.Common.{◌∷◌, ◌≡◌, ◌≤◌, ◌⊎◌}
 use Rattle.std.specs.Prelude.{if◌then◌else◌}
 use Rattle.std.proofs.lemmas.Bool.{cases_Bool, cond-true, cond-false}
 use Rattle.std.proofs.lemmas.List.{length-map, drop_more, drop_all}
-use Rattle.clock_stage.specs.auction_model.specs.PackageTests.{is_empty, is_same}
-use Rattle.clock_stage.specs.auction_rules.specs.Rounds.{OwnRound}
-use Rattle.clock_stage.specs.auction_rules.specs.State.{Round, own_of}
-use Rattle.clock_stage.specs.auction_rules.specs.Caps.{no_round}
-use Rattle.clock_stage.specs.auction_model.proofs.PackageTestLaws.{is_same-refl, is_same-true}
+use Rattle.auction_model.specs.PackageTests.{is_empty, is_same}
+use Rattle.auction_rules.specs.Rounds.{OwnRound}
+use Rattle.auction_rules.specs.State.{Round, own_of}
+use Rattle.auction_rules.specs.Caps.{no_round}
+use Rattle.auction_model.proofs.PackageTestLaws.{is_same-refl, is_same-true}
 use Rattle.clock_stage.specs.Kept as kept
 use Rattle.relative_cap.specs.OwnRounds.{rounds_of, own_in}
 use Rattle.relative_cap.specs.RoundsOfPackage.{first_place, own_place}

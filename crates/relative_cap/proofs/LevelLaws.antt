@@ -1,15 +1,15 @@
--- What is worked out once for a list gives the constraining round and the highest amounts.
-use Rattle.std.proofs.Common.{◌≡◌, ◌⊎◌, ℕ, zero, suc, ◌+◌, ◌-◌, ◌^◌, ◌<◌, ◌≤◌, max, true, false, List, [], ◌∷◌, ◌++◌, length, map, get_or, set, drop, refl}
-use Rattle.std.proofs.Common.{sym, subst, ◌∙◌, ap, inl, inr, arith}
+-- What is computed once for a list gives the constraining round and the highest amounts.
+use Rattle.std.proofs.Common.{List, [], ap, arith, drop, false, get_or, inl, inr, length, map, max, refl, set, subst, suc, sym, true, zero, ℕ, ◌++◌}
+use Rattle.std.proofs.Common.{◌+◌, ◌-◌, ◌<◌, ◌^◌, ◌∙◌, ◌∷◌, ◌≡◌, ◌≤◌, ◌⊎◌}
 use Rattle.std.specs.Prelude.{slice_index}
 use Rattle.std.proofs.lemmas.Bool.{cases_order, cond-true, cond-false}
 use Rattle.std.proofs.lemmas.List.{length-map, length-drop, get_or-map, get_or-drop, get_or-set_same, get_or-set_other, drop_more}
-use Rattle.clock_stage.specs.auction_model.specs.Book.{BookBid}
-use Rattle.clock_stage.specs.auction_rules.specs.Rounds.{OwnRound}
-use Rattle.clock_stage.specs.auction_rules.specs.State.{Round, own_of}
-use Rattle.clock_stage.specs.auction_model.specs.PackageTests.{is_empty}
-use Rattle.clock_stage.specs.auction_rules.specs.Caps.{no_round, clock_bid, greatest, highest}
-use Rattle.clock_stage.specs.auction_rules.proofs.BookCaps.{greatest-append}
+use Rattle.auction_model.specs.Book.{BookBid}
+use Rattle.auction_rules.specs.Rounds.{OwnRound}
+use Rattle.auction_rules.specs.State.{Round, own_of}
+use Rattle.auction_model.specs.PackageTests.{is_empty}
+use Rattle.auction_rules.specs.Caps.{clock_bid, greatest, highest, no_round}
+use Rattle.auction_rules.proofs.BookCaps.{greatest-append}
 use Rattle.clock_stage.specs.Kept as kept
 use Rattle.relative_cap.specs.OwnRounds.{rounds_of, own_in, eligibility_in, IsConstraining}
 use Rattle.relative_cap.proofs.AmountLaws.{highest-is}
@@ -39,7 +39,7 @@ peak-at history j r low high =
     ap (λ (h : List Round). peak_of (rounds_of j h)) (drop_more history (r - 1) kept.no_round (omega arith))
     ∙ ap (λ m. max (eligibility_in history j r) (peak_from history j m)) next
 
--- the peak from a round on is the greater of its eligibility and the peak behind it
+-- the peak from a round on is the greater of its eligibility and the peak after it
 pub peak-step : (history : List Round) (j k peak eligibility more : ℕ) → k < length history → peak ≡ peak_from history j (k + 1)
     → eligibility ≡ eligibility_in history j (k + 1)
     → more ≡ max peak eligibility → more ≡ peak_from history j k
@@ -47,7 +47,7 @@ peak-step history j k peak eligibility more inside is own by =
     let back : k ≡ k + 1 - 1 = omega arith in
     omega (arith, is, own, by, ap (peak_from history j) back, peak-at history j (k + 1) (omega arith) (omega arith))
 
--- behind the last round the peak is 0
+-- after the last round the peak is 0
 pub peak-end : (history : List Round) (j k : ℕ) → length history ≤ k → peak_from history j k ≡ 0
 peak-end [] j zero past = refl
 peak-end [] j (suc k) past = refl
@@ -136,7 +136,7 @@ high-some history j bids r clock listed best held low by_held some by_clock by_l
       omega (arith, is, most, by_clock.1),
     )
 
--- a write in front of what is known
+-- a write before what is known
 pub set-from : (P : ℕ → ℕ → Type 0) (xs : List ℕ) (i v p : ℕ) → p ≡ i + 1 → i < length xs → ((k : ℕ) → p ≤ k → P k (slice_index xs k)) → P i v
     → (k : ℕ) → i ≤ k → P k (slice_index (set xs i v) k)
 set-from P xs i v p next inside before own k low =

@@ -1,12 +1,12 @@
--- Lists in order: where a package stands, and its amount.
-use Rattle.std.proofs.Common.{◌≡◌, ◌⊎◌, ℕ, zero, suc, ◌+◌, ◌<◌, ◌≤◌, true, false, List, [], ◌∷◌, length, map, get_or, refl, sym, subst, ◌∙◌, ap, inl, inr}
-use Rattle.std.proofs.Common.{arith}
+-- Lists in order: where a package is, and its amount.
+use Rattle.std.proofs.Common.{List, [], ap, arith, false, get_or, inl, inr, length, map, refl, subst, suc, sym, true, zero, ℕ, ◌+◌, ◌<◌, ◌∙◌, ◌∷◌}
+use Rattle.std.proofs.Common.{◌≡◌, ◌≤◌, ◌⊎◌}
 use Rattle.std.proofs.lemmas.Bool.{cases_Bool, cases_order}
 use Rattle.std.proofs.lemmas.List.{length-map, get_or-map, get_or_default}
-use Rattle.clock_stage.specs.auction_model.specs.PackageTests.{is_same, is_before, AllAfter, InOrder}
-use Rattle.clock_stage.specs.auction_rules.specs.Caps.{greatest}
-use Rattle.clock_stage.specs.auction_model.proofs.PackageTestLaws.{is_same-true, is_before-not_same, is_before-trans}
-use Rattle.clock_stage.specs.lots.specs.declared.«package».Bid.{Bid}
+use Rattle.auction_model.specs.PackageTests.{AllAfter, InOrder, is_before, is_same}
+use Rattle.auction_rules.specs.Caps.{greatest}
+use Rattle.auction_model.proofs.PackageTestLaws.{is_before-not_same, is_before-trans, is_same-true}
+use Rattle.lots.specs.declared.«package».Bid.{Bid}
 use Rattle.relative_cap.specs.OwnRounds.{bid_value, entry_lots}
 use Rattle.relative_cap.specs.Place.{lots_at, AreBefore, AreBehind, IsPlace}
 
@@ -35,7 +35,7 @@ before-more list lots middle order inside own k low =
       ]
     ]
 
--- where the package in the middle doesn't come before this one, none behind it does
+-- where the package in the middle doesn't come before this one, none after it does
 pub behind-more : (list : List Bid) (lots : List ℕ) (middle : ℕ) → InOrder (map entry_lots list) → is_before (lots_at list middle) lots ≡ false
     → AreBehind list lots middle
 behind-more list lots middle order own k low inside =
@@ -60,7 +60,7 @@ greatest-none (b ∷ list) lots apart =
     let rest : greatest lots (map bid_value list) ≡ 0 = greatest-none list lots (λ k inside. apart (suc k) (omega arith)) in
     rw (apart 0 (omega arith), rest) (omega arith)
 
--- one that stands at one place alone has that amount
+-- one that is at one place alone has that amount
 greatest-one : (list : List Bid) (lots : List ℕ) (i : ℕ) (d : Bid) → i < length list → is_same (get_or list i d).«package» lots ≡ true
     → ((k : ℕ) → (k < i) ⊎ (i < k) → k < length list → is_same (lots_at list k) lots ≡ false) → greatest lots (map bid_value list) ≡ (get_or list i d).amount
 greatest-one [] lots i d inside same apart = absurd (omega arith)
@@ -92,7 +92,7 @@ behind-apart list lots place k order is low inside =
 pub lots-read : (list : List Bid) (k : ℕ) (x : Bid) → k < length list → lots_at list k ≡ (get_or list k x).«package»
 lots-read list k x inside = get_or-map entry_lots list k x [] inside
 
--- a package that stands at its place has the amount of that entry
+-- a package that is at its place has the amount of that entry
 pub amount-there : (list : List Bid) (lots : List ℕ) (place : ℕ) (d x : Bid) → InOrder (map entry_lots list) → IsPlace list lots place → place < length list
     → is_same (get_or list place x).«package» lots ≡ true → (get_or list place d).amount ≡ greatest lots (map bid_value list)
 amount-there list lots place d x order is inside same =
@@ -101,7 +101,7 @@ amount-there list lots place d x order is inside same =
     sym (greatest-one list lots place d inside own
     (λ k other below. elim other [ inl less ↦ before-apart list lots place k is less | inr more ↦ behind-apart list lots place k order is more below ]))
 
--- a package whose place is behind all entries has no amount
+-- a package whose place is after all entries has no amount
 pub amount-past : (list : List Bid) (lots : List ℕ) (place : ℕ) → IsPlace list lots place → length list ≤ place → 0 ≡ greatest lots (map bid_value list)
 amount-past list lots place is past = sym (greatest-none list lots (λ k below. before-apart list lots place k is (omega arith)))
 

@@ -3,11 +3,11 @@ use Rattle.std.proofs.Common.{◌≡◌, ℕ, zero, suc, ◌+◌, ◌-◌, ◌<�
 use Rattle.std.specs.Prelude.{nat_le}
 use Rattle.std.proofs.lemmas.Bool.{cases_Bool, le-leb, lt-leb}
 use Rattle.std.proofs.lemmas.List.{length-map, get_or-map}
-use Rattle.clock_stage.specs.auction_rules.specs.Step.{last_or}
-use Rattle.clock_stage.specs.auction_rules.specs.Rounds.{OwnRound}
-use Rattle.clock_stage.specs.auction_rules.specs.State.{Round, own_of}
-use Rattle.clock_stage.specs.auction_rules.specs.Caps.{no_round, last_round, constraining, enough_numbers, constraining_number, round_at}
-use Rattle.clock_stage.specs.auction_rules.proofs.Constraining.{round_at-constraining_number}
+use Rattle.auction_rules.specs.Step.{last_or}
+use Rattle.auction_rules.specs.Rounds.{OwnRound}
+use Rattle.auction_rules.specs.State.{Round, own_of}
+use Rattle.auction_rules.specs.Caps.{constraining, constraining_number, enough_numbers, last_round, no_round, round_at}
+use Rattle.auction_rules.proofs.Constraining.{round_at-constraining_number}
 use Rattle.clock_stage.specs.Kept as kept
 use Rattle.relative_cap.specs.OwnRounds.{rounds_of, own_in, IsConstraining}
 
@@ -31,7 +31,7 @@ last-enough p number d (r ∷ rounds) (suc i) inside long later =
       | inr short ↦ rw short (rest d)
     ]
 
--- round r as a bidder has it stands at place r - 1 of its rounds
+-- round r as a bidder has it is at place r - 1 of its rounds
 pub own-at : (j : ℕ) (history : List Round) (r : ℕ) → 1 ≤ r → r ≤ length history → get_or (rounds_of j history) (r - 1) no_round ≡ own_in history j r
 own-at j history r low high = get_or-map (own_of j) history (r - 1) kept.no_round no_round (omega arith)
 

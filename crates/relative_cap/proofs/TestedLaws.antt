@@ -1,22 +1,22 @@
 -- The highest amounts over the entries that are tested, and the caps that these say.
-use Rattle.std.proofs.Common.{◌≡◌, ◌⊎◌, ℕ, zero, suc, ◌+◌, ◌-◌, ◌^◌, ◌<◌, ◌≤◌, max, min, Bool, true, false, List, [], ◌∷◌, ◌++◌, Option, Some, None, length}
-use Rattle.std.proofs.Common.{map, take, drop, get_or, set, refl, sym, subst, ◌∙◌, ap, inl, inr, arith}
+use Rattle.std.proofs.Common.{Bool, List, None, Option, Some, [], ap, arith, drop, false, get_or, inl, inr, length, map, max, min, refl, set, subst}
+use Rattle.std.proofs.Common.{suc, sym, take, true, zero, ℕ, ◌++◌, ◌+◌, ◌-◌, ◌<◌, ◌^◌, ◌∙◌, ◌∷◌, ◌≡◌, ◌≤◌, ◌⊎◌}
 use Rattle.std.specs.Prelude.{if◌then◌else◌, nat_lt, slice_index}
 use Rattle.std.specs.List.{All, insert, remove}
 use Rattle.std.proofs.lemmas.Bool.{cases_Bool, cases_order, cond-true, cond-false, ltb-true, ltb-false, false≢true}
-use Rattle.std.proofs.lemmas.List.{append_assoc, length-append, length-map, length-set, length-take, length-take-le, map-append, map-set, get_or-map}
-use Rattle.std.proofs.lemmas.List.{get_or-set_same, get_or-set_other, take_all, take_at, take_more, take_more_set, take-map}
+use Rattle.std.proofs.lemmas.List.{append_assoc, get_or-map, get_or-set_other, get_or-set_same, length-append, length-map, length-set, length-take}
+use Rattle.std.proofs.lemmas.List.{length-take-le, map-append, map-set, take-map, take_all, take_at, take_more, take_more_set}
 use Rattle.std.proofs.lemmas.List.Edits.{length-remove}
 use Rattle.std.proofs.lemmas.List.Elements.{All-append, All-cons, All-take, All-drop}
-use Rattle.clock_stage.specs.auction_model.specs.Book.{BookBid}
-use Rattle.clock_stage.specs.auction_model.specs.Package.{cost_of}
-use Rattle.clock_stage.specs.auction_model.specs.PackageTests.{is_empty, is_same}
-use Rattle.clock_stage.specs.auction_rules.specs.Rounds.{OwnRound}
-use Rattle.clock_stage.specs.auction_rules.specs.State.{Round, own_of}
-use Rattle.clock_stage.specs.auction_rules.specs.Caps.{clock_bid, greatest, highest, cap_by, cap_among, cap_of, last_round}
-use Rattle.clock_stage.specs.auction_model.proofs.PackageTestLaws.{is_same-true, is_same-refl}
-use Rattle.clock_stage.specs.auction_rules.proofs.BookCaps.{greatest-append}
-use Rattle.clock_stage.specs.lots.specs.declared.«package».Bid.{Bid}
+use Rattle.auction_model.specs.Book.{BookBid}
+use Rattle.auction_model.specs.Package.{cost_of}
+use Rattle.auction_model.specs.PackageTests.{is_empty, is_same}
+use Rattle.auction_rules.specs.Rounds.{OwnRound}
+use Rattle.auction_rules.specs.State.{Round, own_of}
+use Rattle.auction_rules.specs.Caps.{cap_among, cap_by, cap_of, clock_bid, greatest, highest, last_round}
+use Rattle.auction_model.proofs.PackageTestLaws.{is_same-refl, is_same-true}
+use Rattle.auction_rules.proofs.BookCaps.{greatest-append}
+use Rattle.lots.specs.declared.«package».Bid.{Bid}
 use Rattle.relative_cap.specs.declared.terms.RoundTerms.{RoundTerms}
 use Rattle.relative_cap.specs.declared.terms.PackageTerms.{PackageTerms}
 use Rattle.relative_cap.specs.declared.entries.TestedEntry.{TestedEntry}
@@ -171,7 +171,7 @@ highs-more history points j bids highs e tested are = record {
 
 module _ (history : List Round) (j : ℕ) (bids : List BookBid) (highs lots : List ℕ) (r : ℕ) (t : RoundTerms) (are : AreHighs history j bids highs)
     (low : 1 ≤ r) (high : r ≤ length history) (is : IsRoundTerms history j r lots t) where
-  -- what stands among the highest amounts at the place of a round is that of the package held in it
+  -- what is among the highest amounts at the place of a round is that of the package held in it
   round-high : IsHighest (rounds_of j history) bids (own_in history j r).held (slice_index highs t.place)
   round-high =
       subst (λ place. IsHighest (rounds_of j history) bids (own_in history j r).held (slice_index highs place)) (sym is.place)
@@ -295,7 +295,7 @@ set-at place entries e b inside own =
     ∙ take_more_set (map tested_bid entries) place (tested_bid e) (omega (arith, inside, bids-count entries))
     ∙ ap (λ (x : BookBid). take place (map tested_bid entries) ++ x ∷ []) own
 
--- behind those that stand before the place
+-- after those that come before the place
 pub front-set : (history : List Round) (points : List ℕ) (j place : ℕ) (before : List BookBid) (entries : List TestedEntry) (e : TestedEntry) (b : BookBid)
     → place < length entries
     → IsFront history points j place before entries → tested_bid e ≡ b → take (place + 1) (map tested_bid (set entries place e)) ≡ before ++ b ∷ []
@@ -324,7 +324,7 @@ front-more history points j place list bid old entries inside at front each put 
       same = put ∙ ap (λ (bs : List BookBid). bs ++ bid_value bid ∷ []) front.same ∙ sym more;
     }
 
--- behind the last bid nothing is left
+-- after the last bid nothing is left
 pub front-whole : (history : List Round) (points : List ℕ) (j place : ℕ) (list : List Bid) (entries new : List TestedEntry) → length list ≤ place
     → place ≤ length list
     → IsFront history points j place (take place (map bid_value list)) entries → new ≡ take (length list) entries → map tested_bid new ≡ map bid_value list

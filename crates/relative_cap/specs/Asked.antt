@@ -1,10 +1,10 @@
 -- What a cap is asked of.
 use Rattle.std.specs.Prelude.{◌≡◌, ℕ, ◌≤◌, List, length}
 use Rattle.std.specs.List.{All}
-use Rattle.clock_stage.specs.award_file.specs.limits.specs.declared.TheConstants.{MOST_AMOUNT, MOST_POINTS}
-use Rattle.clock_stage.specs.auction_rules.specs.State.{Round}
-use Rattle.clock_stage.specs.lots.specs.declared.«package».Bid.{Bid}
-use Rattle.clock_stage.specs.auction_model.specs.Package.{cost_of}
+use Rattle.limits.specs.declared.TheConstants.{MOST_AMOUNT, MOST_POINTS}
+use Rattle.auction_rules.specs.State.{Round}
+use Rattle.lots.specs.declared.«package».Bid.{Bid}
+use Rattle.auction_model.specs.Package.{cost_of}
 use Rattle.clock_stage.specs.Kept.{IsHeld, bidders_in, categories_in}
 use Rattle.relative_cap.specs.OwnRounds.{eligibility_in}
 
@@ -19,7 +19,7 @@ pub record ArePoints (history : List Round) (points : List ℕ) : Type 0 where
   pub count : length points ≡ categories_in history
   pub most : All (λ p. p ≤ MOST_POINTS) points
 
--- an entry of so many categories
+-- an entry of that many categories
 pub record IsEntry (categories : ℕ) (b : Bid) : Type 0 where
   pub held : IsHeld categories b.«package»
   pub amount : b.amount ≤ MOST_AMOUNT

@@ -1,11 +1,11 @@
 -- What the closed rounds say of caps: for each round the greatest eligibility from it on, and the greatest clock bid for what was
 -- held in it. Places are counted from 0.
 use Rattle.std.specs.Prelude.{◌≡◌, ◌⊎◌, ℕ, ◌+◌, ◌-◌, ◌≤◌, ◌<◌, max, List, [], ◌∷◌, length, drop, slice_index}
-use Rattle.clock_stage.specs.award_file.specs.limits.specs.declared.TheConstants.{MOST_AMOUNT}
-use Rattle.clock_stage.specs.auction_model.specs.Book.{BookBid}
-use Rattle.clock_stage.specs.auction_rules.specs.Rounds.{OwnRound}
-use Rattle.clock_stage.specs.auction_rules.specs.State.{Round}
-use Rattle.clock_stage.specs.auction_rules.specs.Caps.{highest}
+use Rattle.limits.specs.declared.TheConstants.{MOST_AMOUNT}
+use Rattle.auction_model.specs.Book.{BookBid}
+use Rattle.auction_rules.specs.Rounds.{OwnRound}
+use Rattle.auction_rules.specs.State.{Round}
+use Rattle.auction_rules.specs.Caps.{highest}
 use Rattle.relative_cap.specs.OwnRounds.{rounds_of, own_in, eligibility_in}
 
 -- the greatest eligibility
@@ -13,7 +13,7 @@ abbrev pub peak_of : List OwnRound → ℕ
 peak_of [] = 0
 peak_of (r ∷ rounds) = max r.eligibility (peak_of rounds)
 
--- the greatest eligibility behind the first k rounds
+-- the greatest eligibility after the first k rounds
 abbrev pub peak_from : List Round → ℕ → ℕ → ℕ
 peak_from history j k = peak_of (rounds_of j (drop k history))
 

@@ -5,10 +5,3 @@ pub mod Levels
 pub mod Asked
 pub mod RoundsOfPackage
 pub mod Tested
-pub use Rattle.clock_stage.specs.auction_model
-pub use Rattle.clock_stage.specs.auction_rules
-pub use Rattle.clock_stage.specs.award_file.specs.bid_book
-pub use Rattle.clock_stage.specs.book_form
-pub use Rattle.clock_stage
-pub use Rattle.clock_stage.specs.award_file.specs.limits
-pub use Rattle.clock_stage.specs.lots

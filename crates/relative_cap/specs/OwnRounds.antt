@@ -1,12 +1,12 @@
 -- The rounds of a history as one bidder has them, and its entries.
 use Rattle.std.specs.Prelude.{ℕ, ◌+◌, ◌-◌, ◌≤◌, ◌<◌, List, length, map, slice_index, if◌then◌else◌}
-use Rattle.clock_stage.specs.auction_model.specs.Book.{BookBid}
-use Rattle.clock_stage.specs.auction_model.specs.Package.{cost_of}
-use Rattle.clock_stage.specs.auction_model.specs.PackageTests.{is_same}
-use Rattle.clock_stage.specs.auction_rules.specs.Rounds.{OwnRound}
-use Rattle.clock_stage.specs.auction_rules.specs.State.{Round, own_of}
-use Rattle.clock_stage.specs.lots.specs.declared.«package».Bid.{Bid}
-use Rattle.clock_stage.specs.Kept.{round_at}
+use Rattle.auction_model.specs.Book.{BookBid}
+use Rattle.auction_model.specs.Package.{cost_of}
+use Rattle.auction_model.specs.PackageTests.{is_same}
+use Rattle.auction_rules.specs.Rounds.{OwnRound}
+use Rattle.auction_rules.specs.State.{Round, own_of}
+use Rattle.lots.specs.declared.«package».Bid.{Bid}
+use Rattle.clock_stage.specs.Kept.{closed_round}
 
 -- the rounds of bidder j
 abbrev pub rounds_of : ℕ → List Round → List OwnRound
@@ -14,13 +14,13 @@ rounds_of j history = map (own_of j) history
 
 -- round r as bidder j has it
 abbrev pub own_in : List Round → ℕ → ℕ → OwnRound
-own_in history j r = own_of j (round_at history r)
+own_in history j r = own_of j (closed_round history r)
 
 -- what bidder j is eligible for at the start of round r
 abbrev pub eligibility_in : List Round → ℕ → ℕ → ℕ
-eligibility_in history j r = slice_index (round_at history r).eligibility (j - 1)
+eligibility_in history j r = slice_index (closed_round history r).eligibility (j - 1)
 
--- round r is the greatest at whose start bidder j is eligible for so many points
+-- round r is the greatest at whose start bidder j is eligible for that many points
 pub record IsConstraining (needed : ℕ) (history : List Round) (j r : ℕ) : Type 0 where
   pub first : 1 ≤ r
   pub last : r ≤ length history

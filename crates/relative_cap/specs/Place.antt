@@ -1,7 +1,7 @@
 -- The place of a package in a list in order, counted from 0.
 use Rattle.std.specs.Prelude.{◌≡◌, ℕ, ◌≤◌, ◌<◌, true, false, List, [], length, map, slice_index_or}
-use Rattle.clock_stage.specs.auction_model.specs.PackageTests.{is_before}
-use Rattle.clock_stage.specs.lots.specs.declared.«package».Bid.{Bid}
+use Rattle.auction_model.specs.PackageTests.{is_before}
+use Rattle.lots.specs.declared.«package».Bid.{Bid}
 use Rattle.relative_cap.specs.OwnRounds.{entry_lots}
 
 -- the package of the entry at a place

@@ -1,15 +1,15 @@
 -- What the closed rounds say of the cap of one package, whatever the list is. Places are counted from 0.
 use Rattle.std.specs.Prelude.{◌≡◌, ℕ, suc, ◌≤◌, List, [], ◌∷◌, length, if◌then◌else◌}
-use Rattle.clock_stage.specs.award_file.specs.limits.specs.declared.TheConstants.{MOST_AMOUNT}
-use Rattle.clock_stage.specs.auction_model.specs.Package.{cost_of}
-use Rattle.clock_stage.specs.auction_model.specs.PackageTests.{is_empty, is_same}
-use Rattle.clock_stage.specs.auction_rules.specs.Rounds.{OwnRound}
-use Rattle.clock_stage.specs.auction_rules.specs.State.{Round}
+use Rattle.limits.specs.declared.TheConstants.{MOST_AMOUNT}
+use Rattle.auction_model.specs.Package.{cost_of}
+use Rattle.auction_model.specs.PackageTests.{is_empty, is_same}
+use Rattle.auction_rules.specs.Rounds.{OwnRound}
+use Rattle.auction_rules.specs.State.{Round}
 use Rattle.relative_cap.specs.declared.terms.RoundTerms.{RoundTerms}
 use Rattle.relative_cap.specs.declared.terms.PackageTerms.{PackageTerms}
 use Rattle.relative_cap.specs.OwnRounds.{rounds_of, own_in, IsConstraining}
 
--- the place of the first of the rounds in which the package was held, and their number where there is none
+-- the place of the first of the rounds in which the package was held, and their number if there is none
 abbrev pub first_place : List OwnRound → List ℕ → ℕ
 first_place [] lots = 0
 first_place (r ∷ rounds) lots = if is_same r.held lots then 0 else suc (first_place rounds lots)

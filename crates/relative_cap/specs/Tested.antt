@@ -1,11 +1,11 @@
 -- The entries of a list that is tested, the highest amounts over them, and the caps that these say.
 use Rattle.std.specs.Prelude.{◌≡◌, ℕ, suc, ◌+◌, ◌-◌, ◌≤◌, ◌<◌, max, min, Bool, List, [], ◌∷◌, ◌++◌, Option, Some, None, length, map, nat_lt, slice_index, slice_set, take, if◌then◌else◌}
 use Rattle.std.specs.List.{All}
-use Rattle.clock_stage.specs.award_file.specs.limits.specs.declared.TheConstants.{MOST_AMOUNT}
-use Rattle.clock_stage.specs.auction_model.specs.Book.{BookBid}
-use Rattle.clock_stage.specs.auction_rules.specs.Rounds.{OwnRound}
-use Rattle.clock_stage.specs.auction_rules.specs.State.{Round}
-use Rattle.clock_stage.specs.auction_rules.specs.Caps.{highest}
+use Rattle.limits.specs.declared.TheConstants.{MOST_AMOUNT}
+use Rattle.auction_model.specs.Book.{BookBid}
+use Rattle.auction_rules.specs.Rounds.{OwnRound}
+use Rattle.auction_rules.specs.State.{Round}
+use Rattle.auction_rules.specs.Caps.{highest}
 use Rattle.clock_stage.specs.Kept.{categories_in}
 use Rattle.relative_cap.specs.declared.terms.RoundTerms.{RoundTerms}
 use Rattle.relative_cap.specs.declared.terms.PackageTerms.{PackageTerms}
@@ -26,7 +26,7 @@ pub record IsTested (history : List Round) (points : List ℕ) (j : ℕ) (e : Te
   pub entry : IsEntry (categories_in history) e.bid
   pub terms : IsTerms history points j e.bid.«package» e.terms
 
--- behind the bids before the place, which stay, stands this one
+-- after the bids before the place, which stay, stands this one
 abbrev pub IsPutAt : List BookBid → ℕ → BookBid → List BookBid → Type 0
 IsPutAt old place b new = take (place + 1) new ≡ take place old ++ b ∷ []
 

@@ -1,8 +1,8 @@
 // Greatest amounts.
 ghost use Rattle.std.specs.Prelude.{◌≡◌, ◌≤◌, All, length, map};
-ghost use Rattle.clock_stage.specs.award_file.specs.limits.specs.declared.TheConstants.{MOST_AMOUNT};
-ghost use Rattle.clock_stage.specs.auction_rules.specs.Caps.{clock_bid, greatest, highest};
-ghost use Rattle.clock_stage.specs.auction_model.specs.PackageTests.{InOrder};
+ghost use Rattle.limits.specs.declared.TheConstants.{MOST_AMOUNT};
+ghost use Rattle.auction_rules.specs.Caps.{clock_bid, greatest, highest};
+ghost use Rattle.auction_model.specs.PackageTests.{InOrder};
 ghost use Rattle.clock_stage.specs.Kept.{IsHeld, categories_in};
 ghost use Rattle.relative_cap.specs.Asked.{IsBidderOf, IsEntry};
 ghost use Rattle.relative_cap.specs.Place.{IsPlace};
@@ -28,7 +28,7 @@ fn clock_amount(history: &History, j: u16, r: u32, package: &Package) -> u64
     }
 }
 
-/// The greatest amount for the package among the clock bids of bidder `j`, and 0 where there is none.
+/// The greatest amount for the package among the clock bids of bidder `j`, and 0 if there is none.
 fn greatest_clock(history: &History, j: u16, package: &Package) -> u64
     requires bidder { IsBidderOf history.now j }
     requires categories { IsHeld (categories_in history.now) «package».now }
@@ -62,7 +62,7 @@ pub fn place_of(list: &[Bid], package: &Package) -> usize
     low
 }
 
-/// The amount for the package in a list in the order of packages, and 0 where there is none. It halves, and takes no memory.
+/// The amount for the package in a list in the order of packages, and 0 if there is none. It halves, and takes no memory.
 pub fn amount_listed(list: &[Bid], package: &Package) -> u64
     requires list { All (IsEntry (length «package».now)) list.now }
     requires order { InOrder (map entry_lots list.now) }

@@ -1,9 +1,9 @@
 // Caps, and the first entry above its cap.
 ghost use Rattle.std.specs.Prelude.{◌≡◌, ◌-◌, ◌≤◌, ◌<◌, ◌^◌, [], All, length, map, option_map, slice_index};
-ghost use Rattle.clock_stage.specs.award_file.specs.limits.specs.declared.TheConstants.{MOST_AMOUNT};
-ghost use Rattle.clock_stage.specs.auction_model.specs.Package.{cost_of};
-ghost use Rattle.clock_stage.specs.auction_rules.specs.Caps.{cap_by, cap_of, excess_cap, list_fault};
-ghost use Rattle.clock_stage.specs.auction_model.specs.PackageTests.{InOrder};
+ghost use Rattle.limits.specs.declared.TheConstants.{MOST_AMOUNT};
+ghost use Rattle.auction_model.specs.Package.{cost_of};
+ghost use Rattle.auction_rules.specs.Caps.{cap_by, cap_of, excess_cap, list_fault};
+ghost use Rattle.auction_model.specs.PackageTests.{InOrder};
 ghost use Rattle.clock_stage.specs.Kept.{IsHeld, categories_in};
 ghost use Rattle.relative_cap.specs.Asked.{ArePoints, IsBidderOf, IsEligible, IsEntry};
 ghost use Rattle.relative_cap.specs.Levels.{AreLevels, IsHigh};
@@ -16,7 +16,7 @@ use crate::levels::{fill_levels, high_over, last_peak};
 use crate::packages::is_same;
 use crate::rounds::constraining_round;
 use clock_stage::History;
-use lots::limits::MOST_ROUNDS;
+use limits::MOST_ROUNDS;
 use lots::{Bid, Package};
 
 /// What the package may cost by round `r`: the highest amount for what bidder `j` held in it, which is given, and the price of the
@@ -191,7 +191,7 @@ fn first_fault(
 const ROUNDS: usize = MOST_ROUNDS as usize;
 
 /// The first entry of the list of bidder `j` whose amount is above its cap over the list, if there is one: its number, counted
-/// from 1, with its cap. The list is in the order of packages. It takes no memory, and works out once for the whole list what the
+/// from 1, with its cap. The list is in the order of packages. It takes no memory, and computes once for the whole list what the
 /// rounds say. It is for a single list; of many lists of one bidder a `ListTester` tests each after the first faster.
 pub fn list_fault(
     history: &History,

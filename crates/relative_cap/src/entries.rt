@@ -1,6 +1,6 @@
 // The entries of a list that was tested.
 ghost use Rattle.std.specs.Prelude.{◌≡◌, ◌≤◌, ◌<◌, [], All, IfOk, OnOk, length, map, slice_index_or, take, true};
-ghost use Rattle.clock_stage.specs.award_file.specs.limits.specs.declared.TheConstants.{MOST_AMOUNT};
+ghost use Rattle.limits.specs.declared.TheConstants.{MOST_AMOUNT};
 ghost use Rattle.clock_stage.specs.Kept.{categories_in};
 ghost use Rattle.relative_cap.specs.Asked.{ArePoints, IsBidderOf, IsEligible, IsEntry};
 ghost use Rattle.relative_cap.specs.Levels.{ArePeaks};
@@ -67,7 +67,7 @@ fn stands_at(entries: &[TestedEntry], place: usize, package: &Package) -> bool
     place < entries.len() && is_same(&entries[place].bid.package, package)
 }
 
-/// Puts an entry of bidder `j` at the place behind those before it. Entries that are there with packages that come earlier are
+/// Puts an entry of bidder `j` at the place after those before it. Entries that are there with packages that come earlier are
 /// taken out, and one for the package itself keeps what the rounds say.
 fn put_among(
     alloc: Global,
@@ -132,8 +132,8 @@ fn put_at(
     put_among(alloc, history, points, j, peaks, bid, place, entries)
 }
 
-/// Makes the entries those of the list of bidder `j`. What the rounds say of a package is worked out only where the entries don't have
-/// it yet. For want of memory they are those of another list.
+/// Makes the entries those of the list of bidder `j`. What the rounds say of a package is computed only where the entries don't have
+/// it yet. If memory runs out, they are those of another list.
 pub fn follow(
     alloc: Global,
     history: &History,

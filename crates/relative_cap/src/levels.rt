@@ -1,6 +1,6 @@
 // What the closed rounds say of the caps of a bidder, whatever its list is.
 ghost use Rattle.std.specs.Prelude.{◌≡◌, ◌+◌, ◌-◌, ◌≤◌, ◌<◌, ◌^◌, [], All, length, map, slice_index};
-ghost use Rattle.clock_stage.specs.auction_model.specs.PackageTests.{InOrder};
+ghost use Rattle.auction_model.specs.PackageTests.{InOrder};
 ghost use Rattle.clock_stage.specs.Kept.{categories_in};
 ghost use Rattle.relative_cap.specs.Asked.{IsBidderOf, IsEntry};
 ghost use Rattle.relative_cap.specs.Levels.{AreLevels, IsHigh, IsLastEnough};
@@ -46,7 +46,7 @@ pub fn high_over(history: &History, j: u16, r: u32, list: &[Bid], clock: u64) ->
     clock.max(amount_listed(list, held))
 }
 
-/// The last of so many rounds whose number is enough, by halving. The numbers never rise.
+/// The last of that many rounds whose number is enough, by halving. The numbers never rise.
 pub fn last_peak(peaks: &[u64], rounds: u32, needed: u64) -> u32
     requires some { 1 ≤ rounds }
     requires room { rounds ≤ length peaks.now }

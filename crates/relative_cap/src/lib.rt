@@ -1,6 +1,6 @@
 //! Relative caps: what a bidder may offer for a package in the sealed round, by what it did in the clock.
 //!
-//! A list is tested by one of two ways, with the same answer. The functions work out one package, amount or list from the history, and
+//! A list is tested by one of two ways, with the same answer. The functions compute one package, amount or list from the history, and
 //! take no memory: they are for single questions. A `ListTester` is for a bidder's lists one after another, as a desk gets them: it
 //! keeps what the rounds say of the packages that it has tested.
 #![tactic(auto)]
@@ -18,7 +18,6 @@ mod tester;
 pub use amounts::{amount_listed, highest, place_of};
 pub use answer::{Cap, OverCap};
 pub use caps::{cap, list_fault};
-pub use clock_stage;
 pub use packages::is_same;
 pub use rounds::constraining_round;
 pub use tester::ListTester;

@@ -1,6 +1,6 @@
 // Tests of packages.
 ghost use Rattle.std.specs.Prelude.{◌≡◌, length};
-ghost use Rattle.clock_stage.specs.auction_model.specs.PackageTests.{is_before, is_same};
+ghost use Rattle.auction_model.specs.PackageTests.{is_before, is_same};
 
 use lots::Package;
 

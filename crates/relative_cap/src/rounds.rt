@@ -1,7 +1,7 @@
 // The constraining round.
 ghost use Rattle.std.specs.Prelude.{◌≡◌, ◌≤◌};
-ghost use Rattle.clock_stage.specs.auction_model.specs.Package.{cost_of};
-ghost use Rattle.clock_stage.specs.auction_rules.specs.Caps.{constraining_number};
+ghost use Rattle.auction_model.specs.Package.{cost_of};
+ghost use Rattle.auction_rules.specs.Caps.{constraining_number};
 ghost use Rattle.clock_stage.specs.Kept.{IsHeld, categories_in};
 ghost use Rattle.relative_cap.specs.Asked.{ArePoints, IsBidderOf};
 ghost use Rattle.relative_cap.specs.OwnRounds.{IsConstraining, eligibility_in, rounds_of};
@@ -9,7 +9,7 @@ ghost use Rattle.relative_cap.specs.OwnRounds.{IsConstraining, eligibility_in, r
 use clock_stage::History;
 use lots::Package;
 
-/// The last round in which bidder `j` was eligible for so many points at its start, where it was so in round 1.
+/// The last round in which bidder `j` was eligible for that many points at its start, where it was so in round 1.
 pub fn last_enough(history: &History, j: u16, needed: u64) -> u32
     requires bidder { IsBidderOf history.now j }
     requires eligible { needed ≤ eligibility_in history.now j 1 }

@@ -1,6 +1,6 @@
 // What the closed rounds say of the cap of one package.
 ghost use Rattle.std.specs.Prelude.{◌≡◌, ◌≤◌, length};
-ghost use Rattle.clock_stage.specs.auction_model.specs.Package.{cost_of};
+ghost use Rattle.auction_model.specs.Package.{cost_of};
 ghost use Rattle.clock_stage.specs.Kept.{IsHeld, categories_in};
 ghost use Rattle.relative_cap.specs.Asked.{ArePoints, IsBidderOf};
 ghost use Rattle.relative_cap.specs.Levels.{ArePeaks};
@@ -26,7 +26,7 @@ pub struct RoundTerms {
 /// What the closed rounds say of the cap of a package of one bidder, whatever its list is.
 #[derive(Clone, Copy)]
 pub struct PackageTerms {
-    /// The place of the first round in which the bidder held the package, and the number of rounds where there is none or the
+    /// The place of the first round in which the bidder held the package, and the number of rounds if there is none or the
     /// package is empty.
     pub own: u32,
     /// Whether the bidder held the package in the final round.
@@ -37,7 +37,7 @@ pub struct PackageTerms {
     pub last: RoundTerms,
 }
 
-/// The place of the first round in which bidder `j` held the package, counted from 0, and the number of rounds where there is none.
+/// The place of the first round in which bidder `j` held the package, counted from 0, and the number of rounds if there is none.
 fn first_place(history: &History, j: u16, package: &Package) -> u32
     requires bidder { IsBidderOf history.now j }
     requires categories { IsHeld (categories_in history.now) «package».now }
@@ -52,7 +52,7 @@ fn first_place(history: &History, j: u16, package: &Package) -> u32
     rounds
 }
 
-/// The same for a package that isn't empty, and the number of rounds for the empty one.
+/// The place of the first round in which the bidder held a package that isn't empty, and the number of rounds for the empty one.
 fn own_place(history: &History, j: u16, package: &Package) -> u32
     requires bidder { IsBidderOf history.now j }
     requires categories { IsHeld (categories_in history.now) «package».now }

@@ -1,8 +1,8 @@
 // Tests of the lists of one bidder, one after another.
 ghost use Rattle.std.specs.Prelude.{◌≡◌, ◌<◌, ◌^◌, [], ℕ, List, Option, All, IfOk, length, map, option_map};
-ghost use Rattle.clock_stage.specs.auction_rules.specs.Caps.{first_excess, list_fault};
-ghost use Rattle.clock_stage.specs.auction_model.specs.PackageTests.{InOrder};
-ghost use Rattle.clock_stage.specs.auction_rules.specs.State.{Round};
+ghost use Rattle.auction_rules.specs.Caps.{first_excess, list_fault};
+ghost use Rattle.auction_model.specs.PackageTests.{InOrder};
+ghost use Rattle.auction_rules.specs.State.{Round};
 ghost use Rattle.clock_stage.specs.Kept.{categories_in};
 ghost use Rattle.relative_cap.specs.Asked.{ArePoints, IsBidderOf, IsEligible, IsEntry};
 ghost use Rattle.relative_cap.specs.Answer.{cap_value, excess_value};
@@ -41,7 +41,7 @@ impl Model for ListTester {
 }
 
 impl ListTester {
-    /// A tester of the lists of bidder `j` over the closed rounds of the history. The only error is want of memory.
+    /// A tester of the lists of bidder `j` over the closed rounds of the history. The only error is out of memory.
     pub fn of(alloc: Global, history: &History, j: u16) -> Result<ListTester, AllocError>
         requires { IsBidderOf history.now j }
         ensures { IfOk result (λ tester. (points : List ℕ) → IsTester history.now points j tester) }
@@ -59,7 +59,7 @@ impl ListTester {
 
     /// The first entry of the list of bidder `j` whose amount is above its cap over the list, if there is one: its number, counted
     /// from 1, with its cap. The list is in the order of packages. History and bidder are those that the tester is for, and the
-    /// points are the same in all its tests. The only error is want of memory; the tester serves further tests then.
+    /// points are the same in all its tests. The only error is out of memory; the tester serves further tests then.
     pub fn list_fault(
         &mut self,
         alloc: Global,

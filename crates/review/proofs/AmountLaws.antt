@@ -2,10 +2,10 @@
 use Rattle.std.specs.Prelude.{◌≡◌, ◌≢◌, ℕ, ◌<◌, true, false, Some, None, List, [], ◌∷◌, refl}
 use Rattle.std.proofs.Common.{inl, inr, sym, ◌∙◌, ap, subst}
 use Rattle.std.proofs.lemmas.Bool.{cases_Bool}
-use Rattle.value_table.specs.auction_model.specs.Book.{Book, BookBid, bidder_of, bids_of}
-use Rattle.value_table.specs.auction_model.specs.Entries.{with_entry, without_entry}
-use Rattle.value_table.specs.auction_model.specs.PackageTests.{is_before, is_same}
-use Rattle.value_table.specs.auction_model.proofs.PackageTestLaws.{is_same-refl, is_same-true, not_same-sym}
+use Rattle.auction_model.specs.Book.{Book, BookBid, bidder_of, bids_of}
+use Rattle.auction_model.specs.Entries.{with_entry, without_entry}
+use Rattle.auction_model.specs.PackageTests.{is_before, is_same}
+use Rattle.auction_model.proofs.PackageTestLaws.{is_same-refl, is_same-true, not_same-sym}
 use Rattle.review.specs.declared.edit.Edit.{Edit}
 use Rattle.review.specs.declared.edit.Edit.TheVariants.{Add, Raise, Remove}
 use Rattle.review.specs.declared.edit.EditReply.TheVariants as reply

@@ -1,6 +1,6 @@
 -- The numbers that the bids of one bidder have before and after a bid is put in, taken out or replaced.
-use Rattle.std.specs.Prelude.{◌≡◌, ◌≢◌, ◌⊎◌, ℕ, zero, suc, ◌+◌, ◌-◌, ◌≤◌, ◌<◌, true, false, nat_le, nat_lt, IsTrue, None, List, [], ◌∷◌, length, get_or, ℤ}
-use Rattle.std.specs.Prelude.{pos, ◌-ℤ◌, refl}
+use Rattle.std.specs.Prelude.{IsTrue, List, None, [], false, get_or, length, nat_le, nat_lt, pos, refl, suc, true, zero, ℕ, ℤ, ◌+◌, ◌-ℤ◌, ◌-◌, ◌<◌}
+use Rattle.std.specs.Prelude.{◌∷◌, ◌≡◌, ◌≢◌, ◌≤◌, ◌⊎◌}
 use Rattle.std.proofs.Common.{inl, inr, set, sym, ◌∙◌, ap, subst, arith}
 use Rattle.std.specs.List.{insert, remove}
 use Rattle.std.proofs.Math.ListN.{length-set}
@@ -8,13 +8,13 @@ use Rattle.std.proofs.lemmas.Bool.{cases_Bool, cases_eq, cases_lt, false≢true}
 use Rattle.std.proofs.lemmas.Bool.Decides.{nat_tests}
 use Rattle.std.proofs.lemmas.List.{get_or-set_other}
 use Rattle.std.proofs.lemmas.List.Edits.{get_or-insert_above, get_or-insert_below, get_or-remove_above, get_or-remove_below, length-insert, length-remove}
-use Rattle.value_table.specs.auction_model.specs.Book.{Book, BookBid, bid_of, bids_of, net_of, no_bid}
-use Rattle.value_table.specs.auction_model.specs.Entries.{with_entry}
-use Rattle.value_table.specs.auction_model.specs.Market.{is_number_before}
-use Rattle.value_table.specs.auction_model.specs.Package.{cost_of}
-use Rattle.value_table.specs.auction_model.specs.PackageTests.{is_before, is_same}
-use Rattle.value_table.specs.auction_model.proofs.OrderLaws.{before-greater, before-none, before-says}
-use Rattle.value_table.specs.auction_model.proofs.PackageTestLaws.{is_same-refl, not_same-sym}
+use Rattle.auction_model.specs.Book.{Book, BookBid, bid_of, bids_of, net_of, no_bid}
+use Rattle.auction_model.specs.Entries.{with_entry}
+use Rattle.auction_model.specs.Market.{is_number_before}
+use Rattle.auction_model.specs.Package.{cost_of}
+use Rattle.auction_model.specs.PackageTests.{is_before, is_same}
+use Rattle.auction_model.proofs.OrderLaws.{before-greater, before-none, before-says}
+use Rattle.auction_model.proofs.PackageTestLaws.{is_same-refl, not_same-sym}
 use Rattle.review.specs.Edits.{amount_for}
 use Rattle.review.specs.Reviewed.{moved_down, moved_up}
 

@@ -2,9 +2,9 @@
 use Rattle.std.specs.Prelude.{◌≡◌, ℕ, ◌+◌, ◌≤◌, ◌<◌, Bool, List, [], length, get_or, ℤ, ◌≤ℤ◌}
 use Rattle.std.proofs.Common.{sym, ◌∙◌, ap, arith}
 use Rattle.std.proofs.lemmas.Int.{ints}
-use Rattle.value_table.specs.auction_model.specs.Book.{Book, BookBid}
-use Rattle.value_table.specs.auction_model.specs.Greatest.{IsFirstGreatest, IsGreatestValue}
-use Rattle.value_table.specs.bid_book.specs.Changes.{with_bids}
+use Rattle.auction_model.specs.Book.{Book, BookBid}
+use Rattle.auction_model.specs.Greatest.{IsFirstGreatest, IsGreatestValue}
+use Rattle.bid_book.specs.Changes.{with_bids}
 use Rattle.review.specs.declared.lines.SideLines.{SideLines}
 use Rattle.review.specs.ReviewValue.{AreFull, AreLeftLines, AreRightLines, lines_of}
 use Rattle.review.specs.Reviewed.{AreSideLines}

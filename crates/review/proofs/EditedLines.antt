@@ -3,11 +3,10 @@ use Rattle.std.specs.Prelude.{◌≡◌, ◌≢◌, ℕ, zero, suc, ◌-◌, ◌
 use Rattle.std.proofs.Common.{sym, ◌∙◌, ap, subst, arith}
 use Rattle.std.proofs.lemmas.List.{get_or-set_other}
 use Rattle.std.proofs.Math.ListN.{length-set}
-use Rattle.value_table.specs.auction_model.specs.Book.{Book, BookBid, Bidder, bid_of, bidder_of, bids_of, lots_of, menu_of, net_of, no_bid, no_bidder}
-use Rattle.value_table.specs.auction_model.specs.Book.{bidder_with}
-use Rattle.value_table.specs.auction_model.specs.Package.{cost_of}
-use Rattle.value_table.specs.auction_model.specs.Table.{IsLine}
-use Rattle.value_table.specs.bid_book.specs.Changes.{with_bids}
+use Rattle.auction_model.specs.Book.{Bidder, Book, BookBid, bid_of, bidder_of, bidder_with, bids_of, lots_of, menu_of, net_of, no_bid, no_bidder}
+use Rattle.auction_model.specs.Package.{cost_of}
+use Rattle.auction_model.specs.Table.{IsLine}
+use Rattle.bid_book.specs.Changes.{with_bids}
 use Rattle.value_table.specs.SideLines.{IsLeftLine, IsRightLine}
 use Rattle.value_table.specs.Turned.{in_order, worths_in_order}
 use Rattle.value_table.proofs.LineLaws.{line-left, line-turned}

@@ -6,19 +6,19 @@ use Rattle.std.proofs.Math.ListN.{length-set}
 use Rattle.std.proofs.lemmas.Bool.{cases_eq}
 use Rattle.std.proofs.lemmas.List.{get_or-set_same, set-get_or}
 use Rattle.std.proofs.lemmas.List.Edits.{get_or-insert_at}
-use Rattle.value_table.specs.auction_model.specs.Book.{Book, BookBid, Bidder, bid_of, bidder_of, bids_of, lots_of, market_of, menu_of, net_of, no_bid}
-use Rattle.value_table.specs.auction_model.specs.Book.{no_bidder, bidder_with}
-use Rattle.value_table.specs.auction_model.specs.Entries.{with_entry, without_entry}
-use Rattle.value_table.specs.auction_model.specs.Greatest.{IsWinning}
-use Rattle.value_table.specs.auction_model.specs.Market.{number_of, sum_after, value_of}
-use Rattle.value_table.specs.auction_model.specs.Menu.{fits_after, is_known_after}
-use Rattle.value_table.specs.auction_model.specs.Table.{IsLine}
-use Rattle.value_table.specs.auction_model.proofs.ChoiceLaws.{known-length, known-of}
-use Rattle.value_table.specs.auction_model.proofs.BookMarket.{fits-known}
-use Rattle.value_table.specs.bid_book.specs.Changes.{InPackageOrder, IsBidFor, with_bids, with_put}
-use Rattle.value_table.specs.auction_model.specs.PackageTests.{is_before}
-use Rattle.value_table.specs.bid_book.proofs.PackageOrder.{lots_at}
-use Rattle.value_table.specs.bid_book.proofs.PlaceLaws.{put-taken}
+use Rattle.auction_model.specs.Book.{Bidder, Book, BookBid, bid_of, bidder_of, bidder_with, bids_of, lots_of, market_of, menu_of, net_of, no_bid}
+use Rattle.auction_model.specs.Book.{no_bidder}
+use Rattle.auction_model.specs.Entries.{with_entry, without_entry}
+use Rattle.auction_model.specs.Greatest.{IsWinning}
+use Rattle.auction_model.specs.Market.{number_of, sum_after, value_of}
+use Rattle.auction_model.specs.Menu.{fits_after, is_known_after}
+use Rattle.auction_model.specs.Table.{IsLine}
+use Rattle.auction_model.proofs.ChoiceLaws.{known-length, known-of}
+use Rattle.auction_model.proofs.BookMarket.{fits-known}
+use Rattle.bid_book.specs.Changes.{InPackageOrder, IsBidFor, with_bids, with_put}
+use Rattle.auction_model.specs.PackageTests.{is_before}
+use Rattle.bid_book.proofs.PackageOrder.{lots_at}
+use Rattle.bid_book.proofs.PlaceLaws.{put-taken}
 use Rattle.value_table.specs.SideLines.{IsLeftLine, IsRightLine}
 use Rattle.value_table.proofs.LineLaws.{line-turned}
 use Rattle.review.specs.Edits.{amount_for}

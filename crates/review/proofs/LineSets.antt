@@ -1,14 +1,14 @@
--- Lines of which one is worked out again.
+-- Lines of which one is computed again.
 use Rattle.std.specs.Prelude.{◌≡◌, ◌≢◌, ℕ, ◌+◌, ◌-◌, ◌≤◌, ◌<◌, true, List, [], length, get_or, replicate, ℤ, pos, refl}
 use Rattle.std.proofs.Common.{inl, inr, set, sym, ◌∙◌, ap, subst, arith, Vec, Global}
 use Rattle.std.proofs.lemmas.Bool.{cases_order}
-use Rattle.std.proofs.lemmas.List.{get_or-map, get_or_default, get_or-set_other, get_or-set_same, get_or-replicate, length-map, length-replicate, map-set}
-use Rattle.std.proofs.lemmas.List.{set-set}
+use Rattle.std.proofs.lemmas.List.{get_or-map, get_or-replicate, get_or-set_other, get_or-set_same, get_or_default, length-map, length-replicate}
+use Rattle.std.proofs.lemmas.List.{map-set, set-set}
 use Rattle.std.proofs.Math.ListN.{length-set}
-use Rattle.value_table.specs.auction_model.specs.Book.{Book, menu_of, net_of}
-use Rattle.value_table.specs.auction_model.specs.Place.{left_at, states_of}
-use Rattle.value_table.specs.auction_model.specs.Table.{IsEntry}
-use Rattle.value_table.specs.auction_model.proofs.LineLaws.{line-last}
+use Rattle.auction_model.specs.Book.{Book, menu_of, net_of}
+use Rattle.auction_model.specs.Place.{left_at, states_of}
+use Rattle.auction_model.specs.Table.{IsEntry}
+use Rattle.auction_model.proofs.LineLaws.{line-last}
 use Rattle.value_table.specs.SideLines.{IsLeftLine, IsRightLine}
 use Rattle.value_table.specs.Turned.{in_order, worths_in_order}
 use Rattle.value_table.proofs.LineLaws.{line-left}
@@ -26,7 +26,7 @@ module _ (book : Book) (k : ℕ) (lines : List (List ℤ)) (line : List ℤ) (kn
     ];
   }
 
-  -- with the line of the bidders after k in place, the right side holds from k on where it held behind k
+  -- with the line of the bidders after k in place, the right side holds from k on where it held after k
   pub right-set : AreRightLines book (k + 1) lines → IsRightLine book k line → AreRightLines book k (set lines k line)
   right-set are is = record {
     full = full-set are.full is.places;
@@ -54,7 +54,7 @@ module _ (book : Book) (k : ℕ) (lines : List (List ℤ)) (line : List ℤ) (kn
     ];
   }
 
--- so many zeros
+-- that many zeros
 abbrev pub zero_line : ℕ → List ℤ
 zero_line states = replicate states (pos 0)
 
@@ -73,7 +73,7 @@ module _ (book : Book) (lines : List (List ℤ)) (states : ℕ) (is : lines ≡ 
   zero-entries : (k s : ℕ) → k ≤ length book.bidders → s < states_of book.supply → get_or (get_or lines k []) s (pos 0) ≡ pos 0
   zero-entries k s h inside = ap (λ (l : List ℤ). get_or l s (pos 0)) (zero-at k h) ∙ get_or-replicate states s (pos 0) (pos 0) (omega (arith, inside, all))
 
-  -- the last one is the line of the right side behind all bidders
+  -- the last one is the line of the right side after all bidders
   pub zero-right : AreRightLines book (length book.bidders) lines
   zero-right = record {
     full = zero-full;

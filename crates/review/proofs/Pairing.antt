@@ -3,12 +3,12 @@ use Rattle.std.specs.Prelude.{◌≡◌, ◌≢◌, ◌⊎◌, ℕ, zero, suc, �
 use Rattle.std.proofs.Common.{inl, inr, set, sym, ◌∙◌, ap, subst, arith}
 use Rattle.std.proofs.lemmas.Bool.{and_from, and_parts, cases_eq, le-leb, leb-true}
 use Rattle.std.proofs.lemmas.Int.{ints}
-use Rattle.value_table.specs.auction_model.specs.Greatest.{IsFirstGreatest}
-use Rattle.value_table.specs.auction_model.specs.Market.{is_earlier, is_number_before, sum_after}
-use Rattle.value_table.specs.auction_model.specs.Menu.{Menu, fits_after, is_known_after, packages_after}
-use Rattle.value_table.specs.auction_model.specs.Package.{is_within, together}
-use Rattle.value_table.specs.auction_model.proofs.ChoiceLaws.{known-length}
-use Rattle.value_table.specs.auction_model.proofs.OrderLaws.{earlier-number, earlier-rest, earlier-says}
+use Rattle.auction_model.specs.Greatest.{IsFirstGreatest}
+use Rattle.auction_model.specs.Market.{is_earlier, is_number_before, sum_after}
+use Rattle.auction_model.specs.Menu.{Menu, fits_after, is_known_after, packages_after}
+use Rattle.auction_model.specs.Package.{is_within, together}
+use Rattle.auction_model.proofs.ChoiceLaws.{known-length}
+use Rattle.auction_model.proofs.OrderLaws.{earlier-number, earlier-rest, earlier-says}
 
 -- the numbers of two choices of the bidders after k go together
 abbrev pub AreMatched : (ℕ → ℕ → ℕ → Type 0) → ℕ → List ℕ → List ℕ → Type 0
@@ -114,7 +114,7 @@ module _ (m o : Menu) (worth other : ℕ → ℕ → ℤ) (P : ℕ → ℕ → �
             ];
       }
 
--- ---- numbers that are the same but for those of one bidder
+-- ---- numbers that are the same except for those of one bidder
 
 -- the numbers of bidder j go together by Own, and those of each other bidder are the same
 abbrev pub ButFor : ℕ → (ℕ → ℕ → Type 0) → (ℕ → ℕ) → ℕ → ℕ → ℕ → Type 0

@@ -5,13 +5,13 @@ use Rattle.std.proofs.Math.ListN.{length-set}
 use Rattle.std.proofs.lemmas.Bool.{cases_eq}
 use Rattle.std.proofs.lemmas.Int.{ints}
 use Rattle.std.proofs.lemmas.List.{get_or-set_other, get_or-set_same}
-use Rattle.value_table.specs.auction_model.specs.Book.{Book, BookBid, Bidder, bid_of, bidder_of, bids_of, lots_of, market_of, menu_of, net_of, no_bid}
-use Rattle.value_table.specs.auction_model.specs.Book.{no_bidder, bidder_with}
-use Rattle.value_table.specs.auction_model.specs.Greatest.{IsFirstGreatest, IsWinning}
-use Rattle.value_table.specs.auction_model.specs.Market.{number_of, sum_after}
-use Rattle.value_table.specs.auction_model.specs.Menu.{Menu, fits_after}
-use Rattle.value_table.specs.auction_model.specs.Package.{cost_of}
-use Rattle.value_table.specs.bid_book.specs.Changes.{with_bids}
+use Rattle.auction_model.specs.Book.{Bidder, Book, BookBid, bid_of, bidder_of, bidder_with, bids_of, lots_of, market_of, menu_of, net_of, no_bid}
+use Rattle.auction_model.specs.Book.{no_bidder}
+use Rattle.auction_model.specs.Greatest.{IsFirstGreatest, IsWinning}
+use Rattle.auction_model.specs.Market.{number_of, sum_after}
+use Rattle.auction_model.specs.Menu.{Menu, fits_after}
+use Rattle.auction_model.specs.Package.{cost_of}
+use Rattle.bid_book.specs.Changes.{with_bids}
 use Rattle.value_table.proofs.TurnLaws.{known-same, taken-same}
 use Rattle.review.proofs.BidNumbers.{at, bid-at, net-at, worth_of}
 use Rattle.review.proofs.EditedLines.{bidders-same, net-other}

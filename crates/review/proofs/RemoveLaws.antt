@@ -2,14 +2,13 @@
 use Rattle.std.specs.Prelude.{◌≡◌, ℕ, zero, suc, ◌<◌, true, false, List, [], ◌∷◌, length, get_or, refl}
 use Rattle.std.proofs.Common.{ap, subst, arith}
 use Rattle.std.specs.List.{remove}
-use Rattle.value_table.specs.auction_model.specs.Book.{BookBid, no_bid}
-use Rattle.value_table.specs.auction_model.specs.Entries.{without_entry}
-use Rattle.value_table.specs.auction_model.specs.PackageTests.{is_before, is_same}
-use Rattle.value_table.specs.auction_model.proofs.PackageTestLaws.{not_same-sym}
-use Rattle.value_table.specs.auction_model.proofs.PackageTestLaws.{is_before-not_same, is_same-refl}
-use Rattle.value_table.specs.bid_book.specs.Changes.{InPackageOrder}
+use Rattle.auction_model.specs.Book.{BookBid, no_bid}
+use Rattle.auction_model.specs.Entries.{without_entry}
+use Rattle.auction_model.specs.PackageTests.{is_before, is_same}
+use Rattle.auction_model.proofs.PackageTestLaws.{is_before-not_same, is_same-refl, not_same-sym}
+use Rattle.bid_book.specs.Changes.{InPackageOrder}
 
--- bids behind a package have none for it
+-- bids after a package have none for it
 behind-without : (lots : List ℕ) (bids : List BookBid) → ((k : ℕ) → k < length bids → is_before lots (get_or bids k no_bid).lots ≡ true)
     → without_entry lots bids ≡ bids
 behind-without lots [] behind = refl

@@ -1,29 +1,29 @@
 -- What it says of an edit that it is answered Ok.
-use Rattle.std.specs.Prelude.{◌≡◌, ℕ, zero, suc, ◌+◌, ◌≤◌, ◌<◌, ◌^◌, Bool, true, false, not, ◌&&◌, nat_le, nat_lt, IsTrue, Option, Some, None, List, [], ◌∷◌}
-use Rattle.std.specs.Prelude.{length, drop, get_or, pos, ◌-ℤ◌, ◌≤ℤ◌, refl}
+use Rattle.std.specs.Prelude.{Bool, IsTrue, List, None, Option, Some, [], drop, false, get_or, length, nat_le, nat_lt, not, pos, refl, suc, true}
+use Rattle.std.specs.Prelude.{zero, ℕ, ◌&&◌, ◌+◌, ◌-ℤ◌, ◌<◌, ◌^◌, ◌∷◌, ◌≡◌, ◌≤ℤ◌, ◌≤◌}
 use Rattle.std.proofs.Common.{inl, inr, subst, arith}
 use Rattle.std.proofs.lemmas.Bool.{cases_Bool}
 use Rattle.std.proofs.lemmas.Bool.Decides.{nat_tests}
 use Rattle.std.proofs.lemmas.Int.{ints}
-use Rattle.value_table.specs.auction_model.specs.Book.{Book, BookBid, bid_of, bids_of, no_bid}
-use Rattle.value_table.specs.auction_model.specs.Package.{cost_of, is_within}
-use Rattle.value_table.specs.auction_model.specs.PackageTests.{first_over, is_empty, is_same}
-use Rattle.value_table.specs.auction_model.proofs.PackageTestLaws.{first_over-within, is_same-refl, is_same-true}
-use Rattle.value_table.specs.bid_book.specs.Changes.{CanPut}
-use Rattle.value_table.specs.bid_book.specs.Kept.{IsBidBook}
+use Rattle.auction_model.specs.Book.{Book, BookBid, bid_of, bids_of, no_bid}
+use Rattle.auction_model.specs.Package.{cost_of, is_within}
+use Rattle.auction_model.specs.PackageTests.{first_over, is_empty, is_same}
+use Rattle.auction_model.proofs.PackageTestLaws.{first_over-within, is_same-refl, is_same-true}
+use Rattle.bid_book.specs.Changes.{CanPut}
+use Rattle.bid_book.specs.Kept.{IsBidBook}
 use Rattle.review.specs.declared.edit.Edit.{Edit}
 use Rattle.review.specs.declared.edit.Edit.TheVariants.{Add, Raise, Remove}
 use Rattle.review.specs.declared.edit.EditReply.{EditReply}
 use Rattle.review.specs.declared.edit.EditReply.TheVariants as reply
-use Rattle.review.specs.Edits.{amount_for, first_reply, first_refusal, when, unknown, supply_reply, present, absent, not_higher, below_reserve, amount_top}
-use Rattle.review.specs.Edits.{full, unfit, edit_bidder, edit_lots, edit_reply}
+use Rattle.review.specs.Edits.{absent, amount_for, amount_top, below_reserve, edit_bidder, edit_lots, edit_reply, first_refusal, first_reply, full}
+use Rattle.review.specs.Edits.{not_higher, present, supply_reply, unfit, unknown, when}
 
 -- the reply, where there is one, isn't Ok
 abbrev NeverOk : Option EditReply → Type 0
 NeverOk None = Unit {0}
 NeverOk (Some r) = r ≡ reply.Ok → ⊥
 
--- an answer Ok comes behind all conditions
+-- an answer Ok comes after all conditions
 ok-step : (o : Option EditReply) (rest : List (Option EditReply)) → NeverOk o → first_reply (o ∷ rest) ≡ reply.Ok → (o ≡ None) × (first_reply rest ≡ reply.Ok)
 ok-step None rest never is = (refl, is)
 ok-step (Some r) rest never is = absurd (never is)
@@ -206,7 +206,7 @@ amount-found lots (b ∷ bids) zero inside own =
     rw same refl
 amount-found lots (b ∷ bids) (suc i) inside own = amount-found lots bids i (omega (arith, inside)) own
 
--- past a bid for another package the amount for this one is that of the bids behind
+-- past a bid for another package the amount for this one is that of the bids after
 pub amount-passed : (lots : List ℕ) (bids : List BookBid) (i : ℕ) → i < length bids → ((get_or bids i no_bid).lots ≡ lots → ⊥)
     → amount_for lots (drop i bids) ≡ amount_for lots (drop (suc i) bids)
 amount-passed lots [] i inside other = absurd (omega (arith, inside))

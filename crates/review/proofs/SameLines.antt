@@ -2,12 +2,12 @@
 use Rattle.std.specs.Prelude.{◌≡◌, ℕ, suc, ◌≤◌, ◌<◌, nat_le, ◌==◌, IsTrue, List, [], ◌∷◌, get_or, ℤ, pos, ◌+ℤ◌, refl}
 use Rattle.std.proofs.Common.{sym, ◌∙◌, ap, subst, arith}
 use Rattle.std.proofs.lemmas.Bool.{and_from, and_parts}
-use Rattle.value_table.specs.auction_model.specs.Market.{sum_after}
-use Rattle.value_table.specs.auction_model.specs.Menu.{Menu, fits_after, is_known_after, packages_after}
-use Rattle.value_table.specs.auction_model.specs.Package.{is_within, together}
-use Rattle.value_table.specs.auction_model.specs.Place.{left_at}
-use Rattle.value_table.specs.auction_model.specs.Table.{IsEntry, IsLine}
-use Rattle.value_table.specs.auction_model.proofs.ChoiceLaws.{known-length}
+use Rattle.auction_model.specs.Market.{sum_after}
+use Rattle.auction_model.specs.Menu.{Menu, fits_after, is_known_after, packages_after}
+use Rattle.auction_model.specs.Package.{is_within, together}
+use Rattle.auction_model.specs.Place.{left_at}
+use Rattle.auction_model.specs.Table.{IsEntry, IsLine}
+use Rattle.auction_model.proofs.ChoiceLaws.{known-length}
 
 -- both have the same bids, with the same worths, of the bidders after k
 pub record AreSameAfter (m o : Menu) (counts others : ℕ → ℕ → ℤ) (k : ℕ) : Type 0 where

@@ -1,10 +1,10 @@
 -- What is read of the lines of both sides, and its size.
 use Rattle.std.specs.Prelude.{◌≡◌, ℕ, ◌-◌, ◌^◌, ◌≤◌, ◌<◌, true, List, length, get_or, ℤ, pos, unsigned_abs}
 use Rattle.std.proofs.Common.{sym, ◌∙◌, subst, arith, Vec, Global}
-use Rattle.value_table.specs.auction_model.specs.Book.{Book, menu_of, net_of}
-use Rattle.value_table.specs.auction_model.proofs.BoundLaws.{line-sizes}
-use Rattle.value_table.specs.auction_model.proofs.PlainLaws.{sum_to-at_most}
-use Rattle.value_table.specs.bid_book.specs.Kept.{IsBidBook}
+use Rattle.auction_model.specs.Book.{Book, menu_of, net_of}
+use Rattle.auction_model.proofs.BoundLaws.{line-sizes}
+use Rattle.auction_model.proofs.PlainLaws.{sum_to-at_most}
+use Rattle.bid_book.specs.Kept.{IsBidBook}
 use Rattle.value_table.specs.SideLines.{IsLeftLine, IsRightLine}
 use Rattle.value_table.specs.Turned.{bidder_at, in_order, worths_in_order}
 use Rattle.value_table.proofs.LineLaws.{line-turned}

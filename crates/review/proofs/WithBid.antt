@@ -3,20 +3,20 @@ use Rattle.std.specs.Prelude.{◌≡◌, ℕ, suc, ◌+◌, ◌-◌, ◌≤◌, 
 use Rattle.std.proofs.Common.{sym, ◌∙◌, ap, subst, arith}
 use Rattle.std.proofs.lemmas.Bool.{and_from, and_parts}
 use Rattle.std.proofs.lemmas.Int.{ints}
-use Rattle.value_table.specs.auction_model.specs.Market.{sum_after}
-use Rattle.value_table.specs.auction_model.specs.Menu.{Menu, fits_after, is_known_after, packages_after}
-use Rattle.value_table.specs.auction_model.specs.Package.{is_within, less, together}
-use Rattle.value_table.specs.auction_model.specs.Place.{left_at, place_of, states_of}
-use Rattle.value_table.specs.auction_model.specs.Table.{IsLine}
-use Rattle.value_table.specs.auction_model.proofs.ChoiceLaws.{known-length}
-use Rattle.value_table.specs.auction_model.proofs.PackageLaws.{within-together}
-use Rattle.value_table.specs.auction_model.proofs.PlaceLaws.{left_at-less, left_at-whole, place-less_below, states-positive}
+use Rattle.auction_model.specs.Market.{sum_after}
+use Rattle.auction_model.specs.Menu.{Menu, fits_after, is_known_after, packages_after}
+use Rattle.auction_model.specs.Package.{is_within, less, together}
+use Rattle.auction_model.specs.Place.{left_at, place_of, states_of}
+use Rattle.auction_model.specs.Table.{IsLine}
+use Rattle.auction_model.proofs.ChoiceLaws.{known-length}
+use Rattle.auction_model.proofs.PackageLaws.{within-together}
+use Rattle.auction_model.proofs.PlaceLaws.{left_at-less, left_at-whole, place-less_below, states-positive}
 use Rattle.value_table.specs.Turned.{in_order, worths_in_order}
 use Rattle.value_table.proofs.PairLaws.{left_at-other, within-twice}
 use Rattle.value_table.proofs.TurnLaws.{Parted, onto, parted, parts-turned, sum-turned}
 use Rattle.review.specs.Reviewed.{AreBelow}
 
--- the number behind the first ones, which are turned round
+-- the number after the first ones, which are turned round
 number-behind : (front : List ℕ) (i : ℕ) (back : List ℕ) (n : ℕ) → get_or (onto front (i ∷ back)) (length front + n) 0 ≡ get_or (i ∷ back) n 0
 number-behind [] i back n = ap (λ (k : ℕ). get_or (i ∷ back) k 0) (omega arith)
 number-behind (h ∷ front) i back n =

@@ -1,11 +1,11 @@
 -- Edits of a book: what each is answered, and the book that it gives.
 use Rattle.std.specs.Prelude.{ℕ, Bool, not, ◌&&◌, nat_le, nat_lt, Option, Some, None, List, [], ◌∷◌, length, if◌then◌else◌}
-use Rattle.value_table.specs.auction_model.specs.Book.{Book, BookBid, bids_of}
-use Rattle.value_table.specs.auction_model.specs.Package.{cost_of}
-use Rattle.value_table.specs.auction_model.specs.Entries.{without_entry}
-use Rattle.value_table.specs.auction_model.specs.PackageTests.{first_over, is_empty, is_same}
-use Rattle.value_table.specs.bid_book.specs.Changes.{with_bids, with_put}
-use Rattle.value_table.specs.limits.specs.declared.TheConstants.{MOST_AMOUNT, MOST_BIDS}
+use Rattle.auction_model.specs.Book.{Book, BookBid, bids_of}
+use Rattle.auction_model.specs.Package.{cost_of}
+use Rattle.auction_model.specs.Entries.{without_entry}
+use Rattle.auction_model.specs.PackageTests.{first_over, is_empty, is_same}
+use Rattle.bid_book.specs.Changes.{with_bids, with_put}
+use Rattle.limits.specs.declared.TheConstants.{MOST_AMOUNT, MOST_BIDS}
 use Rattle.review.specs.declared.edit.Edit.{Edit}
 use Rattle.review.specs.declared.edit.Edit.TheVariants.{Add, Raise, Remove}
 use Rattle.review.specs.declared.edit.EditReply.{EditReply}

@@ -1,10 +1,3 @@
 pub mod Edits
 pub mod ReviewValue
 pub mod Reviewed
-pub use Rattle.value_table.specs.auction_model
-pub use Rattle.value_table.specs.bid_book
-pub use Rattle.value_table.specs.book_form
-pub use Rattle.value_table.specs.limits
-pub use Rattle.value_table.specs.line_text
-pub use Rattle.value_table
-pub use Rattle.value_table.specs.wide_num

@@ -1,8 +1,8 @@
 -- What a review is: a book and its winning choice; and lines of both sides of the book.
 use Rattle.std.specs.Prelude.{◌≡◌, ℕ, ◌+◌, ◌≤◌, List, [], length, map, slice_index_or, ℤ, Vec}
 use Rattle.std.specs.Global.{Global}
-use Rattle.value_table.specs.auction_model.specs.Place.{states_of}
-use Rattle.value_table.specs.auction_model.specs.Book.{Book}
+use Rattle.auction_model.specs.Place.{states_of}
+use Rattle.auction_model.specs.Book.{Book}
 use Rattle.value_table.specs.SideLines.{IsLeftLine, IsRightLine}
 
 pub record ReviewValue : Type 0 where

@@ -1,16 +1,16 @@
 -- What a review keeps, and what it asks of a bid: words of private contracts.
 use Rattle.std.specs.Prelude.{◌≡◌, ℕ, ◌+◌, ◌-◌, ◌≤◌, ◌<◌, IsTrue, List, Option, None, Some, length, slice_index_or, nat_le, nat_lt, if◌then◌else◌, ℤ, pos, ◌+ℤ◌, ◌-ℤ◌, ◌<ℤ◌}
-use Rattle.value_table.specs.auction_model.specs.Book.{Book, BookBid, market_of}
-use Rattle.value_table.specs.auction_model.specs.Greatest.{IsWinning}
-use Rattle.value_table.specs.auction_model.specs.Market.{value_of}
-use Rattle.value_table.specs.auction_model.specs.Package.{is_within, less, cost_of}
-use Rattle.value_table.specs.auction_model.specs.Place.{states_of, place_of, left_at}
+use Rattle.auction_model.specs.Book.{Book, BookBid, market_of}
+use Rattle.auction_model.specs.Greatest.{IsWinning}
+use Rattle.auction_model.specs.Market.{value_of}
+use Rattle.auction_model.specs.Package.{cost_of, is_within, less}
+use Rattle.auction_model.specs.Place.{left_at, place_of, states_of}
 use Rattle.value_table.specs.LineRooms.{HasRoom}
 use Rattle.value_table.specs.SideLines.{IsLeftLine, IsRightLine}
 use Rattle.review.specs.ReviewValue.{AreLeftLines, AreRightLines, lines_of}
 use Rattle.review.specs.declared.lines.SideLines.{SideLines}
 
--- the lines are those of the book, but for the ones that are stale
+-- the lines are those of the book, except for the ones that are stale
 pub record AreSideLines (book : Book) (lines : SideLines) : Type 0 where
   pub from : lines.right_from ≤ length book.bidders
   pub to : lines.left_to ≤ length book.bidders

@@ -1,9 +1,9 @@
 // Edits that the book can have, with what they leave of the lines and the winning choice.
 ghost use Rattle.std.specs.Prelude.{◌≡◌, ◌≢◌, ℕ, ◌≤◌, ◌<◌, IsOk, IsTrue, List, None, OnErr, OnOk, length};
-ghost use Rattle.value_table.specs.auction_model.specs.Book.{bids_of, market_of};
-ghost use Rattle.value_table.specs.auction_model.specs.Entries.{without_entry};
-ghost use Rattle.value_table.specs.auction_model.specs.Greatest.{IsWinning};
-ghost use Rattle.value_table.specs.bid_book.specs.Changes.{CanPut, with_bids, with_put};
+ghost use Rattle.auction_model.specs.Book.{bids_of, market_of};
+ghost use Rattle.auction_model.specs.Entries.{without_entry};
+ghost use Rattle.auction_model.specs.Greatest.{IsWinning};
+ghost use Rattle.bid_book.specs.Changes.{CanPut, with_bids, with_put};
 ghost use Rattle.review.specs.Edits.{amount_for, edit_lots, edit_reply, edited};
 ghost use Rattle.review.specs.Reviewed.{AreSideLines, IsHigher, IsReviewed};
 
@@ -12,12 +12,12 @@ use crate::keeping::{is_beaten, move_down, move_up};
 use crate::lines::SideLines;
 use crate::replies::bid_for;
 use crate::tracing::retrace;
+use bid_book::{BidBook, rules_with_bid};
+use choices::Choice;
+use lots::{Bid, Package};
 use std::alloc::{AllocError, Global};
-use value_table::choices::Choice;
-use value_table::choices::bid_book::lots::{Bid, Package};
-use value_table::choices::bid_book::{BidBook, rules_with_bid};
 
-/// Changes a book by an edit that it can have, and its winning choice. For want of memory both stay as they are.
+/// Changes a book by an edit that it can have, and its winning choice. If memory runs out, both stay as they are.
 pub fn change(
     alloc: Global,
     book: &mut BidBook,

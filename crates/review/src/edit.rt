@@ -1,5 +1,5 @@
 // Edits of a book, and what they are answered.
-use value_table::choices::bid_book::lots::Package;
+use lots::Package;
 
 /// A change of one bid of a book. Bidder 0 is one that the book doesn't have.
 #[derive(Drop)]
@@ -23,7 +23,7 @@ pub enum Edit {
     },
 }
 
-/// The answer to an edit: the first of these, in this order behind `Ok`, whose condition holds.
+/// The answer to an edit: the first of these, in this order after `Ok`, whose condition holds.
 #[derive(Clone, Copy, Debug, PartialEq, Eq)]
 pub enum EditReply {
     /// The book has the edit.

@@ -1,18 +1,18 @@
 // Whether the winning choice stays where a bid is put in, and its numbers then.
 ghost use Rattle.std.specs.Prelude.{◌≡◌, ℕ, ◌^◌, ◌-◌, ◌≤◌, ◌<◌, IsTrue, length, pos, slice_index_or, slice_set, ◌-ℤ◌, unsigned_abs};
-ghost use Rattle.value_table.specs.auction_model.specs.Book.{market_of, menu_of};
-ghost use Rattle.value_table.specs.auction_model.specs.Market.{number_of, value_of};
-ghost use Rattle.value_table.specs.auction_model.specs.Menu.{is_known_after};
-ghost use Rattle.value_table.specs.auction_model.specs.Package.{cost_of, is_within};
-ghost use Rattle.value_table.specs.auction_model.specs.Place.{place_of, states_of};
-ghost use Rattle.value_table.specs.bid_book.specs.Changes.{CanPut};
+ghost use Rattle.auction_model.specs.Book.{market_of, menu_of};
+ghost use Rattle.auction_model.specs.Market.{number_of, value_of};
+ghost use Rattle.auction_model.specs.Menu.{is_known_after};
+ghost use Rattle.auction_model.specs.Package.{cost_of, is_within};
+ghost use Rattle.auction_model.specs.Place.{place_of, states_of};
+ghost use Rattle.bid_book.specs.Changes.{CanPut};
 ghost use Rattle.review.specs.Reviewed.{AreBelow, AreSideLines, IsBeaten, IsBelowAt, IsReviewed, moved_down, moved_up};
 
 use crate::lines::SideLines;
+use bid_book::BidBook;
+use choices::{Choice, value};
+use lots::{Package, Supply};
 use std::alloc::Global;
-use value_table::choices::bid_book::BidBook;
-use value_table::choices::bid_book::lots::{Package, Supply};
-use value_table::choices::{Choice, value};
 
 /// Whether each choice with such a bid of bidder `j` is worth less than the winning choice of the book.
 pub fn is_beaten(
@@ -79,7 +79,7 @@ fn are_below(
     true
 }
 
-/// The same at one place. The package has place `first`, and only where both numbers reach the limit is it asked whether it fits.
+/// Whether the bid is below the limit at one place. The package has place `first`. It is tested for fit only where both numbers reach the limit.
 fn is_below_at(
     supply: &Supply,
     package: &Package,

@@ -1,12 +1,12 @@
 // What holds of edited books.
 ghost use Rattle.std.specs.Prelude.{◌≡◌, ◌≢◌, ℕ, ◌<◌, List};
-ghost use Rattle.value_table.specs.auction_model.specs.Book.{Book, bidder_of, bids_of};
+ghost use Rattle.auction_model.specs.Book.{Book, bidder_of, bids_of};
 ghost use Rattle.review.specs.declared.edit.Edit.{Edit};
 ghost use Rattle.review.specs.Edits.{amount_for, edit_amount, edit_bidder, edit_lots, edit_reply, edited};
 
 use crate::edit::EditReply;
 
-/// In the book behind an edit that it can have, the bidder's bid for the package has the new amount, or there is none where it was taken
+/// In the book after an edit that it can have, the bidder's bid for the package has the new amount, or there is none where it was taken
 /// out; every other package of the bidder has the bid that it had, or none; and every other bidder is as it was.
 pub fn edited_amounts()
     ensures own { (book : Book) → (edit : Edit) → edit_reply book edit ≡ EditReply.Ok

@@ -1,18 +1,18 @@
 // The lines of both sides of a book that a review keeps: for each bidder and one more, a number for each place of the supply.
 ghost use Rattle.std.specs.Prelude.{◌≡◌, ◌+◌, ◌-◌, ◌≤◌, ◌<◌, IfOk, List, length, pos, replicate};
-ghost use Rattle.value_table.specs.auction_model.specs.Book.{Book, BookBid};
-ghost use Rattle.value_table.specs.auction_model.specs.Place.{states_of};
-ghost use Rattle.value_table.specs.bid_book.specs.Changes.{with_bids};
+ghost use Rattle.auction_model.specs.Book.{Book, BookBid};
+ghost use Rattle.auction_model.specs.Place.{states_of};
+ghost use Rattle.bid_book.specs.Changes.{with_bids};
 ghost use Rattle.value_table.specs.LineRooms.{HasRoom};
 ghost use Rattle.review.specs.ReviewValue.{AreLeftLines, AreRightLines, lines_of};
 ghost use Rattle.review.specs.Reviewed.{AreSideLines};
 
+use bid_book::BidBook;
 use std::alloc::{AllocError, Global};
 use std::mem;
-use value_table::choices::bid_book::BidBook;
 use value_table::{LineRooms, narrow_left_line, narrow_right_line};
 
-/// The lines of both sides of a book. An edit makes some of them stale, and these are worked out again only where they are needed.
+/// The lines of both sides of a book. An edit makes some of them stale, and these are computed again only where they are needed.
 #[derive(Drop)]
 pub struct SideLines {
     /// Line `k` is that of the bidders after `k`.
@@ -23,7 +23,7 @@ pub struct SideLines {
     pub left: Vec<Vec<i128>>,
     /// The lines of the left side are those of the book up to this one.
     pub left_to: usize,
-    /// Room in which a line is worked out.
+    /// Room in which a line is computed.
     pub rooms: LineRooms,
 }
 
@@ -98,7 +98,7 @@ impl SideLines {
     }
 }
 
-/// So many lines of so many zeros.
+/// That many lines of that many zeros.
 fn zero_lines(alloc: Global, count: usize, states: usize) -> Result<Vec<Vec<i128>>, AllocError>
     ensures { IfOk result (λ v. lines_of v.items ≡ replicate count (replicate states (pos 0))) }
 {
@@ -110,14 +110,14 @@ fn zero_lines(alloc: Global, count: usize, states: usize) -> Result<Vec<Vec<i128
     Ok(lines)
 }
 
-/// A line of so many zeros.
+/// A line of that many zeros.
 fn zero_line(alloc: Global, states: usize) -> Result<Vec<i128>, AllocError>
     ensures { IfOk result (λ v. v.items ≡ replicate states (pos 0)) }
 {
     vec![in alloc; 0i128; states]
 }
 
-/// Works out the lines from line `bottom` to the one below line `top` again, each from the one behind it, in place. Line `k` is that of
+/// Works out the lines from line `bottom` to the one below line `top` again, each from the one after it, in place. Line `k` is that of
 /// the bidders after `k`.
 fn renew_right(
     alloc: Global,
@@ -159,7 +159,7 @@ fn renew_right_line(
     lines[k] = line;
 }
 
-/// Works out the lines behind line `bottom` up to line `top` again, each from the one before it, in place. Line `k` is that of the
+/// Works out the lines after line `bottom` up to line `top` again, each from the one before it, in place. Line `k` is that of the
 /// bidders up to `k`.
 fn renew_left(
     alloc: Global,

@@ -1,13 +1,13 @@
 // What edits are answered. Nothing here takes memory.
 ghost use Rattle.std.specs.Prelude.{◌≡◌, ◌≤◌, ◌<◌, length, IfNone, IfSome, Some, None};
-ghost use Rattle.value_table.specs.auction_model.specs.Book.{bid_of, bids_of};
-ghost use Rattle.value_table.specs.bid_book.specs.Changes.{IsBidFor};
+ghost use Rattle.auction_model.specs.Book.{bid_of, bids_of};
+ghost use Rattle.bid_book.specs.Changes.{IsBidFor};
 ghost use Rattle.review.specs.Edits.{amount_for, edit_lots, edit_reply, unfit};
 
 use crate::edit::{Edit, EditReply};
-use value_table::choices::bid_book::BidBook;
-use value_table::choices::bid_book::lots::Package;
-use value_table::choices::bid_book::lots::limits::{MOST_AMOUNT, MOST_BIDS};
+use bid_book::BidBook;
+use limits::{MOST_AMOUNT, MOST_BIDS};
+use lots::Package;
 
 /// What an edit is answered, where there is memory: `Ok` where the book can have it.
 pub fn reply_to(book: &BidBook, edit: &Edit) -> EditReply

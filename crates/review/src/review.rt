@@ -1,8 +1,8 @@
 // Reviews.
 ghost use Rattle.std.specs.Prelude.{◌≡◌, ◌≢◌, ℕ, ◌⊎◌, ◌≤◌, ◌<◌, IfOk, List, None, OnErr, OnOk, length};
-ghost use Rattle.value_table.specs.auction_model.specs.Book.{market_of};
-ghost use Rattle.value_table.specs.auction_model.specs.Greatest.{IsWinning};
-ghost use Rattle.value_table.specs.auction_model.specs.Market.{value_of};
+ghost use Rattle.auction_model.specs.Book.{market_of};
+ghost use Rattle.auction_model.specs.Greatest.{IsWinning};
+ghost use Rattle.auction_model.specs.Market.{value_of};
 ghost use Rattle.review.specs.Edits.{edit_lots, edit_reply, edited};
 ghost use Rattle.review.specs.Reviewed.{IsReviewed};
 
@@ -11,13 +11,13 @@ use crate::edit::{Edit, EditReply};
 use crate::lines::SideLines;
 use crate::replies::reply_to;
 use crate::tracing::retrace;
+use bid_book::BidBook;
+use choices::{Choice, Numbers, value};
 use std::alloc::{AllocError, Global};
 use std::marker::Model;
-use value_table::choices::bid_book::BidBook;
-use value_table::choices::{Choice, Numbers, value};
 
-/// A book with its winning choice, which are kept through edits of single bids. An edit that can't change the winners works out no line
-/// that isn't stale where its own bidder stands; another one works out the stale lines of the bidders after each.
+/// A book with its winning choice, which are kept through edits of single bids. An edit that can't change the winners computes no line
+/// that isn't stale where its own bidder stands; another one computes the stale lines of the bidders after each.
 #[derive(Drop)]
 pub struct Review {
     book: BidBook,
@@ -37,7 +37,7 @@ impl Model for Review {
 }
 
 impl Review {
-    /// The review of a book. The only error is want of memory.
+    /// The review of a book. The only error is out of memory.
     pub fn start(alloc: Global, book: BidBook) -> Result<Review, AllocError>
         ensures { IfOk result (λ review. review.book ≡ book) }
     {
@@ -52,7 +52,7 @@ impl Review {
     }
 
     /// Takes an edit, whose package has as many categories as the book, and answers `Ok`; or answers the first condition that refuses
-    /// it, or want of memory, which leave the review as it is. Taking a bid out needs no memory.
+    /// it, or out of memory, which leave the review as it is. Taking a bid out needs no memory.
     pub fn edit(&mut self, alloc: Global, edit: &Edit) -> EditReply
         requires { length (edit_lots edit.now) ≡ length self.old.book.supply }
         ensures reply { (result ≡ edit_reply self.old.book edit.now)
@@ -100,7 +100,7 @@ impl Review {
     }
 }
 
-/// So many numbers, all 0.
+/// That many numbers, all 0.
 fn no_numbers(alloc: Global, count: usize) -> Result<Choice, AllocError>
     ensures { IfOk result (λ choice. length choice ≡ count) }
 {

@@ -1,16 +1,16 @@
 // The winning choice from the lines of the bidders after each, without memory.
 ghost use Rattle.std.specs.Prelude.{◌≡◌, ◌≤◌, ◌<◌, length, IsTrue};
-ghost use Rattle.value_table.specs.auction_model.specs.Book.{bids_of, lots_of, market_of};
-ghost use Rattle.value_table.specs.auction_model.specs.Greatest.{IsWinning};
-ghost use Rattle.value_table.specs.auction_model.specs.Package.{is_within, less};
-ghost use Rattle.value_table.specs.auction_model.specs.Place.{states_of, place_of, left_at};
+ghost use Rattle.auction_model.specs.Book.{bids_of, lots_of, market_of};
+ghost use Rattle.auction_model.specs.Greatest.{IsWinning};
+ghost use Rattle.auction_model.specs.Package.{is_within, less};
+ghost use Rattle.auction_model.specs.Place.{left_at, place_of, states_of};
 ghost use Rattle.review.specs.ReviewValue.{AreRightLines, lines_of};
 ghost use Rattle.review.specs.Reviewed.{AreSideLines, IsReviewed};
 
 use crate::lines::SideLines;
+use bid_book::BidBook;
+use choices::{Choice, place_after};
 use std::alloc::Global;
-use value_table::choices::bid_book::BidBook;
-use value_table::choices::{Choice, place_after};
 use value_table::right_number;
 
 /// Makes a choice of as many numbers the winning one, from lines of which some may be stale.

@@ -3,10 +3,10 @@ use Rattle.std.specs.Prelude.{◌≡◌, ℕ, zero, suc, ◌<◌, Bool, true, fa
 use Rattle.std.proofs.Common.{inl, inr, sym, ◌∙◌, arith}
 use Rattle.std.proofs.lemmas.Bool.{false≢true}
 use Rattle.std.proofs.lemmas.Int.{ints}
-use Rattle.choices.specs.auction_model.specs.Market.{is_number_before, is_earlier}
-use Rattle.choices.specs.auction_model.specs.Greatest.{IsFirstGreatest}
-use Rattle.choices.specs.auction_model.proofs.OrderLaws.{before-says, before-self, before-greater, before-none, earlier-says, earlier-number, earlier-rest}
-use Rattle.choices.specs.auction_model.proofs.OrderLaws.{earlier-not_both, earlier-cases}
+use Rattle.auction_model.specs.Market.{is_earlier, is_number_before}
+use Rattle.auction_model.specs.Greatest.{IsFirstGreatest}
+use Rattle.auction_model.proofs.OrderLaws.{before-greater, before-none, before-says, before-self, earlier-cases, earlier-not_both, earlier-number}
+use Rattle.auction_model.proofs.OrderLaws.{earlier-rest, earlier-says}
 use Rattle.slot_places.specs.Steps.{IsBefore}
 
 -- no choice comes before itself

@@ -3,8 +3,8 @@ use Rattle.std.specs.Prelude.{◌≡◌, ℕ, suc, ◌+◌, ◌<◌, Bool, true,
 use Rattle.std.proofs.Common.{◌∙◌, ap, arith, add-one, drop-cons}
 use Rattle.std.proofs.lemmas.Bool.{eq-eqb, ne_eqb, false_from_ne_true}
 use Rattle.std.proofs.lemmas.List.{drop_all}
-use Rattle.choices.specs.auction_model.specs.Market.{is_number_before, is_earlier}
-use Rattle.choices.specs.auction_model.proofs.OrderLaws.{before-self}
+use Rattle.auction_model.specs.Market.{is_earlier, is_number_before}
+use Rattle.auction_model.proofs.OrderLaws.{before-self}
 
 false_or_true : (x y r : Bool) → x ≡ false → y ≡ true → x || (y && r) ≡ r
 false_or_true x y r p q = rw (p, q) refl
@@ -18,7 +18,7 @@ same-number i j r e = false_or_true (is_number_before i j) (i == j) r (false_fro
     (eq-eqb i j e)
 
 module _ (c d : List ℕ) (k : ℕ) (inside : k < length c) (within : k < length d) where
-  -- where two choices have the same number at a place, the numbers behind it decide which comes first
+  -- where two choices have the same number at a place, the numbers after it decide which comes first
   pub earlier-goes_on : get_or c k 0 ≡ get_or d k 0 → is_earlier (drop k c) (drop k d) ≡ is_earlier (drop (k + 1) c) (drop (k + 1) d)
   earlier-goes_on e = rw (add-one, drop-cons c k 0, drop-cons d k 0) (same-number (get_or c k 0) (get_or d k 0)
       (is_earlier (drop (suc k) c) (drop (suc k) d)) e)
@@ -29,7 +29,7 @@ module _ (c d : List ℕ) (k : ℕ) (inside : k < length c) (within : k < length
       rw (drop-cons c k 0, drop-cons d k 0) (or-false (is_number_before (get_or c k 0) (get_or d k 0)) (get_or c k 0 == get_or d k 0)
       (is_earlier (drop (suc k) c) (drop (suc k) d)) (ne_eqb (get_or c k 0) (get_or d k 0) other))
 
--- behind the last number neither choice comes first
+-- after the last number neither choice comes first
 pub earlier-none : (c d : List ℕ) (k : ℕ) → length c ≡ k → length d ≡ k → is_earlier (drop k c) (drop k d) ≡ false
 earlier-none c d k e f = let p : drop k c ≡ [] = drop_all k c (omega (arith, e)) in
     let q : drop k d ≡ [] = drop_all k d (omega (arith, f)) in

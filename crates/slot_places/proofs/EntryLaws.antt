@@ -8,10 +8,10 @@ use Rattle.std.proofs.lemmas.Bool.{cases_Bool, false≢true}
 use Rattle.std.proofs.lemmas.Bool.Decides.{nat_tests}
 use Rattle.std.proofs.lemmas.List.{append_cancel_left}
 use Rattle.std.proofs.lemmas.Slice.Eq.{bytes_eq-Decides}
-use Rattle.choices.specs.line_text.proofs.DecimalFields.{NoSpace, number_own, one_field}
-use Rattle.choices.specs.line_text.specs.Fields.{FieldEnds}
-use Rattle.choices.specs.book_form.specs.BookForm.{IsName}
-use Rattle.choices.specs.limits.specs.declared.LimitKind.TheVariants.{Lots, Bidders}
+use Rattle.line_format.proofs.DecimalFields.{NoSpace, number_own, one_field}
+use Rattle.line_format.specs.Fields.{FieldEnds}
+use Rattle.book_grammar.specs.BookForm.{IsName}
+use Rattle.limits.specs.declared.LimitKind.TheVariants.{Bidders, Lots}
 use Rattle.slot_places.specs.Fields.{bidder_value}
 use Rattle.slot_places.specs.Slots.{SlotBid, SlotBidder, SlotList}
 use Rattle.slot_places.specs.SlotForm.{width_together, band_excess, bidder_excess}
@@ -19,7 +19,7 @@ use Rattle.slot_places.specs.declared.read.Stage.{Stage}
 use Rattle.slot_places.specs.declared.slots.BandBidder.{BandBidder}
 use Rattle.slot_places.specs.declared.read.Stage.TheVariants.{Listing}
 use Rattle.slot_places.specs.Stages.{Step, Adds, AddsBidder, AddsPlace, IsEntrant, IsNextPlace, bidder_with, with_bidders, with_bid}
-use Rattle.choices.specs.book_form.proofs.NameLaws.{name_own}
+use Rattle.book_grammar.proofs.NameLaws.{name_own}
 use Rattle.slot_places.proofs.LineLaws.{bidder_no_place, two_parts}
 
 -- a text whose first field ends without a space has one field
@@ -37,11 +37,11 @@ many_lots n many = grind (arith, nat_tests)
 pub few_lots : (n : ℕ) → n ≤ 40 → band_excess n ≡ None
 few_lots n few = grind (arith, nat_tests)
 
--- a bidder behind six or more exceeds the limit of bidders
+-- a bidder after six or more exceeds the limit of bidders
 pub many_bidders : (n : ℕ) → 6 ≤ n → bidder_excess (n + 1) ≡ Some (Bidders, 7)
 many_bidders n many = grind (arith, nat_tests)
 
--- a bidder behind fewer than six exceeds no limit
+-- a bidder after fewer than six exceeds no limit
 pub few_bidders : (n : ℕ) → n < 6 → bidder_excess (n + 1) ≡ None
 few_bidders n few = grind (arith, nat_tests)
 
@@ -71,7 +71,7 @@ adds_entrant old line fields name width spelled entrant = record {
       refl;
 }
 
--- the fields behind the word are those of the bidder
+-- the fields after the word are those of the bidder
 pub entrant_of : (old new : SlotList) (fields : List ℕ) (adds : AddsBidder old new (codes "bidder " ++ fields)) → IsEntrant old fields adds.name adds.width
 entrant_of old new fields adds = subst (λ (f : List ℕ). IsEntrant old f adds.name adds.width)
     (sym (append_cancel_left (codes "bidder ") fields adds.fields adds.line_is)) adds.entrant
@@ -107,7 +107,7 @@ next_fields slots line fields first second bid low line_is is own next =
     let parts = two_parts first (decimal bid.start) second (decimal bid.amount) own (number_own bid.start (omega (arith, within, low))) (sym is ∙ behind) in
     (parts.0, parts.1)
 
--- a line without two fields behind the word states no bid
+-- a line without two fields after the word states no bid
 pub no_fields : (slots : SlotList) (line fields : List ℕ) (bid : SlotBid) → slots.band ≤ 40 → line ≡ codes "place " ++ fields
     → ((first second : List ℕ) → NoSpace first → fields ≡ first ++ 32 ∷ second → ⊥) → IsNextPlace slots line bid → ⊥
 no_fields slots line fields bid low line_is none next =

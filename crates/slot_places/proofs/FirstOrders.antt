@@ -2,7 +2,7 @@
 use Rattle.std.specs.Prelude.{◌≡◌, ℕ, suc, ◌+◌, ◌-◌, ◌^◌, ◌<◌, Bool, true, false, ◌&&◌, nat_lt, ◌==◌, IsTrue, List, [], ◌∷◌, ◌++◌, length, refl}
 use Rattle.std.proofs.Common.{inl, inr, sym, ◌∙◌, arith, subst}
 use Rattle.std.proofs.lemmas.Bool.{false≢true, and_parts, and_from, or_cases, cases_Bool, ltb-true, eqb-true, eq-eqb}
-use Rattle.choices.specs.auction_model.specs.Market.{number_of}
+use Rattle.auction_model.specs.Market.{number_of}
 use Rattle.slot_places.specs.Slots.{SlotList}
 use Rattle.slot_places.specs.Board.{Board, nobody, joined, is_known, can_place, board_of}
 use Rattle.slot_places.specs.Orders.{are_new, is_order, gives, allows, is_order_before}
@@ -16,7 +16,7 @@ use Rattle.slot_places.proofs.SetBits.{holds-joined, holds-nobody}
 abbrev pub Passes : Board → List ℕ → (ℕ → Bool) → List ℕ → Type 0
 Passes b c s order = IsTrue (are_new b.bidders s order) × IsTrue (gives b c s order)
 
--- in an order that passes, the first bidder can follow and the others pass behind it
+-- in an order that passes, the first bidder can follow and the others pass after it
 pub passes-says : (b : Board) (c : List ℕ) (s : ℕ → Bool) (j : ℕ) (order : List ℕ) → Passes b c s (j ∷ order)
     → CanFollow b c s j × Passes b c (joined j s) order
 passes-says b c s j order p =
@@ -24,7 +24,7 @@ passes-says b c s j order p =
     let g = and_parts (b.may s j (number_of c j)) (gives b c (joined j s) order) p.1 in
     (record { some = n.0; low = n.1; new = n.2; may = g.0 }, (n.3, g.1))
 
--- a bidder that can follow, before an order that passes behind it, makes an order that passes
+-- a bidder that can follow, before an order that passes after it, makes an order that passes
 pub passes-from : (b : Board) (c : List ℕ) (s : ℕ → Bool) (j : ℕ) (order : List ℕ) → CanFollow b c s j → Passes b c (joined j s) order
     → Passes b c s (j ∷ order)
 passes-from b c s j order f p = (
@@ -51,15 +51,15 @@ module _ (slots : SlotList) (c : List ℕ) where
   asks : AsksBidders board
   asks = slots-ask slots 0
 
-  -- what passes behind the set of no bits passes behind nobody
+  -- what passes after the set of no bits passes after nobody
   pub passes-start : (order : List ℕ) → Passes board c (holds 0) order → Passes board c nobody order
   passes-start order = passes-same board asks c (holds 0) nobody order (λ i some. holds-nobody i)
 
-  -- what passes behind nobody passes behind the set of no bits
+  -- what passes after nobody passes after the set of no bits
   pub passes-begins : (order : List ℕ) → Passes board c nobody order → Passes board c (holds 0) order
   passes-begins order = passes-same board asks c nobody (holds 0) order (λ i some. sym (holds-nobody i))
 
-  -- what stands behind the first bidder passes behind the set of bits with that bidder
+  -- what follows the first bidder passes after the set of bits with that bidder
   pub passes-on : (n j : ℕ) (order : List ℕ) → Passes board c (holds n) (j ∷ order) → Passes board c (holds (n + 2 ^ (j - 1))) order
   passes-on n j order p =
       let q = passes-says board c (holds n) j order p in
@@ -72,7 +72,7 @@ module _ (slots : SlotList) (c : List ℕ) where
       passes-from board c (holds n) j order f
       (passes-same board asks c (holds (n + 2 ^ (j - 1))) (joined j (holds n)) order (λ i some. sym (holds-joined n j i f.some f.new some)) p)
 
-  -- an order of all bidders that passes behind nobody allows the known choice
+  -- an order of all bidders that passes after nobody allows the known choice
   pub allowed-by : (order : List ℕ) → length order ≡ length slots.bidders → IsTrue (is_known board c) → Passes board c nobody order
       → allows slots order c ≡ true
   allowed-by order count known p =
@@ -102,12 +102,12 @@ module _ (slots : SlotList) (c : List ℕ) where
         | inr f ↦ sym f
       ]
 
--- of so many bidders outside a set the first order that gives each its number
+-- of that many bidders outside a set the first order that gives each its number
 pub record FirstOrder (b : Board) (c : List ℕ) (left : ℕ) (s : ℕ → Bool) (order : List ℕ) : Type 0 where
   pub is : Order b c left s order
   pub first : (other : List ℕ) → Order b c left s other → IsTrue (is_order_before other order) → ⊥
 
--- behind the smallest bidder that can be next the first order of the others
+-- after the smallest bidder that can be next the first order of the others
 pub first-with : (b : Board) (c : List ℕ) (left : ℕ) (s : ℕ → Bool) (j : ℕ) (order : List ℕ) → IsFirstNext b c left s j
     → FirstOrder b c left (joined j s) order → FirstOrder b c (suc left) s (j ∷ order)
 first-with b c left s j order is rest = record { is = whole; first = none }
@@ -154,7 +154,7 @@ first-same b asks c left s t order same is = record {
     moved : (u v : ℕ → Bool) (q : List ℕ) → IsSame u v → Order b c left u q → Order b c left v q
     moved u v q agree o = let p = passes-same b asks c u v q agree (o.new, o.gives) in record { count = o.count; new = p.0; gives = p.1 }
 
--- So many are placed behind a set of bits: whatever goes on from here as a first order makes a first order of all.
+-- That many are placed after a set of bits: whatever goes on from here as a first order makes a first order of all.
 pub record SoPlaced (slots : SlotList) (c : List ℕ) (order : List ℕ) (left n : ℕ) : Type 0 where
   pub small : n < 2 ^ length slots.bidders
   pub same : can_place (board_of slots) c left (holds n) ≡ can_place (board_of slots) c (length slots.bidders) nobody

@@ -1,12 +1,12 @@
 -- What a line of slots adds: one bidder more, or one bid more of the last bidder.
-use Rattle.std.proofs.Common.{⊎_elim, ◌≡◌, ℕ, suc, ◌+◌, ◌-◌, ◌<◌, Option, None, List, [], ◌∷◌, ◌++◌, length, get_or, set, take, refl, sym, ap, subst, ◌∙◌}
-use Rattle.std.proofs.Common.{arith, append_assoc, length-append}
+use Rattle.std.proofs.Common.{List, None, Option, [], ap, append_assoc, arith, get_or, length, length-append, refl, set, subst, suc, sym, take, ℕ}
+use Rattle.std.proofs.Common.{⊎_elim, ◌++◌, ◌+◌, ◌-◌, ◌<◌, ◌∙◌, ◌∷◌, ◌≡◌}
 use Rattle.std.specs.Prelude.{codes}
 use Rattle.std.proofs.lemmas.List.{append-nil, take_all, take_more, get_or_at, set_at}
 use Rattle.slot_places.specs.Slots.{SlotBid, SlotBidder, SlotList, no_bidder, bidder_of}
-use Rattle.choices.specs.book_form.specs.BookLines.{Excess, Line}
-use Rattle.slot_places.specs.SlotForm.{IsSlotBid, AreSlotBids, IsSlotBidder, AreSlotBidders, IsSlotText, bidder_excess, bidder_line, place_line, place_lines}
-use Rattle.slot_places.specs.SlotForm.{bidder_lines, head_lines}
+use Rattle.book_grammar.specs.BookLines.{Excess, Line}
+use Rattle.slot_places.specs.SlotForm.{AreSlotBidders, AreSlotBids, IsSlotBid, IsSlotBidder, IsSlotText, bidder_excess, bidder_line, bidder_lines}
+use Rattle.slot_places.specs.SlotForm.{head_lines, place_line, place_lines}
 use Rattle.slot_places.specs.Stages.{last_start, bidder_with, with_bidders, with_bid, AddsBidder, AddsPlace, Adds, bids_excess, last_excess, excess_of}
 
 -- all lines of slots but the last
@@ -31,14 +31,14 @@ bidder_lines-push before (c ∷ bs) b =
     ++ (bidder_line k b.name b.width ∷ place_lines b.bids)) (omega arith))
     ∙ sym (append_assoc own (bidder_lines (before + 1) bs) (bidder_line (before + suc (length bs)) b.name b.width ∷ place_lines b.bids))
 
--- with a bidder more, what the last line exceeds is told by that bidder
+-- with a bidder more, what the last line exceeds is reported by that bidder
 pub last_excess-push : (band before : ℕ) (bs : List SlotBidder) (b : SlotBidder) → last_excess band before (bs ++ b ∷ []) ≡ bids_excess
     (before + length bs + 1) b.bids
 last_excess-push band before [] b = ap (λ (k : ℕ). bids_excess k b.bids) (omega arith)
 last_excess-push band before (c ∷ []) b = ap (λ (k : ℕ). bids_excess k b.bids) (omega arith)
 last_excess-push band before (c ∷ d ∷ bs) b = last_excess-push band (before + 1) (d ∷ bs) b ∙ ap (λ (k : ℕ). bids_excess k b.bids) (omega arith)
 
--- behind a bid nothing is exceeded
+-- after a bid nothing is exceeded
 pub bids_excess-push : (bidders : ℕ) (bs : List SlotBid) (b : SlotBid) → bids_excess bidders (bs ++ b ∷ []) ≡ None
 bids_excess-push bidders [] b = refl
 bids_excess-push bidders (c ∷ bs) b = refl
@@ -157,7 +157,7 @@ parts_of bidders some =
 last_place : (front : List SlotBidder) (bidder : SlotBidder) → length front ≡ length (front ++ bidder ∷ []) - 1
 last_place front bidder = omega (arith, length-append front (bidder ∷ []))
 
--- the bidder behind all others is the last by its number
+-- the bidder after all others is the last by its number
 pub last_of : (slots : SlotList) (front : List SlotBidder) (bidder : SlotBidder) → slots.bidders ≡ front ++ bidder ∷ []
     → bidder_of slots (length slots.bidders) ≡ bidder
 last_of slots front bidder whole =
@@ -204,7 +204,7 @@ place_marks old bid some =
     ∙ last_excess-push old.band 0 parts.front (bidder_with parts.bidder.name parts.bidder.width (parts.bidder.bids ++ bid ∷ []))
     ∙ bids_excess-push (0 + length parts.front + 1) parts.bidder.bids bid
 
--- a bidder more exceeds what so many bidders exceed
+-- a bidder more exceeds what that many bidders exceed
 pub bidder_marks : (old : SlotList) (name : List ℕ) (width : ℕ) → excess_of (with_bidders old (old.bidders ++ bidder_with name width [] ∷ [])) ≡ bidder_excess
     (length old.bidders + 1)
 bidder_marks old name width = last_excess-push old.band 0 old.bidders (bidder_with name width []) ∙ ap bidder_excess (omega arith)

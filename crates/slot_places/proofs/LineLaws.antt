@@ -3,14 +3,14 @@ use Rattle.std.proofs.Common.{inl, inr, ◌≡◌, ℕ, ◌≤◌, ◌<◌, ◌+
 use Rattle.std.specs.Prelude.{codes}
 use Rattle.std.specs.Fmt.{decimal}
 use Rattle.std.proofs.lemmas.List.{append_cancel_left}
-use Rattle.choices.specs.wide_num.proofs.Decimal.{decimal_one}
-use Rattle.choices.specs.line_text.specs.LineText.{IsLine}
-use Rattle.choices.specs.book_form.specs.BookForm.{IsName}
-use Rattle.choices.specs.book_form.proofs.NameLaws.{name_own}
-use Rattle.choices.specs.bid_book.proofs.Spelled.{number_line, name_line}
-use Rattle.choices.specs.line_text.proofs.Lines.{line_append}
-use Rattle.choices.specs.line_text.proofs.DecimalFields.{NoSpace, one_field, number_own}
-use Rattle.choices.specs.bid_book.proofs.OneLine.{end_no_bidder}
+use Rattle.wide_num.proofs.Decimal.{decimal_one}
+use Rattle.line_format.specs.LineText.{IsLine}
+use Rattle.book_grammar.specs.BookForm.{IsName}
+use Rattle.book_grammar.proofs.NameLaws.{name_own}
+use Rattle.bid_book.proofs.Spelled.{name_line, number_line}
+use Rattle.line_format.proofs.Lines.{line_append}
+use Rattle.line_format.proofs.DecimalFields.{NoSpace, number_own, one_field}
+use Rattle.bid_book.proofs.OneLine.{end_no_bidder}
 use Rattle.slot_places.specs.Slots.{SlotBid, SlotList}
 use Rattle.slot_places.specs.SlotForm.{band_line, bidder_line, place_line}
 use Rattle.slot_places.specs.Stages.{with_bid, bidder_with, with_bidders, IsEntrant, AddsBidder, AddsPlace, Adds}
@@ -87,7 +87,7 @@ place_feeds b low top =
     line_append (codes "place ") (decimal b.start ++ 32 ∷ decimal b.amount) place_word
     (line_append (decimal b.start) (32 ∷ decimal b.amount) (number_line b.start (omega (arith, low))) (behind_space b.amount (omega (arith, top))))
 
--- two fields are told apart by the first space
+-- two fields are distinguished by the first space
 pub two_parts : (a b x y : List ℕ) → NoSpace a → NoSpace b → a ++ 32 ∷ x ≡ b ++ 32 ∷ y → (a ≡ b) × (x ≡ y)
 two_parts a b x y na nb is =
     let parts = one_field a b (32 ∷ x) (32 ∷ y) na nb refl refl is in

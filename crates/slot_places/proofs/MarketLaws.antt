@@ -4,13 +4,13 @@ use Rattle.std.proofs.Common.{inl, inr, arith}
 use Rattle.std.proofs.lemmas.Bool.{and_parts, and_from, cases_eq, cases_lt, le-leb}
 use Rattle.std.proofs.lemmas.Int.{ints}
 use Rattle.std.proofs.lemmas.List.{get_or-replicate, get_or_past, length-replicate, length-set, get_or-set_same, get_or-set_other}
-use Rattle.choices.specs.auction_model.specs.Market.{number_of}
-use Rattle.choices.specs.auction_model.specs.Menu.{Menu, is_known_after}
-use Rattle.choices.specs.auction_model.specs.Lawful.{IsMarket}
-use Rattle.choices.specs.auction_model.proofs.ChoiceLaws.{known-length, known-at}
-use Rattle.choices.specs.auction_model.proofs.BookMarket.{none-known}
+use Rattle.auction_model.specs.Market.{number_of}
+use Rattle.auction_model.specs.Menu.{Menu, is_known_after}
+use Rattle.auction_model.specs.Lawful.{IsMarket}
+use Rattle.auction_model.proofs.ChoiceLaws.{known-at, known-length}
+use Rattle.auction_model.proofs.BookMarket.{none-known}
 use Rattle.slot_places.specs.Slots.{SlotList}
-use Rattle.slot_places.specs.Board.{Board, nobody, menu_of, is_known, can_place, is_placed, board_of, market_of}
+use Rattle.slot_places.specs.Board.{Board, nobody, menu_of, is_known, can_place, is_placed, board_of, market_of_slots}
 use Rattle.slot_places.proofs.SetLaws.{outside-nobody}
 use Rattle.slot_places.proofs.PlaceLaws.{place-other, place-idle}
 
@@ -73,12 +73,12 @@ module _ (b : Board) (idle : (s : ℕ → Bool) (j : ℕ) → IsTrue (b.may s j 
       more : (j : ℕ) (s : ℕ → Bool) → 0 < j → nobody j ≡ false → IsTrue (b.may s j (number_of c j)) → IsTrue (b.may s j (number_of (set c k 0) j))
       more j s some new may = elim (set-none c k j) [ inl same ↦ rw same may | inr none ↦ rw none (idle s j) ]
 
--- in slots each bidder can be given 0 behind any set
+-- in slots each bidder can be given 0 after any set
 pub slots-idle : (slots : SlotList) (s : ℕ → Bool) (j : ℕ) → IsTrue ((board_of slots).may s j 0)
 slots-idle slots s j = refl
 
 -- slots are a lawful market where there are fewer than 2^16 bidders
-pub market-of_slots : (slots : SlotList) → length slots.bidders < 2 ^ 16 → IsMarket (market_of slots)
+pub market-of_slots : (slots : SlotList) → length slots.bidders < 2 ^ 16 → IsMarket (market_of_slots slots)
 market-of_slots slots few =
     let b = board_of slots in
     let idle = slots-idle slots in

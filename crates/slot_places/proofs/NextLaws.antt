@@ -1,4 +1,4 @@
--- The bidders that can be next behind a set of bits.
+-- The bidders that can be next after a set of bits.
 use Rattle.std.specs.Prelude.{◌≡◌, ℕ, suc, ◌+◌, ◌-◌, ◌^◌, ◌≤◌, ◌<◌, Bool, false, IsTrue, List}
 use Rattle.std.proofs.Common.{inl, inr, sym, ◌∙◌, arith, subst}
 use Rattle.std.proofs.lemmas.Bool.{cases_Bool, cases_eq}
@@ -33,12 +33,12 @@ none-placed b c left s k none all =
       | inr f ↦ f
     ]
 
--- a bidder that can follow, and the others behind it
+-- a bidder that can follow, and the others after it
 module _ (b : Board) (asks : AsksBidders b) (c : List ℕ) (left n j : ℕ) where
   joined-is : 0 < j → holds n j ≡ false → IsSame (joined j (holds n)) (holds (n + 2 ^ (j - 1)))
   joined-is some new i positive = holds-joined n j i some new positive
 
-  -- a bidder that can follow, behind which the others can be placed, can be next
+  -- a bidder that can follow, after which the others can be placed, can be next
   pub next-is : CanFollow b c (holds n) j → IsTrue (can_place b c left (holds (n + 2 ^ (j - 1)))) → Next b c left (holds n) j
   next-is f rest = record {
     some = f.some;
@@ -48,21 +48,21 @@ module _ (b : Board) (asks : AsksBidders b) (c : List ℕ) (left n j : ℕ) wher
     rest = place-same b asks c left (joined j (holds n)) (holds (n + 2 ^ (j - 1))) (joined-is f.some f.new) ∙ rest;
   }
 
-  -- behind a bidder that can be next the others can be placed
+  -- after a bidder that can be next the others can be placed
   pub next-places : Next b c left (holds n) j → IsTrue (can_place b c left (holds (n + 2 ^ (j - 1))))
   next-places next = sym (place-same b asks c left (joined j (holds n)) (holds (n + 2 ^ (j - 1))) (joined-is next.some next.new)) ∙ next.rest
 
-  -- where a bidder can be next, so many and one more can be placed
+  -- where a bidder can be next, that many and one more can be placed
   pub placed-by : Next b c left (holds n) j → IsTrue (can_place b c (suc left) (holds n))
   placed-by next = next-from b c left (holds n) j next
 
   -- the same with the weight of the bidder
   module _ (w : ℕ) (is : w ≡ 2 ^ (j - 1)) where
-    -- a bidder that can follow can be next, where the others can be placed behind the set with its weight
+    -- a bidder that can follow can be next, where the others can be placed after the set with its weight
     pub next-by : CanFollow b c (holds n) j → IsTrue (can_place b c left (holds (n + w))) → Next b c left (holds n) j
     next-by f rest = next-is f (subst (λ m. IsTrue (can_place b c left (holds (n + m)))) is rest)
 
-    -- where a bidder can be next, the others can be placed behind the set with its weight
+    -- where a bidder can be next, the others can be placed after the set with its weight
     pub places-by : Next b c left (holds n) j → IsTrue (can_place b c left (holds (n + w)))
     places-by next = subst (λ m. IsTrue (can_place b c left (holds (n + m)))) (sym is) (next-places next)
 

@@ -3,8 +3,8 @@ use Rattle.std.specs.Prelude.{◌≡◌, ℕ, suc, ◌+◌, ◌-◌, ◌*◌, �
 use Rattle.std.proofs.Common.{sym, ◌∙◌, ap, arith, subst}
 use Rattle.std.proofs.lemmas.Bool.{eq-eqb, eqb-true}
 use Rattle.std.proofs.lemmas.List.{get_or-set_same}
-use Rattle.choices.specs.auction_model.specs.Lowered.{lowered, of_bidder}
-use Rattle.choices.specs.auction_model.specs.Market.{number_of}
+use Rattle.auction_model.specs.Lowered.{lowered, of_bidder}
+use Rattle.auction_model.specs.Market.{number_of}
 use Rattle.slot_places.specs.Slots.{SlotList, amount_of, bid_of}
 use Rattle.slot_places.specs.Board.{Board, joined, outside, board_without, starts_at}
 use Rattle.slot_places.specs.SetTable.{holds, fits_behind, sum_outside, IsSetBest, StaysInRange}
@@ -15,7 +15,7 @@ use Rattle.slot_places.proofs.SameLaws.{IsSame, AsksBidders, best-same, sum_outs
 use Rattle.slot_places.proofs.StepLaws.{fits-length, fits-with, step-bound, sum-set}
 use Rattle.slot_places.proofs.SizeLaws.{own-size, whole-size}
 
--- with one bidder left out, each bidder can still be given 0 behind any set
+-- with one bidder left out, each bidder can still be given 0 after any set
 pub idle-always : (slots : SlotList) (skip : ℕ) (s : ℕ → Bool) (j : ℕ) → IsTrue ((board_without slots skip).may s j 0)
 idle-always slots skip s j = refl
 
@@ -27,11 +27,11 @@ module _ (b : Board) (asks : AsksBidders b) (idle : (s : ℕ → Bool) (j : ℕ)
   behind-joined : IsSetBest b counts (joined j (holds n)) d
   behind-joined = best-same b asks counts (holds (n + 2 ^ (j - 1))) (joined j (holds n)) joined-is d best
 
-  -- the best choice behind the set with the bidder has a number for each bidder
+  -- the best choice after the set with the bidder has a number for each bidder
   pub step-length : length d ≡ b.bidders
   step-length = fits-length b (holds (n + 2 ^ (j - 1))) d best.passed
 
-  -- the best choice with a number that the bidder can be given fits behind the set
+  -- the best choice with a number that the bidder can be given fits after the set
   pub step-fits : (i : ℕ) → i ≤ b.bids j → IsTrue (b.may (holds n) j i) → IsTrue (fits_behind b (holds n) (set d (j - 1) i))
   step-fits i known may = fits-with b idle counts (holds n) j some low new d i known may behind-joined.passed
 
@@ -76,7 +76,7 @@ module _ (slots : SlotList) (skip : ℕ) (den : ℤ) (surplus : List ℤ) (range
       whole-size b asks idle (amount_of slots) den surplus range (holds n) (set d (j - 1) i) (λ h past. holds-within n (length slots.bidders) h small past)
       (step-fits b asks idle counts n j some low new d best i known may)
 
--- a bid for the start behind a set
+-- a bid for the start after a set
 pub starts-from : (slots : SlotList) (start j i : ℕ) → (bid_of slots j (i + 1)).start ≡ start → IsTrue (starts_at slots start j (i + 1))
 starts-from slots start j i e =
     let up : i + 1 ≡ suc i = omega arith in

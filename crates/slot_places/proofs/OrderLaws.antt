@@ -2,19 +2,19 @@
 use Rattle.std.specs.Prelude.{◌≡◌, ℕ, zero, suc, ◌≤◌, ◌<◌, Bool, false, ◌&&◌, not, nat_lt, nat_le, ◌==◌, IsTrue, List, [], ◌∷◌, length, refl}
 use Rattle.std.proofs.Common.{arith}
 use Rattle.std.proofs.lemmas.Bool.{and_parts, and_from, not_from_false, not-true, lt-ltb, le-leb, ltb-true, leb-true, eqb-true, eq-eqb}
-use Rattle.choices.specs.auction_model.specs.Market.{number_of}
+use Rattle.auction_model.specs.Market.{number_of}
 use Rattle.slot_places.specs.Slots.{SlotList}
 use Rattle.slot_places.specs.Board.{Board, nobody, joined, is_known, can_place, is_placed, board_of}
 use Rattle.slot_places.specs.Orders.{are_new, is_order, gives, allows}
 use Rattle.slot_places.proofs.PlaceLaws.{next-which, next-from}
 
--- an order of so many bidders outside a set that gives each its number
+-- an order of that many bidders outside a set that gives each its number
 pub record Order (b : Board) (c : List ℕ) (left : ℕ) (s : ℕ → Bool) (order : List ℕ) : Type 0 where
   pub count : length order ≡ left
   pub new : IsTrue (are_new b.bidders s order)
   pub gives : IsTrue (gives b c s order)
 
--- the first of new entries is a bidder outside the set, and the others are new behind it
+-- the first of new entries is a bidder outside the set, and the others are new after it
 pub new-parts : (n : ℕ) (s : ℕ → Bool) (j : ℕ) (order : List ℕ) → IsTrue (are_new n s (j ∷ order)) → (0 < j) × (j ≤ n) × (s j ≡ false)
     × IsTrue (are_new n (joined j s) order)
 new-parts n s j order t =
@@ -23,7 +23,7 @@ new-parts n s j order t =
     let r = and_parts (not (s j)) (are_new n (joined j s) order) p.1 in
     (ltb-true 0 j q.0, leb-true j n q.1, not-true (s j) r.0, r.1)
 
--- a bidder outside the set, before entries that are new behind it, makes new entries
+-- a bidder outside the set, before entries that are new after it, makes new entries
 pub new-from : (n : ℕ) (s : ℕ → Bool) (j : ℕ) (order : List ℕ) → 0 < j → j ≤ n → s j ≡ false → IsTrue (are_new n (joined j s) order)
     → IsTrue (are_new n s (j ∷ order))
 new-from n s j order some low new rest =
@@ -31,7 +31,7 @@ new-from n s j order some low new rest =
     (and_from (nat_lt 0 j) (nat_le j n) (lt-ltb 0 j some) (le-leb j n low))
     (and_from (not (s j)) (are_new n (joined j s) order) (not_from_false (s j) new) rest)
 
--- where so many bidders can be placed, an order gives each its number
+-- where that many bidders can be placed, an order gives each its number
 pub order-exists : (b : Board) (c : List ℕ) (left : ℕ) (s : ℕ → Bool) → IsTrue (can_place b c left s) → (order : List ℕ) × Order b c left s order
 order-exists b c zero s t = ([], record { count = refl; new = refl; gives = refl })
 order-exists b c (suc left) s t =
@@ -46,7 +46,7 @@ order-exists b c (suc left) s t =
       },
     )
 
--- where an order of so many bidders gives each its number, they can be placed
+-- where an order of that many bidders gives each its number, they can be placed
 pub order-places : (b : Board) (c : List ℕ) (left : ℕ) (s : ℕ → Bool) (order : List ℕ) → Order b c left s order → IsTrue (can_place b c left s)
 order-places b c zero s order o = refl
 order-places b c (suc left) s [] o = absurd (omega (arith, o.count))

@@ -10,8 +10,8 @@ use Rattle.slot_places.specs.Steps.{CanFollow, IsFirstNext}
 use Rattle.slot_places.proofs.SameLaws.{slots-ask}
 use Rattle.slot_places.proofs.SetBits.{holds-joined, joined-small, power-positive}
 use Rattle.slot_places.proofs.NextLaws.{next-places, placed-by}
-use Rattle.slot_places.proofs.FirstOrders.{FirstOrder, SoPlaced, Passes, first-with, first-same, allowed-by, refused-by, passes-says, passes-start}
-use Rattle.slot_places.proofs.FirstOrders.{passes-begins, passes-on, passes-back}
+use Rattle.slot_places.proofs.FirstOrders.{FirstOrder, Passes, SoPlaced, allowed-by, first-same, first-with, passes-back, passes-begins, passes-on}
+use Rattle.slot_places.proofs.FirstOrders.{passes-says, passes-start, refused-by}
 
 -- one bidder more
 pub so-next : (slots : SlotList) (c order : List ℕ) (left n j : ℕ) → SoPlaced slots c order (suc left) n → IsFirstNext (board_of slots) c left (holds n) j
@@ -38,7 +38,7 @@ so-more slots c order new rest left less n j w more fewer pushed weight so is =
     (subst (λ m. SoPlaced slots c (order ++ j ∷ []) m (n + 2 ^ (j - 1))) fewer
     (so-next slots c order left n j (subst (λ m. SoPlaced slots c order m n) more so) is)))
 
--- Of an order so many entries are tested: the whole passes just where what is left passes behind their set.
+-- Of an order that many entries are tested: the whole passes just where what is left passes after their set.
 pub record SoTested (slots : SlotList) (c order : List ℕ) (i n : ℕ) : Type 0 where
   pub whole : Passes (board_of slots) c (holds n) (drop i order) → Passes (board_of slots) c nobody order
   pub part : Passes (board_of slots) c nobody order → Passes (board_of slots) c (holds n) (drop i order)

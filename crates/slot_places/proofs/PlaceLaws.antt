@@ -2,7 +2,7 @@
 use Rattle.std.specs.Prelude.{◌≡◌, ℕ, zero, suc, ◌≤◌, ◌<◌, Bool, false, ◌&&◌, not, IsTrue, List, refl}
 use Rattle.std.proofs.Common.{arith}
 use Rattle.std.proofs.lemmas.Bool.{and_parts, and_from, not_from_false, not-true}
-use Rattle.choices.specs.auction_model.specs.Market.{number_of}
+use Rattle.auction_model.specs.Market.{number_of}
 use Rattle.slot_places.specs.Steps.{Next}
 use Rattle.slot_places.specs.Board.{Board, joined, outside, can_place}
 use Rattle.slot_places.proofs.SetLaws.{joined-new, some-at, some-which, outside-joined, outside-some}

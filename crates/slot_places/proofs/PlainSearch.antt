@@ -1,22 +1,22 @@
 -- A search for the amounts themselves, in which one bidder may have no bids.
-use Rattle.std.specs.Prelude.{IsTrue, ◌≡◌, ℕ, zero, suc, ◌+◌, ◌-◌, ◌*◌, ◌^◌, ◌≤◌, ◌<◌, Bool, true, false, cond, ◌&&◌, not, ◌==◌, List, [], ◌∷◌, length}
-use Rattle.std.specs.Prelude.{get_or, refl, ℤ, pos, ◌≤ℤ◌, unsigned_abs}
+use Rattle.std.specs.Prelude.{Bool, IsTrue, List, [], cond, false, get_or, length, not, pos, refl, suc, true, unsigned_abs, zero, ℕ, ℤ, ◌&&◌, ◌*◌}
+use Rattle.std.specs.Prelude.{◌+◌, ◌-◌, ◌<◌, ◌==◌, ◌^◌, ◌∷◌, ◌≡◌, ◌≤ℤ◌, ◌≤◌}
 use Rattle.std.proofs.Common.{sym, ◌∙◌, ap, arith, subst}
 use Rattle.std.proofs.lemmas.Bool.{and_parts, cond_both}
 use Rattle.std.proofs.lemmas.Int.{ints}
-use Rattle.choices.specs.auction_model.specs.Greatest.{IsFirstGreatest, IsGreatestValue}
-use Rattle.choices.specs.auction_model.specs.Lowered.{lowered, of_bidder, sum_to}
-use Rattle.choices.specs.auction_model.specs.Market.{number_of, sum_after, uses, value_of}
-use Rattle.choices.specs.auction_model.specs.Menu.{packages_after, fits_after}
-use Rattle.choices.specs.auction_model.specs.Package.{is_within}
-use Rattle.choices.specs.auction_model.specs.Prices.{allowed_without}
-use Rattle.choices.specs.auction_model.proofs.PlainLaws.{IsFirstGreatest-same, sum-plain}
-use Rattle.choices.specs.auction_model.proofs.SkipLaws.{fits-skip, move-last}
+use Rattle.auction_model.specs.Greatest.{IsFirstGreatest, IsGreatestValue}
+use Rattle.auction_model.specs.Lowered.{lowered, of_bidder, sum_to}
+use Rattle.auction_model.specs.Market.{number_of, sum_after, uses, value_of}
+use Rattle.auction_model.specs.Menu.{fits_after, packages_after}
+use Rattle.auction_model.specs.Package.{is_within}
+use Rattle.auction_model.specs.Prices.{allowed_without}
+use Rattle.auction_model.proofs.PlainLaws.{IsFirstGreatest-same, sum-plain}
+use Rattle.auction_model.proofs.SkipLaws.{fits-skip, move-last}
 use Rattle.slot_places.specs.Slots.{SlotList, bids_of, bid_of, amount_of}
 use Rattle.slot_places.specs.Kept.{AreSlots}
-use Rattle.slot_places.specs.Board.{Board, nobody, menu_of, is_known, can_place, is_placed, board_of, board_without, market_of}
+use Rattle.slot_places.specs.Board.{Board, nobody, menu_of, is_known, can_place, is_placed, board_of, board_without, market_of_slots}
 use Rattle.slot_places.specs.SetTable.{holds, fits_behind, counts_outside, sum_outside, IsSetTable, StaysInRange}
-use Rattle.choices.specs.auction_model.proofs.ChoiceLaws.{known-length}
+use Rattle.auction_model.proofs.ChoiceLaws.{known-length}
 use Rattle.slot_places.proofs.MarketLaws.{placed-number, slots-idle}
 use Rattle.slot_places.proofs.SizeLaws.{sum-size}
 use Rattle.slot_places.proofs.NumberLaws.{idle-always}
@@ -32,7 +32,7 @@ amount-small slots kept j (suc i) some low known = (kept.bidders j some low).amo
 bids-fewer : (slots : SlotList) (skip j : ℕ) → (board_without slots skip).bids j ≤ length (bids_of slots j)
 bids-fewer slots skip j = cond_both (j == skip) 0 (length (bids_of slots j)) (λ n. n ≤ length (bids_of slots j)) (λ _. omega arith) (λ _. omega arith)
 
--- a sum of n numbers of at most so much each is at most n times that
+-- a sum of n numbers of at most that much each is at most n times that
 pub sum-most : (f : ℕ → ℕ) (most n : ℕ) → ((j : ℕ) → 0 < j → j ≤ n → f j ≤ most) → sum_to f n ≤ n * most
 sum-most f most zero h = omega arith
 sum-most f most (suc n) h =
@@ -57,9 +57,9 @@ range-plain slots skip surplus kept zeros c t =
     let few = kept.few in
     omega (arith, sum, few)
 
--- no allowed choice is worth more than so many of the greatest amounts
+-- no allowed choice is worth more than that many of the greatest amounts
 pub value-small : (slots : SlotList) (c : List ℕ) → AreSlots slots → IsTrue (is_placed (board_of slots) c)
-    → unsigned_abs (value_of (market_of slots) c) ≤ 6 * 2 ^ 42
+    → unsigned_abs (value_of (market_of_slots slots) c) ≤ 6 * 2 ^ 42
 value-small slots c kept t =
     let n = length slots.bidders in
     let b = board_of slots in
@@ -85,14 +85,14 @@ amount-plain slots surplus j (suc i) none = rw none omega (arith, ints)
 
 module _ (slots : SlotList) (skip : ℕ) (surplus : List ℤ) (zeros : (k : ℕ) → get_or surplus k (pos 0) ≡ pos 0) where
   -- with a denominator of 1 and no surpluses, the sum of a choice is its value
-  pub value-plain : (c : List ℕ) → sum_after (lowered (pos 1) (amount_of slots) surplus) 0 c ≡ value_of (market_of slots) c
+  pub value-plain : (c : List ℕ) → sum_after (lowered (pos 1) (amount_of slots) surplus) 0 c ≡ value_of (market_of_slots slots) c
   value-plain c = sum-plain (amount_of slots) surplus 0 c (λ j. refl) (λ j. zeros (j - 1))
 
   -- the first of the greatest by the sums is the first of the greatest by the values
   pub first-plain : (c : List ℕ) → IsFirstGreatest (is_placed (board_without slots skip)) (sum_after (lowered (pos 1) (amount_of slots) surplus) 0) c
-      → IsFirstGreatest (is_placed (board_without slots skip)) (value_of (market_of slots)) c
+      → IsFirstGreatest (is_placed (board_without slots skip)) (value_of (market_of_slots slots)) c
   first-plain c g = IsFirstGreatest-same (is_placed (board_without slots skip)) (is_placed (board_without slots skip))
-      (sum_after (lowered (pos 1) (amount_of slots) surplus) 0) (value_of (market_of slots)) c (λ d. refl) value-plain g
+      (sum_after (lowered (pos 1) (amount_of slots) surplus) 0) (value_of (market_of_slots slots)) c (λ d. refl) value-plain g
 
   outside-plain : (s : ℕ → Bool) (c : List ℕ) → sum_outside s (lowered (pos 1) (amount_of slots) surplus) c ≡ sum_outside s (amount_of slots) c
   outside-plain s c =
@@ -135,7 +135,7 @@ known-without slots skip c some =
     ∙ ap (λ x. x && not (uses c skip)) (fits-known (board_of slots) c))
 
 -- a choice is placed without a bidder's bids just where it is allowed and doesn't use the bidder
-pub placed-without : (slots : SlotList) (skip : ℕ) (c : List ℕ) → 0 < skip → is_placed (board_without slots skip) c ≡ allowed_without (market_of slots) skip c
+pub placed-without : (slots : SlotList) (skip : ℕ) (c : List ℕ) → 0 < skip → is_placed (board_without slots skip) c ≡ allowed_without (market_of_slots slots) skip c
 placed-without slots skip c some =
     let n = length slots.bidders in
     ap (λ x. x && can_place (board_without slots skip) c n nobody) (known-without slots skip c some)
@@ -144,7 +144,7 @@ placed-without slots skip c some =
 
 -- the first of the greatest without a bidder's bids is the first of the greatest that don't use the bidder
 pub first-without : (slots : SlotList) (skip : ℕ) (c : List ℕ) → 0 < skip → IsFirstGreatest (is_placed (board_without slots skip))
-    (value_of (market_of slots)) c → IsFirstGreatest (allowed_without (market_of slots) skip) (value_of (market_of slots)) c
+    (value_of (market_of_slots slots)) c → IsFirstGreatest (allowed_without (market_of_slots slots) skip) (value_of (market_of_slots slots)) c
 first-without slots skip c some g =
-    IsFirstGreatest-same (is_placed (board_without slots skip)) (allowed_without (market_of slots) skip) (value_of (market_of slots))
-    (value_of (market_of slots)) c (λ d. placed-without slots skip d some) (λ d. refl) g
+    IsFirstGreatest-same (is_placed (board_without slots skip)) (allowed_without (market_of_slots slots) skip) (value_of (market_of_slots slots))
+    (value_of (market_of_slots slots)) c (λ d. placed-without slots skip d some) (λ d. refl) g

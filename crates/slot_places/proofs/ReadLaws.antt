@@ -1,7 +1,7 @@
 -- What a bidder and a bid of the fields are in the slots.
 use Rattle.std.specs.Prelude.{◌≡◌, ℕ, zero, suc, ◌+◌, ◌-◌, ◌≤◌, ◌<◌, Bool, true, false, cond, length, get_or, map}
 use Rattle.std.proofs.Common.{sym, ◌∙◌, ap, subst, arith}
-use Rattle.choices.specs.auction_model.specs.Lowered.{sum_to}
+use Rattle.auction_model.specs.Lowered.{sum_to}
 use Rattle.std.proofs.lemmas.List.{get_or-map, length-map}
 use Rattle.slot_places.specs.Slots.{SlotList, SlotBidder, no_bid, no_bidder, bidder_of, bids_of, bid_of, width_of}
 use Rattle.slot_places.specs.Kept.{AreSlots}

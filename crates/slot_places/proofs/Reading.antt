@@ -3,12 +3,12 @@ use Rattle.std.proofs.Common.{inl, inr, ◌≡◌, ℕ, ◌+◌, ◌≤◌, None
 use Rattle.std.specs.Prelude.{codes}
 use Rattle.std.specs.Fmt.{decimal}
 use Rattle.std.proofs.lemmas.List.{append-nil, take_at, take_all}
-use Rattle.choices.specs.line_text.specs.Reading.{Runs}
-use Rattle.choices.specs.line_text.proofs.Runs.{FrontOf, Reads, StepsBehind, StepsOnce, front_reached, runs_append}
+use Rattle.line_format.specs.Reading.{Runs}
+use Rattle.line_format.proofs.Runs.{FrontOf, Reads, StepsBehind, StepsOnce, front_reached, runs_append}
 use Rattle.slot_places.specs.Slots.{SlotBid, SlotBidder, SlotList}
-use Rattle.choices.specs.book_form.specs.BookLines.{Line}
-use Rattle.slot_places.specs.SlotForm.{IsSlotBid, AreSlotBids, IsSlotBidder, AreSlotBidders, IsSlotText, bidder_excess, band_line, bidder_line, place_line}
-use Rattle.slot_places.specs.SlotForm.{place_lines, bidder_lines, head_lines, slot_lines}
+use Rattle.book_grammar.specs.BookLines.{Line}
+use Rattle.slot_places.specs.SlotForm.{AreSlotBidders, AreSlotBids, IsSlotBid, IsSlotBidder, IsSlotText, band_line, bidder_excess, bidder_line}
+use Rattle.slot_places.specs.SlotForm.{bidder_lines, head_lines, place_line, place_lines, slot_lines}
 use Rattle.slot_places.specs.declared.read.Stage.{Stage}
 use Rattle.slot_places.specs.declared.read.Stage.TheVariants.{Start, Headed, Listing, Ended}
 use Rattle.slot_places.specs.Stages.{last_start, bidder_with, with_bidders, opened, AddsPlace, Step, last_excess, excess}
@@ -21,7 +21,7 @@ begin = Start
 abbrev pub finish : SlotList → Stage
 finish slots = Ended slots
 
--- the lines that a stage has behind it
+-- the lines that a stage has after it
 abbrev pub behind : Stage → List Line
 behind Start = []
 behind Headed = (codes "slots 1", None) ∷ []
@@ -34,7 +34,7 @@ IsSound Headed = Unit {0}
 IsSound (Listing slots) = IsSlotText slots
 IsSound (Ended slots) = IsSlotText slots
 
--- a step keeps a stage sound, and its line stands behind the next stage
+-- a step keeps a stage sound, and its line comes after the next stage
 step_behind : StepsBehind IsSound Step excess behind
 step_behind s t l = by_stage s
   where

@@ -1,9 +1,9 @@
 -- Two tests that say the same of all bidders are one set.
 use Rattle.std.specs.Prelude.{◌≡◌, ℕ, zero, suc, ◌+◌, ◌<◌, Bool, cond, ◌&&◌, ◌||◌, not, ◌==◌, List, [], ◌∷◌, length, refl, ℤ, pos}
 use Rattle.std.proofs.Common.{◌∙◌, ap, arith}
-use Rattle.choices.specs.auction_model.specs.Market.{number_of}
-use Rattle.choices.specs.auction_model.specs.Lowered.{sum_to}
-use Rattle.choices.specs.auction_model.proofs.PlainLaws.{IsFirstGreatest-same}
+use Rattle.auction_model.specs.Market.{number_of}
+use Rattle.auction_model.specs.Lowered.{sum_to}
+use Rattle.auction_model.proofs.PlainLaws.{IsFirstGreatest-same}
 use Rattle.slot_places.specs.Slots.{SlotList, width_of}
 use Rattle.slot_places.specs.Board.{Board, joined, some_of, outside, is_known, can_place, start_behind, starts_at, board_without}
 use Rattle.slot_places.specs.SetTable.{is_idle_in, fits_behind, counts_outside, sum_outside, IsSetBest}
@@ -40,7 +40,7 @@ widths-same : (slots : SlotList) (s t : ℕ → Bool) (n : ℕ) → IsSame s t �
 widths-same slots s t zero same = refl
 widths-same slots s t (suc n) same = rw (widths-same slots s t n same, same (suc n) (omega arith)) refl
 
--- the first slot behind the one is that behind the other
+-- the first slot after the one is that after the other
 pub start-same : (slots : SlotList) (s t : ℕ → Bool) → IsSame s t → start_behind slots s ≡ start_behind slots t
 start-same slots s t same = ap (λ w. 1 + w) (widths-same slots s t (length slots.bidders) same)
 
@@ -54,7 +54,7 @@ sum_outside-same counts s t same d = sum-same (counts_outside s counts) (counts_
     (λ j i some. ap (λ x. cond x (pos 0) (counts j i)) (same j some))
 
 module _ (b : Board) (asks : AsksBidders b) where
-  -- so many others can be placed behind the one just where they can behind the other
+  -- that many others can be placed after the one just where they can after the other
   pub place-same : (c : List ℕ) (left : ℕ) (s t : ℕ → Bool) → IsSame s t → can_place b c left s ≡ can_place b c left t
   place-same c zero s t same = refl
   place-same c (suc left) s t same =
@@ -66,14 +66,14 @@ module _ (b : Board) (asks : AsksBidders b) where
       three : (x y z u v w : Bool) → x ≡ u → y ≡ v → z ≡ w → not x && (y && z) ≡ not u && (v && w)
       three x y z u v w p q r = rw (p, q, r) refl
 
-  -- a choice fits behind the one just where it fits behind the other
+  -- a choice fits after the one just where it fits after the other
   pub fits-same : (s t : ℕ → Bool) → IsSame s t → (c : List ℕ) → fits_behind b s c ≡ fits_behind b t c
   fits-same s t same c =
       ap (λ x. (is_known b c && x) && can_place b c (outside s b.bidders) s) (idle-same s t 0 c same)
       ∙ ap (λ x. (is_known b c && is_idle_in t 0 c) && x) (ap (λ n. can_place b c n s) (outside-same s t b.bidders same)
       ∙ place-same c (outside t b.bidders) s t same)
 
-  -- the best choice behind the one is the best behind the other
+  -- the best choice after the one is the best after the other
   pub best-same : (counts : ℕ → ℕ → ℤ) (s t : ℕ → Bool) → IsSame s t → (c : List ℕ) → IsSetBest b counts s c → IsSetBest b counts t c
   best-same counts s t same c best =
       IsFirstGreatest-same (fits_behind b s) (fits_behind b t) (sum_outside s counts) (sum_outside t counts) c (fits-same s t same)

@@ -101,7 +101,7 @@ out-at (suc k) n small = by (cases_eq (n % 2) 0) (λ half. out-at k (n / 2) half
         let q = rest (omega (arith, t, small, odd)) in
         (suc q.0, omega (arith, q.1), bit_at-suc n q.0 ∙ q.2)
 
--- behind a set that isn't that of all somebody is outside
+-- after a set that isn't that of all somebody is outside
 pub some-out : (k n : ℕ) → n + 1 < 2 ^ k → (j : ℕ) × (0 < j) × (j ≤ k) × (holds n j ≡ false)
 some-out k n small =
     let q = out-at k n small in

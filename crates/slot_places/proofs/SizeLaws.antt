@@ -1,12 +1,12 @@
--- What fits behind a set is placed: the bidders of the set go first, each with 0.
-use Rattle.std.specs.Prelude.{◌≡◌, ◌⊎◌, ℕ, zero, suc, ◌+◌, ◌-◌, ◌*◌, ◌^◌, ◌≤◌, ◌<◌, Bool, true, false, cond, ◌&&◌, nat_le, IsTrue, List, [], ◌∷◌, length}
-use Rattle.std.specs.Prelude.{get_or, refl, ℤ, pos, unsigned_abs}
+-- What fits after a set is placed: the bidders of the set go first, each with 0.
+use Rattle.std.specs.Prelude.{Bool, IsTrue, List, [], cond, false, get_or, length, nat_le, pos, refl, suc, true, unsigned_abs, zero, ℕ, ℤ, ◌&&◌, ◌*◌}
+use Rattle.std.specs.Prelude.{◌+◌, ◌-◌, ◌<◌, ◌^◌, ◌∷◌, ◌≡◌, ◌≤◌, ◌⊎◌}
 use Rattle.std.proofs.Common.{inl, inr, sym, ◌∙◌, ap, arith, subst}
 use Rattle.std.proofs.lemmas.Bool.{and_from, and_right, le-leb, lt-leb, cases_Bool, cases_eq, cases_lt}
 use Rattle.std.proofs.lemmas.Int.{ints, unsigned_abs-mul}
-use Rattle.choices.specs.auction_model.specs.Lowered.{lowered, of_bidder, sum_to}
-use Rattle.choices.specs.auction_model.specs.Market.{number_of, sum_after}
-use Rattle.choices.specs.auction_model.proofs.BoundLaws.{abs-idle}
+use Rattle.auction_model.specs.Lowered.{lowered, of_bidder, sum_to}
+use Rattle.auction_model.specs.Market.{number_of, sum_after}
+use Rattle.auction_model.proofs.BoundLaws.{abs-idle}
 use Rattle.slot_places.specs.Board.{Board, nobody, joined, outside, is_known, can_place, is_placed}
 use Rattle.slot_places.specs.SetTable.{fits_behind, counts_outside, sum_outside, StaysInRange}
 use Rattle.slot_places.proofs.SetLaws.{joined-self, joined-other, outside-joined, outside-nobody}
@@ -94,14 +94,14 @@ module _ (b : Board) (asks : AsksBidders b) (idle : (s : ℕ → Bool) (j : ℕ)
           ap (λ x. can_place b c x (up_to s k)) (sym (outside-same (up_to s (suc k)) (up_to s k) b.bidders same))
           ∙ (sym (place-same b asks c (outside (up_to s (suc k)) b.bidders) (up_to s (suc k)) (up_to s k) same) ∙ rest)
 
-  -- where those outside the set can be placed behind it, all bidders can be placed behind nobody
+  -- where those outside the set can be placed after it, all bidders can be placed after nobody
   pub place-whole : IsTrue (can_place b c (outside s b.bidders) s) → IsTrue (can_place b c b.bidders nobody)
   place-whole t =
       let same : IsSame (up_to s 0) nobody = λ i some. up_to-past s 0 i some in
       let all : outside (up_to s 0) b.bidders ≡ b.bidders = outside-same (up_to s 0) nobody b.bidders same ∙ outside-nobody b.bidders in
       sym (place-same b asks c b.bidders (up_to s 0) nobody same) ∙ subst (λ m. IsTrue (can_place b c m (up_to s 0))) all (reach b.bidders 0 (omega arith) t)
 
--- a choice that fits behind a set is placed
+-- a choice that fits after a set is placed
 pub fits-placed : (b : Board) → AsksBidders b → ((s : ℕ → Bool) (j : ℕ) → IsTrue (b.may s j 0)) → (s : ℕ → Bool) (c : List ℕ)
     → ((i : ℕ) → b.bidders < i → s i ≡ false) → IsTrue (fits_behind b s c) → IsTrue (is_placed b c)
 fits-placed b asks idle s c within t =
@@ -158,11 +158,11 @@ module _ (b : Board) (asks : AsksBidders b) (idle : (s : ℕ → Bool) (j : ℕ)
   all-size : sum_to caps b.bidders ≤ 2 ^ 120
   all-size = range c (fits-placed b asks idle s c within fits)
 
-  -- a bid of a choice that fits behind a set stays in the range, with the denominator and the surplus
+  -- a bid of a choice that fits after a set stays in the range, with the denominator and the surplus
   pub own-size : (j : ℕ) → 0 < j → j ≤ b.bidders → unsigned_abs den * unsigned_abs (worth j (number_of c j)) + unsigned_abs (of_bidder surplus j) ≤ 2 ^ 120
   own-size j some low = let a = sum_to-term caps b.bidders j some low in let m = all-size in omega (arith, a, m)
 
-  -- what a choice that fits behind a set counts outside it stays in the range
+  -- what a choice that fits after a set counts outside it stays in the range
   pub whole-size : unsigned_abs (sum_outside s (lowered den worth surplus) c) ≤ 2 ^ 120
   whole-size =
       let counts = lowered den worth surplus in

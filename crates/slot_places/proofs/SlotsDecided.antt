@@ -3,10 +3,10 @@ use Rattle.std.proofs.Common.{inl, inr, ◌≡◌, ◌≢◌, ℕ, ◌+◌, ◌�
 use Rattle.std.specs.Prelude.{codes}
 use Rattle.std.specs.Fmt.{decimal}
 use Rattle.std.proofs.lemmas.List.{append_cancel_left, take_at}
-use Rattle.choices.specs.bid_book.proofs.BookDecided.{decided_name}
-use Rattle.choices.specs.limits.specs.declared.TheConstants.{MOST_AMOUNT, MOST_COUNT}
-use Rattle.choices.specs.line_text.proofs.Decided.{Decided, StepsDecided, after_word, decided_all, decided_as, decided_both, decided_le, decided_lt}
-use Rattle.choices.specs.line_text.proofs.Decided.{decided_not, decided_same, decided_three, some_below}
+use Rattle.bid_book.proofs.BookDecided.{decided_name}
+use Rattle.limits.specs.declared.TheConstants.{MOST_AMOUNT, MOST_COUNT}
+use Rattle.line_format.proofs.Decided.{Decided, StepsDecided, after_word, decided_all, decided_as, decided_both, decided_le, decided_lt, decided_not}
+use Rattle.line_format.proofs.Decided.{decided_same, decided_three, some_below}
 use Rattle.slot_places.specs.SlotForm.{band_line, place_line, width_together}
 use Rattle.slot_places.specs.Slots.{SlotBid, SlotList}
 use Rattle.slot_places.specs.Stages.{AddsBidder, AddsPlace, IsEntrant, IsNextPlace, Step, bidder_with, last_width, opened, start_before, with_bid, with_bidders}

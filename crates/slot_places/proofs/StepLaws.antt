@@ -1,13 +1,13 @@
 -- One entry of the table over sets from those with one bidder more.
-use Rattle.std.specs.Prelude.{◌≡◌, ℕ, zero, suc, ◌+◌, ◌-◌, ◌≤◌, ◌<◌, Bool, true, false, cond, ◌&&◌, ◌||◌, not, ◌==◌, IsTrue, List, [], ◌∷◌, length, get_or}
-use Rattle.std.specs.Prelude.{set, refl, ℤ, pos, ◌+ℤ◌, ◌≤ℤ◌, ◌<ℤ◌}
+use Rattle.std.specs.Prelude.{Bool, IsTrue, List, [], cond, false, get_or, length, not, pos, refl, set, suc, true, zero, ℕ, ℤ, ◌&&◌, ◌+ℤ◌, ◌+◌, ◌-◌}
+use Rattle.std.specs.Prelude.{◌<ℤ◌, ◌<◌, ◌==◌, ◌||◌, ◌∷◌, ◌≡◌, ◌≤ℤ◌, ◌≤◌}
 use Rattle.std.proofs.Common.{inl, inr, sym, ◌∙◌, ap, arith, subst}
-use Rattle.std.proofs.lemmas.Bool.{false≢true, and_parts, and_from, or_cases, or_left, or_right, not_from_false, not-true, eqb-true, eq-eqb, cases_Bool}
-use Rattle.std.proofs.lemmas.Bool.{cases_eq, cond-false}
+use Rattle.std.proofs.lemmas.Bool.{and_from, and_parts, cases_Bool, cases_eq, cond-false, eq-eqb, eqb-true, false≢true, not-true, not_from_false}
+use Rattle.std.proofs.lemmas.Bool.{or_cases, or_left, or_right}
 use Rattle.std.proofs.lemmas.Int.{ints}
 use Rattle.std.proofs.lemmas.List.{length-set, get_or-set_same, get_or-set_other, set-get_or}
-use Rattle.choices.specs.auction_model.specs.Market.{number_of, sum_after}
-use Rattle.choices.specs.auction_model.proofs.ChoiceLaws.{known-length}
+use Rattle.auction_model.specs.Market.{number_of, sum_after}
+use Rattle.auction_model.proofs.ChoiceLaws.{known-length}
 use Rattle.slot_places.specs.Steps.{Next, IsBefore}
 use Rattle.slot_places.specs.Board.{Board, joined, outside, menu_of, is_known, can_place}
 use Rattle.slot_places.specs.SetTable.{is_idle_in, fits_behind, counts_outside, sum_outside, IsSetBest}
@@ -16,25 +16,25 @@ use Rattle.slot_places.proofs.PlaceLaws.{next-from, place-other}
 use Rattle.slot_places.proofs.MarketLaws.{known-set}
 use Rattle.slot_places.proofs.BestLaws.{earlier-set}
 
--- the parts of fitting behind a set
+-- the parts of fitting after a set
 pub record Fits (b : Board) (s : ℕ → Bool) (c : List ℕ) : Type 0 where
   pub known : IsTrue (is_known b c)
   pub idle : IsTrue (is_idle_in s 0 c)
   pub place : IsTrue (can_place b c (outside s b.bidders) s)
 
--- a choice that fits behind a set is known, idle in the set, and its others can be placed behind it
+-- a choice that fits after a set is known, idle in the set, and its others can be placed after it
 pub fits-says : (b : Board) (s : ℕ → Bool) (c : List ℕ) → IsTrue (fits_behind b s c) → Fits b s c
 fits-says b s c t =
     let p = and_parts (is_known b c && is_idle_in s 0 c) (can_place b c (outside s b.bidders) s) t in
     let q = and_parts (is_known b c) (is_idle_in s 0 c) p.0 in
     record { known = q.0; idle = q.1; place = p.1 }
 
--- a known choice that is idle in a set, and whose others can be placed behind it, fits behind the set
+-- a known choice that is idle in a set, and whose others can be placed after it, fits after the set
 pub fits-from : (b : Board) (s : ℕ → Bool) (c : List ℕ) → Fits b s c → IsTrue (fits_behind b s c)
 fits-from b s c f = and_from (is_known b c && is_idle_in s 0 c) (can_place b c (outside s b.bidders) s)
     (and_from (is_known b c) (is_idle_in s 0 c) f.known f.idle) f.place
 
--- a choice that fits behind a set has a number for each bidder
+-- a choice that fits after a set has a number for each bidder
 pub fits-length : (b : Board) (s : ℕ → Bool) (c : List ℕ) → IsTrue (fits_behind b s c) → length c ≡ b.bidders
 fits-length b s c t = let e = known-length (menu_of b) 0 c (fits-says b s c t).known in omega (arith, e)
 
@@ -65,7 +65,7 @@ idle-from s k (x ∷ c) all =
     ])
     (idle-from s (suc k) c (λ i inside in_set. all (suc i) (omega (arith, inside)) (let e : suc (k + suc i) ≡ suc (suc k + i) = omega arith in rw e in_set)))
 
--- what counts alike for all bidders behind a place has the same sum
+-- what counts alike for all bidders after a place has the same sum
 pub sum-same : (f g : ℕ → ℕ → ℤ) (k : ℕ) (c : List ℕ) → ((j i : ℕ) → k < j → f j i ≡ g j i) → sum_after f k c ≡ sum_after g k c
 sum-same f g k [] same = refl
 sum-same f g k (i ∷ c) same = rw (same (suc k) i (omega arith), sum-same f g (suc k) c (λ j h low. same j h (omega (arith, low)))) refl
@@ -108,7 +108,7 @@ move-most own d e x y p q most = omega (arith, ints)
 move-first : (own d e x y : ℤ) → x ≡ own +ℤ d → y ≡ own +ℤ e → e <ℤ d → y <ℤ x
 move-first own d e x y p q most = omega (arith, ints)
 
--- Bidder j is placed next behind a set and is given number i, and the choice d of the others is the best behind the set with j.
+-- Bidder j is placed next after a set and is given number i, and the choice d of the others is the best after the set with j.
 module _ (b : Board) (idle : (s : ℕ → Bool) (j : ℕ) → IsTrue (b.may s j 0)) (counts : ℕ → ℕ → ℤ) (s : ℕ → Bool) (j : ℕ) (some : 0 < j) (low : j ≤ b.bidders)
     (new : s j ≡ false) where
   -- the choice d with the number of j

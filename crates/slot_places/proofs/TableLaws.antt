@@ -3,8 +3,8 @@ use Rattle.std.specs.Prelude.{◌≡◌, ℕ, zero, suc, ◌+◌, ◌-◌, ◌^�
 use Rattle.std.proofs.Common.{sym, ◌∙◌, arith, subst}
 use Rattle.std.proofs.lemmas.Int.{ints}
 use Rattle.std.proofs.lemmas.List.{get_or-map, length-map}
-use Rattle.choices.specs.auction_model.specs.Greatest.{IsFirstGreatest}
-use Rattle.choices.specs.auction_model.specs.Market.{sum_after}
+use Rattle.auction_model.specs.Greatest.{IsFirstGreatest}
+use Rattle.auction_model.specs.Market.{sum_after}
 use Rattle.slot_places.specs.Board.{nobody, is_placed}
 use Rattle.slot_places.specs.SetTable.{holds, sum_outside, IsSetEntry, IsSetTable}
 use Rattle.slot_places.specs.Steps.{searched, counted, IsBestOf, AreBests}
@@ -16,7 +16,7 @@ use Rattle.slot_places.proofs.StepLaws.{sum-same}
 use Rattle.slot_places.proofs.WholeLaws.{best-whole}
 use Rattle.slot_places.proofs.NumberLaws.{idle-always}
 
--- the best of one set more, before those of the sets behind it
+-- the best of one set more, before those of the sets after it
 pub bests-front : (l : Search) (n : ℕ) (bests : List Best) (best : Best) → 0 < n → AreBests l n bests → IsBestOf l (n - 1) best
     → AreBests l (n - 1) (best ∷ bests)
 bests-front l n bests best some all own = record { count = omega (arith, some, all.count); each = each }
@@ -59,13 +59,13 @@ table-of l bests all =
           subst (IsSetEntry (searched l) (counted l) (holds bits)) (sym same) (entry l bits (get_or bests bits other) own);
     }
 
--- the best behind nobody is the first of the greatest placed choices
+-- the best after nobody is the first of the greatest placed choices
 pub first-placed : (l : Search) (best : Best) → IsBestOf l 0 best → IsFirstGreatest (is_placed (searched l)) (sum_after (counted l) 0) best.numbers.items
 first-placed l best is =
     best-whole (searched l) (idle-always l.slots.now l.skip) (counted l) best.numbers.items
     (best-same (searched l) (slots-ask l.slots.now l.skip) (counted l) (holds 0) nobody (λ i some. holds-nobody i) best.numbers.items is.first)
 
--- the sum of the best behind nobody is what its whole choice counts
+-- the sum of the best after nobody is what its whole choice counts
 pub first-sum : (l : Search) (best : Best) → IsBestOf l 0 best → best.sum ≡ sum_after (counted l) 0 best.numbers.items
 first-sum l best is =
     is.sum ∙ (sum_outside-same (counted l) (holds 0) nobody (λ i some. holds-nobody i) best.numbers.items
@@ -75,6 +75,6 @@ first-sum l best is =
 pub bests-some : (l : Search) (bests : List Best) → AreBests l 0 bests → 0 < length bests
 bests-some l bests all = let count = all.count in let p = power-positive (searched l).bidders in omega (arith, count, p)
 
--- the first of the bests of all sets is the best behind nobody
+-- the first of the bests of all sets is the best after nobody
 pub bests-first : (l : Search) (bests : List Best) (best : Best) → AreBests l 0 bests → best ≡ get_or bests 0 best → IsBestOf l 0 best
 bests-first l bests best all is = subst (λ (b : Best). IsBestOf l 0 b) (sym is) (all.each 0 best (bests-some l bests all))

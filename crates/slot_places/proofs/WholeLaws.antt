@@ -1,12 +1,12 @@
 -- The first entry that is filled, that of all bidders, and the last, that of nobody.
-use Rattle.std.specs.Prelude.{◌≡◌, ℕ, zero, suc, ◌+◌, ◌-◌, ◌≤◌, ◌<◌, Bool, true, false, cond, ◌&&◌, IsTrue, List, [], ◌∷◌, length, replicate, get_or, refl, ℤ}
-use Rattle.std.specs.Prelude.{pos}
+use Rattle.std.specs.Prelude.{Bool, IsTrue, List, [], cond, false, get_or, length, pos, refl, replicate, suc, true, zero, ℕ, ℤ, ◌&&◌, ◌+◌, ◌-◌, ◌<◌}
+use Rattle.std.specs.Prelude.{◌∷◌, ◌≡◌, ◌≤◌}
 use Rattle.std.proofs.Common.{sym, ◌∙◌, ap, arith, subst}
 use Rattle.std.proofs.lemmas.Int.{ints}
-use Rattle.choices.specs.auction_model.specs.Market.{sum_after}
-use Rattle.choices.specs.auction_model.specs.Greatest.{IsFirstGreatest}
-use Rattle.choices.specs.auction_model.proofs.BookMarket.{none-known}
-use Rattle.choices.specs.auction_model.proofs.PlainLaws.{IsFirstGreatest-same}
+use Rattle.auction_model.specs.Market.{sum_after}
+use Rattle.auction_model.specs.Greatest.{IsFirstGreatest}
+use Rattle.auction_model.proofs.BookMarket.{none-known}
+use Rattle.auction_model.proofs.PlainLaws.{IsFirstGreatest-same}
 use Rattle.slot_places.specs.Steps.{Next, IsBefore}
 use Rattle.slot_places.specs.Board.{Board, nobody, joined, outside, menu_of, is_known, can_place, is_placed}
 use Rattle.slot_places.specs.SetTable.{is_idle_in, fits_behind, counts_outside, sum_outside, IsSetBest}
@@ -34,7 +34,7 @@ sum-zeros f k (suc n) all =
     omega (arith, ints, own, rest)
 
 module _ (b : Board) (idle : (s : ℕ → Bool) (j : ℕ) → IsTrue (b.may s j 0)) (counts : ℕ → ℕ → ℤ) where
-  -- a choice in which nobody wins fits behind every set
+  -- a choice in which nobody wins fits after every set
   pub none-fits : (s : ℕ → Bool) → IsTrue (fits_behind b s (replicate b.bidders 0))
   none-fits s =
       let c = replicate b.bidders 0 in

@@ -1,20 +1,20 @@
 -- What follows for slots from their form and the limits.
-use Rattle.std.proofs.Common.{◌≡◌, ◌≢◌, ℕ, zero, suc, ◌+◌, ◌-◌, ◌≤◌, ◌<◌, Option, None, List, [], ◌∷◌, ◌++◌, length, get_or, take, refl, sym, ap, subst, ◌∙◌}
-use Rattle.std.proofs.Common.{arith, append_assoc}
+use Rattle.std.proofs.Common.{List, None, Option, [], ap, append_assoc, arith, get_or, length, refl, subst, suc, sym, take, zero, ℕ, ◌++◌, ◌+◌, ◌-◌}
+use Rattle.std.proofs.Common.{◌<◌, ◌∙◌, ◌∷◌, ◌≡◌, ◌≢◌, ◌≤◌}
 use Rattle.std.specs.Prelude.{codes}
 use Rattle.std.specs.Option.{option_or}
 use Rattle.std.specs.List.{AllByRecursion}
 use Rattle.std.proofs.lemmas.Bool.Decides.{nat_tests}
 use Rattle.std.proofs.lemmas.List.{append-nil, take_all, take_more, get_or-take, length-take-le}
-use Rattle.choices.specs.line_text.specs.LineText.{first_excess}
-use Rattle.choices.specs.line_text.proofs.Lines.{first_excess-append}
-use Rattle.choices.specs.auction_model.specs.Lowered.{sum_to}
-use Rattle.choices.specs.bid_book.proofs.SupplyLaws.{none_first}
-use Rattle.choices.specs.bid_book.proofs.Within.{each_at, parts_none}
+use Rattle.line_format.specs.LineText.{first_excess}
+use Rattle.line_format.proofs.Lines.{first_excess-append}
+use Rattle.auction_model.specs.Lowered.{sum_to}
+use Rattle.bid_book.proofs.SupplyLaws.{none_first}
+use Rattle.bid_book.proofs.Within.{each_at, parts_none}
 use Rattle.slot_places.specs.Slots.{SlotBid, SlotBidder, SlotList, no_bid, no_bidder, bids_of, bid_of, width_of}
-use Rattle.choices.specs.book_form.specs.BookLines.{Excess}
-use Rattle.slot_places.specs.SlotForm.{IsSlotBid, AreSlotBids, IsSlotBidder, AreSlotBidders, width_together, band_excess, bidder_excess, bidder_line}
-use Rattle.slot_places.specs.SlotForm.{place_lines, bidder_lines, head_lines, AreSlotsWithinLimits}
+use Rattle.book_grammar.specs.BookLines.{Excess}
+use Rattle.slot_places.specs.SlotForm.{AreSlotBidders, AreSlotBids, AreSlotsWithinLimits, IsSlotBid, IsSlotBidder, band_excess, bidder_excess}
+use Rattle.slot_places.specs.SlotForm.{bidder_line, bidder_lines, head_lines, place_lines, width_together}
 use Rattle.slot_places.specs.Kept.{IsInBand, AreSlots}
 use Rattle.slot_places.specs.Stages.{Adds, excess_of, last_start, opened}
 use Rattle.slot_places.proofs.Growth.{listed, adds_one}
@@ -140,8 +140,8 @@ all_kept band earlier [] low all = tt
 all_kept band earlier (b ∷ bs) low all = (bidder_kept band earlier b low all.0, all_kept band (earlier ++ b ∷ []) bs low all.1)
 
 -- the facts that callers use follow from the form and the limits
-pub kept : (slots : SlotList) → AreSlotsWithinLimits slots → AreSlots slots
-kept slots is =
+pub kept_slots : (slots : SlotList) → AreSlotsWithinLimits slots → AreSlots slots
+kept_slots slots is =
     let listed_none = (parts_none (listed slots) ((codes "end", None) ∷ []) is.limits).0 in
     let parts = parts_none (head_lines slots) (bidder_lines 0 slots.bidders) listed_none in
     let low = band_few slots.band (none_first (band_excess slots.band) None parts.0) in

@@ -1,20 +1,20 @@
 -- Boards without the bids of one bidder, or of nobody, and the range of a search for lowered worths.
-use Rattle.std.specs.Prelude.{◌≡◌, ℕ, zero, suc, ◌+◌, ◌-◌, ◌*◌, ◌≤◌, ◌<◌, Bool, ◌&&◌, not, IsTrue, List, [], ◌∷◌, length, get_or, refl, ℤ, pos, negsuc, ◌≤ℤ◌}
-use Rattle.std.specs.Prelude.{unsigned_abs}
+use Rattle.std.specs.Prelude.{Bool, IsTrue, List, [], get_or, length, negsuc, not, pos, refl, suc, unsigned_abs, zero, ℕ, ℤ, ◌&&◌, ◌*◌, ◌+◌, ◌-◌, ◌<◌}
+use Rattle.std.specs.Prelude.{◌∷◌, ◌≡◌, ◌≤ℤ◌, ◌≤◌}
 use Rattle.std.proofs.Common.{sym, ◌∙◌, ap, arith, subst, eqb}
 use Rattle.std.proofs.lemmas.Bool.{ne_eqb, cond-false, and_parts}
 use Rattle.std.proofs.lemmas.Int.{ints}
 use Rattle.std.proofs.Math.Nat.{mul-le-mul_left, mul_assoc}
-use Rattle.choices.specs.auction_model.specs.Market.{sum_after, number_of, value_of}
-use Rattle.choices.specs.auction_model.specs.Menu.{is_known_after}
-use Rattle.choices.specs.auction_model.specs.Lowered.{of_bidder, sum_to}
-use Rattle.choices.specs.auction_model.specs.Greatest.{IsFirstGreatest, IsWinning}
-use Rattle.choices.specs.auction_model.proofs.ChoiceLaws.{known-length}
-use Rattle.choices.specs.auction_model.proofs.TableLaws.{IsGreatestValue-same}
-use Rattle.choices.specs.auction_model.proofs.PlainLaws.{IsFirstGreatest-same}
+use Rattle.auction_model.specs.Market.{number_of, sum_after, value_of}
+use Rattle.auction_model.specs.Menu.{is_known_after}
+use Rattle.auction_model.specs.Lowered.{of_bidder, sum_to}
+use Rattle.auction_model.specs.Greatest.{IsFirstGreatest, IsWinning}
+use Rattle.auction_model.proofs.ChoiceLaws.{known-length}
+use Rattle.auction_model.proofs.TableLaws.{IsGreatestValue-same}
+use Rattle.auction_model.proofs.PlainLaws.{IsFirstGreatest-same}
 use Rattle.choices.specs.Lowering.{CanLower}
 use Rattle.slot_places.specs.Slots.{SlotList, bids_of, bid_of, amount_of}
-use Rattle.slot_places.specs.Board.{nobody, joined, outside, menu_of, is_known, can_place, is_placed, board_of, board_without, market_of}
+use Rattle.slot_places.specs.Board.{nobody, joined, outside, menu_of, is_known, can_place, is_placed, board_of, board_without, market_of_slots}
 use Rattle.slot_places.specs.SetTable.{holds, is_idle_in, fits_behind, sum_outside, IsSetTable, StaysInRange}
 use Rattle.slot_places.proofs.SameLaws.{some-same}
 
@@ -73,11 +73,11 @@ mul-assoc : (a b c : ℕ) → a * (b * c) ≡ a * b * c
 mul-assoc a b c = sym (mul_assoc a b c)
 
 -- where the amounts can be lowered, no sum of a placed choice leaves the range
-pub range-of : (slots : SlotList) (z : List ℕ) (den : ℤ) (surplus : List ℤ) → IsWinning (market_of slots) z → CanLower (market_of slots) z den surplus
+pub range-of : (slots : SlotList) (z : List ℕ) (den : ℤ) (surplus : List ℤ) → IsWinning (market_of_slots slots) z → CanLower (market_of_slots slots) z den surplus
     → StaysInRange (board_without slots 0) (amount_of slots) den surplus
 range-of slots z den surplus winning can c t =
     let allowed : IsTrue (is_placed (board_of slots) c) = sym (placed-none slots c) ∙ t in
-    let v = value_of (market_of slots) z in
+    let v = value_of (market_of_slots slots) z in
     let d = unsigned_abs den in
     let n = length slots.bidders in
     let most : sum_after (amount_of slots) 0 c ≤ℤ v = winning.greatest c allowed in

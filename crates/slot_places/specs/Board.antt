@@ -1,8 +1,8 @@
 -- Bidders that are placed one after the other, where what a bidder can be given depends on the set of those before it.
 use Rattle.std.specs.Prelude.{ℕ, zero, suc, ◌+◌, Bool, true, false, ◌&&◌, ◌||◌, not, ◌==◌, if◌then◌else◌, List, [], length}
-use Rattle.choices.specs.auction_model.specs.Lowered.{sum_to}
-use Rattle.choices.specs.auction_model.specs.Market.{Market, number_of}
-use Rattle.choices.specs.auction_model.specs.Menu.{Menu, is_known_after}
+use Rattle.auction_model.specs.Lowered.{sum_to}
+use Rattle.auction_model.specs.Market.{Market, number_of}
+use Rattle.auction_model.specs.Menu.{Menu, is_known_after}
 use Rattle.slot_places.specs.Slots.{SlotList, width_of, bids_of, bid_of, amount_of}
 
 -- A set of bidders is a test of their numbers.
@@ -10,7 +10,7 @@ pub record Board : Type 0 where
   pub bidders : ℕ
   -- how many bids each bidder has
   pub bids : ℕ → ℕ
-  -- behind the bidders of a set, the bidder can be given the number
+  -- after the bidders of a set, the bidder can be given the number
   pub may : (ℕ → Bool) → ℕ → ℕ → Bool
 
 abbrev pub nobody : ℕ → Bool
@@ -37,7 +37,7 @@ menu_of b = record { bidders = b.bidders; bids = b.bids; lots = λ j i. [] }
 abbrev pub is_known : Board → List ℕ → Bool
 is_known b c = is_known_after (menu_of b) 0 c
 
--- behind the bidders of a set, so many others can be placed in some order such that each can be given its number
+-- after the bidders of a set, that many others can be placed in some order such that each can be given its number
 abbrev pub can_place : Board → List ℕ → ℕ → (ℕ → Bool) → Bool
 can_place b c zero s = true
 can_place b c (suc left) s = some_of (λ j. not (s j) && (b.may s j (number_of c j) && can_place b c left (joined j s))) b.bidders
@@ -46,7 +46,7 @@ can_place b c (suc left) s = some_of (λ j. not (s j) && (b.may s j (number_of c
 abbrev pub is_placed : Board → List ℕ → Bool
 is_placed b c = is_known b c && can_place b c b.bidders nobody
 
--- the first slot behind the bidders of a set, which are laid side by side from slot 1 upwards
+-- the first slot after the bidders of a set, which are laid side by side from slot 1 upwards
 abbrev pub start_behind : SlotList → (ℕ → Bool) → ℕ
 start_behind slots s = 1 + sum_to (λ j. if s j then width_of slots j else 0) (length slots.bidders)
 
@@ -72,8 +72,8 @@ board_without slots skipped = record {
 
 -- The market of slots: a choice is allowed when some order of all bidders gives each bidder with a number other than 0 the start
 -- of that bid, and a bid is worth its amount. A bidder with 0 is placed too.
-abbrev pub market_of : SlotList → Market
-market_of slots = record {
+abbrev pub market_of_slots : SlotList → Market
+market_of_slots slots = record {
   bidders = length slots.bidders;
   bids = λ j. length (bids_of slots j);
   allowed = is_placed (board_of slots);

@@ -1,7 +1,7 @@
 -- What slots keep.
 use Rattle.std.specs.Prelude.{◌≢◌, ℕ, ◌+◌, ◌<◌, ◌≤◌, length, slice_index_or}
-use Rattle.choices.specs.auction_model.specs.Lowered.{sum_to}
-use Rattle.choices.specs.limits.specs.declared.TheConstants.{MOST_AMOUNT, MOST_LOTS, MOST_PLACED}
+use Rattle.auction_model.specs.Lowered.{sum_to}
+use Rattle.limits.specs.declared.TheConstants.{MOST_AMOUNT, MOST_LOTS, MOST_PLACED}
 use Rattle.slot_places.specs.Slots.{SlotBidder, SlotList, no_bid, bidder_of, width_of}
 use Rattle.slot_places.specs.SlotForm.{AreSlotsWithinLimits}
 

@@ -7,4 +7,3 @@ pub mod SetTable
 pub mod Steps
 pub mod Fields
 pub mod Stages
-pub use Rattle.choices

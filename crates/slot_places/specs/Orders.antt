@@ -1,6 +1,6 @@
 -- Orders of the bidders.
 use Rattle.std.specs.Prelude.{ℕ, Bool, true, false, ◌&&◌, ◌||◌, not, nat_le, nat_lt, ◌==◌, IsTrue, List, [], ◌∷◌, length}
-use Rattle.choices.specs.auction_model.specs.Market.{number_of}
+use Rattle.auction_model.specs.Market.{number_of}
 use Rattle.slot_places.specs.Board.{Board, nobody, joined, is_known, board_of}
 use Rattle.slot_places.specs.Slots.{SlotList}
 
@@ -13,7 +13,7 @@ are_new bidders s (j ∷ order) = (nat_lt 0 j && nat_le j bidders) && (not (s j)
 abbrev pub is_order : ℕ → List ℕ → Bool
 is_order bidders order = (length order == bidders) && are_new bidders nobody order
 
--- behind the bidders of a set, the order gives each what the choice says
+-- after the bidders of a set, the order gives each what the choice says
 abbrev pub gives : Board → List ℕ → (ℕ → Bool) → List ℕ → Bool
 gives b c s [] = true
 gives b c s (j ∷ order) = b.may s j (number_of c j) && gives b c (joined j s) order

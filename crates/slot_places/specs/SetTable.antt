@@ -2,9 +2,9 @@
 -- the set are placed first. Bit j - 1 of a set stands for bidder j.
 use Rattle.std.specs.Prelude.{◌≡◌, ℕ, suc, ◌+◌, ◌-◌, ◌*◌, ◌^◌, ◌<◌, ◌≤◌, Bool, true, ◌&&◌, ◌||◌, not, ◌==◌, if◌then◌else◌, IsTrue, List, [], ◌∷◌, length, slice_index_or, ℤ, pos, unsigned_abs}
 use Rattle.std.specs.Int.{bit_at}
-use Rattle.choices.specs.auction_model.specs.Lowered.{of_bidder, sum_to}
-use Rattle.choices.specs.auction_model.specs.Market.{number_of, sum_after}
-use Rattle.choices.specs.auction_model.specs.Greatest.{IsGreatestValue, IsFirstGreatest}
+use Rattle.auction_model.specs.Lowered.{of_bidder, sum_to}
+use Rattle.auction_model.specs.Market.{number_of, sum_after}
+use Rattle.auction_model.specs.Greatest.{IsFirstGreatest, IsGreatestValue}
 use Rattle.slot_places.specs.Board.{Board, outside, is_known, can_place, is_placed}
 
 -- the bidders of a set of bits
@@ -16,7 +16,7 @@ abbrev pub is_idle_in : (ℕ → Bool) → ℕ → List ℕ → Bool
 is_idle_in s k [] = true
 is_idle_in s k (i ∷ c) = (not (s (suc k)) || (i == 0)) && is_idle_in s (suc k) c
 
--- a known choice in which the bidders of the set have 0, and for which those outside can be placed behind it
+-- a known choice in which the bidders of the set have 0, and for which those outside can be placed after it
 abbrev pub fits_behind : Board → (ℕ → Bool) → List ℕ → Bool
 fits_behind b s c = (is_known b c && is_idle_in s 0 c) && can_place b c (outside s b.bidders) s
 

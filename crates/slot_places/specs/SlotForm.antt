@@ -2,11 +2,11 @@
 use Rattle.std.specs.Prelude.{◌≡◌, ◌≢◌, ℕ, ◌+◌, ◌≤◌, ◌<◌, Option, Some, None, List, [], ◌∷◌, ◌++◌, codes, nat_le, if◌then◌else◌}
 use Rattle.std.specs.Fmt.{decimal}
 use Rattle.std.specs.List.{AllByRecursion}
-use Rattle.choices.specs.line_text.specs.LineText.{first_excess}
-use Rattle.choices.specs.book_form.specs.BookForm.{IsName}
-use Rattle.choices.specs.limits.specs.declared.LimitKind.TheVariants.{Lots, Bidders}
-use Rattle.choices.specs.book_form.specs.BookLines.{Excess, Line}
-use Rattle.choices.specs.limits.specs.declared.TheConstants.{MOST_AMOUNT, MOST_COUNT, MOST_LOTS, MOST_PLACED}
+use Rattle.line_format.specs.LineText.{first_excess}
+use Rattle.book_grammar.specs.BookForm.{IsName}
+use Rattle.limits.specs.declared.LimitKind.TheVariants.{Bidders, Lots}
+use Rattle.book_grammar.specs.BookLines.{Excess, Line}
+use Rattle.limits.specs.declared.TheConstants.{MOST_AMOUNT, MOST_COUNT, MOST_LOTS, MOST_PLACED}
 use Rattle.slot_places.specs.Slots.{SlotBid, SlotBidder, SlotList}
 
 -- the width of these bidders side by side
@@ -49,7 +49,7 @@ bidder_excess count = if nat_le count MOST_PLACED then None else Some (Bidders, 
 abbrev pub band_line : ℕ → Line
 band_line band = (codes "band " ++ decimal band, band_excess band)
 
--- the bidder behind so many others
+-- the bidder after that many others
 abbrev pub bidder_line : ℕ → List ℕ → ℕ → Line
 bidder_line before name width = (codes "bidder " ++ (name ++ 32 ∷ decimal width), bidder_excess (before + 1))
 

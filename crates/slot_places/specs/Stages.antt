@@ -3,10 +3,10 @@
 use Rattle.std.specs.Prelude.{◌≡◌, ◌≢◌, ◌⊎◌, ℕ, ◌+◌, ◌-◌, ◌<◌, ◌≤◌, Option, None, List, [], ◌∷◌, ◌++◌, codes, length, slice_set}
 use Rattle.std.specs.Fmt.{decimal}
 use Rattle.std.specs.List.{AllByRecursion}
-use Rattle.choices.specs.book_form.specs.BookForm.{IsName}
-use Rattle.choices.specs.limits.specs.declared.TheConstants.{MOST_COUNT}
+use Rattle.book_grammar.specs.BookForm.{IsName}
+use Rattle.limits.specs.declared.TheConstants.{MOST_COUNT}
 use Rattle.slot_places.specs.Slots.{SlotBid, SlotBidder, SlotList, bidder_of, bids_of, width_of}
-use Rattle.choices.specs.book_form.specs.BookLines.{Excess}
+use Rattle.book_grammar.specs.BookLines.{Excess}
 use Rattle.slot_places.specs.SlotForm.{IsSlotBid, width_together, band_excess, bidder_excess, band_line, place_line}
 use Rattle.slot_places.specs.declared.read.Stage.{Stage}
 use Rattle.slot_places.specs.declared.read.Stage.TheVariants.{Start, Headed, Listing, Ended}
@@ -86,7 +86,7 @@ abbrev pub bids_excess : ℕ → List SlotBid → Option Excess
 bids_excess bidders [] = bidder_excess bidders
 bids_excess bidders (b ∷ bs) = None
 
--- what the last line exceeds, by the last bidder, or by the band where there is none
+-- what the last line exceeds, by the last bidder, or by the band if there is none
 abbrev pub last_excess : ℕ → ℕ → List SlotBidder → Option Excess
 last_excess band before [] = band_excess band
 last_excess band before (b ∷ []) = bids_excess (before + 1) b.bids

@@ -1,7 +1,7 @@
-// The best choices behind each set of bidders, from the set of all down to that of nobody.
+// The best choices after each set of bidders, from the set of all down to that of nobody.
 ghost use Rattle.std.specs.Prelude.{◌≡◌, ◌+◌, ◌-◌, ◌^◌, ◌≤◌, ◌<◌, IsTrue, IsFalse, IfOk, List, ℕ, length, replicate, slice_set, ◌≤ℤ◌, ◌<ℤ◌};
 ghost use Rattle.std.specs.List.{All};
-ghost use Rattle.choices.specs.auction_model.specs.Market.{is_number_before, is_earlier, number_of};
+ghost use Rattle.auction_model.specs.Market.{is_earlier, is_number_before, number_of};
 ghost use Rattle.slot_places.specs.SetTable.{holds, sum_outside, fits_behind};
 ghost use Rattle.slot_places.specs.Steps.{searched, counted, IsBefore, IsHeld, IsBestOf, IsBestNext, IsBestTo, AreBests};
 
@@ -56,7 +56,7 @@ fn better(search: &Search, set: usize, best: Best, next: Best) -> Best
     best
 }
 
-/// The best choice in which bidder `j` is next behind the set with number `i`, from the best choice behind the set with `j`.
+/// The best choice in which bidder `j` is next after the set with number `i`, from the best choice after the set with `j`.
 fn with_number(
     alloc: Global,
     search: &Search,
@@ -80,7 +80,7 @@ fn with_number(
     Ok(Best { numbers, sum })
 }
 
-/// The better of a choice and the best in which bidder `j` is next behind the set.
+/// The better of a choice and the best in which bidder `j` is next after the set.
 fn with_bidder(
     alloc: Global,
     search: &Search,
@@ -128,7 +128,7 @@ fn outside_bidder(search: &Search, set: usize) -> u16
     unreachable!()
 }
 
-/// The best choice behind a set, from those behind all greater sets.
+/// The best choice after a set, from those after all greater sets.
 fn best_behind(
     alloc: Global,
     search: &Search,
@@ -157,7 +157,7 @@ fn best_behind(
     Ok(best)
 }
 
-/// The best choice behind a set with one bidder more.
+/// The best choice after a set with one bidder more.
 fn behind<'b>(search: &Search, set: usize, j: u16, greater: &'b [Best]) -> &'b Best
     requires bidder { (0 < j) × (j ≤ (searched search.now).bidders) }
     requires new { IsFalse (holds set j) }
@@ -168,7 +168,7 @@ fn behind<'b>(search: &Search, set: usize, j: u16, greater: &'b [Best]) -> &'b B
     &greater[weight(j) - 1]
 }
 
-/// The only choice behind the set of all bidders.
+/// The only choice after the set of all bidders.
 fn last_best(alloc: Global, search: &Search) -> Result<Best, AllocError>
     ensures { IfOk result (λ b. IsBestOf search.now (2 ^ (searched search.now).bidders - 1) b) }
 {
@@ -176,7 +176,7 @@ fn last_best(alloc: Global, search: &Search) -> Result<Best, AllocError>
     Ok(Best { numbers, sum: 0 })
 }
 
-/// The best choices behind all sets, in the order of their bits. They are found from the last to the first.
+/// The best choices after all sets, in the order of their bits. They are found from the last to the first.
 pub fn all_bests(alloc: Global, search: &Search) -> Result<Vec<Best>, AllocError>
     ensures { IfOk result (λ v. AreBests search.now 0 v.items) }
 {

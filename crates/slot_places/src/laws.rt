@@ -1,25 +1,25 @@
 // What holds of all slots.
 ghost use Rattle.std.specs.Prelude.{◌≡◌, ℕ, ◌<◌, ◌^◌, IsTrue, List, length};
-ghost use Rattle.choices.specs.auction_model.specs.Lawful.{IsMarket};
+ghost use Rattle.auction_model.specs.Lawful.{IsMarket};
 ghost use Rattle.slot_places.specs.Slots.{SlotList};
-ghost use Rattle.slot_places.specs.Board.{market_of};
+ghost use Rattle.slot_places.specs.Board.{market_of_slots};
 ghost use Rattle.slot_places.specs.Orders.{allows};
-ghost use Rattle.choices.specs.line_text.specs.LineText.{Said, Says, stated};
-ghost use Rattle.choices.specs.book_form.specs.BookLines.{Excess};
+ghost use Rattle.line_format.specs.LineText.{Said, Says, stated};
+ghost use Rattle.book_grammar.specs.BookLines.{Excess};
 ghost use Rattle.slot_places.specs.SlotForm.{IsSlotText, slot_lines};
 
 /// Slots are a market: it is allowed that nobody wins, and an allowed choice stays allowed when a bidder leaves it, which is then
 /// placed without a bid.
 pub fn slot_market()
-    ensures { (slots : SlotList) → length slots.bidders < 2 ^ 16 → IsMarket (market_of slots) }
+    ensures { (slots : SlotList) → length slots.bidders < 2 ^ 16 → IsMarket (market_of_slots slots) }
 {}
 
 /// A choice is allowed exactly where some order of all bidders allows it.
 pub fn slot_orders()
-    ensures some { (slots : SlotList) (c : List ℕ) → IsTrue ((market_of slots).allowed c)
+    ensures some { (slots : SlotList) (c : List ℕ) → IsTrue ((market_of_slots slots).allowed c)
         → (order : List ℕ) × IsTrue (allows slots order c) }
     ensures allowed { (slots : SlotList) (c order : List ℕ) → IsTrue (allows slots order c)
-        → IsTrue ((market_of slots).allowed c) }
+        → IsTrue ((market_of_slots slots).allowed c) }
 {}
 
 /// Bytes say one thing of slots: slots, where the first faulty line begins, or what exceeds its limit first. So each answer of

@@ -12,8 +12,8 @@ pub mod sets;
 mod slot_chooser;
 mod slots;
 
-pub use choices::bid_book::lots::limits::{LimitKind, MOST_PLACED};
 pub use laws::{one_slots, slot_market, slot_orders, some_slots};
+pub use limits::{LimitKind, MOST_PLACED};
 pub use read::read_slots;
 pub use slot_chooser::{SlotChooser, place_best, place_win};
 pub use slots::{Place, Slots};

@@ -1,11 +1,11 @@
 // Orders that allow a choice, and the first of them.
 ghost use Rattle.std.specs.Prelude.{◌≡◌, ◌+◌, ◌^◌, ◌<◌, ◌≤◌, ◌↔◌, IsTrue, IsFalse, IfOk, IfSome, IfNone, length};
 ghost use Rattle.slot_places.specs.Slots.{bids_of};
-ghost use Rattle.slot_places.specs.Board.{board_of, market_of, start_behind, starts_at, is_known, can_place};
+ghost use Rattle.slot_places.specs.Board.{board_of, market_of_slots, start_behind, starts_at, is_known, can_place};
 ghost use Rattle.slot_places.specs.SetTable.{holds};
 ghost use Rattle.slot_places.specs.Orders.{allows, IsPlacement};
 ghost use Rattle.slot_places.specs.Steps.{CanFollow, IsFirstNext};
-ghost use Rattle.choices.specs.limits.specs.declared.TheConstants.{MOST_PLACED};
+ghost use Rattle.limits.specs.declared.TheConstants.{MOST_PLACED};
 
 use crate::Slots;
 use crate::sets::{is_in, weight};
@@ -36,10 +36,10 @@ impl Slots {
     }
 
     /// The first order that allows the choice, compared entry by entry, the smaller bidder number first, and None exactly where the
-    /// choice isn't allowed. The only error is want of memory.
+    /// choice isn't allowed. The only error is out of memory.
     pub fn order_of(&self, alloc: Global, choice: &Choice) -> Result<Option<Numbers>, AllocError>
         ensures some { IfOk result (λ found. IfSome found (λ order. IsPlacement self.now choice.now order)) }
-        ensures none { IfOk result (λ found. IfNone found (IsFalse ((market_of self.now).allowed choice.now))) }
+        ensures none { IfOk result (λ found. IfNone found (IsFalse ((market_of_slots self.now).allowed choice.now))) }
     {
         let numbers = choice.numbers();
         if !self.is_known(numbers) {
@@ -73,7 +73,7 @@ impl Slots {
         true
     }
 
-    /// The smallest bidder that can be next behind a set, such that so many others can be placed behind it.
+    /// The smallest bidder that can be next after a set, such that that many others can be placed after it.
     fn next_bidder(&self, numbers: &[u16], left: usize, set: usize) -> Option<u16>
         requires known { IsTrue (is_known (board_of self.now) numbers.now) }
         requires set { set < 2 ^ length self.now.bidders }
@@ -93,7 +93,7 @@ impl Slots {
         None
     }
 
-    /// Whether so many bidders can be placed behind a set, each with its number.
+    /// Whether that many bidders can be placed after a set, each with its number.
     fn can_place(&self, numbers: &[u16], left: usize, set: usize) -> bool
         requires known { IsTrue (is_known (board_of self.now) numbers.now) }
         requires set { set < 2 ^ length self.now.bidders }
@@ -114,7 +114,7 @@ impl Slots {
         false
     }
 
-    /// Whether `j` is a bidder outside a set that can be given its number behind the set.
+    /// Whether `j` is a bidder outside a set that can be given its number after the set.
     fn can_follow(&self, numbers: &[u16], set: usize, j: u16) -> bool
         requires { IsTrue (is_known (board_of self.now) numbers.now) }
         ensures { IsTrue result ↔ CanFollow (board_of self.now) numbers.now (holds set) j }
@@ -136,7 +136,7 @@ impl Slots {
         0 < j && j as usize <= self.bidders()
     }
 
-    /// Whether bidder `j` can be given number `i` behind a set.
+    /// Whether bidder `j` can be given number `i` after a set.
     fn may_start(&self, set: usize, j: u16, i: u16) -> bool
         requires bidder { (0 < j) × (j ≤ length self.now.bidders) }
         requires bid { i ≤ length (bids_of self.now j) }
@@ -149,7 +149,7 @@ impl Slots {
         place.start == self.start_behind(set)
     }
 
-    /// The first slot behind the bidders of a set.
+    /// The first slot after the bidders of a set.
     pub fn start_behind(&self, set: usize) -> u16
         ensures { result ≡ start_behind self.now (holds set) }
     {

@@ -1,7 +1,7 @@
 // The reader of the text of slots.
 ghost use Rattle.std.specs.Prelude.{IfNone, IfOk, IfSome, None, Some, ℕ, ◌≡◌, ◌≤◌};
-ghost use Rattle.choices.specs.limits.specs.declared.TheConstants.{MOST_COUNT};
-ghost use Rattle.choices.specs.line_text.specs.LineText.{Says, beyond, faulty, stated};
+ghost use Rattle.limits.specs.declared.TheConstants.{MOST_COUNT};
+ghost use Rattle.line_format.specs.LineText.{Says, beyond, faulty, stated};
 ghost use Rattle.slot_places.specs.SlotForm.{IsSlotText, band_line, slot_lines};
 ghost use Rattle.slot_places.specs.Stages.{Step, excess};
 ghost use Rattle.slot_places.specs.declared.read.Stage.TheVariants.{Ended};
@@ -12,9 +12,9 @@ pub(crate) mod fields;
 use crate::read::entries::take_entry;
 use crate::read::fields::read_within;
 use crate::{SlotStop, Slots};
-use choices::bid_book::Excess;
-use choices::bid_book::line_text::{LineReader, LineStop, TextStop, read_lines};
-use choices::bid_book::lots::limits::{LimitKind, MOST_COUNT, MOST_LOTS};
+use bid_book::Excess;
+use limits::{LimitKind, MOST_COUNT, MOST_LOTS};
+use line_format::{LineReader, LineStop, TextStop, read_lines};
 use std::alloc::Global;
 
 /// What the lines so far say.

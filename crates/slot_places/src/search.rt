@@ -1,8 +1,8 @@
 // What bids count in a search.
 ghost use Rattle.std.specs.Prelude.{◌≡◌, ◌+◌, ◌*◌, ◌^◌, ◌≤◌, ◌<◌, length, pos, unsigned_abs, ℤ, neg_ℤ, ◌-ℤ◌, ◌*ℤ◌};
 ghost use Rattle.std.specs.Int.{int_max};
-ghost use Rattle.choices.specs.auction_model.specs.Lowered.{of_bidder};
-ghost use Rattle.choices.specs.limits.specs.declared.TheConstants.{MOST_LOTS};
+ghost use Rattle.auction_model.specs.Lowered.{of_bidder};
+ghost use Rattle.limits.specs.declared.TheConstants.{MOST_LOTS};
 ghost use Rattle.slot_places.specs.Slots.{amount_of};
 ghost use Rattle.slot_places.specs.Board.{board_without, start_behind};
 ghost use Rattle.slot_places.specs.SetTable.{holds, StaysInRange};
@@ -54,7 +54,7 @@ impl<'a> Search<'a> {
         lowered_worth(self.den, place.amount, surplus)
     }
 
-    /// The first slot behind the bidders of a set.
+    /// The first slot after the bidders of a set.
     pub fn start(&self, set: usize) -> u16
         ensures { result ≡ start_behind self.now.slots.now (holds set) }
     {

@@ -1,7 +1,7 @@
 //! Sets of bidders as bits: bit `j - 1` stands for bidder `j`.
 ghost use Rattle.std.specs.Prelude.{◌≡◌, ◌-◌, ◌≤◌, ◌<◌, ◌^◌};
 ghost use Rattle.slot_places.specs.SetTable.{holds};
-ghost use Rattle.choices.specs.limits.specs.declared.TheConstants.{MOST_PLACED};
+ghost use Rattle.limits.specs.declared.TheConstants.{MOST_PLACED};
 
 /// Whether a set holds bidder `j`.
 pub fn is_in(set: usize, j: u16) -> bool

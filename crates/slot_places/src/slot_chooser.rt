@@ -1,13 +1,13 @@
 // Slots as auctions that can be priced.
 ghost use Rattle.std.specs.Prelude.{◌≡◌, ◌<◌, ◌≤◌, ℕ, length, pos, slice_index_or, IfOk};
-ghost use Rattle.choices.specs.auction_model.specs.Greatest.{IsFirstGreatest, IsWinning};
-ghost use Rattle.choices.specs.auction_model.specs.Lawful.{IsMarket};
-ghost use Rattle.choices.specs.auction_model.specs.Market.{value_of};
-ghost use Rattle.choices.specs.auction_model.specs.Prices.{allowed_without};
+ghost use Rattle.auction_model.specs.Greatest.{IsFirstGreatest, IsWinning};
+ghost use Rattle.auction_model.specs.Lawful.{IsMarket};
+ghost use Rattle.auction_model.specs.Market.{value_of};
+ghost use Rattle.auction_model.specs.Prices.{allowed_without};
 ghost use Rattle.slot_places.specs.Slots.{amount_of};
-ghost use Rattle.slot_places.specs.Board.{market_of, board_of, board_without, is_placed};
+ghost use Rattle.slot_places.specs.Board.{market_of_slots, board_of, board_without, is_placed};
 ghost use Rattle.slot_places.specs.SetTable.{IsSetTable};
-ghost use Rattle.choices.specs.limits.specs.declared.TheConstants.{MOST_PLACED};
+ghost use Rattle.limits.specs.declared.TheConstants.{MOST_PLACED};
 
 use crate::search::Search;
 use crate::searching::greatest;
@@ -22,14 +22,14 @@ pub struct SlotChooser<'a> {
     pub slots: &'a Slots,
     /// Their winning choice.
     pub winners: Choice,
-    pub ghost lawful: { IsMarket (market_of slots.now) },
-    pub ghost winning: { IsWinning (market_of slots.now) winners },
+    pub ghost lawful: { IsMarket (market_of_slots slots.now) },
+    pub ghost winning: { IsWinning (market_of_slots slots.now) winners },
 }
 
 impl<'a> SlotChooser<'a> {
     /// The chooser of slots with their winning choice. It takes no memory.
     pub fn new(slots: &'a Slots, winners: Choice) -> SlotChooser<'a>
-        requires { IsWinning (market_of slots.now) winners }
+        requires { IsWinning (market_of_slots slots.now) winners }
         ensures slots { result.slots.now ≡ slots.now }
         ensures winners { result.winners ≡ winners }
     {
@@ -39,13 +39,13 @@ impl<'a> SlotChooser<'a> {
     }
 
     /// The first of the greatest allowed choices that don't use bidder `j`, its worth, and the table for the amounts in which `j`
-    /// has no bids. The only error is want of memory.
+    /// has no bids. The only error is out of memory.
     pub fn best_without(&self, alloc: Global, j: u16) -> Result<Found<Grid>, AllocError>
         requires { (0 < j) × (j ≤ length self.now.slots.now.bidders) }
         ensures choice { IfOk result
-            (λ f. IsFirstGreatest (allowed_without (market_of self.now.slots.now) j)
-            (value_of (market_of self.now.slots.now)) f.choice) }
-        ensures sum { IfOk result (λ f. f.sum ≡ value_of (market_of self.now.slots.now) f.choice) }
+            (λ f. IsFirstGreatest (allowed_without (market_of_slots self.now.slots.now) j)
+            (value_of (market_of_slots self.now.slots.now)) f.choice) }
+        ensures sum { IfOk result (λ f. f.sum ≡ value_of (market_of_slots self.now.slots.now) f.choice) }
         ensures table { IfOk result
             (λ f. IsSetTable (board_without self.now.slots.now j) (amount_of self.now.slots.now) f.table) }
     {
@@ -54,7 +54,7 @@ impl<'a> SlotChooser<'a> {
     }
 }
 
-/// So many zeros.
+/// That many zeros.
 fn zeros(alloc: Global, count: usize) -> Result<Vec<i128>, AllocError>
     requires { count ≤ MOST_PLACED }
     ensures count { IfOk result (λ v. length v.items ≡ count) }
@@ -67,8 +67,8 @@ fn zeros(alloc: Global, count: usize) -> Result<Vec<i128>, AllocError>
 fn plain_search(alloc: Global, slots: &Slots, skip: u16) -> Result<Found<Grid>, AllocError>
     ensures choice { IfOk result
         (λ f. IsFirstGreatest (is_placed (board_without slots.now skip))
-        (value_of (market_of slots.now)) f.choice) }
-    ensures sum { IfOk result (λ f. f.sum ≡ value_of (market_of slots.now) f.choice) }
+        (value_of (market_of_slots slots.now)) f.choice) }
+    ensures sum { IfOk result (λ f. f.sum ≡ value_of (market_of_slots slots.now) f.choice) }
     ensures table { IfOk result (λ f. IsSetTable (board_without slots.now skip) (amount_of slots.now) f.table) }
 {
     let surplus = zeros(alloc, slots.bidders())?;
@@ -82,19 +82,19 @@ fn plain_search(alloc: Global, slots: &Slots, skip: u16) -> Result<Found<Grid>, 
     Ok(found)
 }
 
-/// The winning choice with its worth and the table for the amounts. The only error is want of memory.
+/// The winning choice with its worth and the table for the amounts. The only error is out of memory.
 pub fn place_best(alloc: Global, slots: &Slots) -> Result<Found<Grid>, AllocError>
-    ensures choice { IfOk result (λ f. IsWinning (market_of slots.now) f.choice) }
-    ensures sum { IfOk result (λ f. f.sum ≡ value_of (market_of slots.now) f.choice) }
+    ensures choice { IfOk result (λ f. IsWinning (market_of_slots slots.now) f.choice) }
+    ensures sum { IfOk result (λ f. f.sum ≡ value_of (market_of_slots slots.now) f.choice) }
     ensures table { IfOk result (λ f. IsSetTable (board_of slots.now) (amount_of slots.now) f.table) }
 {
     let found = plain_search(alloc, slots, 0)?;
     Ok(found)
 }
 
-/// The winning choice: of the allowed choices the first of those of greatest worth. The only error is want of memory.
+/// The winning choice: of the allowed choices the first of those of greatest worth. The only error is out of memory.
 pub fn place_win(alloc: Global, slots: &Slots) -> Result<Choice, AllocError>
-    ensures { IfOk result (λ c. IsWinning (market_of slots.now) c) }
+    ensures { IfOk result (λ c. IsWinning (market_of_slots slots.now) c) }
 {
     let found = place_best(alloc, slots)?;
     Ok(found.choice)
@@ -102,14 +102,14 @@ pub fn place_win(alloc: Global, slots: &Slots) -> Result<Choice, AllocError>
 
 impl<'a> Chooser for SlotChooser<'a> {
     ghost use Rattle.std.specs.Prelude.{◌≡◌, ℤ, List};
-    ghost use Rattle.choices.specs.auction_model.specs.Lowered.{lowered};
+    ghost use Rattle.auction_model.specs.Lowered.{lowered};
     ghost use Rattle.slot_places.specs.Slots.{amount_of};
-    ghost use Rattle.slot_places.specs.Board.{market_of, board_of};
+    ghost use Rattle.slot_places.specs.Board.{market_of_slots, board_of};
     ghost use Rattle.slot_places.specs.SetTable.{IsSetTable};
 
     type Table = Grid;
 
-    ghost market = { λ s. market_of s.slots.now };
+    ghost market = { λ s. market_of_slots s.slots.now };
 
     ghost chosen = { λ s. s.winners };
 

@@ -2,11 +2,11 @@
 ghost use Rattle.std.specs.Prelude.{◌≡◌, ◌≢◌, ◌≤◌, ◌<◌, ◌↔◌, ◌+◌, ◌++◌, ◌∷◌, [], IsFalse, OnOk, length};
 ghost use Rattle.std.specs.List.{AllByRecursion, list_any};
 ghost use Rattle.std.specs.Str.{bytes_eq};
-ghost use Rattle.choices.specs.limits.specs.declared.TheConstants.{MOST_LOTS, MOST_PLACED};
+ghost use Rattle.limits.specs.declared.TheConstants.{MOST_LOTS, MOST_PLACED};
 ghost use Rattle.slot_places.specs.Kept.{AreSlots};
 ghost use Rattle.slot_places.specs.Slots.{bidder_of, width_of, bids_of, bid_of};
 
-use choices::bid_book::Name;
+use bid_book::Name;
 use std::alloc::{AllocError, Global};
 use std::marker::Model;
 
@@ -62,7 +62,7 @@ impl Slots {
         }
     }
 
-    /// Puts a bidder without bids behind the others.
+    /// Puts a bidder without bids after the others.
     pub(crate) fn add_bidder(
         &mut self,
         alloc: Global,
@@ -81,7 +81,7 @@ impl Slots {
         Ok(())
     }
 
-    /// Puts a bid behind those of the last bidder.
+    /// Puts a bid after those of the last bidder.
     pub(crate) fn add_place(&mut self, place: Place) -> Result<(), AllocError>
         requires some { 0 < length self.old.bidders }
         requires kept { AreSlotsWithinLimits (with_bid self.old (bid_value place)) }

@@ -3,10 +3,10 @@ use Rattle.std.specs.Prelude.{◌≡◌, ℕ, ◌+◌, ◌-◌, ◌*◌, ◌≤�
 use Rattle.std.proofs.Common.{sym, ◌∙◌, ap, subst, arith}
 use Rattle.std.proofs.Math.Nat.{mul-le-mul_right}
 use Rattle.std.proofs.lemmas.List.{length-drop, length-map, take_rest}
-use Rattle.choices.specs.auction_model.specs.Place.{states_of}
-use Rattle.choices.specs.auction_model.specs.Steps.{raised}
-use Rattle.choices.specs.auction_model.proofs.PlaceLaws.{place-below}
-use Rattle.choices.specs.auction_model.proofs.RunLaws.{states-first, raised-before, block-done, block-rest}
+use Rattle.auction_model.specs.Place.{states_of}
+use Rattle.auction_model.specs.Steps.{raised}
+use Rattle.auction_model.proofs.PlaceLaws.{place-below}
+use Rattle.auction_model.proofs.RunLaws.{block-done, block-rest, raised-before, states-first}
 use Rattle.value_table.specs.Growing.{HasCorners}
 use Rattle.value_table.specs.Raising.{CanRaiseLots}
 use Rattle.value_table.proofs.CornerLaws.{corner-none, corners-part}
@@ -83,7 +83,7 @@ module _ {A : Type 0} (number : A → ℤ) (most : ℕ) (supply widths lots : Li
       can.lines.line reached in
       corner-none supply lots first (map number initial) (map number below) (number worth) corners test s (omega (arith, h, can.lines.line))
 
-  -- before the first block with so many lots the bid changes nothing
+  -- before the first block with that many lots the bid changes nothing
   pub raised-first : IsRaisedTo number supply lots (map number below) (number worth) initial initial (get_or lots 0 0 * get_or widths 0 0)
   raised-first = record {
     done = λ s h. sym (raised-before supply lots (map number below) (number worth) s (get_or (map number initial) s (pos 0)) some can.categories
@@ -133,7 +133,7 @@ module _ {A : Type 0} (number : A → ℤ) (most : ℕ) (supply widths lots : Li
             width was.rest k k_is start count s h;
       }
 
-  -- behind the last block the bid is counted
+  -- after the last block the bid is counted
   pub raised-whole : (q : ℕ) (line : List A) → get_or supply 0 0 + 1 ≤ q
       → IsRaisedTo number supply lots (map number below) (number worth) initial line (q * get_or widths 0 0)
       → (s : ℕ) → s < length initial

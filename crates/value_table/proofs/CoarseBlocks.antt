@@ -1,5 +1,5 @@
 -- Lines in 16 bits, block by block.
-use Rattle.std.specs.Prelude.{◌≡◌, ℕ, ◌+◌, ◌-◌, ◌*◌, ◌^◌, ◌≤◌, ◌<◌, IsTrue, List, ◌++◌, length, map, get_or, take, drop, ℤ, pos, ◌+ℤ◌, ◌≤ℤ◌}
+use Rattle.std.specs.Prelude.{IfSome, Option, Some, None, ◌≡◌, ℕ, ◌+◌, ◌-◌, ◌*◌, ◌^◌, ◌≤◌, ◌<◌, IsTrue, List, ◌++◌, length, map, get_or, take, drop, ℤ, pos, ◌+ℤ◌, ◌≤ℤ◌}
 use Rattle.std.specs.Int.{int_max}
 use Rattle.std.proofs.Common.{inl, inr, sym, ◌∙◌, ap, arith, length-append}
 use Rattle.std.proofs.lemmas.Bool.{cases_Bool, cases_lt, cond-true, cond-false}
@@ -7,14 +7,14 @@ use Rattle.std.proofs.lemmas.Int.{ints}
 use Rattle.std.proofs.lemmas.List.{get_or-take, get_or-drop, get_or-append_right, get_or_append_left, length-take-le, length-drop, length-map}
 use Rattle.choices.specs.Coarse.{IsFloor}
 use Rattle.choices.proofs.CoarseLaws.{coarse-part}
-use Rattle.choices.specs.auction_model.specs.Package.{is_within, less}
-use Rattle.choices.specs.auction_model.specs.Place.{states_of, place_of, left_at}
-use Rattle.choices.specs.auction_model.specs.Steps.{raised}
-use Rattle.choices.specs.auction_model.proofs.LineLaws.{int_max-left}
-use Rattle.choices.specs.auction_model.proofs.PartReads.{read-before, read-middle, read-after}
-use Rattle.choices.specs.auction_model.proofs.PlaceLaws.{place-less}
-use Rattle.choices.specs.wide_num.specs.Sums.{nth}
-use Rattle.value_table.specs.Raising.{AreInUnits}
+use Rattle.auction_model.specs.Package.{is_within, less}
+use Rattle.auction_model.specs.Place.{left_at, place_of, states_of}
+use Rattle.auction_model.specs.Steps.{raised}
+use Rattle.auction_model.proofs.LineLaws.{int_max-left}
+use Rattle.auction_model.proofs.PartReads.{read-after, read-before, read-middle}
+use Rattle.auction_model.proofs.PlaceLaws.{place-less}
+use Rattle.wide_num.specs.Sums.{nth}
+use Rattle.value_table.specs.Raising.{AreInUnits, MayBeInUnits}
 use Rattle.value_table.proofs.NumberParts.{map-part, map-put}
 use borrow.Rule.Slice.PartMut.{put_mid, post_of, take_put}
 
@@ -150,3 +150,9 @@ module _ {A : Type 0} (number : A → ℤ) (shift : ℕ) where
     places = count;
     places_below = c.places_below;
   }
+
+-- where there is still a shift, it is the one before
+pub units-kept : {A : Type 0} (number : A → ℤ) (before after : Option ℕ) (line below : List A) (low high : List ℕ) → IfSome after (λ k. before ≡ Some k)
+    → MayBeInUnits number before line below low high → MayBeInUnits number after line below low high
+units-kept number before None line below low high same units = tt
+units-kept number before (Some k) line below low high same units = rw same at units

@@ -5,17 +5,17 @@ use Rattle.std.proofs.Common.{inl, inr, sym, ◌∙◌, ap, subst, arith}
 use Rattle.std.proofs.lemmas.Bool.{false≢true, cases_Bool, cond-true, cond-false, and_parts, and_from, le-leb}
 use Rattle.std.proofs.lemmas.Int.{ints}
 use Rattle.std.proofs.lemmas.Nat.{div-mul-add, mod-mul-add, mul-add-lt}
-use Rattle.choices.specs.auction_model.specs.Menu.{Menu}
-use Rattle.choices.specs.auction_model.specs.Package.{is_within, less, IsNothingFrom}
-use Rattle.choices.specs.auction_model.specs.Place.{states_of, place_of, left_at}
-use Rattle.choices.specs.auction_model.specs.Steps.{raised}
-use Rattle.choices.specs.auction_model.specs.Table.{IsLine}
-use Rattle.choices.specs.auction_model.proofs.DominatedLaws.{less-within_self, fits-more}
-use Rattle.choices.specs.auction_model.proofs.LineLaws.{IsLineUpTo, int_max-left}
-use Rattle.choices.specs.auction_model.proofs.PlaceLaws.{states-positive, length-left_at, left_at-within, left_at-whole, left_at-less, place_of-left_at}
-use Rattle.choices.specs.auction_model.proofs.PlaceLaws.{place-less, place-less_below, place-below, within-within}
-use Rattle.choices.specs.auction_model.proofs.TableLaws.{fits_up_to, parts, from_parts}
-use Rattle.choices.specs.auction_model.proofs.TrimLaws.{trim-place, trim-within}
+use Rattle.auction_model.specs.Menu.{Menu}
+use Rattle.auction_model.specs.Package.{IsNothingFrom, is_within, less}
+use Rattle.auction_model.specs.Place.{left_at, place_of, states_of}
+use Rattle.auction_model.specs.Steps.{raised}
+use Rattle.auction_model.specs.Table.{IsLine}
+use Rattle.auction_model.proofs.DominatedLaws.{fits-more, less-within_self}
+use Rattle.auction_model.proofs.LineLaws.{IsLineUpTo, int_max-left}
+use Rattle.auction_model.proofs.PlaceLaws.{left_at-less, left_at-whole, left_at-within, length-left_at, place-below, place-less, place-less_below}
+use Rattle.auction_model.proofs.PlaceLaws.{place_of-left_at, states-positive, within-within}
+use Rattle.auction_model.proofs.TableLaws.{fits_up_to, from_parts, parts}
+use Rattle.auction_model.proofs.TrimLaws.{trim-place, trim-within}
 use Rattle.choices.proofs.MoreLots.{less-more}
 use Rattle.value_table.specs.Growing.{Grows, HasCorners}
 

@@ -4,16 +4,16 @@ use Rattle.std.specs.Int.{int_max}
 use Rattle.std.proofs.Common.{◌⊎◌, inl, inr, sym, ◌∙◌, ap, subst, arith}
 use Rattle.std.proofs.lemmas.Bool.{false≢true, cases_Bool, cases_eq, cond-true, cond-false}
 use Rattle.std.proofs.lemmas.Int.{ints, int_max_is, by_lt_z}
-use Rattle.choices.specs.auction_model.specs.Market.{sum_after}
-use Rattle.choices.specs.auction_model.specs.Menu.{Menu, fits_after}
-use Rattle.choices.specs.auction_model.specs.Package.{is_within, less}
-use Rattle.choices.specs.auction_model.specs.Place.{states_of, place_of, left_at}
-use Rattle.choices.specs.auction_model.specs.Steps.{raised}
-use Rattle.choices.specs.auction_model.specs.Table.{IsLine}
-use Rattle.choices.specs.auction_model.proofs.DominatedLaws.{fits-more, less-within}
-use Rattle.choices.specs.auction_model.proofs.LineLaws.{IsLineUpTo, int_max-left, int_max-right}
-use Rattle.choices.specs.auction_model.proofs.PlaceLaws.{length-left_at, left_at-less, place-less_below, within-within}
-use Rattle.choices.specs.auction_model.proofs.TableLaws.{fits_up_to, Parts, parts, from_parts}
+use Rattle.auction_model.specs.Market.{sum_after}
+use Rattle.auction_model.specs.Menu.{Menu, fits_after}
+use Rattle.auction_model.specs.Package.{is_within, less}
+use Rattle.auction_model.specs.Place.{left_at, place_of, states_of}
+use Rattle.auction_model.specs.Steps.{raised}
+use Rattle.auction_model.specs.Table.{IsLine}
+use Rattle.auction_model.proofs.DominatedLaws.{fits-more, less-within}
+use Rattle.auction_model.proofs.LineLaws.{IsLineUpTo, int_max-left, int_max-right}
+use Rattle.auction_model.proofs.PlaceLaws.{left_at-less, length-left_at, place-less_below, within-within}
+use Rattle.auction_model.proofs.TableLaws.{Parts, fits_up_to, from_parts, parts}
 use Rattle.choices.proofs.MoreLots.{less-more}
 use Rattle.value_table.proofs.CornerLaws.{line-grows, part-grows}
 use Rattle.value_table.specs.Counted.{IsBeaten}
@@ -86,7 +86,7 @@ module _ (m : Menu) (counts : ℕ → ℕ → ℤ) (supply : List ℕ) (k : ℕ)
   IsCounted g line = (s : ℕ) → s < states_of supply → (c : List ℕ) → Parts m k (left_at supply s) (m.bids (suc k)) g c
       → sum_after counts k (g ∷ c) ≤ℤ get_or line s (pos 0)
 
-  -- a line while only the bids after i of bidder k + 1 are counted, but for those that are beaten
+  -- a line while only the bids after i of bidder k + 1 are counted, except for those that are beaten
   pub record IsLineFrom (i : ℕ) (line : List ℤ) : Type 0 where
     pub places : length line ≡ states_of supply
     pub grows : Grows supply line

@@ -4,8 +4,9 @@ use lib.Lanes.{zip2, sel_l, top, Each2, chunk, put_chunk}
 use mathlib.Core.List.{map}
 use mir.Val.{Fits}
 use Rattle.std.proofs.lemmas.Bool.{cases_lt, lt-ltb, le-ltb, cond-true, cond-false}
-use Rattle.std.proofs.lemmas.Simd.{tops_compared, length-zip2, length-sel_l, get_or-sel_l, get_or-zip2, get_or-replicate, length-replicate, length-chunk, get_or-chunk}
-use Rattle.std.proofs.lemmas.Simd.{Each1-from_get_or, Each2-splat, get_or-put_chunk_below, get_or-put_chunk_at, get_or-put_chunk_above}
+use Rattle.std.proofs.lemmas.Simd.{Each1-from_get_or, Each2-splat, get_or-chunk, get_or-put_chunk_above, get_or-put_chunk_at, get_or-put_chunk_below}
+use Rattle.std.proofs.lemmas.Simd.{get_or-replicate, get_or-sel_l, get_or-zip2, length-chunk, length-replicate, length-sel_l, length-zip2}
+use Rattle.std.proofs.lemmas.Simd.{tops_compared}
 
 -- the larger of each two lanes, as it is selected
 abbrev pub larger : List ℕ → List ℕ → List ℕ

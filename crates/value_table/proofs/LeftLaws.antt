@@ -3,13 +3,13 @@ use Rattle.std.specs.Prelude.{◌≡◌, ℕ, suc, ◌-◌, ◌≤◌, true, nat
 use Rattle.std.proofs.Common.{sym, ◌∙◌, ap, arith}
 use Rattle.std.proofs.lemmas.Bool.{and_parts, and_from, leb-true, le-leb, lt-leb, cond-true, cond-false}
 use Rattle.std.proofs.lemmas.Int.{ints}
-use Rattle.choices.specs.auction_model.specs.Package.{together, is_within, less}
-use Rattle.choices.specs.auction_model.specs.Market.{sum_after}
-use Rattle.choices.specs.auction_model.specs.Menu.{Menu, is_known_after, packages_after, fits_after}
-use Rattle.choices.specs.auction_model.specs.Table.{IsEntry}
-use Rattle.choices.specs.auction_model.proofs.BookMarket.{none-known, none-taken, together-comm}
-use Rattle.choices.specs.auction_model.proofs.ChoiceLaws.{known-length}
-use Rattle.choices.specs.auction_model.proofs.PackageLaws.{within-together}
+use Rattle.auction_model.specs.Package.{is_within, less, together}
+use Rattle.auction_model.specs.Market.{sum_after}
+use Rattle.auction_model.specs.Menu.{Menu, fits_after, is_known_after, packages_after}
+use Rattle.auction_model.specs.Table.{IsEntry}
+use Rattle.auction_model.proofs.BookMarket.{none-known, none-taken, together-comm}
+use Rattle.auction_model.proofs.ChoiceLaws.{known-length}
+use Rattle.auction_model.proofs.PackageLaws.{within-together}
 use Rattle.value_table.specs.SideValues.{up_to}
 use Rattle.value_table.specs.Turned.{in_order, worths_in_order}
 use Rattle.value_table.proofs.SingleLaws.{none-sum}

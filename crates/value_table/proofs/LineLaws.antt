@@ -3,18 +3,18 @@ use Rattle.std.specs.Prelude.{◌≡◌, ℕ, zero, suc, ◌-◌, ◌≤◌, ◌
 use Rattle.std.proofs.Common.{sym, ◌∙◌, ap, arith}
 use Rattle.std.proofs.lemmas.Bool.{cond-false, ne_eqb}
 use Rattle.std.proofs.lemmas.Int.{ints}
-use Rattle.choices.specs.auction_model.specs.Book.{Book, menu_of, net_of}
-use Rattle.choices.specs.auction_model.specs.Lowered.{lowered}
-use Rattle.choices.specs.auction_model.specs.Market.{sum_after}
-use Rattle.choices.specs.auction_model.specs.Menu.{Menu, fits_after, without}
-use Rattle.choices.specs.auction_model.specs.Package.{less}
-use Rattle.choices.specs.auction_model.specs.Place.{place_of, left_at}
-use Rattle.choices.specs.auction_model.specs.Steps.{sum_with, IsFirstNumber}
-use Rattle.choices.specs.auction_model.specs.Table.{IsEntry, IsLine}
-use Rattle.choices.specs.bid_book.specs.Kept.{IsBidBook}
-use Rattle.choices.specs.auction_model.proofs.ListLaws.{zeros-at}
-use Rattle.choices.specs.auction_model.proofs.PlainLaws.{fits-without_none, sum-plain}
-use Rattle.choices.specs.auction_model.proofs.TableLaws.{IsGreatestValue-same}
+use Rattle.auction_model.specs.Book.{Book, menu_of, net_of}
+use Rattle.auction_model.specs.Lowered.{lowered}
+use Rattle.auction_model.specs.Market.{sum_after}
+use Rattle.auction_model.specs.Menu.{Menu, fits_after, without}
+use Rattle.auction_model.specs.Package.{less}
+use Rattle.auction_model.specs.Place.{left_at, place_of}
+use Rattle.auction_model.specs.Steps.{IsFirstNumber, sum_with}
+use Rattle.auction_model.specs.Table.{IsEntry, IsLine}
+use Rattle.bid_book.specs.Kept.{IsBidBook}
+use Rattle.auction_model.proofs.ListLaws.{zeros-at}
+use Rattle.auction_model.proofs.PlainLaws.{fits-without_none, sum-plain}
+use Rattle.auction_model.proofs.TableLaws.{IsGreatestValue-same}
 use Rattle.value_table.specs.SideLines.{IsLeftLine}
 use Rattle.value_table.specs.Turned.{in_order, worths_in_order, IsOrderInRange}
 use Rattle.value_table.proofs.Plain.{plain-range}

@@ -1,11 +1,11 @@
 -- A lowering with the bidders in order counts what the tables of its book do.
 use Rattle.std.specs.Prelude.{◌≡◌, ℕ, ◌-◌, List, get_or, ℤ, pos, refl}
-use Rattle.choices.specs.auction_model.specs.Book.{Book, net_of}
-use Rattle.choices.specs.auction_model.specs.Greatest.{IsFirstGreatest}
-use Rattle.choices.specs.auction_model.specs.Lowered.{lowered}
-use Rattle.choices.specs.auction_model.specs.Market.{sum_after}
-use Rattle.choices.specs.auction_model.specs.Menu.{fits_after}
-use Rattle.choices.specs.auction_model.specs.Table.{IsEntry}
+use Rattle.auction_model.specs.Book.{Book, net_of}
+use Rattle.auction_model.specs.Greatest.{IsFirstGreatest}
+use Rattle.auction_model.specs.Lowered.{lowered}
+use Rattle.auction_model.specs.Market.{sum_after}
+use Rattle.auction_model.specs.Menu.{fits_after}
+use Rattle.auction_model.specs.Table.{IsEntry}
 use Rattle.value_table.specs.BookTable.{IsBookTable, menu_without}
 use Rattle.value_table.specs.Counted.{IsCountedTable, IsLowering, IsWholeTable, counted, counted_bids}
 use Rattle.value_table.specs.declared.lowering.Lowering.{Lowering}

@@ -3,10 +3,10 @@ use Rattle.std.specs.Prelude.{◌≡◌, ℕ, ◌+◌, ◌-◌, ◌*◌, ◌^◌
 use Rattle.std.proofs.Common.{arith}
 use Rattle.std.proofs.lemmas.Bool.{cond_both}
 use Rattle.std.proofs.lemmas.Nat.{mul-le}
-use Rattle.choices.specs.auction_model.specs.Book.{bids_of}
-use Rattle.choices.specs.auction_model.specs.Lowered.{of_bidder, greatest_size}
-use Rattle.choices.specs.auction_model.proofs.PlainLaws.{greatest-at_most, sum_to-at_most}
-use Rattle.choices.specs.bid_book.specs.Kept.{IsBidBook}
+use Rattle.auction_model.specs.Book.{bids_of}
+use Rattle.auction_model.specs.Lowered.{greatest_size, of_bidder}
+use Rattle.auction_model.proofs.PlainLaws.{greatest-at_most, sum_to-at_most}
+use Rattle.bid_book.specs.Kept.{IsBidBook}
 use Rattle.value_table.proofs.Plain.{net-small}
 use Rattle.value_table.specs.declared.lowering.Lowering.{Lowering}
 use Rattle.value_table.specs.Counted.{seat, net_at, counted_bids, IsNarrow}

@@ -3,11 +3,11 @@ use Rattle.std.specs.Prelude.{ℕ, zero, suc, ◌≤◌, ◌<◌, length, ℤ, n
 use Rattle.std.specs.Int.{int_max}
 use Rattle.std.proofs.Common.{arith}
 use Rattle.std.proofs.lemmas.Int.{ints, int_max_is}
-use Rattle.choices.specs.auction_model.specs.Book.{bids_of}
-use Rattle.choices.specs.auction_model.specs.Lowered.{of_bidder}
-use Rattle.choices.specs.auction_model.proofs.DominatedLaws.{lowered-in_order}
-use Rattle.choices.specs.bid_book.specs.Better.{IsBetter}
-use Rattle.choices.specs.bid_book.specs.Kept.{IsBidBook}
+use Rattle.auction_model.specs.Book.{bids_of}
+use Rattle.auction_model.specs.Lowered.{of_bidder}
+use Rattle.auction_model.proofs.DominatedLaws.{lowered-in_order}
+use Rattle.bid_book.specs.Better.{IsBetter}
+use Rattle.bid_book.specs.Kept.{IsBidBook}
 use Rattle.value_table.specs.declared.lowering.Lowering.{Lowering}
 use Rattle.value_table.specs.Counted.{seat, net_at, counted, IsNeedless}
 

@@ -2,8 +2,8 @@
 use Rattle.std.proofs.Common.{◌≡◌, ◌∙◌, ◌<◌, ◌≤◌, ◌+◌, ℕ, ap, ◌++◌, List, map, get_or, take, drop, ℤ, pos, ◌+ℤ◌, sym, unsigned_abs}
 use Rattle.std.specs.Int.{int_max}
 use Rattle.std.proofs.lemmas.List.{map-append, map-id, get_or-take, take-map, drop-map}
-use Rattle.choices.specs.auction_model.proofs.PartReads.{read-part}
-use Rattle.choices.specs.auction_model.proofs.RunLaws.{small-part}
+use Rattle.auction_model.proofs.PartReads.{read-part}
+use Rattle.auction_model.proofs.RunLaws.{small-part}
 use borrow.Rule.Slice.PartMut.{put_mid, post_of}
 
 -- what is read where each number is the whole number itself

@@ -3,16 +3,16 @@ use Rattle.std.specs.Prelude.{◌≡◌, ℕ, suc, ◌-◌, ◌≤◌, ◌<◌, 
 use Rattle.std.proofs.Common.{sym, ◌∙◌, ap, subst, arith, eqb}
 use Rattle.std.proofs.lemmas.Bool.{and_parts, and_from, leb-true, le-leb, cond-true, cond-false, eq-eqb, ne_eqb}
 use Rattle.std.proofs.lemmas.Int.{ints}
-use Rattle.choices.specs.auction_model.specs.Package.{together, is_within, less}
-use Rattle.choices.specs.auction_model.specs.Place.{states_of, place_of, left_at}
-use Rattle.choices.specs.auction_model.specs.Market.{sum_after}
-use Rattle.choices.specs.auction_model.specs.Menu.{Menu, is_known_after, packages_after, fits_after, without}
-use Rattle.choices.specs.auction_model.specs.Table.{IsEntry}
-use Rattle.choices.specs.auction_model.proofs.ChoiceLaws.{known-length}
-use Rattle.choices.specs.auction_model.proofs.DominatedLaws.{less-within}
-use Rattle.choices.specs.auction_model.proofs.PackageLaws.{within-together}
-use Rattle.choices.specs.auction_model.proofs.PlaceLaws.{states-positive, left_at-within, place_of-left_at, place_of-less, left_at-less, place-less_below}
-use Rattle.choices.specs.auction_model.proofs.PlaceLaws.{last-place, left_at-whole, within-within}
+use Rattle.auction_model.specs.Package.{is_within, less, together}
+use Rattle.auction_model.specs.Place.{left_at, place_of, states_of}
+use Rattle.auction_model.specs.Market.{sum_after}
+use Rattle.auction_model.specs.Menu.{Menu, fits_after, is_known_after, packages_after, without}
+use Rattle.auction_model.specs.Table.{IsEntry}
+use Rattle.auction_model.proofs.ChoiceLaws.{known-length}
+use Rattle.auction_model.proofs.DominatedLaws.{less-within}
+use Rattle.auction_model.proofs.PackageLaws.{within-together}
+use Rattle.auction_model.proofs.PlaceLaws.{last-place, left_at-less, left_at-whole, left_at-within, place-less_below, place_of-left_at, place_of-less}
+use Rattle.auction_model.proofs.PlaceLaws.{states-positive, within-within}
 use Rattle.value_table.specs.SideValues.{IsGreatestPair}
 use Rattle.value_table.specs.Turned.{in_order, worths_in_order}
 use Rattle.value_table.proofs.TurnLaws.{onto, Parted, parted, sum-parts, known-parts, taken-parts, turned-length}

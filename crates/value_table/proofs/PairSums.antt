@@ -3,7 +3,7 @@ use Rattle.std.specs.Prelude.{◌≡◌, ℕ, ◌+◌, ◌-◌, ◌^◌, ◌≤�
 use Rattle.std.specs.Int.{int_max}
 use Rattle.std.proofs.Common.{arith, below_more, ap}
 use Rattle.std.proofs.lemmas.Int.{ints, by_lt_z, int_max_is}
-use Rattle.choices.specs.auction_model.proofs.LineLaws.{int_max-left}
+use Rattle.auction_model.proofs.LineLaws.{int_max-left}
 
 -- the sum at a place
 abbrev pub pair_at : ℕ → List ℤ → List ℤ → ℕ → ℤ

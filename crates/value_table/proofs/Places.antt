@@ -1,4 +1,4 @@
--- A loop that rewrites each element by its place and what stood there.
+-- A loop that rewrites each element by its place and what was there.
 use Rattle.std.proofs.Common.{◌≡◌, ◌≢◌, ◌∙◌, ◌<◌, ◌≤◌, ◌+◌, ℕ, ap, arith, get_or, set, length, List, ℤ, pos, get_or-set_other, get_or-set_same, below_more}
 use Rattle.std.proofs.lemmas.List.{ext_get_or}
 

@@ -3,16 +3,16 @@ use Rattle.std.specs.Prelude.{◌≡◌, ℕ, ◌-◌, ◌^◌, ◌≤◌, List,
 use Rattle.std.proofs.Common.{arith}
 use Rattle.std.proofs.lemmas.Int.{ints}
 use Rattle.std.proofs.lemmas.Bool.{cond_both}
-use Rattle.choices.specs.auction_model.specs.Book.{Book, net_of, bids_of, menu_of, market_of}
-use Rattle.choices.specs.auction_model.specs.Lowered.{lowered}
-use Rattle.choices.specs.auction_model.specs.Market.{sum_after}
-use Rattle.choices.specs.auction_model.specs.Menu.{fits_after}
-use Rattle.choices.specs.auction_model.specs.Greatest.{IsFirstGreatest, IsWinning}
-use Rattle.choices.specs.auction_model.proofs.PlainLaws.{IsFirstGreatest-same, fits-without_none, sum-plain, spread-plain}
-use Rattle.choices.specs.bid_book.specs.Kept.{IsBidBook}
+use Rattle.auction_model.specs.Book.{Book, bids_of, market_of, menu_of, net_of}
+use Rattle.auction_model.specs.Lowered.{lowered}
+use Rattle.auction_model.specs.Market.{sum_after}
+use Rattle.auction_model.specs.Menu.{fits_after}
+use Rattle.auction_model.specs.Greatest.{IsFirstGreatest, IsWinning}
+use Rattle.auction_model.proofs.PlainLaws.{IsFirstGreatest-same, fits-without_none, spread-plain, sum-plain}
+use Rattle.bid_book.specs.Kept.{IsBidBook}
 use Rattle.value_table.specs.BookTable.{menu_without, IsInRange}
 
-size-from : (z : ℤ) (n : ℕ) → pos 0 ≤ℤ z → z ≤ℤ pos n → unsigned_abs z ≤ n
+pub size-from : (z : ℤ) (n : ℕ) → pos 0 ≤ℤ z → z ≤ℤ pos n → unsigned_abs z ≤ n
 size-from (pos a) n h k = omega (arith, ints)
 size-from (negsuc a) n h k = absurd (omega (arith, ints))
 

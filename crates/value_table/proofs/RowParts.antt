@@ -3,8 +3,8 @@ use Rattle.std.proofs.Common.{◌≡◌, ◌∙◌, ◌<◌, ◌≤◌, ◌+◌,
 use Rattle.std.proofs.Math.Nat.{mul-le-mul_right}
 use Rattle.std.proofs.lemmas.List.{take_rest}
 use Rattle.std.proofs.lemmas.Nat.{mul-le}
-use Rattle.choices.specs.auction_model.specs.Place.{states_of, widths_of, place_of}
-use Rattle.choices.specs.auction_model.proofs.RunLaws.{width-first, widths-rest, width-at_most, states-first}
+use Rattle.auction_model.specs.Place.{place_of, states_of, widths_of}
+use Rattle.auction_model.proofs.RunLaws.{states-first, width-at_most, width-first, widths-rest}
 use borrow.Rule.Slice.PartMut.{mid_len}
 
 -- a block has the places of the other categories

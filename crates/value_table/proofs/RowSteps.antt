@@ -1,18 +1,18 @@
 -- The rows of a block of two categories, row by row, and what a bid changes in them.
-use Rattle.std.specs.Prelude.{◌≡◌, ℕ, max, map, take, nat_le, [], ◌∷◌, ◌+◌, ◌-◌}
-use Rattle.std.specs.Prelude.{◌*◌, ◌/◌, ◌%◌, ◌≤◌, ◌<◌, List, length, get_or, drop, ℤ, pos, ◌+ℤ◌, IsTrue}
+use Rattle.std.specs.Prelude.{IsTrue, List, [], drop, get_or, length, map, max, nat_le, pos, take, ℕ, ℤ, ◌%◌, ◌*◌, ◌+ℤ◌, ◌+◌, ◌-◌, ◌/◌, ◌<◌, ◌∷◌, ◌≡◌}
+use Rattle.std.specs.Prelude.{◌≤◌}
 use Rattle.std.specs.Int.{int_max}
 use Rattle.std.proofs.Common.{sym, ◌∙◌, ap, subst, arith, inl, inr}
 use Rattle.std.proofs.Math.Nat.{mul-le-mul_right}
 use Rattle.std.proofs.lemmas.Bool.{cases_lt, and_parts, leb-true}
 use Rattle.std.proofs.lemmas.List.{get_or-drop, length-drop, length-map}
 use Rattle.std.proofs.lemmas.Nat.{mod_below, div-add-mod'}
-use Rattle.choices.specs.auction_model.specs.Package.{is_within}
-use Rattle.choices.specs.auction_model.specs.Place.{states_of, widths_of}
-use Rattle.choices.specs.auction_model.specs.Steps.{raised}
-use Rattle.choices.specs.auction_model.proofs.PlaceLaws.{states-positive}
-use Rattle.choices.specs.auction_model.proofs.PartReads.{read-before, read-middle, read-after}
-use Rattle.choices.specs.auction_model.proofs.RunLaws.{raised-before, raised-high, raised-last, states-first, width-first, widths-rest}
+use Rattle.auction_model.specs.Package.{is_within}
+use Rattle.auction_model.specs.Place.{states_of, widths_of}
+use Rattle.auction_model.specs.Steps.{raised}
+use Rattle.auction_model.proofs.PlaceLaws.{states-positive}
+use Rattle.auction_model.proofs.PartReads.{read-after, read-before, read-middle}
+use Rattle.auction_model.proofs.RunLaws.{raised-before, raised-high, raised-last, states-first, width-first, widths-rest}
 use Rattle.value_table.proofs.NumberParts.{read-put, read-number, read-first}
 use Rattle.value_table.proofs.ShortLaws.{read-short, max-short}
 use Rattle.value_table.specs.declared.shape.Rows.{Rows}

@@ -1,17 +1,19 @@
 -- Lines of numbers of 32 bits.
-use Rattle.std.proofs.Common.{◌≡◌, ◌∙◌, ℕ, zero, suc, ◌+◌, ◌-◌, ◌*◌, ◌^◌, ◌≤◌, ◌<◌, max, IsTrue, List, [], ◌∷◌, get_or, map, ℤ, pos, ◌+ℤ◌, ◌≤ℤ◌, unsigned_abs}
-use Rattle.std.proofs.Common.{refl, ap, subst, sym, arith, inl, inr, length}
+use Rattle.std.proofs.Common.{IsTrue, List, [], ap, arith, get_or, inl, inr, length, map, max, pos, refl, replicate, subst, suc, sym, unsigned_abs}
+use Rattle.std.proofs.Common.{zero, ℕ, ℤ, ◌*◌, ◌+ℤ◌, ◌+◌, ◌-◌, ◌<◌, ◌^◌, ◌∙◌, ◌∷◌, ◌≡◌, ◌≤ℤ◌, ◌≤◌}
 use Rattle.std.specs.Int.{int_max}
 use Rattle.std.proofs.lemmas.Bool.{cases_lt}
 use Rattle.std.proofs.lemmas.Int.{ints, int_max_is}
 use Rattle.std.proofs.lemmas.List.{length-map, get_or_past}
 use Rattle.choices.specs.Coarse.{IsCeiling, IsFloor}
-use Rattle.choices.specs.auction_model.specs.Menu.{Menu}
-use Rattle.choices.specs.auction_model.specs.Package.{is_within}
-use Rattle.choices.specs.auction_model.specs.Place.{states_of, left_at}
-use Rattle.choices.specs.auction_model.specs.Table.{IsLine}
-use Rattle.choices.specs.auction_model.proofs.PlaceLaws.{states-positive, left_at-within, left_at-whole}
+use Rattle.auction_model.specs.Menu.{Menu}
+use Rattle.auction_model.specs.Package.{is_within}
+use Rattle.auction_model.specs.Place.{left_at, states_of}
+use Rattle.auction_model.specs.Table.{IsLine}
+use Rattle.auction_model.proofs.PlaceLaws.{left_at-whole, left_at-within, states-positive}
 use Rattle.value_table.proofs.CornerLaws.{line-grows}
+use Rattle.value_table.proofs.Plain.{size-from}
+use Rattle.value_table.proofs.Sizes.{line-sign}
 use Rattle.value_table.specs.Counted.{counted_bids, counted, IsCountedLine, IsLineWithin}
 use Rattle.value_table.specs.declared.lowering.Lowering.{Lowering}
 
@@ -20,6 +22,12 @@ pub read-short : (xs : List ℕ) (s : ℕ) → get_or (map (λ n. pos n) xs) s (
 read-short [] s = refl
 read-short (x ∷ xs) zero = refl
 read-short (x ∷ xs) (suc s) = read-short xs s
+
+-- a line of zeros
+pub zeros-short : (n s : ℕ) → get_or (map (λ n. pos n) (replicate n 0)) s (pos 0) ≡ pos 0
+zeros-short zero s = refl
+zeros-short (suc n) zero = refl
+zeros-short (suc n) (suc s) = zeros-short n s
 
 -- how large it is
 pub small-short : (xs : List ℕ) (s most : ℕ) → unsigned_abs (get_or (map (λ n. pos n) xs) s (pos 0)) ≤ most → get_or xs s 0 ≤ most
@@ -45,7 +53,7 @@ max-short xs ys s a =
 pub floor-short : (unit : ℕ) (xs low : List ℕ) → ((s : ℕ) → s < length xs → get_or low s 0 * unit ≤ get_or xs s 0) → IsFloor unit (map (λ n. pos n) xs) low
 floor-short unit xs low is s h some = rw (read-short xs s) (omega (arith, ints, is s (omega (arith, h, length-map xs (λ n. pos n)))))
 
--- where there are no units it is rounded down too
+-- if there are no units it is rounded down too
 pub floor-none : (unit : ℕ) (xs low : List ℕ) → ((s : ℕ) → s < length xs → get_or low s 0 ≡ 0) → IsFloor unit (map (λ n. pos n) xs) low
 floor-none unit xs low is s h some = absurd (omega (arith, some, is s (omega (arith, h, length-map xs (λ n. pos n)))))
 
@@ -68,24 +76,19 @@ line-top m counts supply k line e s low =
     line-grows m counts supply k line e s top low last within
 
 -- a line whose last number is small, below a bidder that counts no more, has room for its sums
-pub short-within : (l : Lowering) (j most : ℕ) (line : List ℕ) → IsCountedLine l j (map (λ n. pos n) line) → get_or line (length line - 1) 0 ≤ most
-    → ((i : ℕ) → i ≤ (counted_bids l).bids j → unsigned_abs (counted l j i) ≤ most) → IsLineWithin l most j (map (λ n. pos n) line)
-short-within l j most line e top worths =
+pub short-within : (l : Lowering) (j most : ℕ) (line : List ℤ) → j ≤ length l.book.now.bidders → IsCountedLine l j line
+    → get_or line (length line - 1) (pos 0) ≤ℤ pos most → ((i : ℕ) → i ≤ (counted_bids l).bids j → unsigned_abs (counted l j i) ≤ most)
+    → IsLineWithin l most j line
+short-within l j most line inside e top worths =
     let supply = l.book.now.supply in
-    let width : length line ≡ states_of supply = sym (length-map line (λ n. pos n)) ∙ e.places in
-    let last : get_or line (states_of supply - 1) 0 ≤ most = rw width at top in
+    let last : get_or line (states_of supply - 1) (pos 0) ≤ℤ pos most = rw e.places at top in
     record {
-      numbers = λ s. rw (read-short line s) (elim (cases_lt s (length line)) [
-        | inl low ↦ omega (
-          arith,
-          ints,
-          last,
-          read-short line s,
-          read-short line (states_of supply - 1),
-          line-top (counted_bids l) (counted l) supply j (map (λ n. pos n) line) e s (omega (arith, width, low)),
-        )
-        | inr past ↦ omega (arith, get_or_past line s 0 past)
-      ]);
+      numbers = λ s. elim (cases_lt s (length line)) [
+        | inl low ↦
+            let most_at = line-top (counted_bids l) (counted l) supply j line e s (omega (arith, e.places, low)) in
+            size-from (get_or line s (pos 0)) most (line-sign l j line inside e s) (omega (arith, ints, last, most_at))
+        | inr past ↦ let none : get_or line s (pos 0) ≡ pos 0 = get_or_past line s (pos 0) past in rw none (omega arith)
+      ];
       worths = worths;
     }
 
@@ -95,7 +98,7 @@ module _ (f : ℕ → ℕ) (most : ℕ) where
   small-first own zero low = own
   small-first own (suc n) low = absurd (omega arith)
 
-  -- and each that comes behind small ones
+  -- and each that comes after small ones
   pub small-more : (i : ℕ) → ((n : ℕ) → n ≤ i → f n ≤ most) → f (i + 1) ≤ most → (n : ℕ) → n ≤ i + 1 → f n ≤ most
   small-more i was own n low = elim (cases_lt i n) [
     | inl above ↦ let last : n ≡ i + 1 = omega (arith, above, low) in rw last own

@@ -2,20 +2,20 @@
 use Rattle.std.specs.Prelude.{◌≡◌, ℕ, zero, suc, ◌-◌, ◌^◌, ◌≤◌, ◌<◌, true, List, [], length, get_or, ℤ, pos, unsigned_abs, refl, ◌==◌}
 use Rattle.std.proofs.Common.{sym, ◌∙◌, arith}
 use Rattle.std.proofs.lemmas.Bool.{cond_both}
-use Rattle.choices.specs.auction_model.specs.Book.{Book, bids_of, menu_of, net_of, market_of}
-use Rattle.choices.specs.auction_model.specs.Greatest.{IsGreatestValue}
-use Rattle.choices.specs.auction_model.specs.Lowered.{lowered}
-use Rattle.choices.specs.auction_model.specs.Market.{sum_after, value_of}
-use Rattle.choices.specs.auction_model.specs.Menu.{Menu, fits_after, without}
-use Rattle.choices.specs.auction_model.specs.Place.{states_of, left_at}
-use Rattle.choices.specs.auction_model.specs.Prices.{allowed_without}
-use Rattle.choices.specs.auction_model.specs.Table.{IsEntry, IsLine, IsExactTable}
-use Rattle.choices.specs.auction_model.proofs.BoundLaws.{line-sizes}
-use Rattle.choices.specs.auction_model.proofs.PlainLaws.{fits-without_none, sum-plain, sum_to-at_most, spread-plain}
-use Rattle.choices.specs.auction_model.proofs.PlaceLaws.{states-positive}
-use Rattle.choices.specs.auction_model.proofs.SkipLaws.{line-past_skip, entry-skip}
-use Rattle.choices.specs.auction_model.proofs.TableLaws.{IsGreatestValue-same}
-use Rattle.choices.specs.bid_book.specs.Kept.{IsBidBook}
+use Rattle.auction_model.specs.Book.{Book, bids_of, market_of, menu_of, net_of}
+use Rattle.auction_model.specs.Greatest.{IsGreatestValue}
+use Rattle.auction_model.specs.Lowered.{lowered}
+use Rattle.auction_model.specs.Market.{sum_after, value_of}
+use Rattle.auction_model.specs.Menu.{Menu, fits_after, without}
+use Rattle.auction_model.specs.Place.{left_at, states_of}
+use Rattle.auction_model.specs.Prices.{allowed_without}
+use Rattle.auction_model.specs.Table.{IsEntry, IsExactTable, IsLine}
+use Rattle.auction_model.proofs.BoundLaws.{line-sizes}
+use Rattle.auction_model.proofs.PlainLaws.{fits-without_none, spread-plain, sum-plain, sum_to-at_most}
+use Rattle.auction_model.proofs.PlaceLaws.{states-positive}
+use Rattle.auction_model.proofs.SkipLaws.{entry-skip, line-past_skip}
+use Rattle.auction_model.proofs.TableLaws.{IsGreatestValue-same}
+use Rattle.bid_book.specs.Kept.{IsBidBook}
 use Rattle.value_table.specs.SideValues.{SidesValue, AreSidesOf, AreFullLines, AreFullSides, IsGreatestPair, IsLeftEntry, IsRightEntry}
 use Rattle.value_table.specs.TableValue.{TableValue, IsTableOf, IsPlain}
 use Rattle.value_table.specs.Turned.{bidder_at, in_order, worths_in_order, IsOrderInRange}

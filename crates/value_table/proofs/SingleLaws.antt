@@ -1,22 +1,22 @@
 -- No bid is worth more than the winning choice, so no lowered sum leaves the range.
-use Rattle.std.specs.Prelude.{◌≡◌, ℕ, zero, suc, ◌+◌, ◌-◌, ◌*◌, ◌≤◌, ◌<◌, Bool, nat_le, IsTrue, List, [], ◌∷◌, length, replicate, set, ℤ, pos, negsuc, ◌+ℤ◌}
-use Rattle.std.specs.Prelude.{◌≤ℤ◌, unsigned_abs, refl}
+use Rattle.std.specs.Prelude.{Bool, IsTrue, List, [], length, nat_le, negsuc, pos, refl, replicate, set, suc, unsigned_abs, zero, ℕ, ℤ, ◌*◌, ◌+ℤ◌}
+use Rattle.std.specs.Prelude.{◌+◌, ◌-◌, ◌<◌, ◌∷◌, ◌≡◌, ◌≤ℤ◌, ◌≤◌}
 use Rattle.std.proofs.Common.{sym, ◌∙◌, ap, arith}
 use Rattle.std.proofs.lemmas.Bool.{and_from, le-leb}
 use Rattle.std.proofs.lemmas.Int.{ints}
 use Rattle.std.proofs.Math.Nat.{mul-le-mul_left}
-use Rattle.choices.specs.auction_model.specs.Package.{together, is_within}
-use Rattle.choices.specs.auction_model.specs.Market.{sum_after, value_of}
-use Rattle.choices.specs.auction_model.specs.Menu.{Menu, is_known_after, packages_after, fits_after}
-use Rattle.choices.specs.auction_model.specs.Greatest.{IsFirstGreatest, IsGreatestValue, IsWinning}
-use Rattle.choices.specs.auction_model.specs.Book.{Book, menu_of, market_of, net_of, bids_of, lots_of}
-use Rattle.choices.specs.auction_model.specs.Lowered.{of_bidder, sum_to, greatest_size}
+use Rattle.auction_model.specs.Package.{is_within, together}
+use Rattle.auction_model.specs.Market.{sum_after, value_of}
+use Rattle.auction_model.specs.Menu.{Menu, fits_after, is_known_after, packages_after}
+use Rattle.auction_model.specs.Greatest.{IsFirstGreatest, IsGreatestValue, IsWinning}
+use Rattle.auction_model.specs.Book.{Book, bids_of, lots_of, market_of, menu_of, net_of}
+use Rattle.auction_model.specs.Lowered.{greatest_size, of_bidder, sum_to}
 use Rattle.choices.specs.Lowering.{CanLower}
-use Rattle.choices.specs.auction_model.proofs.PlainLaws.{greatest-at_most}
-use Rattle.choices.specs.auction_model.proofs.BookMarket.{none-known, none-taken}
+use Rattle.auction_model.proofs.PlainLaws.{greatest-at_most}
+use Rattle.auction_model.proofs.BookMarket.{none-known, none-taken}
 use Rattle.value_table.proofs.Plain.{bids-fewer}
 use Rattle.value_table.specs.BookTable.{menu_without, IsInRange}
-use Rattle.choices.specs.bid_book.specs.Kept.{IsBidBook}
+use Rattle.bid_book.specs.Kept.{IsBidBook}
 
 -- the choice that gives one bidder a bid and the others none
 abbrev pub single : ℕ → ℕ → ℕ → List ℕ

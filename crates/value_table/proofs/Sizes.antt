@@ -1,8 +1,17 @@
 -- No number of the tables leaves the range.
-use Rattle.std.specs.Prelude.{◌≡◌, ℕ, zero, suc, ◌+◌, ◌*◌, ◌^◌, ◌≤◌, ◌<◌, List, length, get_or, ℤ, pos, ◌-ℤ◌, ◌*ℤ◌, unsigned_abs, refl}
-use Rattle.std.proofs.Common.{arith}
-use Rattle.choices.specs.auction_model.specs.Lowered.{lowered, of_bidder}
-use Rattle.choices.specs.auction_model.proofs.BoundLaws.{caps_of, lowered-capped, parts-capped, cap-in_sum, line-sizes, AreCapped}
+use Rattle.std.specs.Prelude.{◌≡◌, ℕ, zero, suc, ◌+◌, ◌*◌, ◌^◌, ◌≤◌, ◌-◌, ◌<◌, IsTrue, List, [], length, get_or, replicate, ℤ, pos, ◌-ℤ◌, ◌*ℤ◌, ◌≤ℤ◌, unsigned_abs, refl}
+use Rattle.std.proofs.Common.{arith, inl, inr}
+use Rattle.std.proofs.lemmas.Bool.{and_from, cases_lt}
+use Rattle.std.proofs.lemmas.Int.{ints}
+use Rattle.std.proofs.lemmas.List.{get_or_past}
+use Rattle.auction_model.specs.Market.{sum_after}
+use Rattle.auction_model.specs.Menu.{fits_after, is_known_after, packages_after}
+use Rattle.auction_model.specs.Package.{is_within}
+use Rattle.auction_model.specs.Place.{left_at}
+use Rattle.auction_model.proofs.BookMarket.{none-known, none-taken}
+use Rattle.value_table.proofs.Needless.{idle-sign}
+use Rattle.auction_model.specs.Lowered.{lowered, of_bidder}
+use Rattle.auction_model.proofs.BoundLaws.{AreCapped, cap-in_sum, caps_of, line-sizes, lowered-capped, parts-capped}
 use Rattle.value_table.specs.declared.lowering.Lowering.{Lowering}
 use Rattle.value_table.specs.Counted.{net_at, counted_bids, counted, IsCountedLine, IsWithin, IsLineWithin}
 
@@ -70,3 +79,24 @@ pub lowered-at : (den : ℤ) (worth : ℕ → ℕ → ℤ) (surplus : List ℤ) 
     (den *ℤ worth j i) -ℤ of_bidder surplus j
 lowered-at den worth surplus j zero h = absurd (omega arith)
 lowered-at den worth surplus j (suc i) h = refl
+
+-- a choice in which nobody has a bid counts at least 0, where nobody counts less
+none-least : (worth : ℕ → ℕ → ℤ) (k n : ℕ) → ((j : ℕ) → pos 0 ≤ℤ worth j 0) → pos 0 ≤ℤ sum_after worth k (replicate n 0)
+none-least worth k zero least = omega (arith, ints)
+none-least worth k (suc n) least = omega (arith, ints, least (suc k), none-least worth (suc k) n least)
+
+-- so no number of a line is below 0
+pub line-sign : (l : Lowering) (k : ℕ) (line : List ℤ) → k ≤ length l.book.now.bidders → IsCountedLine l k line → (s : ℕ) → pos 0 ≤ℤ get_or line s (pos 0)
+line-sign l k line inside e s =
+    let m = counted_bids l in
+    let n = length l.book.now.bidders - k in
+    let left = left_at l.book.now.supply s in
+    elim (cases_lt s (length line)) [
+      | inl low ↦
+          let taken : packages_after m k (replicate n 0) ≡ [] = none-taken m k n (λ _. refl) in
+          let within : IsTrue (is_within (packages_after m k (replicate n 0)) left) = rw taken refl in
+          let fits : IsTrue (fits_after m k left (replicate n 0)) = and_from (is_known_after m k (replicate n 0))
+          (is_within (packages_after m k (replicate n 0)) left) (none-known m k n (omega (arith, inside))) within in
+          omega (arith, ints, none-least (counted l) k n (idle-sign l), (e.exact s (omega (arith, low, e.places))).bound (replicate n 0) fits)
+      | inr past ↦ omega (arith, ints, get_or_past line s (pos 0) past)
+    ]

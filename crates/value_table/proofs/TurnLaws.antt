@@ -3,11 +3,11 @@ use Rattle.std.specs.Prelude.{◌≡◌, ℕ, zero, suc, ◌+◌, ◌-◌, ◌�
 use Rattle.std.proofs.Common.{sym, ◌∙◌, ap, subst, arith}
 use Rattle.std.proofs.lemmas.Bool.{eq-eqb}
 use Rattle.std.proofs.lemmas.Int.{ints}
-use Rattle.choices.specs.auction_model.specs.Package.{together}
-use Rattle.choices.specs.auction_model.specs.Market.{sum_after}
-use Rattle.choices.specs.auction_model.specs.Menu.{Menu, is_known_after, packages_after}
-use Rattle.choices.specs.auction_model.proofs.ChoiceLaws.{known-length}
-use Rattle.choices.specs.auction_model.proofs.BookMarket.{together-comm}
+use Rattle.auction_model.specs.Package.{together}
+use Rattle.auction_model.specs.Market.{sum_after}
+use Rattle.auction_model.specs.Menu.{Menu, is_known_after, packages_after}
+use Rattle.auction_model.proofs.ChoiceLaws.{known-length}
+use Rattle.auction_model.proofs.BookMarket.{together-comm}
 use Rattle.value_table.specs.Turned.{in_order, worths_in_order}
 
 -- the numbers of the last bidder so far come first, and go before the others one by one
@@ -56,7 +56,7 @@ swap-known false false c = refl
 turn-back : (n k : ℕ) → suc k ≤ n → suc n - suc (n - suc k) ≡ suc k
 turn-back n k h = omega (arith, h)
 
--- and the place behind it in the turned order
+-- and the place after it in the turned order
 turn-next : (n k : ℕ) → suc k ≤ n → suc (n - suc k) ≡ n - k
 turn-next n k h = omega (arith, h)
 

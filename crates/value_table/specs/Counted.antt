@@ -1,10 +1,10 @@
 -- What a lowering counts, and its lines and tables: words of private contracts.
 use Rattle.std.specs.Prelude.{◌≡◌, ℕ, ◌≤◌, ◌<◌, ◌^◌, false, IsTrue, List, length, slice_index_or, ℤ, pos, ◌≤ℤ◌, unsigned_abs}
-use Rattle.choices.specs.auction_model.specs.Book.{Book, menu_of, net_of}
-use Rattle.choices.specs.auction_model.specs.Lowered.{lowered, spread}
-use Rattle.choices.specs.auction_model.specs.Menu.{Menu, without}
-use Rattle.choices.specs.auction_model.specs.Package.{is_within}
-use Rattle.choices.specs.auction_model.specs.Table.{IsLine, IsExactTable, AreLinesTo}
+use Rattle.auction_model.specs.Book.{Book, menu_of, net_of}
+use Rattle.auction_model.specs.Lowered.{lowered, spread}
+use Rattle.auction_model.specs.Menu.{Menu, without}
+use Rattle.auction_model.specs.Package.{is_within}
+use Rattle.auction_model.specs.Table.{AreLinesTo, IsExactTable, IsLine}
 use Rattle.value_table.specs.Turned.{bidder_at, in_order, worths_in_order}
 use Rattle.value_table.specs.declared.lowering.Lowering.{Lowering}
 

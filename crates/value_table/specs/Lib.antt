@@ -9,10 +9,3 @@ pub mod SideValues
 pub mod TableValue
 pub mod TurnLines
 pub mod Turned
-pub use Rattle.choices.specs.auction_model
-pub use Rattle.choices.specs.bid_book
-pub use Rattle.choices.specs.book_form
-pub use Rattle.choices
-pub use Rattle.choices.specs.limits
-pub use Rattle.choices.specs.line_text
-pub use Rattle.choices.specs.wide_num

@@ -1,10 +1,10 @@
 -- What is asked where one more bid is counted in a line.
 use Rattle.std.specs.Prelude.{◌≡◌, ℕ, ◌≤◌, ◌<◌, ◌^◌, IfSome, List, Option, length, map, slice_index_or, ℤ, pos, unsigned_abs}
-use Rattle.choices.specs.auction_model.specs.Place.{states_of, widths_of}
+use Rattle.auction_model.specs.Place.{states_of, widths_of}
 use Rattle.choices.specs.Coarse.{AreCoarse}
-use Rattle.choices.specs.limits.specs.declared.TheConstants.{MOST_STATES}
+use Rattle.limits.specs.declared.TheConstants.{MOST_STATES}
 
--- a line and the line below it have so many places, and the worth and the numbers of the line below are so small that a sum of both
+-- a line and the line below it have that many places, and the worth and the numbers of the line below are so small that a sum of both
 -- is a number of their size
 pub record CanRaise {A : Type 0} (number : A → ℤ) (most states : ℕ) (own rest : List A) (amount : A) : Type 0 where
   pub line : length own ≡ states
@@ -19,7 +19,7 @@ pub record CanRaiseLots {A : Type 0} (number : A → ℤ) (most : ℕ) (supply s
   pub states : states_of supply ≤ MOST_STATES
   pub lines : CanRaise number most (states_of supply) own rest amount
 
--- a line and the line below it stand in units of 2^shift too
+-- a line and the line below it is in units of 2^shift too
 pub record AreInUnits {A : Type 0} (number : A → ℤ) (shift : ℕ) (own rest : List A) (low high : List ℕ) : Type 0 where
   pub small : shift < 64
   pub coarse : AreCoarse (2 ^ shift) (map number own) (map number rest) low high

@@ -1,13 +1,13 @@
--- The rows of a block of two categories, of which a bid raises the front.
+-- The rows of a block of two categories, of which a bid raises the prefix.
 use Rattle.std.specs.Prelude.{◌≡◌, ℕ, ◌+◌, ◌-◌, ◌*◌, ◌≤◌, ◌<◌, List, slice_index_or, ℤ, pos, ◌+ℤ◌}
 use Rattle.std.specs.Int.{int_max}
 use Rattle.value_table.specs.declared.shape.Rows.{Rows}
 
--- a line of so many places ends with the run of the last row
+-- a line of that many places ends with the run of the last row
 abbrev pub HasRows : Rows → ℕ → Type 0
 HasRows rows places = places ≡ (rows.count - 1) * rows.width + rows.run
 
--- the front of each row is raised to the line below with a worth, and all else is as it was
+-- the prefix of each row is raised to the line below with a worth, and all else is as it was
 pub record AreRowsRaised (rows : Rows) (below : List ℤ) (worth : ℤ) (old new : List ℤ) : Type 0 where
   pub raised : (q i : ℕ) → q < rows.count → i < rows.run
       → slice_index_or new (q * rows.width + i) (pos 0)

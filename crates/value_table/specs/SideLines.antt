@@ -1,8 +1,8 @@
 -- The lines of both sides of a book, one by one.
 use Rattle.std.specs.Prelude.{◌≡◌, ℕ, ◌<◌, List, length, slice_index_or, ℤ, pos}
-use Rattle.choices.specs.auction_model.specs.Book.{Book, menu_of, net_of}
-use Rattle.choices.specs.auction_model.specs.Place.{states_of, left_at}
-use Rattle.choices.specs.auction_model.specs.Table.{IsLine}
+use Rattle.auction_model.specs.Book.{Book, menu_of, net_of}
+use Rattle.auction_model.specs.Place.{left_at, states_of}
+use Rattle.auction_model.specs.Table.{IsLine}
 use Rattle.value_table.specs.SideValues.{IsLeftEntry}
 
 -- line k of the exact table of the net amounts: at each place the greatest value of a choice of the bidders after k

@@ -1,9 +1,9 @@
 -- The greatest values from two sides of a book: of the bidders up to one, and of those after it.
 use Rattle.std.specs.Prelude.{◌≡◌, ℕ, ◌+◌, ◌-◌, ◌<◌, ◌≤◌, ◌^◌, true, nat_le, if◌then◌else◌, List, [], length, slice_index_or, ℤ, pos, ◌+ℤ◌, ◌≤ℤ◌, unsigned_abs}
-use Rattle.choices.specs.auction_model.specs.Book.{Book, menu_of, net_of}
-use Rattle.choices.specs.auction_model.specs.Menu.{Menu}
-use Rattle.choices.specs.auction_model.specs.Place.{states_of}
-use Rattle.choices.specs.auction_model.specs.Table.{entry_at, IsEntry, IsExactTable}
+use Rattle.auction_model.specs.Book.{Book, menu_of, net_of}
+use Rattle.auction_model.specs.Menu.{Menu}
+use Rattle.auction_model.specs.Place.{states_of}
+use Rattle.auction_model.specs.Table.{IsEntry, IsExactTable, entry_at}
 use Rattle.value_table.specs.TableValue.{TableValue, IsTableOf, IsPlain}
 use Rattle.value_table.specs.Turned.{in_order, worths_in_order}
 

@@ -1,8 +1,8 @@
 -- The bidders of a book, counted from the first or turned round: then number 1 is the last bidder.
 use Rattle.std.specs.Prelude.{ℕ, suc, ◌-◌, ◌<◌, ◌^◌, Bool, if◌then◌else◌, List, length, ℤ}
-use Rattle.choices.specs.auction_model.specs.Book.{Book, menu_of, net_of}
-use Rattle.choices.specs.auction_model.specs.Lowered.{spread}
-use Rattle.choices.specs.auction_model.specs.Menu.{Menu, without}
+use Rattle.auction_model.specs.Book.{Book, menu_of, net_of}
+use Rattle.auction_model.specs.Lowered.{spread}
+use Rattle.auction_model.specs.Menu.{Menu, without}
 
 -- which of n bidders has number j
 abbrev pub bidder_at : Bool → ℕ → ℕ → ℕ

@@ -1,19 +1,15 @@
-// The numbers of a line, in the three sizes in which lines are worked out.
-ghost use Rattle.std.specs.Prelude.{◌≡◌, ℕ, ◌*◌, ◌^◌, ◌≤◌, ◌<◌, ◌↔◌, IsTrue, OnOk, [], ◌∷◌, ◌++◌, length, slice_index_or, ℤ, pos, ◌-◌, ◌+ℤ◌, ◌≤ℤ◌, unsigned_abs, map};
+// The numbers of a line, in the three sizes in which lines are computed.
+ghost use Rattle.std.specs.Prelude.{◌≡◌, ℕ, ◌*◌, ◌^◌, ◌≤◌, ◌<◌, ◌↔◌, IsTrue, IfSome, length, slice_index_or, ℤ, pos, ◌-◌, ◌+ℤ◌, ◌≤ℤ◌, unsigned_abs, map};
 ghost use Rattle.std.specs.Int.{int_max};
 ghost use Rattle.choices.specs.Coarse.{IsCeiling, IsFloor};
-ghost use Rattle.choices.specs.Lines.{width_of};
-ghost use Rattle.choices.specs.limits.specs.declared.TheConstants.{MOST_STATES};
+ghost use Rattle.limits.specs.declared.TheConstants.{MOST_STATES};
 ghost use Rattle.value_table.specs.Rows.{AreRowsRaised, HasRows};
 
-use crate::narrow::widened;
 use crate::shape::Rows;
 use crate::{rows, short_units};
-use choices::bid_book::line_text::wide_num::NumList;
-use choices::{Grid, coarse};
-use std::alloc::{AllocError, Global};
+use choices::coarse;
 
-/// A number of a line, so that lines of each size are worked out and read by the same functions.
+/// A number of a line, so that lines of each size are computed and read by the same functions.
 pub trait Amount: Copy {
     /// The whole number.
     ghost number: { Self → ℤ };
@@ -55,7 +51,7 @@ pub trait Amount: Copy {
             ≡ int_max (slice_index_or (map number line.old) s (pos 0))
             (number worth +ℤ slice_index_or (map number below.now) s (pos 0)) };
 
-    /// Raises the front of each row in the same way.
+    /// Raises the prefix of each row in the same way.
     fn raise_rows(line: &mut [Self], below: &[Self], rows: &Rows, worth: Self)
         requires places { length line.old ≡ length below.now }
         requires rows { HasRows rows.now (length line.old) }
@@ -84,11 +80,9 @@ pub trait Amount: Copy {
         ensures small { result < 2 ^ 15 }
         ensures size { 0 < result → number worth ≤ℤ pos (result * 2 ^ shift) };
 
-    /// Adds a line at the end of a grid, which keeps it in 32 bits where it has these, and else in 128. It is as long as the others.
-    fn push_line(alloc: Global, grid: &mut Grid, line: &[Self]) -> Result<(), AllocError>
-        requires few { length line.now ≤ MOST_STATES }
-        requires width { 0 < length grid.old → length line.now ≡ width_of grid.old }
-        ensures { OnOk result (grid.new ≡ grid.old ++ map number line.now ∷ []) };
+    /// The numbers of a line that have 32 bits.
+    fn as_short(line: &[Self]) -> Option<&[u32]>
+        ensures { IfSome result (λ numbers. map (λ n. pos n) numbers.now ≡ map number line.now) };
 }
 
 /// The number of a line at a place, in 128 bits.
@@ -147,10 +141,8 @@ impl Amount for i128 {
         0
     }
 
-    fn push_line(alloc: Global, grid: &mut Grid, line: &[i128]) -> Result<(), AllocError> {
-        let numbers = Vec::from_slice(alloc, line)?;
-        grid.push_line(NumList::from_vec(numbers))?;
-        Ok(())
+    fn as_short(_line: &[i128]) -> Option<&[u32]> {
+        None
     }
 }
 
@@ -199,10 +191,8 @@ impl Amount for i64 {
         coarse::worth_units(worth, shift)
     }
 
-    fn push_line(alloc: Global, grid: &mut Grid, line: &[i64]) -> Result<(), AllocError> {
-        let numbers = widened(alloc, line)?;
-        grid.push_line(NumList::from_vec(numbers))?;
-        Ok(())
+    fn as_short(_line: &[i64]) -> Option<&[u32]> {
+        None
     }
 }
 
@@ -251,9 +241,7 @@ impl Amount for u32 {
         short_units::worth_units(worth, shift)
     }
 
-    fn push_line(alloc: Global, grid: &mut Grid, line: &[u32]) -> Result<(), AllocError> {
-        let numbers = Vec::from_slice(alloc, line)?;
-        grid.push_short(numbers)?;
-        Ok(())
+    fn as_short(line: &[u32]) -> Option<&[u32]> {
+        Some(line)
     }
 }

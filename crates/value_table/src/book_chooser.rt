@@ -1,12 +1,12 @@
 // Books as auctions that can be priced.
 ghost use Rattle.std.specs.Prelude.{◌≡◌};
-ghost use Rattle.choices.specs.auction_model.specs.Book.{market_of};
-ghost use Rattle.choices.specs.auction_model.specs.Greatest.{IsWinning};
-ghost use Rattle.choices.specs.auction_model.specs.Lawful.{IsMarket};
+ghost use Rattle.auction_model.specs.Book.{market_of};
+ghost use Rattle.auction_model.specs.Greatest.{IsWinning};
+ghost use Rattle.auction_model.specs.Lawful.{IsMarket};
 
 use crate::TurnTable;
 use auction_model::book_market;
-use choices::bid_book::BidBook;
+use bid_book::BidBook;
 use choices::{Choice, Chooser, Found};
 use std::alloc::{AllocError, Global};
 
@@ -36,7 +36,7 @@ impl<'a> BookChooser<'a> {
 
 impl<'a> Chooser for BookChooser<'a> {
     ghost use Rattle.std.specs.Prelude.{◌≡◌, ℤ, List};
-    ghost use Rattle.choices.specs.auction_model.specs.Book.{market_of};
+    ghost use Rattle.auction_model.specs.Book.{market_of};
     ghost use Rattle.value_table.specs.TableValue.{IsLoweredTable};
 
     type Table = TurnTable;

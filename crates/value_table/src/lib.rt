@@ -5,7 +5,6 @@ mod amount;
 mod book_chooser;
 mod lines;
 mod lowering;
-mod narrow;
 mod rooms;
 mod rows;
 mod runs;
@@ -20,9 +19,9 @@ mod tracing;
 mod turn_lines;
 mod turn_table;
 mod units;
+mod widths;
 
 pub use book_chooser::BookChooser;
-pub use choices;
 pub use rooms::LineRooms;
 pub use side_lines::{narrow_left_line, narrow_right_line, right_number};
 pub use sides::Sides;

@@ -3,8 +3,8 @@ ghost use Rattle.std.specs.Prelude.{IsFalse, IsTrue, ℕ, slice_index_or, ◌≡
 ghost use Rattle.std.specs.Int.{int_max};
 ghost use Rattle.value_table.specs.Turned.{IsOrderInRange};
 
-use choices::bid_book::BidBook;
-use choices::bid_book::lots::Bid;
+use bid_book::BidBook;
+use lots::Bid;
 
 /// The greatest denominator with which a table is narrow.
 const NARROW_DEN: u128 = 1 << 13;
@@ -28,8 +28,8 @@ pub struct Lowering<'a> {
 
 impl<'a> Lowering<'a> {
     ghost use Rattle.std.specs.Prelude.{◌<◌, ◌≤ℤ◌};
-    ghost use Rattle.choices.specs.auction_model.specs.Book.{bids_of};
-    ghost use Rattle.choices.specs.auction_model.specs.Package.{is_within};
+    ghost use Rattle.auction_model.specs.Book.{bids_of};
+    ghost use Rattle.auction_model.specs.Package.{is_within};
     ghost use Rattle.value_table.specs.BookTable.{IsInRange};
     ghost use Rattle.value_table.specs.Counted.{seat, counted_bids, counted, IsLowering, IsNeedless, IsNarrow};
 

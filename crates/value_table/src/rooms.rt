@@ -1,12 +1,11 @@
-// Room in which a line of one side of a book is worked out.
+// Room in which a line of one side of a book is computed.
 ghost use Rattle.std.specs.Prelude.{◌≤◌, IfOk};
-ghost use Rattle.choices.specs.limits.specs.declared.TheConstants.{MOST_STATES};
+ghost use Rattle.limits.specs.declared.TheConstants.{MOST_STATES};
 ghost use Rattle.value_table.specs.LineRooms.{HasRoom};
 
-use crate::lines::units_room;
 use std::alloc::{AllocError, Global};
 
-/// Room in which a line is worked out from the one behind it, in 32 bits where both are so small and else in 64, and in which both may
+/// Room in which a line is computed from the one after it, in 32 bits where both are so small and else in 64, and in which both may
 /// be put in 16 bits.
 #[derive(Drop)]
 pub struct LineRooms {
@@ -19,7 +18,7 @@ pub struct LineRooms {
 }
 
 impl LineRooms {
-    /// Room for lines of so many numbers.
+    /// Room for lines of that many numbers.
     pub fn new(alloc: Global, states: usize) -> Result<LineRooms, AllocError>
         requires { states ≤ MOST_STATES }
         ensures { IfOk result (λ rooms. HasRoom states rooms) }
@@ -28,8 +27,8 @@ impl LineRooms {
         let short_line = vec![in alloc; 0u32; states]?;
         let below = vec![in alloc; 0i64; states]?;
         let line = vec![in alloc; 0i64; states]?;
-        let low = units_room(alloc, states)?;
-        let high = units_room(alloc, states)?;
+        let low = vec![in alloc; 0u16; states]?;
+        let high = vec![in alloc; 0u16; states]?;
         Ok(LineRooms {
             short_below,
             short_line,

@@ -1,14 +1,14 @@
 // Raising the rows of a block of two categories. In 32 bits four numbers are raised at a time, and the last four of a run as well, so
 // that some are raised twice: the second time changes nothing.
 ghost use Rattle.std.specs.Prelude.{◌≡◌, ℕ, ◌+◌, ◌-◌, ◌*◌, ◌^◌, ◌≤◌, ◌<◌, length, map, max, pos, slice_index_or, unsigned_abs};
-ghost use Rattle.choices.specs.limits.specs.declared.TheConstants.{MOST_STATES};
+ghost use Rattle.limits.specs.declared.TheConstants.{MOST_STATES};
 ghost use Rattle.value_table.specs.Rows.{AreRowsRaised, HasRows};
 
 use crate::amount::Amount;
 use crate::shape::Rows;
 use std::simd::prelude::*;
 
-/// Raises rows of numbers of 128 bits, each by itself.
+/// Raises rows of numbers of 128 bits, each alone.
 pub fn raise_wide(line: &mut [i128], below: &[i128], rows: &Rows, worth: i128)
     requires places { length line.old ≡ length below.now }
     requires rows { HasRows rows.now (length line.old) }
@@ -27,7 +27,7 @@ pub fn raise_wide(line: &mut [i128], below: &[i128], rows: &Rows, worth: i128)
     }
 }
 
-/// Raises rows of numbers of 64 bits, each by itself.
+/// Raises rows of numbers of 64 bits, each alone.
 pub fn raise_long(line: &mut [i64], below: &[i64], rows: &Rows, worth: i64)
     requires places { length line.old ≡ length below.now }
     requires rows { HasRows rows.now (length line.old) }
@@ -102,7 +102,7 @@ fn raise_by_fours<const WHOLE: usize>(line: &mut [u32], below: &[u32], rows: &Ro
     }
 }
 
-/// Raises rows of numbers of 32 bits, each by itself.
+/// Raises rows of numbers of 32 bits, each alone.
 fn raise_each(line: &mut [u32], below: &[u32], rows: &Rows, worth: u32)
     requires places { length line.old ≡ length below.now }
     requires rows { HasRows rows.now (length line.old) }

@@ -2,8 +2,8 @@
 // left, and a bid of `count` lots raises block `q` from block `q - count` of the line below. A block is left out where its
 // corners show that the bid changes nothing in it.
 ghost use Rattle.std.specs.Prelude.{◌≡◌, ℕ, ◌-◌, ◌<◌, ◌↔◌, IsTrue, length, slice_index_or, pos, ◌+ℤ◌, ◌≤ℤ◌, map};
-ghost use Rattle.choices.specs.auction_model.specs.Package.{is_within};
-ghost use Rattle.choices.specs.auction_model.specs.Steps.{raised};
+ghost use Rattle.auction_model.specs.Package.{is_within};
+ghost use Rattle.auction_model.specs.Steps.{raised};
 ghost use Rattle.value_table.specs.Growing.{HasCorners};
 ghost use Rattle.value_table.specs.Raising.{CanRaise, CanRaiseLots};
 
@@ -33,7 +33,7 @@ fn raise_one<A: Amount>(
     }
 }
 
-/// Counts one more bid that wants lots of two categories: of each row of the first the front is raised.
+/// Counts one more bid that wants lots of two categories: of each row of the first the prefix is raised.
 fn raise_two<A: Amount>(
     supply: &[u16],
     widths: &[usize],

@@ -1,4 +1,4 @@
-// Lines of 32 bits that stand in 16 bits too, as lines of 64 do (`choices::coarse`). There are none in units of `2^32` and more: no
+// Lines of 32 bits that are in 16 bits too, as lines of 64 do (`choices::coarse`). There are none in units of `2^32` and more: no
 // number is so large.
 ghost use Rattle.std.specs.Prelude.{◌≡◌, ℕ, ◌+◌, ◌*◌, ◌^◌, ◌≤◌, ◌<◌, IsTrue, length, slice_index_or, map, pos, ◌≤ℤ◌};
 ghost use Rattle.choices.specs.Coarse.{IsCeiling, IsFloor};

@@ -1,24 +1,24 @@
-// The lines of both sides of a book, worked out one by one in place.
+// The lines of both sides of a book, computed one by one in place.
 ghost use Rattle.std.specs.Prelude.{◌≡◌, ℕ, ◌-◌, ◌≤◌, ◌<◌, length, pos, slice_index_or};
-ghost use Rattle.choices.specs.auction_model.specs.Book.{bids_of, menu_of, net_of};
-ghost use Rattle.choices.specs.auction_model.specs.Place.{states_of, left_at};
-ghost use Rattle.choices.specs.auction_model.specs.Steps.{IsFirstNumber};
-ghost use Rattle.choices.specs.auction_model.specs.Table.{IsLine};
+ghost use Rattle.auction_model.specs.Book.{bids_of, menu_of, net_of};
+ghost use Rattle.auction_model.specs.Place.{left_at, states_of};
+ghost use Rattle.auction_model.specs.Steps.{IsFirstNumber};
+ghost use Rattle.auction_model.specs.Table.{IsLine};
 ghost use Rattle.value_table.specs.LineRooms.{HasRoom};
 ghost use Rattle.value_table.specs.SideLines.{IsLeftLine, IsRightLine};
 ghost use Rattle.value_table.specs.SideValues.{IsRightEntry};
 ghost use Rattle.value_table.specs.Turned.{in_order, worths_in_order};
 
-use crate::lines::put_narrow_line;
+use crate::lines::put_line;
 use crate::lowering::Lowering;
 use crate::rooms::LineRooms;
-use crate::short::put_short_line;
+use crate::short::is_short;
 use crate::tracing::first_number;
-use choices::bid_book::BidBook;
-use choices::bid_book::lots::limits::MOST_BIDDERS;
+use bid_book::BidBook;
+use limits::MOST_BIDDERS;
 
 /// Makes `line` the line of the bidders after `k - 1` from that of the bidders after `k`: line `k - 1` of the exact table of the net
-/// amounts from line `k`. Each has one number for each place of the supply. It is worked out in 32 bits, or where these are too few in
+/// amounts from line `k`. Each has one number for each place of the supply. It is computed in 32 bits, or where these are too few in
 /// 64, in lists of room as long as a line, and takes no memory.
 pub fn narrow_right_line(
     book: &BidBook,
@@ -35,7 +35,7 @@ pub fn narrow_right_line(
     ensures rooms { HasRoom (states_of book.now.supply) rooms.new }
 {
     let zeros = [0i128; MOST_BIDDERS];
-    plain_narrow_line(book, false, &zeros[..book.bidders()], k, after, line, rooms);
+    side_line(book, false, &zeros[..book.bidders()], k, after, line, rooms);
 }
 
 /// Makes `line` the line of the bidders up to `k` from that of the bidders up to `k - 1`, in the same way. Each number is the greatest
@@ -57,7 +57,7 @@ pub fn narrow_left_line(
     let zeros = [0i128; MOST_BIDDERS];
     let bidders = book.bidders();
     let turned = bidders as u16 - k + 1;
-    plain_narrow_line(book, true, &zeros[..bidders], turned, before, line, rooms);
+    side_line(book, true, &zeros[..bidders], turned, before, line, rooms);
 }
 
 /// The first number of bidder `k`, by the order of ties, with which it and the bidders after it reach the entry of a place: the entry
@@ -74,9 +74,9 @@ pub fn right_number(book: &BidBook, k: u16, place: usize, entry: i128, after: &[
     plain_number(book, &zeros[..book.bidders()], k, place, entry, after)
 }
 
-/// Line `j - 1` of the table of the net amounts from line `j`, with the bidders as in the book or turned round, worked out in 32 bits or
+/// Line `j - 1` of the table of the net amounts from line `j`, with the bidders as in the book or turned round, computed in 32 bits or
 /// 64. No bidder has a surplus.
-fn plain_narrow_line(
+fn side_line(
     book: &BidBook,
     turned: bool,
     surplus: &[i128],
@@ -104,8 +104,28 @@ fn plain_narrow_line(
         den: 1,
         surplus,
     };
-    if !put_short_line(&lowering, j, below, line, rooms) {
-        put_narrow_line(&lowering, j, below, line, rooms);
+    if is_short(&lowering, j, below) {
+        put_line(
+            &lowering,
+            j,
+            below,
+            line,
+            &mut rooms.short_below,
+            &mut rooms.short_line,
+            &mut rooms.low,
+            &mut rooms.high,
+        );
+    } else {
+        put_line(
+            &lowering,
+            j,
+            below,
+            line,
+            &mut rooms.below,
+            &mut rooms.line,
+            &mut rooms.low,
+            &mut rooms.high,
+        );
     }
 }
 

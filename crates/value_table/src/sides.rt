@@ -1,10 +1,10 @@
 // Tables from two sides.
 ghost use Rattle.std.specs.Prelude.{◌≡◌, ℕ, ◌+◌, ◌^◌, ◌≤◌, ◌<◌, [], length, IfOk, slice_index_or, pos, unsigned_abs};
-ghost use Rattle.choices.specs.auction_model.specs.Book.{Book, market_of};
-ghost use Rattle.choices.specs.auction_model.specs.Greatest.{IsGreatestValue};
-ghost use Rattle.choices.specs.auction_model.specs.Market.{value_of};
-ghost use Rattle.choices.specs.auction_model.specs.Place.{left_at};
-ghost use Rattle.choices.specs.auction_model.specs.Prices.{allowed_without};
+ghost use Rattle.auction_model.specs.Book.{Book, market_of};
+ghost use Rattle.auction_model.specs.Greatest.{IsGreatestValue};
+ghost use Rattle.auction_model.specs.Market.{value_of};
+ghost use Rattle.auction_model.specs.Place.{left_at};
+ghost use Rattle.auction_model.specs.Prices.{allowed_without};
 ghost use Rattle.choices.specs.Lines.{width_of};
 ghost use Rattle.value_table.specs.SideValues.{AreSidesOf, IsLeftEntry, IsRightEntry, IsTurnedTable, IsGreatestPair, AreFullLines};
 ghost use Rattle.value_table.specs.TableValue.{IsTableOf, IsPlainWithout};
@@ -12,8 +12,8 @@ ghost use Rattle.value_table.specs.TableValue.{IsTableOf, IsPlainWithout};
 use crate::lowering::Lowering;
 use crate::table::{ValueTable, plain_table, zeros};
 use crate::turn_lines::all_lines;
+use bid_book::BidBook;
 use choices::Grid;
-use choices::bid_book::BidBook;
 use std::alloc::{AllocError, Global};
 use std::marker::Model;
 
@@ -39,12 +39,12 @@ impl Model for Sides {
 }
 
 impl Sides {
-    /// The sides of a book: two tables. The only error is want of memory.
+    /// The sides of a book: two tables. The only error is out of memory.
     pub fn build(alloc: Global, book: &BidBook) -> Result<Sides, AllocError>
         ensures { IfOk result (λ s. AreSidesOf book.now s) }
     {
         let right = plain_table(alloc, book)?;
-        let left = turned_lines(alloc, book)?;
+        let left = reversed_lines(alloc, book)?;
         Ok(Sides {
             bidders: book.bidders(),
             states: book.supply().states(),
@@ -84,7 +84,7 @@ impl Sides {
     }
 
     /// The exact table of the net amounts without bidder `j`, as `ValueTable::build` gives it. The lines from `j` on are shared
-    /// with the table of all bids, and only those below are worked out. The book is the one that the sides were built from.
+    /// with the table of all bids, and only those below are computed. The book is the one that the sides were built from.
     pub fn table_without(
         &self,
         alloc: Global,
@@ -109,7 +109,7 @@ impl Sides {
 }
 
 /// The exact table of the net amounts with the bidders turned round: line `k` counts the bidders up to the `k`th from the end.
-fn turned_lines(alloc: Global, book: &BidBook) -> Result<Grid, AllocError>
+fn reversed_lines(alloc: Global, book: &BidBook) -> Result<Grid, AllocError>
     ensures exact { IfOk result (λ g. IsTurnedTable book.now g) }
 {
     let surplus = zeros(alloc, book.bidders())?;

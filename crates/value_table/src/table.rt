@@ -1,23 +1,22 @@
 // Tables.
 ghost use Rattle.std.specs.Prelude.{◌≡◌, ℕ, ◌^◌, ◌≤◌, ◌<◌, [], length, IfOk, slice_index_or, pos, unsigned_abs};
-ghost use Rattle.choices.specs.auction_model.specs.Market.{sum_after};
-ghost use Rattle.choices.specs.auction_model.specs.Menu.{fits_after};
-ghost use Rattle.choices.specs.auction_model.specs.Greatest.{IsFirstGreatest, IsWinning};
-ghost use Rattle.choices.specs.auction_model.specs.Book.{net_of, market_of};
-ghost use Rattle.choices.specs.auction_model.specs.Lowered.{lowered};
-ghost use Rattle.choices.specs.auction_model.specs.Table.{entry_at, IsEntry};
-ghost use Rattle.choices.specs.limits.specs.declared.TheConstants.{MOST_BIDDERS};
+ghost use Rattle.auction_model.specs.Market.{sum_after};
+ghost use Rattle.auction_model.specs.Menu.{fits_after};
+ghost use Rattle.auction_model.specs.Greatest.{IsFirstGreatest, IsWinning};
+ghost use Rattle.auction_model.specs.Book.{market_of, net_of};
+ghost use Rattle.auction_model.specs.Lowered.{lowered};
+ghost use Rattle.auction_model.specs.Table.{IsEntry, entry_at};
+ghost use Rattle.limits.specs.declared.TheConstants.{MOST_BIDDERS};
 ghost use Rattle.value_table.specs.Counted.{counted_bids, counted, IsLowering};
 ghost use Rattle.value_table.specs.BookTable.{menu_without, IsInRange};
 ghost use Rattle.value_table.specs.TableValue.{IsTableOf, IsPlain, IsPlainWithout};
 
-use crate::lines::{last_entry, last_narrow_line, lines_down, lines_without};
+use crate::lines::last_entry;
 use crate::lowering::Lowering;
-use crate::short::short_lines;
-use crate::tracing::{trace_lines, trace_slices};
-use crate::turn_lines::all_lines;
-use choices::bid_book::BidBook;
-use choices::{Choice, Grid, Numbers};
+use crate::tracing::trace_lines;
+use crate::turn_lines::{TurnLines, all_lines, lines_without};
+use bid_book::BidBook;
+use choices::{Choice, Grid};
 use std::alloc::{AllocError, Global};
 use std::marker::Model;
 
@@ -67,7 +66,7 @@ impl ValueTable {
     }
 
     /// The exact table of the net amounts without bidder `j`, from that of all bids, as `build` gives it. The lines from `j` on
-    /// are shared with this table, and only those below are worked out.
+    /// are shared with this table, and only those below are computed.
     pub fn without(&self, alloc: Global, book: &BidBook, j: u16) -> Result<ValueTable, AllocError>
         requires bidder { (0 < j) × (j ≤ length book.now.bidders) }
         requires whole { IsTableOf book.now self.now }
@@ -165,35 +164,7 @@ pub fn win(alloc: Global, book: &BidBook) -> Result<Choice, AllocError>
     book.kept();
     let surplus = zeros(alloc, book.bidders())?;
     let lowering = Lowering::new(book, 0, 1, &surplus);
-    let numbers = plain_choice(alloc, &lowering)?;
+    let lines = TurnLines::build(alloc, &lowering)?;
+    let numbers = lines.trace(alloc, &lowering)?;
     Ok(Choice::new(numbers))
-}
-
-/// The first of the greatest choices where no bidder has a surplus, by lines of 32 bits while sums are so small.
-fn plain_choice(alloc: Global, lowering: &Lowering) -> Result<Numbers, AllocError>
-    requires den { lowering.now.den ≡ pos 1 }
-    requires zeros { (k : ℕ) → slice_index_or lowering.now.surplus.now k (pos 0) ≡ pos 0 }
-    ensures { IfOk result
-        (λ v. IsFirstGreatest (fits_after (counted_bids lowering.now) 0 lowering.now.book.now.supply)
-        (sum_after (counted lowering.now) 0) v) }
-{
-    match short_lines(alloc, lowering)? {
-        Some(lines) => trace_slices(alloc, lowering, &lines),
-        None => narrow_choice(alloc, lowering),
-    }
-}
-
-/// The same by lines of 64 bits.
-fn narrow_choice(alloc: Global, lowering: &Lowering) -> Result<Numbers, AllocError>
-    requires den { lowering.now.den ≡ pos 1 }
-    requires zeros { (k : ℕ) → slice_index_or lowering.now.surplus.now k (pos 0) ≡ pos 0 }
-    ensures { IfOk result
-        (λ v. IsFirstGreatest (fits_after (counted_bids lowering.now) 0 lowering.now.book.now.supply)
-        (sum_after (counted lowering.now) 0) v) }
-{
-    lowering.book.kept();
-    let last = last_narrow_line(alloc, lowering)?;
-    let lines = lines_down(alloc, lowering, lowering.book.bidders(), last)?;
-    let numbers = trace_slices(alloc, lowering, &lines)?;
-    Ok(numbers)
 }

@@ -1,17 +1,17 @@
-// Counting one bid in a line. Where the line and the line below it stand in 16 bits too, a block of the last few categories of the
-// bid is tested in these first, with a mask of the places where it fits: most bids change nothing in most blocks.
+// Counting one bid in a line. Where the line and the line below it are in 16 bits too, a block of the last few categories of the bid
+// is tested in these first, with a mask of the places where it fits. Each function returns how many blocks these tests left out.
 ghost use Rattle.std.specs.Prelude.{◌≡◌, ℕ, ◌*◌, ◌^◌, ◌<◌, IsTrue, length, slice_index_or, pos, ◌≤ℤ◌, map};
 ghost use Rattle.choices.specs.Coarse.{HasMask};
-ghost use Rattle.choices.specs.auction_model.specs.Package.{is_within};
-ghost use Rattle.choices.specs.auction_model.specs.Place.{states_of};
-ghost use Rattle.choices.specs.auction_model.specs.Steps.{raised};
+ghost use Rattle.auction_model.specs.Package.{is_within};
+ghost use Rattle.auction_model.specs.Place.{states_of};
+ghost use Rattle.auction_model.specs.Steps.{raised};
 ghost use Rattle.value_table.specs.Growing.{Grows, HasCorners};
 ghost use Rattle.value_table.specs.Raising.{AreInUnits, CanRaise, CanRaiseLots, MayBeInUnits};
 
 use crate::amount::Amount;
 use crate::runs::{is_reached, raise_block};
-use choices::bid_book::lots::{Package, Supply, used_categories};
 use choices::coarse::{CoarseBid, MASK_ROOM, is_covered, put_deep_mask};
+use lots::{Package, Supply, used_categories};
 
 /// Counts one more bid in a block, where no mask for just these categories shows that it changes nothing there.
 fn raise_unless_covered<A: Amount>(
@@ -25,7 +25,7 @@ fn raise_unless_covered<A: Amount>(
     low: &mut [u16],
     high: &[u16],
     worth: A,
-)
+) -> u32
     requires lots { CanRaiseLots A.number A.most supply.now widths.now counts.now line.old below.now worth }
     requires some { 0 < length counts.now }
     requires corners { HasCorners supply.now counts.now first (map A.number line.old) (map A.number below.now) }
@@ -39,10 +39,11 @@ fn raise_unless_covered<A: Amount>(
     ensures units { AreInUnits A.number coarse.now.shift line.new below.now low.new high.now }
 {
     if counts.len() == coarse.level && is_covered(coarse, first, low, high) {
-        return;
+        return 1;
     }
     raise_block(supply, widths, counts, first, line, below, worth);
     A::put_low(low, line, coarse.shift);
+    0
 }
 
 /// Counts one more bid in the places of some categories, of which the blocks for which there is a mask are tested in 16 bits.
@@ -57,7 +58,7 @@ fn raise_coarse<A: Amount>(
     low: &mut [u16],
     high: &[u16],
     worth: A,
-)
+) -> u32
     requires lots { CanRaiseLots A.number A.most supply.now widths.now counts.now line.old below.now worth }
     requires some { 0 < length counts.now }
     requires corners { HasCorners supply.now counts.now first (map A.number line.old) (map A.number below.now) }
@@ -71,7 +72,7 @@ fn raise_coarse<A: Amount>(
     ensures units { AreInUnits A.number coarse.now.shift line.new below.now low.new high.now }
 {
     if is_reached(first, line, below, worth) {
-        return;
+        return 0;
     }
     if counts.len() == coarse.level || counts.len() == 1 {
         return raise_unless_covered(
@@ -81,10 +82,11 @@ fn raise_coarse<A: Amount>(
     let width = widths[0];
     let count = counts[0] as usize;
     let rest = first - count * width;
+    let mut covered: u32 = 0;
     for block in count..supply[0] as usize + 1 {
         let to = block * width;
         let from = (block - count) * width;
-        raise_coarse(
+        let more = raise_coarse(
             coarse,
             &supply[1..],
             &widths[1..],
@@ -96,10 +98,12 @@ fn raise_coarse<A: Amount>(
             &high[from..from + width],
             worth,
         );
+        covered = covered.saturating_add(more);
     }
+    covered
 }
 
-/// Counts one more bid in lines that stand in units of `2^shift` too.
+/// Counts one more bid in lines that are in units of `2^shift` too.
 fn raise_in_units<A: Amount>(
     shift: u32,
     supply: &[u16],
@@ -111,7 +115,7 @@ fn raise_in_units<A: Amount>(
     low: &mut [u16],
     high: &[u16],
     worth: A,
-)
+) -> u32
     requires lots { CanRaiseLots A.number A.most supply.now widths.now counts.now line.old below.now worth }
     requires some { 0 < length counts.now }
     requires corners { HasCorners supply.now counts.now first (map A.number line.old) (map A.number below.now) }
@@ -123,13 +127,13 @@ fn raise_in_units<A: Amount>(
     ensures units { AreInUnits A.number shift line.new below.now low.new high.now }
 {
     if is_reached(first, line, below, worth) {
-        return;
+        return 0;
     }
     let units = A::worth_units(worth, shift);
     if units == 0 {
         raise_block(supply, widths, counts, first, line, below, worth);
         A::put_low(low, line, shift);
-        return;
+        return 0;
     }
     let mut mask = [0u16; MASK_ROOM];
     let level = put_deep_mask(supply, widths, counts, &mut mask);
@@ -141,7 +145,7 @@ fn raise_in_units<A: Amount>(
     };
     raise_coarse(
         &coarse, supply, widths, counts, first, line, below, low, high, worth,
-    );
+    )
 }
 
 /// Counts one more bid, in units where there is a shift.
@@ -156,7 +160,7 @@ fn raise_lots<A: Amount>(
     low: &mut [u16],
     high: &[u16],
     worth: A,
-)
+) -> u32
     requires lots { CanRaiseLots A.number A.most supply.now widths.now counts.now line.old below.now worth }
     requires some { 0 < length counts.now }
     requires corners { HasCorners supply.now counts.now first (map A.number line.old) (map A.number below.now) }
@@ -171,7 +175,10 @@ fn raise_lots<A: Amount>(
         Some(shift) => raise_in_units(
             shift, supply, widths, counts, first, line, below, low, high, worth,
         ),
-        None => raise_block(supply, widths, counts, first, line, below, worth),
+        None => {
+            raise_block(supply, widths, counts, first, line, below, worth);
+            0
+        }
     }
 }
 
@@ -186,7 +193,7 @@ pub fn add_bid<A: Amount>(
     shift: Option<u32>,
     low: &mut [u16],
     high: &[u16],
-)
+) -> u32
     requires lines { CanRaise A.number A.most (states_of supply.now) line.old below.now worth }
     requires categories { length lots.now ≡ length supply.now }
     requires fits { IsTrue (is_within lots.now supply.now) }
@@ -214,5 +221,5 @@ pub fn add_bid<A: Amount>(
         low,
         high,
         worth,
-    );
+    )
 }

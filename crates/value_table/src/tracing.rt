@@ -1,12 +1,12 @@
 // The first of the greatest choices, from the lines of a table.
 ghost use Rattle.std.specs.Prelude.{◌≡◌, ℕ, [], slice_index_or, ◌-◌, ◌≤◌, ◌<◌, List, ◌∷◌, length, IfOk, IfSome, IfNone, IsTrue, IsFalse, map};
-ghost use Rattle.choices.specs.auction_model.specs.Package.{is_within, less};
-ghost use Rattle.choices.specs.auction_model.specs.Place.{states_of, place_of, left_at};
-ghost use Rattle.choices.specs.auction_model.specs.Market.{sum_after};
-ghost use Rattle.choices.specs.auction_model.specs.Menu.{fits_after};
-ghost use Rattle.choices.specs.auction_model.specs.Greatest.{IsFirstGreatest};
-ghost use Rattle.choices.specs.auction_model.specs.Table.{IsEntry};
-ghost use Rattle.choices.specs.auction_model.specs.Steps.{sum_with, IsFirstNumber};
+ghost use Rattle.auction_model.specs.Package.{is_within, less};
+ghost use Rattle.auction_model.specs.Place.{left_at, place_of, states_of};
+ghost use Rattle.auction_model.specs.Market.{sum_after};
+ghost use Rattle.auction_model.specs.Menu.{fits_after};
+ghost use Rattle.auction_model.specs.Greatest.{IsFirstGreatest};
+ghost use Rattle.auction_model.specs.Table.{IsEntry};
+ghost use Rattle.auction_model.specs.Steps.{IsFirstNumber, sum_with};
 ghost use Rattle.value_table.specs.Counted.{counted_bids, counted, IsCountedLine, IsCountedTable};
 
 use crate::amount::{Amount, number_at};

@@ -1,18 +1,21 @@
 // The lines of a turn's table.
-ghost use Rattle.std.specs.Prelude.{◌≡◌, ◌^◌, ◌≤◌, IfOk, map, unsigned_abs};
-ghost use Rattle.choices.specs.auction_model.specs.Greatest.{IsFirstGreatest};
-ghost use Rattle.choices.specs.auction_model.specs.Market.{sum_after};
-ghost use Rattle.choices.specs.auction_model.specs.Menu.{fits_after};
-ghost use Rattle.choices.specs.auction_model.specs.Table.{IsEntry};
-ghost use Rattle.value_table.specs.Counted.{counted_bids, counted, IsCountedTable};
+ghost use Rattle.std.specs.Prelude.{◌≡◌, ◌^◌, ◌≤◌, ◌<◌, suc, pos, length, IfOk, map, unsigned_abs};
+ghost use Rattle.auction_model.specs.Greatest.{IsFirstGreatest};
+ghost use Rattle.auction_model.specs.Market.{sum_after};
+ghost use Rattle.auction_model.specs.Menu.{fits_after};
+ghost use Rattle.auction_model.specs.Table.{IsEntry};
+ghost use Rattle.choices.specs.LentLines.{numbers_of};
+ghost use Rattle.limits.specs.declared.TheConstants.{MOST_STATES};
+ghost use Rattle.value_table.specs.Counted.{counted_bids, counted, AreCountedLines, IsCountedLine, IsCountedTable, IsWholeTable};
 ghost use Rattle.value_table.specs.TurnLines.{lines_in};
 
 use crate::amount::{Amount, number_at};
-use crate::lines::{grid_of, last_line, last_narrow_line, lines_down};
+use crate::lines::{grid_of, lines_down};
 use crate::lowering::Lowering;
-use crate::short::short_lines;
+use crate::short::short_lines_down;
 use crate::tracing::{line_at, trace_slices};
-use choices::{Grid, Numbers};
+use crate::widths::{narrow_into, widen_into};
+use choices::{Grid, LineNumbers, Numbers};
 use std::alloc::{AllocError, Global};
 
 /// The lines of an exact table, of 32 bits or of 64 where no sum is larger.
@@ -28,24 +31,14 @@ impl TurnLines {
     pub fn build(alloc: Global, lowering: &Lowering) -> Result<TurnLines, AllocError>
         ensures { IfOk result (λ t. IsCountedTable lowering.now (lines_in t)) }
     {
-        match short_lines(alloc, lowering)? {
-            Some(lines) => Ok(TurnLines::Short(lines)),
-            None => TurnLines::build_long(alloc, lowering),
-        }
-    }
-
-    /// The same of 64 bits where no sum is larger, and else of 128.
-    fn build_long(alloc: Global, lowering: &Lowering) -> Result<TurnLines, AllocError>
-        ensures { IfOk result (λ t. IsCountedTable lowering.now (lines_in t)) }
-    {
-        if lowering.is_narrow() {
-            let last = last_narrow_line(alloc, lowering)?;
-            let lines = lines_down(alloc, lowering, lowering.book.bidders(), last)?;
-            return Ok(TurnLines::Narrow(lines));
-        }
-        let last = last_line(alloc, lowering)?;
-        let lines = lines_down(alloc, lowering, lowering.book.bidders(), last)?;
-        Ok(TurnLines::Wide(lines))
+        lowering.book.kept();
+        let zeros = vec![in alloc; 0u32; lowering.book.supply().states()]?;
+        lines_from(
+            alloc,
+            lowering,
+            lowering.book.bidders(),
+            LineNumbers::Short(&zeros),
+        )
     }
 
     /// The first of the greatest choices.
@@ -86,6 +79,76 @@ impl TurnLines {
             TurnLines::Wide(lines) => grid_of(alloc, lowering, lines),
         }
     }
+    /// The first `count` lines, all but the last, as a grid.
+    fn front(&self, alloc: Global, lowering: &Lowering, count: usize) -> Result<Grid, AllocError>
+        requires { AreCountedLines lowering.now (suc count) 0 (lines_in self.now) }
+        ensures { IfOk result (λ g. AreCountedLines lowering.now count 0 g) }
+    {
+        match self {
+            TurnLines::Short(lines) => front_of(alloc, lowering, count, lines),
+            TurnLines::Narrow(lines) => front_of(alloc, lowering, count, lines),
+            TurnLines::Wide(lines) => front_of(alloc, lowering, count, lines),
+        }
+    }
+}
+
+/// The lines from line 0 to line `top`, whose numbers are given. The width of a table is chosen here alone: 32 bits where line `top` is
+/// kept in these and no line needs more, else 64 where no sum is larger, and else 128.
+pub fn lines_from(
+    alloc: Global,
+    lowering: &Lowering,
+    top: usize,
+    first: LineNumbers,
+) -> Result<TurnLines, AllocError>
+    requires top { top ≤ length lowering.now.book.now.bidders }
+    requires first { IsCountedLine lowering.now top (numbers_of first) }
+    ensures { IfOk result (λ t. AreCountedLines lowering.now (suc top) 0 (lines_in t)) }
+{
+    lowering.book.kept();
+    if let LineNumbers::Short(numbers) = first {
+        let short = Vec::from_slice(alloc, numbers)?;
+        if let Some(lines) = short_lines_down(alloc, lowering, top, short)? {
+            return Ok(TurnLines::Short(lines));
+        }
+    }
+    let wide = wide_line(alloc, &first)?;
+    if lowering.is_narrow() {
+        let mut narrow = vec![in alloc; 0i64; wide.len()]?;
+        narrow_into(&mut narrow, &wide);
+        let lines = lines_down(alloc, lowering, top, narrow)?;
+        return Ok(TurnLines::Narrow(lines));
+    }
+    let lines = lines_down(alloc, lowering, top, wide)?;
+    Ok(TurnLines::Wide(lines))
+}
+
+/// The numbers of a line in 128 bits.
+fn wide_line(alloc: Global, line: &LineNumbers) -> Result<Vec<i128>, AllocError>
+    requires { length (numbers_of line.now) ≤ MOST_STATES }
+    ensures { IfOk result (λ v. v.items ≡ numbers_of line.now) }
+{
+    match line {
+        LineNumbers::Short(numbers) => {
+            let mut wide = vec![in alloc; 0i128; numbers.len()]?;
+            widen_into(&mut wide, numbers);
+            Ok(wide)
+        }
+        LineNumbers::Wide(numbers) => Vec::from_slice(alloc, numbers),
+    }
+}
+
+/// The grid of the first `count` lines, all but the last.
+fn front_of<A: Amount>(
+    alloc: Global,
+    lowering: &Lowering,
+    count: usize,
+    lines: &[Vec<A>],
+) -> Result<Grid, AllocError>
+    requires { AreCountedLines lowering.now (suc count) 0 (map (λ l. map A.number l.items) lines.now) }
+    ensures { IfOk result (λ g. AreCountedLines lowering.now count 0 g) }
+{
+    let grid = grid_of(alloc, lowering, &lines[..count])?;
+    Ok(grid)
 }
 
 /// The entry of the first line at the place of the whole supply.
@@ -103,5 +166,24 @@ pub fn all_lines(alloc: Global, lowering: &Lowering) -> Result<Grid, AllocError>
 {
     let lines = TurnLines::build(alloc, lowering)?;
     let grid = lines.grid(alloc, lowering)?;
+    Ok(grid)
+}
+
+/// The exact table without bidder `skip`, from that of all bids for the same worths. A bidder that isn't there counts
+/// nothing, so the lines from `skip` on are those of all bids, and the one before has the numbers of the first of them:
+/// they are shared.
+pub fn lines_without(alloc: Global, lowering: &Lowering, whole: &Grid) -> Result<Grid, AllocError>
+    requires bidder { (0 < lowering.now.skip) × (lowering.now.skip ≤ length lowering.now.book.now.bidders) }
+    requires idle { counted lowering.now lowering.now.skip 0 ≡ pos 0 }
+    requires whole { IsWholeTable lowering.now whole.now }
+    ensures { IfOk result (λ g. IsCountedTable lowering.now g) }
+{
+    let skip = lowering.skip as usize;
+    let lines = lines_from(alloc, lowering, skip - 1, whole.line(skip))?;
+    let mut grid = lines.front(alloc, lowering, skip - 1)?;
+    grid.push_shared(whole, skip)?;
+    for k in skip..whole.lines() {
+        grid.push_shared(whole, k)?;
+    }
     Ok(grid)
 }

@@ -1,18 +1,18 @@
 // Tables of turns of pricing.
 ghost use Rattle.std.specs.Prelude.{◌≡◌, ◌^◌, ◌≤◌, length, IfOk, unsigned_abs};
-ghost use Rattle.choices.specs.auction_model.specs.Book.{net_of};
-ghost use Rattle.choices.specs.auction_model.specs.Greatest.{IsFirstGreatest};
-ghost use Rattle.choices.specs.auction_model.specs.Lowered.{lowered};
-ghost use Rattle.choices.specs.auction_model.specs.Market.{sum_after};
-ghost use Rattle.choices.specs.auction_model.specs.Menu.{fits_after};
-ghost use Rattle.choices.specs.auction_model.specs.Table.{IsEntry};
+ghost use Rattle.auction_model.specs.Book.{net_of};
+ghost use Rattle.auction_model.specs.Greatest.{IsFirstGreatest};
+ghost use Rattle.auction_model.specs.Lowered.{lowered};
+ghost use Rattle.auction_model.specs.Market.{sum_after};
+ghost use Rattle.auction_model.specs.Menu.{fits_after};
+ghost use Rattle.auction_model.specs.Table.{IsEntry};
 ghost use Rattle.value_table.specs.BookTable.{menu_without, IsInRange};
 ghost use Rattle.value_table.specs.Counted.{IsLowering};
 ghost use Rattle.value_table.specs.TableValue.{IsTableOf};
 
 use crate::lowering::Lowering;
 use crate::turn_lines::TurnLines;
-use choices::bid_book::BidBook;
+use bid_book::BidBook;
 use choices::{Choice, Grid};
 use std::alloc::{AllocError, Global};
 use std::marker::Model;

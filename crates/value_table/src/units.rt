@@ -1,17 +1,34 @@
-// Lines in 16 bits, where they are so long, and so many bids count in them, that tests in these save time.
-ghost use Rattle.std.specs.Prelude.{◌≡◌, ◌≤◌, ◌<◌, length};
+// Lines in 16 bits, where they are so long, and that many bids count in them, that tests in these may save time. They do where the
+// first bids already leave out blocks; with few blocks, or with equal sums, they cost more than they save.
+ghost use Rattle.std.specs.Prelude.{◌≡◌, ◌≤◌, ◌<◌, length, IfSome, Some};
 ghost use Rattle.value_table.specs.Raising.{MayBeInUnits};
 
 use crate::amount::{Amount, number_at};
 use crate::lowering::Lowering;
 use choices::coarse::shift_for;
 
-/// From so many places on a line is tested in 16 bits.
+/// From that many places on a line is tested in 16 bits.
 const LONG_LINE: usize = 2048;
 
-/// From so many bids on that aren't needless it is. With fewer, more blocks have to be raised, and rounding these again takes more than
+/// From that many bids on that aren't needless it is. With fewer, more blocks have to be raised, and rounding these again takes more than
 /// the tests save.
 const MANY_BIDS: u16 = 400;
+
+/// After that many bids the tests in 16 bits are given up, unless they left out enough blocks.
+const FIRST_BIDS: u32 = 64;
+
+/// How many blocks are enough.
+const ENOUGH_BLOCKS: u32 = 32;
+
+/// The shift for the bids after the first `bids`, in which `covered` blocks were left out: None from there on where these are too few.
+pub fn shift_after(shift: Option<u32>, bids: u32, covered: u32) -> Option<u32>
+    ensures { IfSome result (λ k. shift ≡ Some k) }
+{
+    if bids == FIRST_BIDS && covered < ENOUGH_BLOCKS {
+        return None;
+    }
+    shift
+}
 
 /// How many bids of bidder `j` aren't needless.
 fn needed_bids(lowering: &Lowering, j: u16) -> u16

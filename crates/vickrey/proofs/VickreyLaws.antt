@@ -1,25 +1,25 @@
 -- Tables without a bidder give its Vickrey price and the first of the greatest choices without it.
-use Rattle.std.specs.Prelude.{◌≡◌, ◌≢◌, ◌⊎◌, ℕ, zero, suc, ◌+◌, ◌-◌, ◌^◌, ◌≤◌, ◌<◌, Bool, IsTrue, List, [], ◌∷◌, ◌++◌, length, replicate, get_or, take, ℤ}
-use Rattle.std.specs.Prelude.{pos, ◌+ℤ◌, ◌-ℤ◌, unsigned_abs, refl, ◌==◌, not}
+use Rattle.std.specs.Prelude.{Bool, IsTrue, List, [], get_or, length, not, pos, refl, replicate, suc, take, unsigned_abs, zero, ℕ, ℤ, ◌++◌, ◌+ℤ◌, ◌+◌}
+use Rattle.std.specs.Prelude.{◌-ℤ◌, ◌-◌, ◌<◌, ◌==◌, ◌^◌, ◌∷◌, ◌≡◌, ◌≢◌, ◌≤◌, ◌⊎◌}
 use Rattle.std.specs.List.{AllByRecursion}
 use Rattle.std.proofs.Common.{inl, inr, sym, ◌∙◌, ap, subst, arith, append-nil, length-append}
 use Rattle.std.proofs.lemmas.Bool.{eq-eqb, false≢true, cases_eq, cases_lt}
 use Rattle.std.proofs.lemmas.Int.{ints}
 use Rattle.std.proofs.lemmas.List.{get_or_append_left, get_or_push}
-use Rattle.value_table.specs.auction_model.specs.Book.{Book, net_of, bids_of, menu_of, market_of}
-use Rattle.value_table.specs.auction_model.specs.Market.{sum_after, value_of, number_of, worth_in, uses}
-use Rattle.value_table.specs.auction_model.specs.Greatest.{IsGreatestValue, IsFirstGreatest, IsWinning}
-use Rattle.value_table.specs.auction_model.specs.Menu.{fits_after}
-use Rattle.value_table.specs.auction_model.specs.Lowered.{lowered}
-use Rattle.value_table.specs.auction_model.specs.Prices.{allowed_without, IsVickreyPrice}
-use Rattle.value_table.specs.auction_model.specs.Table.{IsEntry}
-use Rattle.value_table.specs.auction_model.proofs.BookMarket.{fits-known, winning-count}
-use Rattle.value_table.specs.auction_model.proofs.ChoiceLaws.{known-length, known-of}
-use Rattle.value_table.specs.auction_model.proofs.PlainLaws.{IsFirstGreatest-same, fits-without_none, sum-plain}
-use Rattle.value_table.specs.auction_model.proofs.SkipLaws.{entry-skip, first-skip}
-use Rattle.value_table.specs.auction_model.proofs.TableLaws.{IsGreatestValue-same}
-use Rattle.value_table.specs.choices.specs.Singles.{winners_after}
-use Rattle.value_table.specs.bid_book.specs.Kept.{IsBidBook}
+use Rattle.auction_model.specs.Book.{Book, bids_of, market_of, menu_of, net_of}
+use Rattle.auction_model.specs.Market.{number_of, sum_after, uses, value_of, worth_in}
+use Rattle.auction_model.specs.Greatest.{IsFirstGreatest, IsGreatestValue, IsWinning}
+use Rattle.auction_model.specs.Menu.{fits_after}
+use Rattle.auction_model.specs.Lowered.{lowered}
+use Rattle.auction_model.specs.Prices.{IsVickreyPrice, allowed_without}
+use Rattle.auction_model.specs.Table.{IsEntry}
+use Rattle.auction_model.proofs.BookMarket.{fits-known, winning-count}
+use Rattle.auction_model.proofs.ChoiceLaws.{known-length, known-of}
+use Rattle.auction_model.proofs.PlainLaws.{IsFirstGreatest-same, fits-without_none, sum-plain}
+use Rattle.auction_model.proofs.SkipLaws.{entry-skip, first-skip}
+use Rattle.auction_model.proofs.TableLaws.{IsGreatestValue-same}
+use Rattle.choices.specs.Singles.{winners_after}
+use Rattle.bid_book.specs.Kept.{IsBidBook}
 use Rattle.value_table.proofs.Plain.{net-small}
 use Rattle.value_table.proofs.SingleLaws.{greatest-is}
 use Rattle.value_table.specs.BookTable.{menu_without, IsBookTable}

@@ -1,3 +1,2 @@
 pub mod Sources
 pub mod VickreyValue
-pub use Rattle.value_table

@@ -1,5 +1,5 @@
--- What is worked out of a book already, from which the values without a winner are taken.
-use Rattle.value_table.specs.auction_model.specs.Book.{Book}
+-- What is computed of a book already, from which the values without a winner are taken.
+use Rattle.auction_model.specs.Book.{Book}
 use Rattle.value_table.specs.SideValues.{AreSidesOf}
 use Rattle.value_table.specs.TableValue.{IsTableOf, IsPlain}
 use Rattle.vickrey.specs.declared.source.Source.{Source}

@@ -1,7 +1,7 @@
 -- What is kept of the winners of a book, each alone.
 use Rattle.std.specs.Prelude.{◌≡◌, ℕ, ◌<◌, List, [], length, replicate, slice_index, slice_index_or, ℤ, pos}
-use Rattle.value_table.specs.auction_model.specs.Book.{Book}
-use Rattle.value_table.specs.choices.specs.declared.chooser.Single.{Single}
+use Rattle.auction_model.specs.Book.{Book}
+use Rattle.choices.specs.declared.chooser.Single.{Single}
 use Rattle.value_table.specs.BookTable.{IsBookTable}
 
 pub record VickreyValue : Type 0 where

@@ -1,23 +1,23 @@
 // The Vickrey price of each winner.
 ghost use Rattle.std.specs.Prelude.{◌≡◌, ◌≤◌, ◌<◌, length, IfOk, IsTrue};
-ghost use Rattle.value_table.specs.auction_model.specs.Market.{uses};
-ghost use Rattle.value_table.specs.auction_model.specs.Book.{market_of};
-ghost use Rattle.value_table.specs.auction_model.specs.Greatest.{IsWinning};
-ghost use Rattle.value_table.specs.choices.specs.Singles.{winners_after, IsSingle, AreSingles};
+ghost use Rattle.auction_model.specs.Market.{uses};
+ghost use Rattle.auction_model.specs.Book.{market_of};
+ghost use Rattle.auction_model.specs.Greatest.{IsWinning};
+ghost use Rattle.choices.specs.Singles.{AreSingles, IsSingle, winners_after};
 ghost use Rattle.value_table.specs.TableValue.{IsTableOf, IsPlain};
 ghost use Rattle.vickrey.specs.Sources.{IsSourceOf};
 ghost use Rattle.vickrey.specs.VickreyValue.{IsTableWithout, AreTablesWithout};
 
 use crate::Vickrey;
 use crate::source::Source;
+use bid_book::BidBook;
+use choices::{Choice, Single};
 use std::alloc::{AllocError, Global};
-use value_table::choices::bid_book::BidBook;
-use value_table::choices::{Choice, Single};
 use value_table::{Sides, ValueTable};
 
 /// A winner alone, and the table without it.
 #[derive(Drop)]
-struct Alone {
+struct WithoutEach {
     single: Single,
     table: ValueTable,
 }
@@ -29,7 +29,7 @@ fn without_winner(
     winners: &Choice,
     source: &Source,
     j: u16,
-) -> Result<Alone, AllocError>
+) -> Result<WithoutEach, AllocError>
     requires bidder { (0 < j) × (j ≤ length book.now.bidders) }
     requires winners { IsWinning (market_of book.now) winners.now }
     requires used { IsTrue (uses winners.now j) }
@@ -50,7 +50,7 @@ fn without_winner(
         price: others - (all - own),
         choice,
     };
-    Ok(Alone { single, table })
+    Ok(WithoutEach { single, table })
 }
 
 /// The winners of a book, each alone. A winner's Vickrey price is the greatest value of a choice that doesn't use it, less what

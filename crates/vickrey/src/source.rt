@@ -1,16 +1,16 @@
 // From what the values without a winner are taken.
 ghost use Rattle.std.specs.Prelude.{◌≤◌, ◌<◌, ◌^◌, length, unsigned_abs};
-ghost use Rattle.value_table.specs.auction_model.specs.Book.{Book, market_of};
-ghost use Rattle.value_table.specs.auction_model.specs.Greatest.{IsGreatestValue};
-ghost use Rattle.value_table.specs.auction_model.specs.Market.{value_of};
-ghost use Rattle.value_table.specs.auction_model.specs.Prices.{allowed_without};
+ghost use Rattle.auction_model.specs.Book.{Book, market_of};
+ghost use Rattle.auction_model.specs.Greatest.{IsGreatestValue};
+ghost use Rattle.auction_model.specs.Market.{value_of};
+ghost use Rattle.auction_model.specs.Prices.{allowed_without};
 ghost use Rattle.value_table.specs.TableValue.{IsTableOf, IsPlain, IsPlainWithout};
 ghost use Rattle.vickrey.specs.Sources.{IsSourceOf};
 
-use value_table::choices::bid_book::BidBook;
+use bid_book::BidBook;
 use value_table::{Sides, ValueTable};
 
-/// What is worked out of a book already: its sides, or its table of all bids alone.
+/// What is computed of a book already: its sides, or its table of all bids alone.
 #[derive(Drop)]
 pub enum Source<'a> {
     BothSides(&'a Sides),

@@ -2,9 +2,9 @@
 ghost use Rattle.std.specs.Prelude.{◌≡◌, ◌<◌, [], length, map, Some, slice_get, slice_index_or};
 ghost use Rattle.vickrey.specs.VickreyValue.{VickreyValue};
 
+use choices::{Grid, Single};
 use std::marker::Model;
 use value_table::ValueTable;
-use value_table::choices::{Grid, Single};
 
 /// The winners of a book, each alone: in their order each winner, its Vickrey price, the first of the greatest choices without
 /// it, and the exact table without it. They are counted from 0.

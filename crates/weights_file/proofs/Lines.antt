@@ -4,11 +4,11 @@ use Rattle.std.specs.Prelude.{codes}
 use Rattle.std.specs.List.{AllByRecursion}
 use Rattle.std.specs.Fmt.{decimal}
 use Rattle.std.proofs.lemmas.List.{append_cancel_left}
-use Rattle.bid_book.specs.wide_num.proofs.Decimal.{decimal_one, numeral_decimal}
-use Rattle.bid_book.specs.line_text.specs.LineText.{IsLine}
-use Rattle.bid_book.specs.line_text.proofs.Lines.{line_append}
-use Rattle.bid_book.specs.auction_model.specs.Book.{Bidder, Book, bidder_of, no_bidder}
-use Rattle.bid_book.specs.book_form.specs.BookForm.{AreBidders, IsName}
+use Rattle.wide_num.proofs.Decimal.{decimal_one, numeral_decimal}
+use Rattle.line_format.specs.LineText.{IsLine}
+use Rattle.line_format.proofs.Lines.{line_append}
+use Rattle.auction_model.specs.Book.{Bidder, Book, bidder_of, no_bidder}
+use Rattle.book_grammar.specs.BookForm.{AreBidders, IsName}
 use Rattle.bid_book.proofs.Spelled.{digits_line, name_line}
 use Rattle.weights_file.specs.WeightsForm.{IsWeight, Line, weight_line, weight_lines}
 
@@ -75,7 +75,7 @@ weight_more [] given w lt = absurd (omega arith)
 weight_more (b ∷ bidders) [] w lt = refl
 weight_more (b ∷ bidders) (v ∷ given) w lt = ap (λ (r : List Line). weight_line b.name v ∷ r) (weight_more bidders given w (omega arith))
 
--- the bidder of the next number is the one behind those that have a weight
+-- the bidder of the next number is the one after those that have a weight
 pub next_is : (book : Book) (given : List ℕ) → bidder_of book (length given + 1) ≡ get_or book.bidders (length given) no_bidder
 next_is book given = let e : length given + 1 - 1 ≡ length given = omega arith in rw e refl
 

@@ -1,14 +1,14 @@
 -- The stages read the form of a file of weights.
-use Rattle.std.proofs.Common.{inl, inr, ◌≡◌, ℕ, zero, suc, ◌+◌, ◌-◌, ◌≤◌, ◌<◌, None, List, [], ◌∷◌, ◌++◌, length, get_or, replicate, take, refl, sym, ap}
-use Rattle.std.proofs.Common.{subst, ◌∙◌, arith, append_assoc, length-append}
+use Rattle.std.proofs.Common.{List, None, [], ap, append_assoc, arith, get_or, inl, inr, length, length-append, refl, replicate, subst, suc, sym}
+use Rattle.std.proofs.Common.{take, zero, ℕ, ◌++◌, ◌+◌, ◌-◌, ◌<◌, ◌∙◌, ◌∷◌, ◌≡◌, ◌≤◌}
 use Rattle.std.specs.Prelude.{codes}
 use Rattle.std.specs.List.{AllByRecursion}
 use Rattle.std.proofs.lemmas.List.{append-nil, take_at, take_all, length-replicate}
-use Rattle.bid_book.specs.line_text.specs.Reading.{Runs}
-use Rattle.bid_book.specs.line_text.proofs.Runs.{FrontOf, Reads, front_reached, runs_append}
-use Rattle.bid_book.specs.auction_model.specs.Book.{Bidder, Book, bidder_of, no_bidder}
-use Rattle.bid_book.specs.auction_model.specs.Prices.{AreWeights}
-use Rattle.bid_book.specs.book_form.specs.BookForm.{IsBook, IsName}
+use Rattle.line_format.specs.Reading.{Runs}
+use Rattle.line_format.proofs.Runs.{FrontOf, Reads, front_reached, runs_append}
+use Rattle.auction_model.specs.Book.{Bidder, Book, bidder_of, no_bidder}
+use Rattle.auction_model.specs.Prices.{AreWeights}
+use Rattle.book_grammar.specs.BookForm.{IsBook, IsName}
 use Rattle.weights_file.specs.declared.read.Stage.{Stage}
 use Rattle.weights_file.specs.declared.read.Stage.TheVariants.{Start, Listing, Ended}
 use Rattle.weights_file.specs.WeightsForm.{IsWeight, Line, weight_line, weight_lines, lines}
@@ -69,7 +69,7 @@ at-front [] b back = refl
 at-front (x ∷ front) b back = at-front front b back
 
 module _ (book : Book) (rules : IsBook book) where
-  -- the lines that a stage has behind it
+  -- the lines that a stage has after it
   abbrev behind : Stage → List Line
   behind Start = []
   behind (Listing given) = (codes "weights 1", None) ∷ weight_lines book.bidders given
@@ -80,7 +80,7 @@ module _ (book : Book) (rules : IsBook book) where
   IsSound (Listing given) = (length given ≤ length book.bidders) × AllByRecursion IsWeight given
   IsSound (Ended given) = (length given ≡ length book.bidders) × AllByRecursion IsWeight given
 
-  -- a step keeps a stage sound, and its line stands behind the next stage
+  -- a step keeps a stage sound, and its line comes after the next stage
   step_behind : (s t : Stage) (l : List ℕ) → IsSound s → Step book s l t → IsSound t × (behind t ≡ behind s ++ (l, None) ∷ [])
   step_behind s t l = by_stage s
     where

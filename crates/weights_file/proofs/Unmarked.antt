@@ -1,7 +1,7 @@
 -- A reader whose stages exceed nothing reads the same, whatever an excess is.
 use Rattle.std.proofs.Common.{◌≡◌, ℕ, Option, None, List, [], ◌∷◌, ◌++◌, length, drop, refl, sym, ap, ◌∙◌}
-use Rattle.bid_book.specs.line_text.specs.LineText.{text_of, first_excess}
-use Rattle.bid_book.specs.line_text.specs.Reading.{Runs, SoFar, HaltsAt}
+use Rattle.line_format.specs.LineText.{first_excess, text_of}
+use Rattle.line_format.specs.Reading.{HaltsAt, Runs, SoFar}
 
 abbrev none : {S O : Type 0} → S → Option O
 none s = None
@@ -23,7 +23,7 @@ runs_too : {S O : Type 0} (P : Type 0) (Step : S → List ℕ → S → Type 0) 
 runs_too P Step s t [] run = run
 runs_too P Step s t (m ∷ ms) run = (run.0, run.1, run.2, refl, runs_too P Step run.0 t ms run.4)
 
--- it stands at the same stage before the same place
+-- it is at the same stage before the same place
 pub so_far_too : {S O P : Type 0} (Step : S → List ℕ → S → Type 0) (begin : S) (bytes : List ℕ) (place : ℕ) (s : S)
     → SoFar {S = S} {O = O} Step none begin bytes place s → SoFar {S = S} {O = P} Step none begin bytes place s
 so_far_too Step begin bytes place s is = record {

@@ -1,10 +1,10 @@
 -- Whether a line of weights leads on is known at each stage.
 use Rattle.std.proofs.Common.{inl, inr, ◌≡◌, ℕ, ◌+◌, ◌≤◌, List, [], ◌∷◌, ◌++◌, length, refl}
 use Rattle.std.specs.Prelude.{codes}
-use Rattle.bid_book.specs.auction_model.specs.Book.{Book, bidder_of}
-use Rattle.bid_book.specs.book_form.specs.BookForm.{IsBook}
-use Rattle.bid_book.specs.limits.specs.declared.TheConstants.{MOST_WEIGHT}
-use Rattle.bid_book.specs.line_text.proofs.Decided.{Decided, decided_as, decided_both, decided_le, decided_lt, decided_same, some_below}
+use Rattle.auction_model.specs.Book.{Book, bidder_of}
+use Rattle.book_grammar.specs.BookForm.{IsBook}
+use Rattle.limits.specs.declared.TheConstants.{MOST_WEIGHT}
+use Rattle.line_format.proofs.Decided.{Decided, decided_as, decided_both, decided_le, decided_lt, decided_same, some_below}
 use Rattle.weights_file.specs.WeightsForm.{weight_line}
 use Rattle.weights_file.specs.Stages.{Ends, Step, Weighs}
 use Rattle.weights_file.specs.declared.read.Stage.{Stage}

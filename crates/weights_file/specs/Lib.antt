@@ -1,3 +1,2 @@
 pub mod WeightsForm
 pub mod Stages
-pub use Rattle.bid_book

@@ -1,10 +1,10 @@
 -- The form of a file of weights for the bidders of a book: which lists have a text, and its lines.
 use Rattle.std.specs.Prelude.{ℕ, ◌≤◌, Option, None, List, [], ◌∷◌, ◌++◌, codes, length}
 use Rattle.std.specs.Fmt.{decimal}
-use Rattle.bid_book.specs.line_text.specs.LineText.{Said, Says}
-use Rattle.bid_book.specs.auction_model.specs.Book.{Bidder, Book}
-use Rattle.bid_book.specs.auction_model.specs.Prices.{AreWeights}
-use Rattle.bid_book.specs.limits.specs.declared.TheConstants.{MOST_WEIGHT}
+use Rattle.line_format.specs.LineText.{Said, Says}
+use Rattle.auction_model.specs.Book.{Bidder, Book}
+use Rattle.auction_model.specs.Prices.{AreWeights}
+use Rattle.limits.specs.declared.TheConstants.{MOST_WEIGHT}
 
 -- no line exceeds a limit
 abbrev pub Line : Type 0

@@ -1,8 +1,8 @@
-// What holds of the form of a file of weights, whoever reads it.
+// What holds of the form of a file of weights, regardless of who reads it.
 ghost use Rattle.std.specs.Prelude.{◌≡◌, ℕ, List};
-ghost use Rattle.bid_book.specs.auction_model.specs.Book.{Book};
-ghost use Rattle.bid_book.specs.book_form.specs.BookForm.{IsBook};
-ghost use Rattle.bid_book.specs.line_text.specs.LineText.{Said, stated};
+ghost use Rattle.auction_model.specs.Book.{Book};
+ghost use Rattle.book_grammar.specs.BookForm.{IsBook};
+ghost use Rattle.line_format.specs.LineText.{Said, stated};
 ghost use Rattle.weights_file.specs.WeightsForm.{WeightsSay};
 
 /// Bytes say one thing of the weights of a book: a list, or where the first faulty line begins. So each answer of `read_weights` comes

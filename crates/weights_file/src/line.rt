@@ -1,11 +1,11 @@
 // The line of a bidder.
 ghost use Rattle.std.specs.Prelude.{IfNone, IfSome, ℕ, ◌≡◌, ◌≤◌};
 ghost use Rattle.std.specs.Fmt.{decimal};
-ghost use Rattle.bid_book.specs.limits.specs.declared.TheConstants.{MOST_WEIGHT};
+ghost use Rattle.limits.specs.declared.TheConstants.{MOST_WEIGHT};
 ghost use Rattle.weights_file.specs.WeightsForm.{IsWeight, weight_line};
 
-use bid_book::line_text::wide_num::read_natural;
-use bid_book::lots::limits::MOST_WEIGHT;
+use limits::MOST_WEIGHT;
+use wide_num::read_natural;
 
 /// The weight that the line gives the bidder of this name.
 pub fn line_weight(line: &[u8], name: &str) -> Option<u32>

@@ -1,6 +1,6 @@
 // The reader of a file of weights.
-ghost use Rattle.std.specs.Prelude.{Err, IfOk, None, [], codes, length, ℕ, ◌<◌, ◌≡◌, ◌≢◌};
-ghost use Rattle.bid_book.specs.line_text.specs.LineText.{faulty, stated};
+ghost use Rattle.std.specs.Prelude.{Err, IfNone, IfOk, IfSome, None, [], codes, length, ℕ, ◌<◌, ◌≡◌, ◌≢◌};
+ghost use Rattle.line_format.specs.LineText.{faulty, stated};
 ghost use Rattle.weights_file.specs.Stages.{Step, Weighs};
 ghost use Rattle.weights_file.specs.WeightsForm.{WeightsSay};
 ghost use Rattle.weights_file.specs.declared.read.Stage.TheVariants.{Ended};
@@ -8,7 +8,7 @@ ghost use Rattle.weights_file.specs.declared.read.Stage.TheVariants.{Ended};
 use crate::line::line_weight;
 use crate::{WeightStop, Weights};
 use bid_book::BidBook;
-use bid_book::line_text::{LineReader, LineStop, TextStop, read_lines};
+use line_format::{LineReader, LineStop, TextStop, read_lines};
 use std::alloc::Global;
 use std::convert::Infallible;
 
@@ -83,38 +83,40 @@ fn take_line(
 ) -> Result<Stage, LineStop<Infallible>>
     ensures ok { IfOk result (λ next. Step book.now stage line.now next) }
     ensures form { result ≡ Err LineStop.Form → (t : Stage) → Step book.now stage line.now t → ⊥ }
+    ensures memory { result ≡ Err LineStop.Memory → (t : Stage) × Step book.now stage line.now t }
 {
     match stage {
-        Stage::Start => take_first(alloc, line),
+        Stage::Start => take_first(alloc, line).ok_or(LineStop::Form),
         Stage::Listing(weights) => take_listed(weights, book, line),
         Stage::Ended(_) => Err(LineStop::Form),
     }
 }
 
-/// Takes the first line.
-fn take_first(alloc: Global, line: &[u8]) -> Result<Stage, LineStop<Infallible>>
-    ensures ok { IfOk result (λ next. (line.now ≡ codes "weights 1") × (next ≡ Stage.Listing [])) }
-    ensures form { result ≡ Err LineStop.Form → line.now ≢ codes "weights 1" }
+/// Takes the first line. It takes no memory.
+fn take_first(alloc: Global, line: &[u8]) -> Option<Stage>
+    ensures found { IfSome result (λ next. (line.now ≡ codes "weights 1") × (next ≡ Stage.Listing [])) }
+    ensures none { IfNone result (line.now ≢ codes "weights 1") }
 {
     if line != b"weights 1".as_slice() {
-        return Err(LineStop::Form);
+        return None;
     }
-    Ok(Stage::Listing(Weights::new(alloc)))
+    Some(Stage::Listing(Weights::new(alloc)))
 }
 
-/// Takes the line of the next bidder, or the last line behind those of all bidders.
+/// Takes the line of the next bidder, or the last line after those of all bidders.
 fn take_listed(weights: Weights, book: &BidBook, line: &[u8]) -> Result<Stage, LineStop<Infallible>>
     ensures ok { IfOk result (λ next. Step book.now (Stage.Listing weights) line.now next) }
     ensures form { result ≡ Err LineStop.Form → (t : Stage) → Step book.now (Stage.Listing weights) line.now t → ⊥ }
+    ensures memory { result ≡ Err LineStop.Memory → (t : Stage) × Step book.now (Stage.Listing weights) line.now t }
 {
     if weights.items().len() < book.bidders() {
         take_weight(weights, book, line)
     } else {
-        take_end(weights, line)
+        take_end(weights, line).ok_or(LineStop::Form)
     }
 }
 
-/// Takes the line of the next bidder.
+/// Takes the line of the next bidder. Memory is asked for only after the line was found right.
 fn take_weight(
     mut weights: Weights,
     book: &BidBook,
@@ -123,6 +125,7 @@ fn take_weight(
     requires { length weights < length book.now.bidders }
     ensures ok { IfOk result (Weighs book.now weights line.now) }
     ensures form { result ≡ Err LineStop.Form → (t : Stage) → Weighs book.now weights line.now t → ⊥ }
+    ensures memory { result ≡ Err LineStop.Memory → (t : Stage) × Weighs book.now weights line.now t }
 {
     book.kept();
     let j = weights.items().len() as u16 + 1;
@@ -133,13 +136,13 @@ fn take_weight(
     Ok(Stage::Listing(weights))
 }
 
-/// Takes the last line.
-fn take_end(weights: Weights, line: &[u8]) -> Result<Stage, LineStop<Infallible>>
-    ensures ok { IfOk result (λ next. (line.now ≡ codes "end") × (next ≡ Stage.Ended weights)) }
-    ensures form { result ≡ Err LineStop.Form → line.now ≢ codes "end" }
+/// Takes the last line. It takes no memory.
+fn take_end(weights: Weights, line: &[u8]) -> Option<Stage>
+    ensures found { IfSome result (λ next. (line.now ≡ codes "end") × (next ≡ Stage.Ended weights)) }
+    ensures none { IfNone result (line.now ≢ codes "end") }
 {
     if line != b"end".as_slice() {
-        return Err(LineStop::Form);
+        return None;
     }
-    Ok(Stage::Ended(weights))
+    Some(Stage::Ended(weights))
 }

@@ -5,7 +5,7 @@ ghost use Rattle.wide_num.specs.Range.{InRange};
 use crate::{EDGE, Text};
 use std::alloc::{AllocError, Global};
 
-/// The decimal digits of a number without a leading zero, behind a `-` where it is negative.
+/// The decimal digits of a number without a leading zero, after a `-` where it is negative.
 pub fn digits(alloc: Global, n: i128) -> Result<Text, AllocError>
     ensures { IfOk result (λ text. text ≡ signed_decimal n) }
 {
@@ -15,7 +15,7 @@ pub fn digits(alloc: Global, n: i128) -> Result<Text, AllocError>
     Ok(text)
 }
 
-/// The number of the range that `digits` spells so, and None exactly where there is none.
+/// The number of the range that `digits` spells so, and None exactly if there is none.
 pub fn read_number(text: &[u8]) -> Option<i128>
     ensures found { IfSome result (λ z. InRange z × (text.now ≡ signed_decimal z)) }
     ensures none { IfNone result ((z : ℤ) → InRange z → text.now ≡ signed_decimal z → ⊥) }
@@ -26,7 +26,7 @@ pub fn read_number(text: &[u8]) -> Option<i128>
     }
 }
 
-// The number whose digits stand behind a `-`.
+// The number whose digits follow a `-`.
 fn negative(size: &[u8]) -> Option<i128>
     ensures found { IfSome result (λ z. InRange z × (45 ∷ size.now ≡ signed_decimal z)) }
     ensures none { IfNone result ((z : ℤ) → InRange z → 45 ∷ size.now ≡ signed_decimal z → ⊥) }
@@ -38,7 +38,7 @@ fn negative(size: &[u8]) -> Option<i128>
 }
 
 /// The number below 2^120 that the text spells in decimal digits without sign or leading zero, and None exactly
-/// where there is none.
+/// if there is none.
 pub fn read_natural(text: &[u8]) -> Option<u128>
     ensures found { IfSome result (λ n. (n < 2 ^ 120) × (text.now ≡ decimal n)) }
     ensures none { IfNone result ((n : ℕ) → n < 2 ^ 120 → text.now ≡ decimal n → ⊥) }

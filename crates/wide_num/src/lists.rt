@@ -1,4 +1,4 @@
-ghost use Rattle.std.specs.Prelude.{IfOk, List, [], if◌then◌else◌, is_ok, ℕ, ℤ, ◌++◌, ◌∷◌, ◌≡◌};
+ghost use Rattle.std.specs.Prelude.{IfOk, List, OnErr, OnOk, [], if◌then◌else◌, is_ok, ℕ, ℤ, ◌++◌, ◌∷◌, ◌≡◌};
 
 use std::alloc::{AllocError, Global};
 use std::marker::Model;
@@ -25,7 +25,7 @@ impl Text {
         }
     }
 
-    /// The empty text, with room for so many bytes, so that it needn't grow before it has more. The only error is want of
+    /// The empty text, with room for that many bytes, so that it need not grow before it has more. The only error is want of
     /// memory.
     pub fn with_capacity(alloc: Global, bytes: usize) -> Result<Self, AllocError>
         ensures { IfOk result (λ text. text ≡ []) }
@@ -35,7 +35,7 @@ impl Text {
         })
     }
 
-    /// Appends one byte. For want of memory the text stays as it is.
+    /// Appends one byte. If memory runs out, the text stays as it is.
     pub fn push(&mut self, byte: u8) -> Result<(), AllocError>
         ensures { self.new ≡ (if is_ok result then self.old ++ byte ∷ [] else self.old) }
     {
@@ -43,7 +43,7 @@ impl Text {
         Ok(())
     }
 
-    /// Appends all bytes of the piece. For want of memory the text stays as it is.
+    /// Appends all bytes of the piece. If memory runs out, the text stays as it is.
     pub fn add(&mut self, piece: &[u8]) -> Result<(), AllocError>
         ensures { self.new ≡ (if is_ok result then self.old ++ piece.now else self.old) }
     {
@@ -80,7 +80,7 @@ impl NumList {
         }
     }
 
-    /// The empty list, with room for so many numbers, so that it needn't grow before it has more. The only error is want of
+    /// The empty list, with room for that many numbers, so that it need not grow before it has more. The only error is want of
     /// memory.
     pub fn with_capacity(alloc: Global, numbers: usize) -> Result<Self, AllocError>
         ensures { IfOk result (λ list. list ≡ []) }
@@ -90,7 +90,7 @@ impl NumList {
         })
     }
 
-    /// Appends one number. For want of memory the list stays as it is.
+    /// Appends one number. If memory runs out, the list stays as it is.
     pub fn push(&mut self, number: i128) -> Result<(), AllocError>
         ensures { self.new ≡ (if is_ok result then self.old ++ number ∷ [] else self.old) }
     {
@@ -117,5 +117,51 @@ impl NumList {
         ensures { result.now ≡ self.now }
     {
         self.numbers.as_slice()
+    }
+}
+
+/// A list of items that only grows. Its value is the list of its items, which are shown in order.
+#[derive(Drop)]
+pub struct ItemList<T> {
+    items: Vec<T>,
+}
+
+impl<T> Model for ItemList<T> {
+    ghost Value = { List T };
+
+    ghost view = { λ list. list.items.items };
+}
+
+impl<T: Drop> ItemList<T> {
+    /// The empty list. It takes no memory.
+    pub fn new(alloc: Global) -> ItemList<T>
+        ensures { result ≡ [] }
+    {
+        ItemList {
+            items: Vec::new(alloc),
+        }
+    }
+
+    /// Appends one item. The only error is out of memory, which leaves the list as it is.
+    pub fn push(&mut self, item: T) -> Result<(), AllocError>
+        ensures pushed { OnOk result (self.new ≡ self.old ++ item ∷ []) }
+        ensures unchanged { OnErr result (self.new ≡ self.old) }
+    {
+        self.items.push(item)?;
+        Ok(())
+    }
+
+    /// The items in order.
+    pub fn items(&self) -> &[T]
+        ensures { result.now ≡ self.now }
+    {
+        self.items.as_slice()
+    }
+
+    /// The items as a `Vec`. It takes no memory.
+    pub fn into_vec(self) -> Vec<T>
+        ensures { result.items ≡ self }
+    {
+        self.items
     }
 }

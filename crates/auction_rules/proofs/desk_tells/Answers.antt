@@ -1,4 +1,4 @@
--- The lemmas on what a state tells.
+-- The lemmas on what a state says.
 use Rattle.auction_rules.proofs.Telling.{prices-state_of, round-state_of, stage-state_of}
 use Rattle.auction_rules.proofs.desk_tells.Goals as goal
 

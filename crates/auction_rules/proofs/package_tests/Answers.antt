@@ -1,5 +1,5 @@
 -- Each clause is a lemma on packages.
-use Rattle.lots.specs.auction_model.proofs.PackageTestLaws.{is_same-true, is_same-refl, is_before-comes, comes-is_before, within-first_over, first_over-within}
+use Rattle.auction_model.proofs.PackageTestLaws.{comes-is_before, first_over-within, is_before-comes, is_same-refl, is_same-true, within-first_over}
 use Rattle.auction_rules.proofs.package_tests.Goals as goal
 
 pub returns-clause-same : goal.returns-clause-same

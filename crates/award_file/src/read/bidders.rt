@@ -11,7 +11,7 @@ use crate::read::AwardStop;
 use crate::read::fields::{
     broken, broken_top, has_other, list_at, name_at, number_at, row_of, value_at,
 };
-use bid_book::lots::limits::{MOST_COUNT, MOST_ELIGIBILITY};
+use limits::{MOST_COUNT, MOST_ELIGIBILITY};
 use std::alloc::{AllocError, Global};
 use toml::Value;
 use toml::value::Table;
@@ -22,7 +22,7 @@ const BIDDER_KEYS: [&str; 3] = ["name", "eligibility", "holding"];
 /// The most lots of a category that a bidder holds already.
 const MOST_HOLDING: u16 = MOST_COUNT as u16;
 
-/// Reads the bidders that a table states, where there are so many categories.
+/// Reads the bidders that a table states, where there are that many categories.
 pub fn read_bidders(alloc: Global, table: &Table, categories: usize) -> Result<Entrants, AwardStop>
     ensures ok { IfOk result
         (λ bidders. (walk.bidders_fault categories (table_view table.now) ≡ None)
@@ -55,7 +55,7 @@ fn read_listed(alloc: Global, tables: &[Value], categories: usize) -> Result<Ent
     Ok(bidders)
 }
 
-/// Puts the bidder of a table behind those before it.
+/// Puts the bidder of a table after those before it.
 fn take_bidder(
     alloc: Global,
     table: &Table,

@@ -10,7 +10,7 @@ ghost use Rattle.award_file.specs.Walk as walk;
 
 use crate::read::AwardStop;
 use crate::read::fields::{broken, broken_top, has_other, list_at, name_at, number_at};
-use bid_book::lots::limits::{MOST_COUNT, MOST_POINTS, MOST_PRICE};
+use limits::{MOST_COUNT, MOST_POINTS, MOST_PRICE};
 use std::alloc::Global;
 use toml::Value;
 use toml::value::Table;
@@ -68,7 +68,7 @@ fn read_listed(alloc: Global, tables: &[Value]) -> Result<Vec<Category>, AwardSt
     Ok(categories)
 }
 
-/// Reads the category of a table behind these.
+/// Reads the category of a table after these.
 fn read_category(alloc: Global, table: &Table, before: &[Category]) -> Result<Category, AwardStop>
     ensures ok { IfOk result
         (λ c. (walk.category_fault (category_names before.now) (table_view table.now) ≡ None)

@@ -98,7 +98,7 @@ fn numbers_of(alloc: Global, values: &[Value], high: u16) -> Result<Option<Vec<u
     Ok(Some(numbers))
 }
 
-/// So many whole numbers, where a value is an array of these and none is above `high`.
+/// That many whole numbers, where a value is an array of these and none is above `high`.
 pub fn row_of(
     alloc: Global,
     value: &Value,
@@ -176,7 +176,7 @@ pub fn has_other(table: &Table, keys: &[&str]) -> bool
     false
 }
 
-/// The stop at a field of the table behind so many.
+/// The stop at a field of the table after that many.
 pub fn broken(number: u8, before: usize) -> AwardStop
     ensures { result ≡ Field number (entry_behind before) }
 {

@@ -8,7 +8,7 @@ ghost use Rattle.award_file.specs.Walk as walk;
 
 use crate::read::AwardStop;
 use crate::read::fields::{broken, broken_top, has_other, list_at, number_at};
-use bid_book::lots::limits::{MOST_EXCESS, MOST_PERMILLE, MOST_STEPS};
+use limits::{MOST_EXCESS, MOST_PERMILLE, MOST_STEPS};
 use std::alloc::Global;
 use toml::Value;
 use toml::value::Table;
@@ -53,7 +53,7 @@ fn read_listed(alloc: Global, tables: &[Value]) -> Result<Vec<(u64, u64)>, Award
     Ok(steps)
 }
 
-/// Reads the step of a table behind these.
+/// Reads the step of a table after these.
 fn read_step(table: &Table, before: &[(u64, u64)]) -> Result<(u64, u64), AwardStop>
     ensures ok { IfOk result
         (λ s. (walk.step_fault (excesses before.now) (table_view table.now) ≡ None)

@@ -10,7 +10,7 @@ ghost use Rattle.award_file.specs.Walk as walk;
 use crate::caps::SpectrumCap;
 use crate::read::AwardStop;
 use crate::read::fields::{broken, broken_top, has_other, list_at, number_at, row_of, value_at};
-use bid_book::lots::limits::{MOST_CAP_LIMIT, MOST_CAP_WEIGHT, MOST_CAPS};
+use limits::{MOST_CAP_LIMIT, MOST_CAP_WEIGHT, MOST_CAPS};
 use std::alloc::{AllocError, Global};
 use toml::Value;
 use toml::value::Table;
@@ -18,7 +18,7 @@ use toml::value::Table;
 /// The keys of a cap.
 const CAP_KEYS: [&str; 2] = ["weight", "limit"];
 
-/// Reads the caps that a table states, where there are so many categories.
+/// Reads the caps that a table states, where there are that many categories.
 pub fn read_caps(
     alloc: Global,
     table: &Table,
@@ -63,7 +63,7 @@ fn read_listed(
     Ok(caps)
 }
 
-/// Reads the cap of a table behind these.
+/// Reads the cap of a table after these.
 fn read_cap(
     alloc: Global,
     table: &Table,

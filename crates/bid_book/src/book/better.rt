@@ -1,6 +1,6 @@
 // Bids that another bid of the same bidder makes needless.
 ghost use Rattle.std.specs.Prelude.{IsTrue};
-ghost use Rattle.lots.specs.auction_model.specs.Package.{is_within};
+ghost use Rattle.auction_model.specs.Package.{is_within};
 ghost use Rattle.bid_book.specs.Better.{BeatsAmong};
 
 use crate::book::Entry;

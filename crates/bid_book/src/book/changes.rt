@@ -1,7 +1,7 @@
 // Bids that are put into those of a bidder, and taken out.
 ghost use Rattle.std.specs.Prelude.{◌≡◌, ℕ, ◌<◌, ◌≤◌, ◌↔◌, All, IsOk, IsTrue, OnErr, OnOk, length, map, slice_index_or, slice_set, take};
 ghost use Rattle.std.specs.List.{insert, remove};
-ghost use Rattle.lots.specs.auction_model.specs.Book.{no_bid};
+ghost use Rattle.auction_model.specs.Book.{no_bid};
 ghost use Rattle.bid_book.specs.Better.{BeatsAmong};
 ghost use Rattle.bid_book.specs.Changes.{InPackageOrder, IsPlaceIn};
 ghost use Rattle.bid_book.specs.Fields.{bid_value};
@@ -10,8 +10,8 @@ ghost use Rattle.bid_book.specs.Moved.{AreSettled, IsPutIn};
 use crate::book::Entry;
 use crate::book::better::better_among;
 use crate::read::entries::comes_before;
+use limits::MOST_BIDS;
 use lots::Package;
-use lots::limits::MOST_BIDS;
 use std::alloc::AllocError;
 
 /// What happened to the bid of a number.
@@ -21,7 +21,7 @@ enum Change {
     Set(u16),
     /// It was put in, so that the later ones moved one number up.
     PutIn(u16),
-    /// It was taken out, so that the later ones moved one number down. What stood with it as better is the second number.
+    /// It was taken out, so that the later ones moved one number down. What was kept with it as better is the second number.
     TakenOut(u16, u16),
 }
 
@@ -121,8 +121,8 @@ fn better_at(bids: &[Entry], place: usize, rival: u16) -> u16
     better_among(&bids[..place], &bids[place], rival)
 }
 
-/// Guesses which bid makes another needless after a change, from the number that stood with it. Nothing is proved of a guess:
-/// whoever asks tests it.
+/// Guesses which bid makes another needless after a change, from the number that was kept with it. Nothing is proved of a guess:
+/// the caller tests it.
 fn rival_after(change: Change, better: u16) -> u16 {
     match change {
         Change::Set(number) => guess(better, number, better),
@@ -134,7 +134,7 @@ fn rival_after(change: Change, better: u16) -> u16 {
     }
 }
 
-/// The number that was changed, where none stood there, and else the other.
+/// The number that was changed, where none was there, and else the other.
 fn guess(better: u16, changed: u16, other: u16) -> u16 {
     if better == 0 { changed } else { other }
 }

@@ -5,7 +5,7 @@ ghost use Rattle.bid_book.specs.Fields.{HasNet, bid_value};
 ghost use Rattle.bid_book.specs.Gathered.{AreBookBidders, AreEntries};
 ghost use Rattle.bid_book.specs.Lists.{bid_of};
 ghost use Rattle.bid_book.specs.Sound.{IsSoundBid, IsSoundBidder};
-ghost use Rattle.lots.specs.limits.specs.declared.TheConstants.{MOST_PRICE};
+ghost use Rattle.limits.specs.declared.TheConstants.{MOST_PRICE};
 
 use crate::Bidders;
 use crate::book::better::better_among;

@@ -1,12 +1,12 @@
-// Guesses which earlier bid of a bidder makes the next one needless. Nothing is proved of a guess: whoever asks tests it.
+// Guesses which earlier bid of a bidder makes the next one needless. Nothing is proved of a guess: the caller tests it.
 ghost use Rattle.std.specs.Prelude.{◌≡◌, ◌<◌, ◌≤◌, length, OnOk};
-ghost use Rattle.lots.specs.auction_model.specs.Place.{states_of};
+ghost use Rattle.auction_model.specs.Place.{states_of};
 
-use lots::limits::MOST_CATEGORIES;
+use limits::MOST_CATEGORIES;
 use lots::{Package, Supply};
 use std::alloc::{AllocError, Global};
 
-/// How many places a block has at least, where the supply has as many: so many are worth the work that each block takes.
+/// How many places a block has at least, where the supply has as many: that many are worth the work that each block takes.
 const SOME_PLACES: usize = 4;
 
 /// The bids of one bidder so far. They come in the order of their places. A block is the places that differ in the last few
@@ -15,7 +15,7 @@ const SOME_PLACES: usize = 4;
 pub(crate) struct Rivals {
     /// How many bids there are.
     count: u16,
-    /// For each place before `reached` the greatest offer of the bids that fit there, and 0 where there is none.
+    /// For each place before `reached` the greatest offer of the bids that fit there, and 0 if there is none.
     best: Vec<i64>,
     /// The place where the next block begins.
     reached: usize,
@@ -42,7 +42,7 @@ impl Rivals {
         self.outer = [0; MOST_CATEGORIES];
     }
 
-    /// The earlier bid that is worth most of those that are no larger, or 0; then this bid is one of them.
+    /// The earlier bid that is worth most of those that are no larger, or 0, and then this bid is one of them.
     pub(crate) fn take(
         &mut self,
         supply: &Supply,
@@ -80,7 +80,7 @@ impl Rivals {
         Ok(())
     }
 
-    /// Counts an offer at a place of the last block, and at those behind it. Gives the greatest that stood there.
+    /// Counts an offer at a place of the last block, and at those after it. Gives the greatest that was there.
     fn put(&mut self, supply: &Supply, inner: usize, place: usize, own: i64) -> i64 {
         let end = self.reached.min(self.best.len());
         let begin = end - block_len(supply.widths(), inner, end);
@@ -135,7 +135,7 @@ fn offer(net: i128, number: u16) -> i64 {
     i64::try_from(net).unwrap_or(0) << 16 | number as i64
 }
 
-/// The number of the bid of an offer, and 0 where there is none.
+/// The number of the bid of an offer, and 0 if there is none.
 fn number_of(offer: i64) -> u16 {
     (offer & 0xffff) as u16
 }

@@ -1,20 +1,20 @@
 // The lines of bidders and of their bids.
 ghost use Rattle.std.specs.Prelude.{IfNone, IfOk, IfSome, IsFalse, IsTrue, None, OnOk, Some, codes, length, ℕ, ◌++◌, ◌<◌, ◌↔◌, ◌≡◌, ◌≢◌};
 ghost use Rattle.std.specs.List.{AllByRecursion};
-ghost use Rattle.lots.specs.auction_model.specs.Book.{Book, BookBid};
-ghost use Rattle.lots.specs.auction_model.specs.Package.{ComesBefore, is_within};
-ghost use Rattle.book_form.specs.BookForm.{IsBid, IsName};
-ghost use Rattle.book_form.specs.BookLines.{bid_line};
+ghost use Rattle.auction_model.specs.Book.{Book, BookBid};
+ghost use Rattle.auction_model.specs.Package.{ComesBefore, is_within};
+ghost use Rattle.book_grammar.specs.BookForm.{IsBid, IsName};
+ghost use Rattle.book_grammar.specs.BookLines.{bid_line};
 ghost use Rattle.bid_book.specs.Fields.{HasNet, bid_value};
 ghost use Rattle.bid_book.specs.Stages.{Adds, AddsBid, AddsBidder, last_excess, lots_before};
 
 use crate::book::Entry;
 use crate::book::rivals::Rivals;
-use crate::read::fields::{is_name, numbers_behind};
+use crate::read::fields::{is_name, naturals_after};
 use crate::{BidBook, LimitKind, Name};
-use book_form::Excess;
-use book_form::line_text::LineStop;
-use lots::limits::{MOST_BIDDERS, MOST_BIDS};
+use book_grammar::Excess;
+use limits::{MOST_BIDDERS, MOST_BIDS};
+use line_format::LineStop;
 use lots::{Bid, Package, Supply};
 use std::alloc::Global;
 
@@ -118,7 +118,7 @@ fn read_bid(alloc: Global, book: &BidBook, line: &[u8]) -> Result<Entry, LineSto
     ensures no_limit { (kind : LimitKind) (count : ℕ) → result ≡ Err (LineStop.Limit (kind, count)) → ⊥ }
 {
     let supply = book.supply();
-    let mut numbers = numbers_behind(alloc, b"bid", line)?;
+    let mut numbers = naturals_after(alloc, b"bid", line)?;
     let Some(amount) = numbers.pop() else {
         return Err(LineStop::Form);
     };
@@ -159,7 +159,7 @@ fn read_package(supply: &Supply, numbers: &[u64]) -> Result<Package, LineStop<Ex
     Ok(package)
 }
 
-/// Whether the package comes after that of the last bid of the last bidder, or isn't empty where there is no bid.
+/// Whether the package comes after that of the last bid of the last bidder, or isn't empty if there is no bid.
 fn comes_next(book: &BidBook, package: &Package) -> bool
     requires some { 0 < length book.now.bidders }
     requires categories { length «package».now ≡ length book.now.supply }

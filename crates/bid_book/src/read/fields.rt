@@ -2,33 +2,33 @@
 ghost use Rattle.std.specs.Prelude.{IfErr, IfNone, IfOk, IfSome, IsTrue, List, drop, length, take, ℕ, ◌++◌, ◌∷◌, ◌↔◌, ◌≡◌, ◌≢◌, ◌≤◌, ◌<◌};
 ghost use Rattle.std.specs.List.{AllByRecursion};
 ghost use Rattle.std.specs.Fmt.{decimal};
-ghost use Rattle.book_form.specs.BookForm.{IsName, IsNameByte};
-ghost use Rattle.book_form.specs.line_text.specs.Decimals.{decimals_text};
+ghost use Rattle.book_grammar.specs.BookForm.{IsName, IsNameByte};
+ghost use Rattle.line_format.specs.Decimals.{decimals_text};
 ghost use Rattle.bid_book.specs.Stops.{AreNumbers, IsField};
-ghost use Rattle.lots.specs.limits.specs.declared.TheConstants.{MOST_AMOUNT, MOST_COUNT};
+ghost use Rattle.limits.specs.declared.TheConstants.{MOST_AMOUNT, MOST_COUNT};
 
 use crate::LimitKind;
 use crate::stop::NoNumber;
-use book_form::Excess;
-use book_form::line_text::{LineStop, field_len, read_at_most, short_field};
-use lots::limits::{MOST_AMOUNT, MOST_CATEGORIES, MOST_COUNT, MOST_NAME_BYTES};
+use book_grammar::Excess;
+use limits::{MOST_AMOUNT, MOST_CATEGORIES, MOST_COUNT, MOST_NAME_BYTES};
+use line_format::{LineStop, field_len, read_at_most, short_field};
 use std::alloc::Global;
 
-/// The numbers of a line behind its word, each behind one space.
-pub fn numbers_behind(alloc: Global, word: &[u8], line: &[u8]) -> Result<Vec<u64>, LineStop<Excess>>
+/// The numbers of a line after its word, each after one space.
+pub fn naturals_after(alloc: Global, word: &[u8], line: &[u8]) -> Result<Vec<u64>, LineStop<Excess>>
     ensures ok { IfOk result (λ v. AreNumbers v.items × (line.now ≡ word.now ++ decimals_text v.items)) }
     ensures form { result ≡ Err LineStop.Form → (ns : List ℕ) → AreNumbers ns
         → line.now ≡ word.now ++ decimals_text ns → ⊥ }
     ensures no_limit { (kind : LimitKind) (count : ℕ) → result ≡ Err (LineStop.Limit (kind, count)) → ⊥ }
 {
     match line.strip_prefix(word) {
-        Some(fields) => read_numbers(alloc, fields),
+        Some(fields) => read_naturals(alloc, fields),
         None => Err(LineStop::Form),
     }
 }
 
-/// The numbers of a text in which one space stands before each.
-fn read_numbers(alloc: Global, text: &[u8]) -> Result<Vec<u64>, LineStop<Excess>>
+/// The numbers of a text in which one space comes before each.
+fn read_naturals(alloc: Global, text: &[u8]) -> Result<Vec<u64>, LineStop<Excess>>
     ensures ok { IfOk result (λ v. AreNumbers v.items × (text.now ≡ decimals_text v.items)) }
     ensures form { result ≡ Err LineStop.Form → (ns : List ℕ) → AreNumbers ns → text.now ≡ decimals_text ns → ⊥ }
     ensures no_limit { (kind : LimitKind) (count : ℕ) → result ≡ Err (LineStop.Limit (kind, count)) → ⊥ }
@@ -43,7 +43,7 @@ fn read_numbers(alloc: Global, text: &[u8]) -> Result<Vec<u64>, LineStop<Excess>
     Ok(numbers)
 }
 
-/// The number that stands behind the first byte, which has to be a space, and what follows it. So whether a line states numbers
+/// The number that follows the first byte, which has to be a space, and what follows it. So whether a line states numbers
 /// doesn't depend on memory.
 fn first_number(text: &[u8]) -> Result<(u64, &[u8]), NoNumber>
     requires { 0 < length text.now }
@@ -56,7 +56,7 @@ fn first_number(text: &[u8]) -> Result<(u64, &[u8]), NoNumber>
     }
 }
 
-/// The same for a number of any size.
+/// The number at the start of a text, of any size.
 fn long_number(text: &[u8]) -> Result<(u64, &[u8]), NoNumber>
     requires { 0 < length text.now }
     ensures found { IfOk result (λ p. (p.0 ≤ MOST_AMOUNT) × IsField text.now (decimal p.0) p.1.now) }
@@ -71,7 +71,7 @@ fn long_number(text: &[u8]) -> Result<(u64, &[u8]), NoNumber>
     }
 }
 
-/// The same in one pass, for a number of few digits. None says nothing.
+/// The number at the start of a text in one pass, if it has few digits. None decides nothing.
 fn short_number(text: &[u8]) -> Option<(u64, &[u8])>
     ensures { IfSome result (λ p. (p.0 ≤ MOST_AMOUNT) × IsField text.now (decimal p.0) p.1.now) }
 {
@@ -83,7 +83,7 @@ fn short_number(text: &[u8]) -> Option<(u64, &[u8])>
     Some((number, &behind[stop..]))
 }
 
-/// The first field of a text, which has to stand behind a space, and what follows it.
+/// The first field of a text, which has to follow a space, and what follows it.
 fn first_field(text: &[u8]) -> Option<(&[u8], &[u8])>
     ensures found { IfSome result (λ parts. IsField text.now parts.0.now parts.1.now) }
     ensures none { IfNone result ((behind : List ℕ) → text.now ≡ 32 ∷ behind → ⊥) }
@@ -133,7 +133,7 @@ pub fn is_name(text: &[u8]) -> bool
     }
 }
 
-/// Whether each byte may stand in a name.
+/// Whether each byte may be in a name.
 fn are_name_bytes(bytes: &[u8]) -> bool
     ensures { IsTrue result ↔ AllByRecursion IsNameByte bytes.now }
 {
@@ -145,7 +145,7 @@ fn are_name_bytes(bytes: &[u8]) -> bool
     true
 }
 
-/// Whether the byte may stand in a name.
+/// Whether the byte may be in a name.
 fn is_name_byte(c: u8) -> bool
     ensures { IsTrue result ↔ IsNameByte c }
 {

@@ -1,19 +1,19 @@
-// The lines that stand before the bidders.
+// The lines that come before the bidders.
 ghost use Rattle.std.specs.Prelude.{IfOk, IsTrue, List, None, Some, ℕ, ◌↔◌, ◌≡◌, ◌≤◌};
 ghost use Rattle.std.specs.List.{AllByRecursion};
-ghost use Rattle.book_form.specs.BookForm.{IsOffer};
-ghost use Rattle.book_form.specs.BookLines.{supply_line};
+ghost use Rattle.book_grammar.specs.BookForm.{IsOffer};
+ghost use Rattle.book_grammar.specs.BookLines.{supply_line};
 ghost use Rattle.bid_book.specs.Stages.{Step, excess};
-ghost use Rattle.lots.specs.limits.specs.declared.TheConstants.{MOST_PRICE};
+ghost use Rattle.limits.specs.declared.TheConstants.{MOST_PRICE};
 
 use crate::read::Stage;
-use crate::read::fields::{lot_counts, numbers_behind};
+use crate::read::fields::{lot_counts, naturals_after};
 use crate::stop::lots_stop;
 use crate::{BidBook, LimitKind};
-use book_form::Excess;
-use book_form::line_text::LineStop;
+use book_grammar::Excess;
+use limits::MOST_PRICE;
+use line_format::LineStop;
 use lots::Supply;
-use lots::limits::MOST_PRICE;
 use std::alloc::Global;
 
 /// Takes the first line.
@@ -50,7 +50,7 @@ fn read_supply(alloc: Global, line: &[u8]) -> Result<Vec<u16>, LineStop<Excess>>
         → ⊥ }
     ensures no_limit { (kind : LimitKind) (count : ℕ) → result ≡ Err (LineStop.Limit (kind, count)) → ⊥ }
 {
-    let numbers = numbers_behind(alloc, b"supply", line)?;
+    let numbers = naturals_after(alloc, b"supply", line)?;
     if numbers.is_empty() {
         return Err(LineStop::Form);
     }
@@ -68,7 +68,7 @@ pub fn take_reserve(alloc: Global, supply: Supply, line: &[u8]) -> Result<BidBoo
     ensures form { result ≡ Err LineStop.Form → (t : Stage) → Step (Stage.Supplied supply) line.now t → ⊥ }
     ensures no_limit { (kind : LimitKind) (count : ℕ) → result ≡ Err (LineStop.Limit (kind, count)) → ⊥ }
 {
-    let reserves = numbers_behind(alloc, b"reserve", line)?;
+    let reserves = naturals_after(alloc, b"reserve", line)?;
     if reserves.len() != supply.categories() {
         return Err(LineStop::Form);
     }

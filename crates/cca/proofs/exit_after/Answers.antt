@@ -2,7 +2,6 @@ use Rattle.cca.proofs.exit_after.Goals as goal
 
 pub returns : goal.returns
 returns g c = record {
-  new = g.F.Files.folder c.run.new.files;
   status = c.run.result;
   runs = record {
     words = c.run.ensures.words;
@@ -20,6 +19,8 @@ returns g c = record {
     write_fault = c.run.ensures.write_fault;
     given = c.run.ensures.given;
     told = c.run.ensures.told;
+    loaded = c.run.ensures.loaded;
+    seen = c.run.ensures.seen;
     answer = c.run.ensures.answer;
     line = c.run.ensures.line;
     front = c.run.ensures.front;

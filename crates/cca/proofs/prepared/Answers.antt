@@ -1,7 +1,7 @@
 use Rattle.std.proofs.Common.{◌∙◌, string_bytes, map, get_or, ap}
 use Rattle.std.specs.List.{list_any}
 use Rattle.std.specs.Str.{bytes_eq}
-use Rattle.cca_run.specs.cca_base.proofs.KnownNames.{each-known}
+use Rattle.cca_base.proofs.KnownNames.{each-known}
 use Rattle.cca.proofs.prepared.Goals as goal
 
 pub returns-in-Ok-new-clause-known : goal.returns-in-Ok-new-clause-known

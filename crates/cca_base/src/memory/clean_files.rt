@@ -14,7 +14,7 @@ use crate::trace::{Call, Trace};
 use crate::{Failed, Files};
 use std::alloc::{AllocError, Global};
 
-/// Files in memory, each over a buffer that was reserved when it was made. They tell the room that is
+/// Files in memory, each over a buffer that was reserved when it was made. They give the room that is
 /// left, in bytes, and no call on them takes memory. No load fails, and no file is missing.
 #[derive(Drop)]
 pub struct CleanFiles {
@@ -23,12 +23,12 @@ pub struct CleanFiles {
 }
 
 impl CleanFiles {
-    /// An empty file with room for so many bytes for each of these names, all counts 0. A name that is
+    /// An empty file with room for that many bytes for each of these names, all counts 0. A name that is
     /// given twice is known once.
     ///
     /// # Errors
     ///
-    /// `AllocError` for want of memory.
+    /// `AllocError` when out of memory.
     pub fn new(alloc: Global, names: &[String], room: u64) -> Result<CleanFiles, AllocError>
         ensures names { IfOk result
             (λ files. (name : List ℕ)

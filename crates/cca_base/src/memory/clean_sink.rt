@@ -7,7 +7,7 @@ use crate::buffer::Buffer;
 use crate::{Failed, Sink};
 use std::alloc::{AllocError, Global};
 
-/// An output in memory, over a buffer that was reserved when it was made. It tells the room that is
+/// An output in memory, over a buffer that was reserved when it was made. It gives the room that is
 /// left, in bytes, and no call on it takes memory.
 #[derive(Drop)]
 pub struct CleanSink {
@@ -16,11 +16,11 @@ pub struct CleanSink {
 }
 
 impl CleanSink {
-    /// An output with no bytes, no fault and room for so many bytes.
+    /// An output with no bytes, no fault and room for that many bytes.
     ///
     /// # Errors
     ///
-    /// `AllocError` for want of memory.
+    /// `AllocError` when out of memory.
     pub fn new(alloc: Global, room: u64) -> Result<CleanSink, AllocError>
         ensures empty { IfOk result (λ out. (⟦<CleanSink as Sink>⟧.output out).bytes ≡ []) }
         ensures room { IfOk result (λ out. (⟦<CleanSink as Sink>⟧.output out).room ≡ Some room) }

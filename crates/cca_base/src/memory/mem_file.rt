@@ -143,7 +143,7 @@ pub(crate) fn set_bytes(files: &mut [MemFile], name: &str, bytes: Vec<u8>)
     file.bytes = Some(bytes);
 }
 
-// The bytes at a place of the file go to the front of the buffer, at most `bite` of them.
+// The bytes at a place of the file go to the start of the buffer, at most `bite` of them.
 pub(crate) fn copy_from(file: &[u8], at: usize, bite: usize, buf: &mut [u8]) -> usize
     ensures count { result ≡ min (min bite (length buf.old)) (length file.now - at) }
     ensures bytes { take result buf.new ≡ take result (drop at file.now) }

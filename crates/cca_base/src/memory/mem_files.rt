@@ -21,7 +21,7 @@ use std::alloc::{AllocError, Global};
 /// The loads and the appends are counted from 1 over all names, and the counts stop at the last value
 /// of their type. A load fails exactly where its number is listed in `fail_loads` or its file is
 /// missing. An append fails exactly where its number is listed in `fail_appends` or `refused` rose in
-/// that call, which it does for want of memory.
+/// that call, which it does when out of memory.
 #[derive(Drop)]
 pub struct MemFiles {
     alloc: Global,
@@ -42,7 +42,7 @@ impl MemFiles {
     ///
     /// # Errors
     ///
-    /// `AllocError` for want of memory.
+    /// `AllocError` when out of memory.
     pub fn new(alloc: Global, names: &[String], bite: usize) -> Result<MemFiles, AllocError>
         requires { 0 < bite }
         ensures names { IfOk result
@@ -77,7 +77,7 @@ impl MemFiles {
     ///
     /// # Errors
     ///
-    /// `AllocError` for want of memory. Nothing has changed then.
+    /// `AllocError` when out of memory. Nothing has changed then.
     pub fn set(&mut self, name: &str, bytes: &[u8]) -> Result<(), AllocError>
         requires { IsTrue ((mem_folder self.old.files.items).knows name.now) }
         ensures file { OnOk result
@@ -131,7 +131,7 @@ impl Files for MemFiles {
             ≡ one_more ((mem_folder self.old.files.items).load_faults name.now)) }
         ensures missing { (mem_folder self.old.files.items).file name.now ≡ None → IsErr result }
 
-        // Exactly where the number of the load is listed or the file is missing, and exactly so many bytes.
+        // Exactly where the number of the load is listed or the file is missing, and exactly that many bytes.
         ensures number { self.new.loads ≡ min (self.old.loads + 1) (2 ^ 64 - 1) }
         ensures listed { Contains self.old.fail_loads.items self.new.loads → IsErr result }
         ensures failed { IsErr result

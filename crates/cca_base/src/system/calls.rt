@@ -1,7 +1,7 @@
 // Calls of the system, and the calls among them that were answered. Nothing but `SystemFiles` and `SystemOutput` calls the system,
 // and only of their few lines is it trusted, and not proved, that what they note is what the system was asked and did. What
-// follows from the system's answers is worked out and proved in `met.rt`.
-ghost use Rattle.std.specs.Prelude.{◌≡◌, ◌≤◌, ◌<◌, [], ◌∷◌, List, length, take, IfOk, IsSome, IsTrue, OnErr, ◌≢◌};
+// follows from the system's answers is computed and proved in `met.rt`.
+ghost use Rattle.std.specs.Prelude.{◌≡◌, ◌≤◌, ◌<◌, [], ◌∷◌, List, length, take, Some, IfOk, IsSome, IsTrue, OnErr, ◌≢◌};
 ghost use Rattle.std.specs.List.{Any};
 ghost use Rattle.std.specs.Io.{ReadsAtMost, WritesAtMost};
 ghost use Rattle.cca_base.specs.Given.{Given};
@@ -10,16 +10,15 @@ ghost use Rattle.cca_base.specs.RealFiles.{real_folder};
 use crate::Failed;
 use crate::named::place_of;
 use crate::sink::taken;
+use crate::system::interrupted::{read_some, tried, write_some};
 use crate::system::known_file::KnownFile;
-use crate::system::met::{
-    FileIdentity, Met, first_position, is_met_elsewhere, note, position_behind,
-};
+use crate::system::met::{FileIdentity, Met, first_position, may_take, note, position_behind};
 use crate::trace::{Call, Trace};
 use std::alloc::{AllocError, Global};
 use std::fs::{File, Metadata, OpenOptions};
-use std::io::{ErrorKind, Read, Seek, SeekFrom, Write};
+use std::io::{ErrorKind, Seek, SeekFrom};
 use std::os::unix::fs::MetadataExt;
-use std::{io, rt};
+use std::{env, fs, io, rt};
 
 /// Reads and appends of files, as the system takes them.
 pub(crate) trait FileCalls: Drop {
@@ -29,7 +28,7 @@ pub(crate) trait FileCalls: Drop {
     /// The appends that were answered, the last one first.
     ghost took: { Self → List Given };
 
-    /// Reads from a place of the file of a known name. The file stays open for the next read of this name. Behind the last read no place
+    /// Reads from a place of the file of a known name. The file stays open for the next read of this name. After the last read no place
     /// is asked for, so what can only be read in order, as a pipe, serves too.
     ///
     /// # Errors
@@ -50,12 +49,14 @@ pub(crate) trait FileCalls: Drop {
         ensures took { took self.new ≡ took self.old };
 
     /// Adds a prefix of the piece to the end of the file of a known name, which is made where it is missing. The file stays open, and
-    /// locked, for the next append to this name. What a regular file took is on its disk.
+    /// locked, for the next append to this name. What a regular file took is on its disk, and the name of a file that was made; the name means
+    /// that file still.
     ///
     /// # Errors
     ///
     /// `Failed`, where the system fails, or takes nothing of a piece that isn't empty, where the file was read or appended to under
-    /// another name, and where a regular file is locked by someone else. No file stays open then.
+    /// another name, where the standard output goes to it, where a regular file is locked by someone else, and where the name means another
+    /// file once that one is synced. No file stays open then.
     fn append(&mut self, known: &[KnownFile], name: &str, piece: &[u8]) -> Result<usize, Failed>
         requires { IsTrue ((real_folder known.now).knows name.now) }
         ensures some { IfOk result (λ n. (n ≤ length piece.now) × (0 < length piece.now → 0 < n)) }
@@ -74,7 +75,8 @@ pub(crate) trait OutputCalls: Drop {
     ///
     /// # Errors
     ///
-    /// `Failed`, where the system fails, or takes nothing of a piece that isn't empty.
+    /// `Failed`, where the system fails, or takes nothing of a piece that isn't empty, and where the output goes to a file that the words
+    /// name.
     fn put(&mut self, piece: &[u8]) -> Result<usize, Failed>
         ensures some { IfOk result (λ n. (n ≤ length piece.now) × (0 < length piece.now → 0 < n)) }
         ensures took { IfOk result (λ n. took self.new
@@ -97,12 +99,17 @@ struct Appending {
     seen: Met,
     file: File,
     is_regular: bool,
+    // Whether it was made here, and its name isn't synced yet.
+    is_new: bool,
 }
 
 /// The system's own files.
 #[derive(Drop)]
 pub(crate) struct SystemFiles<R: Drop> {
+    alloc: Global,
     rt: R,
+    // The regular file that the standard output goes to, where it goes to one.
+    output: Option<FileIdentity>,
     met: Vec<Met>,
     reading: Option<Reading>,
     appending: Option<Appending>,
@@ -114,15 +121,21 @@ pub(crate) struct SystemFiles<R: Drop> {
 #[derive(Drop)]
 pub(crate) struct SystemOutput<R: Drop> {
     rt: R,
+    // Whether it goes to a regular file that the words name, into which nothing is printed.
+    is_barred: bool,
     took: Trace,
 }
 
-impl<R: Drop> SystemFiles<R> {
-    /// The files of this runtime, before any call, with memory for what so many names show to be.
+impl<R: rt::Files<File = File> + Drop> SystemFiles<R> {
+    /// The files of this runtime, before any call, with memory for what that many names show to be.
     pub(crate) fn new(alloc: Global, rt: R, names: usize) -> Result<Self, AllocError> {
+        let met = Vec::with_capacity(alloc, names)?;
+        let output = output_file(&rt);
         Ok(SystemFiles {
+            alloc,
             rt,
-            met: Vec::with_capacity(alloc, names)?,
+            output,
+            met,
             reading: None,
             appending: None,
             gave: Trace::new(),
@@ -131,19 +144,21 @@ impl<R: Drop> SystemFiles<R> {
     }
 }
 
-impl<R: Drop> SystemOutput<R> {
+impl<R: rt::Files + rt::Env + Alloc + Drop> SystemOutput<R> {
     /// The standard output of this runtime, before any call.
     pub(crate) fn new(rt: R) -> Self
         ensures { result.took.calls ≡ [] }
     {
+        let is_barred = is_among_words(&rt, output_file(&rt));
         SystemOutput {
             rt,
+            is_barred,
             took: Trace::new(),
         }
     }
 }
 
-// Which file the system tells of.
+// Which file the system says of.
 fn identity_of(told: &Metadata) -> FileIdentity {
     FileIdentity {
         device: told.dev(),
@@ -151,10 +166,51 @@ fn identity_of(told: &Metadata) -> FileIdentity {
     }
 }
 
+// What the system says of the file that a name means now, and None where it means none.
+fn told_of<R: rt::Files>(rt: &R, name: &str) -> io::Result<Option<Metadata>> {
+    match tried(|| fs::metadata(rt, name)) {
+        Ok(told) => Ok(Some(told)),
+        Err(error) if error.kind() == ErrorKind::NotFound => Ok(None),
+        Err(error) => Err(error),
+    }
+}
+
+// Whether the name means this file now.
+fn means<R: rt::Files>(rt: &R, name: &str, file: FileIdentity) -> io::Result<bool> {
+    match told_of(rt, name)? {
+        Some(told) => Ok(identity_of(&told) == file),
+        None => Ok(false),
+    }
+}
+
+// The regular file that the standard output goes to, where it goes to one. It is looked at by a name, so nothing is opened.
+fn output_file<R: rt::Files>(rt: &R) -> Option<FileIdentity> {
+    match told_of(rt, "/proc/self/fd/1") {
+        Ok(Some(told)) if told.is_file() => Some(identity_of(&told)),
+        _ => None,
+    }
+}
+
+// Whether a word after the command's means this file. A line that says of a fault must not go into a file that isn't opened yet either.
+fn is_among_words<R: rt::Files + rt::Env + Alloc>(rt: &R, output: Option<FileIdentity>) -> bool {
+    let Some(output) = output else {
+        return false;
+    };
+    let Ok(words) = env::args(rt) else {
+        return true;
+    };
+    for word in words.skip(2) {
+        if let Ok(true) = means(rt, word.as_str(), output) {
+            return true;
+        }
+    }
+    false
+}
+
 // The same open file under a number above those of the standard streams. A stream that the caller closed leaves its number free, and what is
 // printed must not go into a file of the command.
 fn above_streams(file: &File) -> io::Result<File> {
-    file.try_clone()
+    tried(|| file.try_clone())
 }
 
 // The file of the name at this place, opened anew to read from, and noted.
@@ -169,9 +225,10 @@ fn open_to_read<R: rt::Files<File = File>>(
     ensures kept { (m : Met) → Any (λ old. old ≡ m) met.old.items → Any (λ new. new ≡ m) met.new.items }
 {
     let file = above_streams(&File::open(rt, name)?)?;
+    let told = tried(|| file.metadata())?;
     let seen = Met {
         place,
-        file: identity_of(&file.metadata()?),
+        file: identity_of(&told),
     };
     let position = first_position(met, place);
     note(met, seen)?;
@@ -187,33 +244,36 @@ fn read_from(open: &mut Reading, at: u64, buf: &mut [u8]) -> io::Result<usize>
     ensures { ReadsAtMost result buf.new }
 {
     if open.position != Some(at) {
-        open.file.seek(SeekFrom::Start(at))?;
+        tried(|| open.file.seek(SeekFrom::Start(at)))?;
     }
-    let read = open.file.read(buf)?;
+    let read = read_some(&mut open.file, buf)?;
     open.position = position_behind(at, read);
     Ok(read)
 }
 
-// The file of the name at this place, opened anew to append to, and noted. It is no file that was met under another name.
+// The file of the name at this place, opened anew to append to, and noted. It is no file that was met under another name, and not the one
+// that the standard output goes to.
 fn open_to_append<R: rt::Files<File = File>>(
     rt: &R,
+    output: Option<FileIdentity>,
     met: &mut Vec<Met>,
     place: usize,
     name: &str,
 ) -> io::Result<Appending>
     ensures place { IfOk result (λ opened. opened.seen.place ≡ place) }
     ensures apart { IfOk result (λ opened. Any (λ m. (m.place ≢ place) × (m.file ≡ opened.seen.file)) met.old.items → ⊥) }
+    ensures no_output { IfOk result (λ opened. output ≢ Some opened.seen.file) }
     ensures noted { IfOk result (λ opened. Any (λ m. m ≡ opened.seen) met.new.items) }
     ensures kept { (m : Met) → Any (λ old. old ≡ m) met.old.items → Any (λ new. new ≡ m) met.new.items }
 {
-    let opened = OpenOptions::new().append(true).create(true).open(rt, name)?;
-    let file = above_streams(&opened)?;
-    let told = file.metadata()?;
+    let is_new = told_of(rt, name)?.is_none();
+    let file = above_streams(&OpenOptions::new().append(true).create(true).open(rt, name)?)?;
+    let told = tried(|| file.metadata())?;
     let seen = Met {
         place,
         file: identity_of(&told),
     };
-    if is_met_elsewhere(met, place, seen.file) {
+    if !may_take(met, seen, output) {
         return Err(io::Error::from(ErrorKind::ResourceBusy));
     }
     let is_regular = told.is_file();
@@ -225,16 +285,64 @@ fn open_to_append<R: rt::Files<File = File>>(
         seen,
         file,
         is_regular,
+        is_new,
     })
 }
 
-// Adds a prefix of a piece to the end of an open file.
-fn append_to(open: &mut Appending, piece: &[u8]) -> io::Result<usize>
+// The folder in which the system looks for a name.
+fn folder_of(name: &str) -> &str {
+    match name.rfind('/') {
+        Some(0) => "/",
+        Some(end) => &name[..end],
+        None => ".",
+    }
+}
+
+// Waits until the disk has the name of this new file. After a link the name is in another folder, which takes memory to find.
+fn sync_name<R: rt::Files<File = File>>(alloc: Global, rt: &R, name: &str) -> io::Result<()> {
+    if tried(|| fs::symlink_metadata(rt, name))?.is_symlink() {
+        let path = tried(|| rt.canonicalize(alloc, name))?;
+        return sync_folder(rt, folder_of(path.as_str()));
+    }
+    sync_folder(rt, folder_of(name))
+}
+
+fn sync_folder<R: rt::Files<File = File>>(rt: &R, folder: &str) -> io::Result<()> {
+    above_streams(&File::open(rt, folder)?)?.sync_all()
+}
+
+// Waits until the disk has what a regular file took, and the name of a new one. Then the name has to mean the same file still.
+fn settle<R: rt::Files<File = File>>(
+    alloc: Global,
+    rt: &R,
+    open: &mut Appending,
+    name: &str,
+) -> io::Result<()> {
+    open.file.sync_all()?;
+    if open.is_new {
+        sync_name(alloc, rt, name)?;
+        open.is_new = false;
+    }
+    if means(rt, name, open.seen.file)? {
+        Ok(())
+    } else {
+        Err(io::Error::from(ErrorKind::NotFound))
+    }
+}
+
+// Adds a prefix of a piece to the end of the open file of this name.
+fn append_to<R: rt::Files<File = File>>(
+    alloc: Global,
+    rt: &R,
+    open: &mut Appending,
+    name: &str,
+    piece: &[u8],
+) -> io::Result<usize>
     ensures { WritesAtMost result piece.now }
 {
-    let written = open.file.write(piece)?;
+    let written = write_some(&mut open.file, piece)?;
     if open.is_regular {
-        open.file.sync_all()?;
+        settle(alloc, rt, open, name)?;
     }
     Ok(written)
 }
@@ -260,7 +368,7 @@ impl<R: rt::Files<File = File> + Drop> SystemFiles<R> {
         self.reading = None;
         match self.appending.take() {
             Some(open) if open.seen.place == place => Ok(open),
-            _ => open_to_append(&self.rt, &mut self.met, place, name),
+            _ => open_to_append(&self.rt, self.output, &mut self.met, place, name),
         }
     }
 }
@@ -297,7 +405,10 @@ impl<R: rt::Files<File = File> + Drop> FileCalls for SystemFiles<R> {
         let Ok(mut open) = self.appending_at(place_of(known, name), name) else {
             return Err(Failed);
         };
-        let n = taken(append_to(&mut open, piece), piece.len())?;
+        let n = taken(
+            append_to(self.alloc, &self.rt, &mut open, name, piece),
+            piece.len(),
+        )?;
         self.appending = Some(open);
         self.took = self.took.with(&Call {
             name,
@@ -313,7 +424,10 @@ impl<R: Print + Drop> OutputCalls for SystemOutput<R> {
     ghost took = { λ s. s.took.calls };
 
     fn put(&mut self, piece: &[u8]) -> Result<usize, Failed> {
-        let n = taken(io::writer(&self.rt).write(piece), piece.len())?;
+        if self.is_barred {
+            return Err(Failed);
+        }
+        let n = taken(write_some(&mut io::writer(&self.rt), piece), piece.len())?;
         self.took = self.took.with(&Call {
             name: "",
             at: 0,

@@ -26,6 +26,16 @@ pub(crate) fn is_met_elsewhere(met: &[Met], place: usize, file: FileIdentity) ->
     met.iter().any(|m| m.place != place && m.file == file)
 }
 
+// Whether a name that meant this file may be appended to: it was met under no other name, and the output doesn't go there.
+pub(crate) fn may_take(met: &[Met], seen: Met, output: Option<FileIdentity>) -> bool
+    ensures apart { IsTrue result → Any (λ m. (m.place ≢ seen.place) × (m.file ≡ seen.file)) met.now → ⊥ }
+    ensures no_output { IsTrue result → output ≢ Some seen.file }
+    ensures taken { (Any (λ m. (m.place ≢ seen.place) × (m.file ≡ seen.file)) met.now → ⊥) → output ≢ Some seen.file
+        → IsTrue result }
+{
+    output != Some(seen.file) && !is_met_elsewhere(met, seen.place, seen.file)
+}
+
 // Whether any file was met under this name.
 pub(crate) fn is_met(met: &[Met], place: usize) -> bool
     ensures { IsTrue result ↔ Any (λ m. m.place ≡ place) met.now }
@@ -42,7 +52,7 @@ pub(crate) fn first_position(met: &[Met], place: usize) -> Option<u64>
     if is_met(met, place) { None } else { Some(0) }
 }
 
-// Where a plain read goes on that gave so many bytes from this place.
+// Where a plain read goes on that gave that many bytes from this place.
 pub(crate) fn position_behind(at: u64, read: usize) -> Option<u64>
     ensures some { (n : ℕ) → result ≡ Some n → n ≡ at + read }
     ensures none { result ≡ None → 2 ^ 64 ≤ at + read }

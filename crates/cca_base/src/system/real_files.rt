@@ -1,4 +1,4 @@
-// Files of the system. They tell no bytes, but know what they gave and took.
+// Files of the system. They report no bytes, but know what they gave and took.
 ghost use Rattle.std.specs.Prelude.{◌≡◌, ℕ, List, string_bytes, IfOk};
 ghost use Rattle.std.specs.List.{list_any};
 ghost use Rattle.std.specs.Str.{bytes_eq};
@@ -57,13 +57,14 @@ impl<C: FileCalls> Files for CountedFiles<C> {
 /// Files of the system.
 ///
 /// The file of the last load stays open for the next one, until another name is loaded, a load fails or
-/// anything is appended; so a pipe can be loaded from in order. The file of the last append stays open, and locked where it is a regular
+/// anything is appended, so a pipe can be loaded from in order. The file of the last append stays open, and locked where it is a regular
 /// one, until another name is appended to, an append fails or anything is loaded.
 ///
-/// What was appended to a regular file is on its disk when `append` answers; where the sync fails, the piece counts as not taken, though
-/// the file may hold it. An append fails, and takes nothing, where its file was loaded
-/// from or appended to under another name, whatever link or spelling that is, and where someone else has locked it. Each fault of the
-/// system raises the count of its kind and name, and so does a call that takes nothing of a piece that isn't empty.
+/// What was appended to a regular file is on its disk when `append` answers, and so is the name of a file that was made; the name means that
+/// file still. Where a sync fails, or the name means another file then, the piece counts as not taken, though the file may hold it. An append
+/// fails, and takes nothing, where its file was loaded from or appended to under another name, whatever link or spelling that is, where the
+/// standard output goes to it, and where someone else has locked it. Each fault of the system raises the count of its kind and name, and so does a
+/// call that takes nothing of a piece that isn't empty.
 #[derive(Drop)]
 pub struct RealFiles<R: Drop> {
     counted: CountedFiles<SystemFiles<R>>,
@@ -74,7 +75,7 @@ impl<R: rt::Files<File = File> + Drop> RealFiles<R> {
     ///
     /// # Errors
     ///
-    /// `AllocError` for want of memory.
+    /// `AllocError` when out of memory.
     pub fn new(alloc: Global, rt: R, names: &[String]) -> Result<RealFiles<R>, AllocError>
         ensures names { IfOk result
             (λ files. (name : List ℕ)

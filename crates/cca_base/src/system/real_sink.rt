@@ -4,6 +4,7 @@ ghost use Rattle.cca_base.specs.Given.{all_bytes};
 
 use crate::system::calls::{OutputCalls, SystemOutput};
 use crate::{Failed, Sink};
+use std::rt;
 
 // An output over calls of which no more is known than their clauses say. It took what the calls were answered.
 #[derive(Drop)]
@@ -34,8 +35,9 @@ pub struct RealSink<R: Print + Drop> {
     counted: CountedSink<SystemOutput<R>>,
 }
 
-impl<R: Print + Drop> RealSink<R> {
-    /// The standard output of this runtime, which has taken nothing and has no fault yet.
+impl<R: Print + rt::Files + rt::Env + Alloc + Drop> RealSink<R> {
+    /// The standard output of this runtime, which has taken nothing and has no fault yet. Where it goes to a regular file that a word after
+    /// the command names, each put fails and takes nothing.
     pub fn new(rt: R) -> Self
         ensures empty { (⟦<RealSink<R> as Sink>⟧.output result).bytes ≡ [] }
         ensures faults { (⟦<RealSink<R> as Sink>⟧.output result).faults ≡ 0 }

@@ -1,14 +1,14 @@
 //! Amounts that the tests compare.
 ghost use Rattle.std.specs.Prelude.{IsTrue, if◌then◌else◌, pos, unsigned_abs, ◌*ℤ◌, ◌<◌, ◌^◌, ◌≡◌, ◌≤ℤ◌, ◌≤◌, ◌↔◌};
-ghost use Rattle.line_check.specs.cert_laws.specs.auction_model.specs.Book.{market_of, menu_of};
-ghost use Rattle.line_check.specs.cert_laws.specs.auction_model.specs.Market.{worth_in};
-ghost use Rattle.line_check.specs.cert_laws.specs.auction_model.specs.Menu.{is_known_after};
-ghost use Rattle.cert_text.specs.choices.specs.bid_book.specs.Kept.{IsBidBook};
-ghost use Rattle.line_check.specs.cert_laws.specs.Tests.{bidders_of};
-ghost use Rattle.cert_text.specs.limits.specs.declared.TheConstants.{MOST_AMOUNT};
+ghost use Rattle.auction_model.specs.Book.{market_of, menu_of};
+ghost use Rattle.auction_model.specs.Market.{worth_in};
+ghost use Rattle.auction_model.specs.Menu.{is_known_after};
+ghost use Rattle.bid_book.specs.Kept.{IsBidBook};
+ghost use Rattle.cert_soundness.specs.Tests.{bidders_of};
+ghost use Rattle.limits.specs.declared.TheConstants.{MOST_AMOUNT};
 
-use cert_text::choices::bid_book::BidBook;
-use cert_text::choices::worth;
+use bid_book::BidBook;
+use choices::worth;
 
 /// The net amount of the bid that the choice gives to bidder `j`, and 0 for a loser.
 pub(crate) fn won(book: &BidBook, choice: &[u16], j: u16) -> i128

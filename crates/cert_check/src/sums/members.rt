@@ -1,8 +1,8 @@
 //! The members of a row.
 ghost use Rattle.std.specs.Prelude.{IsTrue, length, ℕ, ◌≡◌, ◌↔◌};
-ghost use Rattle.line_check.specs.cert_laws.specs.auction_model.specs.Market.{number_of, uses};
-ghost use Rattle.line_check.specs.cert_laws.specs.cert_form.specs.CertText.{AreMembers};
-ghost use Rattle.line_check.specs.cert_laws.specs.cert_form.specs.Certificate.{is_member};
+ghost use Rattle.auction_model.specs.Market.{number_of, uses};
+ghost use Rattle.cert_grammar.specs.CertText.{AreMembers};
+ghost use Rattle.cert_grammar.specs.Certificate.{is_member};
 
 use crate::judging::number;
 

@@ -1,12 +1,12 @@
 // The bids that come before those of the choice in the order of ties: none of them may reach the value.
 ghost use Rattle.std.specs.Prelude.{◌≡◌, ◌↔◌, ℕ, ◌-◌, ◌^◌, ◌<◌, ◌≤◌, [], length, slice_index_or, pos, ◌+ℤ◌, ◌<ℤ◌, IsTrue, unsigned_abs};
-ghost use Rattle.line_check.specs.cert_laws.specs.auction_model.specs.Package.{is_within, less};
-ghost use Rattle.line_check.specs.cert_laws.specs.auction_model.specs.Place.{left_at, place_of};
-ghost use Rattle.line_check.specs.cert_laws.specs.auction_model.specs.Market.{is_number_before, number_of};
-ghost use Rattle.line_check.specs.cert_laws.specs.auction_model.specs.Book.{bids_of, lots_of, net_of, market_of};
-ghost use Rattle.line_check.specs.cert_laws.specs.cert_form.specs.CertText.{IsTable};
-ghost use Rattle.line_check.specs.cert_laws.specs.Tests.{bidders_of, states};
-ghost use Rattle.line_check.specs.cert_laws.specs.cert_form.specs.Certificate.{CertValue};
+ghost use Rattle.auction_model.specs.Package.{is_within, less};
+ghost use Rattle.auction_model.specs.Place.{left_at, place_of};
+ghost use Rattle.auction_model.specs.Market.{is_number_before, number_of};
+ghost use Rattle.auction_model.specs.Book.{bids_of, lots_of, market_of, net_of};
+ghost use Rattle.cert_grammar.specs.CertText.{IsTable};
+ghost use Rattle.cert_soundness.specs.Tests.{bidders_of, states};
+ghost use Rattle.cert_grammar.specs.Certificate.{CertValue};
 ghost use Rattle.cert_check.specs.Fields.{cert_headed};
 ghost use Rattle.cert_check.specs.Places.{IsFirstFailing};
 ghost use Rattle.cert_check.specs.EarlierBids.{StaysBelow, AllStayBelow, NoneEarlier, IsLeft};
@@ -14,8 +14,8 @@ ghost use Rattle.cert_check.specs.EarlierBids.{StaysBelow, AllStayBelow, NoneEar
 use crate::judging::number;
 use crate::tables::STATE_ROOM;
 use crate::tables::grids::put_line;
-use cert_text::choices::bid_book::BidBook;
-use cert_text::choices::{Grid, place_after, worth};
+use bid_book::BidBook;
+use choices::{Grid, place_after, worth};
 
 /// Whether bid `i` of bidder `j`, where it fits what the place `rest` leaves, stays below `bound` with the line's entry for what
 /// is left then.
@@ -101,7 +101,7 @@ fn rest_after(book: &BidBook, j: u16, i: u16, rest: usize) -> usize
 
 /// What the bids of some bidders of a choice leave.
 #[derive(Drop)]
-struct Left {
+struct Remainder {
     /// The place of the supply that is left.
     rest: usize,
     /// What is left of the value.
@@ -109,7 +109,7 @@ struct Left {
 }
 
 /// What the bids of the bidders before `j` leave of the supply and of the value.
-fn left_before(book: &BidBook, choice: &[u16], value: i128, j: u16) -> Left
+fn left_before(book: &BidBook, choice: &[u16], value: i128, j: u16) -> Remainder
     requires allowed { IsTrue ((market_of book.now).allowed choice.now) }
     requires bidder { (0 < j) × (j ≤ bidders_of book.now) }
     requires value { unsigned_abs value < 2 ^ 120 }
@@ -123,7 +123,7 @@ fn left_before(book: &BidBook, choice: &[u16], value: i128, j: u16) -> Left
         rest = rest_after(book, i, own, rest);
         bound -= worth(book, i, own);
     }
-    Left { rest, bound }
+    Remainder { rest, bound }
 }
 
 /// Whether no bid of bidder `j` that comes before its number in the choice reaches the value with the bids of the choice before it
@@ -141,7 +141,7 @@ pub fn none_earlier(book: &BidBook, choice: &[u16], value: i128, line: &[i128], 
     all_stay_below(book, choice, j, line, left.rest, left.bound)
 }
 
-/// The same of a line of a whole table.
+/// Whether no earlier choice reaches the value, by a line of a whole table.
 fn none_earlier_in(book: &BidBook, choice: &[u16], value: i128, table: &Grid, j: u16) -> bool
     requires allowed { IsTrue ((market_of book.now).allowed choice.now) }
     requires table { IsTable (bidders_of book.now) (states book.now) table.now }

@@ -1,14 +1,14 @@
 // What the bidders gain at the payments.
 ghost use Rattle.std.specs.Prelude.{◌≡◌, ℕ, ◌<◌, ◌≤◌, length};
-ghost use Rattle.line_check.specs.cert_laws.specs.auction_model.specs.Lowered.{of_bidder};
-ghost use Rattle.line_check.specs.cert_laws.specs.cert_form.specs.CertText.{AllInRange};
-ghost use Rattle.line_check.specs.cert_laws.specs.Tests.{bidders_of};
-ghost use Rattle.line_check.specs.Worths.{HasSmallWorths};
+ghost use Rattle.auction_model.specs.Lowered.{of_bidder};
+ghost use Rattle.cert_grammar.specs.CertText.{AllInRange};
+ghost use Rattle.cert_soundness.specs.Tests.{bidders_of};
+ghost use Rattle.table_check.specs.Worths.{HasSmallWorths};
 ghost use Rattle.cert_check.specs.Gains.{CanLower, gain_of};
 
 use crate::claim::Claim;
-use cert_text::choices::bid_book::BidBook;
-use line_check::scaled_less;
+use bid_book::BidBook;
+use table_check::scaled_less;
 
 /// What bidder `j` gains at the payments, times the denominator: what its bid in the choice is worth less what it pays, and
 /// nothing where it loses.
@@ -25,7 +25,7 @@ fn gain(book: &BidBook, den: i128, choice: &[u16], pay: &[i128], j: u16) -> i128
 }
 
 /// Writes what each bidder gains at the payments, times the denominator, bidder by bidder from the first number on. With these gains
-/// no worth of a bid is too large for `Offers`.
+/// no worth of a bid is too large for `TestedBids`.
 pub fn put_gains(claim: &Claim, pay: &[i128], gains: &mut [i128])
     requires pay { (length pay.now ≡ bidders_of claim.now.book.now) × AllInRange pay.now }
     requires room { bidders_of claim.now.book.now ≤ length gains.old }
@@ -38,7 +38,7 @@ pub fn put_gains(claim: &Claim, pay: &[i128], gains: &mut [i128])
     put_each(claim.book, claim.den, claim.choice, pay, gains);
 }
 
-/// The same where all products are small.
+/// Puts the gain of each bidder, if all products are small.
 fn put_each(book: &BidBook, den: i128, choice: &[u16], pay: &[i128], gains: &mut [i128])
     requires lower { CanLower book.now den choice.now pay.now }
     requires room { bidders_of book.now ≤ length gains.old }

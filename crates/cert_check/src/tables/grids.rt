@@ -1,60 +1,25 @@
 // The rules of a whole table.
-ghost use Rattle.std.specs.Prelude.{◌≡◌, ℕ, ◌+◌, ◌≤◌, ◌<◌, [], length, slice_index_or, IsTrue};
-ghost use Rattle.line_check.specs.cert_laws.specs.cert_form.specs.CertText.{IsTable};
-ghost use Rattle.line_check.specs.cert_laws.specs.Tests.{bidders_of, states};
-ghost use Rattle.line_check.specs.Faults.{FirstFault};
-ghost use Rattle.line_check.specs.Growth.{Grows};
+ghost use Rattle.std.specs.Prelude.{◌≡◌, ◌+◌, ◌≤◌, ◌<◌, [], length, slice_index_or, IsTrue};
+ghost use Rattle.cert_grammar.specs.CertText.{IsTable};
+ghost use Rattle.cert_soundness.specs.Tests.{bidders_of, states};
+ghost use Rattle.table_check.specs.Faults.{FirstFault};
+ghost use Rattle.table_check.specs.Growth.{Grows};
 ghost use Rattle.cert_check.specs.Places.{IsFirstFailing};
-ghost use Rattle.line_check.specs.LineTests.{IsWhole, ObeysIn, RulesAt, TestsTable};
-ghost use Rattle.cert_text.specs.choices.specs.Lines.{width_of};
+ghost use Rattle.table_check.specs.LineTests.{ObeysIn, RulesAt, TestsTable};
+ghost use Rattle.choices.specs.Lines.{width_of};
 
 use crate::tables::STATE_ROOM;
-use cert_text::choices::Grid;
-use line_check::{LineFault, Offers, last_line_fault, two_lines_found};
-
-/// Whether two tables are seen to have the same line.
-fn share_line(table: &Grid, other: &Grid, k: usize) -> bool
-    requires line { k < length table.now }
-    requires other { k < length other.now }
-    ensures { IsTrue result → slice_index_or table.now k [] ≡ slice_index_or other.now k [] }
-{
-    table.is_line_of(k, other, k)
-}
-
-/// Whether line `k` of a table without a bidder and the line below it are those of the table of all bids, and their bids are the
-/// same: then it was tested there.
-fn is_tested(offers: &Offers, whole: &Grid, table: &Grid, k: usize) -> bool
-    requires shape { IsTable (bidders_of offers.now.book.now) (states offers.now.book.now) whole.now }
-    requires whole { IsWhole offers.now whole.now }
-    requires table { IsTable (bidders_of offers.now.book.now) (states offers.now.book.now) table.now }
-    requires line { k ≤ bidders_of offers.now.book.now }
-    ensures { IsTrue result → (s : ℕ) → ObeysIn offers.now table.now k s }
-{
-    if offers.skip == 0 || k < offers.skip as usize {
-        return false;
-    }
-    if !share_line(table, whole, k) {
-        return false;
-    }
-    k == offers.book.bidders() || share_line(table, whole, k + 1)
-}
+use choices::Grid;
+use table_check::{LineFault, TestedBids, last_line_fault, two_lines_found};
 
 /// What line `k` shows, which is known to grow where `known` says so.
-fn rule_fault(offers: &Offers, whole: &Grid, table: &Grid, k: usize, known: bool) -> LineFault
-    requires shape { IsTable (bidders_of offers.now.book.now) (states offers.now.book.now) whole.now }
-    requires whole { IsWhole offers.now whole.now }
+fn rule_fault(offers: &TestedBids, table: &Grid, k: usize, known: bool) -> LineFault
     requires table { IsTable (bidders_of offers.now.book.now) (states offers.now.book.now) table.now }
     requires line { k ≤ bidders_of offers.now.book.now }
     requires known { IsTrue known → Grows offers.now.book.now.supply (slice_index_or table.now k []) }
     ensures place { FirstFault (ObeysIn offers.now table.now k) (states offers.now.book.now) result.place }
     ensures grows { IsTrue result.below_grows → Grows offers.now.book.now.supply (slice_index_or table.now (k + 1) []) }
 {
-    if is_tested(offers, whole, table, k) {
-        return LineFault {
-            place: offers.book.supply().states(),
-            below_grows: false,
-        };
-    }
     if k == offers.book.bidders() {
         return LineFault {
             place: bottom_fault(offers, table),
@@ -64,8 +29,8 @@ fn rule_fault(offers: &Offers, whole: &Grid, table: &Grid, k: usize, known: bool
     inner_fault(offers, table, k as u16, known)
 }
 
-/// The same of a line that isn't the last, and has to be tested.
-fn inner_fault(offers: &Offers, table: &Grid, k: u16, known: bool) -> LineFault
+/// What line `k`, which isn't the last, shows: it is known to grow where `known` says so.
+fn inner_fault(offers: &TestedBids, table: &Grid, k: u16, known: bool) -> LineFault
     requires table { IsTable (bidders_of offers.now.book.now) (states offers.now.book.now) table.now }
     requires line { k < bidders_of offers.now.book.now }
     requires known { IsTrue known → Grows offers.now.book.now.supply (slice_index_or table.now k []) }
@@ -82,8 +47,8 @@ fn inner_fault(offers: &Offers, table: &Grid, k: u16, known: bool) -> LineFault
     two_lines_found(offers, k, line, below, known)
 }
 
-/// The first place at which the last line breaks a rule, and the number of states where there is none.
-fn bottom_fault(offers: &Offers, table: &Grid) -> usize
+/// The first place at which the last line breaks a rule, and the number of states if there is none.
+fn bottom_fault(offers: &TestedBids, table: &Grid) -> usize
     requires { IsTable (bidders_of offers.now.book.now) (states offers.now.book.now) table.now }
     ensures { FirstFault (ObeysIn offers.now table.now (bidders_of offers.now.book.now)) (states offers.now.book.now) result }
 {
@@ -105,16 +70,14 @@ pub(crate) fn put_line(table: &Grid, k: usize, line: &mut [i128])
 }
 
 /// The first number of a line and a place in it at which a table breaks a rule.
-pub fn table_fault(offers: &Offers, whole: &Grid, table: &Grid) -> Option<u64>
-    requires shape { IsTable (bidders_of offers.now.book.now) (states offers.now.book.now) whole.now }
-    requires whole { IsWhole offers.now whole.now }
+pub fn table_fault(offers: &TestedBids, table: &Grid) -> Option<u64>
     requires table { IsTable (bidders_of offers.now.book.now) (states offers.now.book.now) table.now }
     ensures { IsFirstFailing (RulesAt offers.now table.now) result }
 {
     let states = offers.book.supply().states();
     let mut known = false;
     for k in 0..offers.book.bidders() + 1 {
-        let found = rule_fault(offers, whole, table, k, known);
+        let found = rule_fault(offers, table, k, known);
         if found.place < states {
             return Some((k * states + found.place) as u64);
         }
@@ -123,15 +86,13 @@ pub fn table_fault(offers: &Offers, whole: &Grid, table: &Grid) -> Option<u64>
     None
 }
 
-/// The first number at which a table breaks a rule, or the number behind all of these where line 0 has more than `most` for the
-/// whole supply. Where the offers skip a bidder, `whole` is the table of all bids, whose lines aren't tested again.
-pub fn table_test(offers: &Offers, whole: &Grid, table: &Grid, most: i128) -> Option<u64>
-    requires shape { IsTable (bidders_of offers.now.book.now) (states offers.now.book.now) whole.now }
-    requires whole { IsWhole offers.now whole.now }
+/// The first number at which a table breaks a rule, or the number after all of these where line 0 has more than `most` for the
+/// whole supply.
+pub fn table_test(offers: &TestedBids, table: &Grid, most: i128) -> Option<u64>
     requires table { IsTable (bidders_of offers.now.book.now) (states offers.now.book.now) table.now }
     ensures { IsFirstFailing (TestsTable offers.now table.now most) result }
 {
-    if let Some(place) = table_fault(offers, whole, table) {
+    if let Some(place) = table_fault(offers, table) {
         return Some(place);
     }
     let states = offers.book.supply().states();

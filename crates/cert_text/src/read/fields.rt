@@ -1,16 +1,16 @@
 // The kinds of lines of a certificate.
 ghost use Rattle.std.specs.Prelude.{◌≡◌, ◌≤◌, ◌<◌, ◌↔◌, ◌∷◌, length, codes, IsTrue, IfOk, IfErr, MatchOption, [], false, pos};
-ghost use Rattle.cert_form.specs.Lines.{kind, these, signed, chosen, members, AreNumbers};
-ghost use Rattle.cert_form.specs.line_text.specs.Range.{any_out};
-ghost use Rattle.cert_form.specs.CertText.{line, as_numbers, IsChoice, AreMembers};
-ghost use Rattle.cert_form.specs.line_text.specs.Range.{AllInRange};
+ghost use Rattle.cert_grammar.specs.Lines.{kind, these, signed, chosen, members, AreNumbers};
+ghost use Rattle.line_format.specs.Range.{AllInRange, any_out};
+ghost use Rattle.cert_grammar.specs.CertText.{line, as_numbers, IsChoice, AreMembers};
 ghost use Rattle.cert_text.specs.Readers.{IsLineAt, Leads, Halts, LeadsLike, HaltsLike, LeadsChosen, HaltsChosen, LeadsCounted, HaltsCounted, HaltsSmall, IsCount, IsNoCount, AreSmall, AreNotSmall};
 
 use crate::CertStop;
 use crate::read::lines::{LineNumbers, take_line};
-use choices::bid_book::line_text::wide_num::NumList;
 use choices::{Choice, Numbers};
+use limits::{MOST_CHOSEN, MOST_ROWS};
 use std::alloc::{AllocError, Global};
+use wide_num::NumList;
 
 /// Signed numbers that were read, and where the next line begins.
 #[derive(Drop)]
@@ -51,7 +51,7 @@ pub struct MembersRead {
 /// How many rows there are, and where the next line begins.
 #[derive(Clone, Copy)]
 pub struct CountRead {
-    /// How many rows come behind the line.
+    /// How many rows come after the line.
     pub count: usize,
     /// The byte where the next line begins.
     pub next: usize,
@@ -83,7 +83,7 @@ pub fn take_these(
     Ok(next)
 }
 
-/// Reads a line of the word and so many signed numbers.
+/// Reads a line of the word and that many signed numbers.
 ///
 /// Errors: those of the line, as in [`read_cert`](crate::read_cert).
 pub fn take_signed(
@@ -148,7 +148,7 @@ pub fn take_each(
     Ok(read)
 }
 
-/// Reads a line of a choice of so many bidders.
+/// Reads a line of a choice of that many bidders.
 ///
 /// Errors: those of the line, as in [`read_cert`](crate::read_cert).
 pub fn take_choice(
@@ -248,7 +248,7 @@ fn row_count(bidders: u16, numbers: &[u16]) -> Option<usize>
         return None;
     }
     let count = numbers[0];
-    if count > 10 {
+    if count as usize > MOST_ROWS {
         return None;
     }
     if count > 0 && bidders == 0 {
@@ -257,7 +257,7 @@ fn row_count(bidders: u16, numbers: &[u16]) -> Option<usize>
     Some(count as usize)
 }
 
-/// Reads a line of the word and numbers of 0 to 65,535, as a rule so many.
+/// Reads a line of the word and numbers of 0 to 65,535, as a rule that many.
 fn take_small(
     alloc: Global,
     bytes: &[u8],
@@ -284,13 +284,13 @@ fn take_small(
     }
 }
 
-/// The same numbers, where each is one of 0 to 65,535.
+/// The numbers as they are, if each is one of 0 to 65,535.
 fn small_numbers(alloc: Global, items: &[i128]) -> Result<Option<Numbers>, AllocError>
     ensures { IfOk result (λ r. MatchOption r (AreNotSmall items.now) (AreSmall items.now)) }
 {
     let mut numbers = Numbers::new(alloc);
     for item in items {
-        if *item < 0 || *item > 65535 {
+        if *item < 0 || *item > MOST_CHOSEN as i128 {
             return Ok(None);
         }
         numbers.push(*item as u16)?;

@@ -1,13 +1,13 @@
 // Lines of a word and numbers.
 ghost use Rattle.std.specs.Prelude.{◌≡◌, ◌≤◌, ◌↔◌, ◌++◌, length, take, List, IsTrue, IfOk, IfErr, [], ℤ};
-ghost use Rattle.cert_form.specs.line_text.specs.Numeral.{numbers_text};
+ghost use Rattle.line_format.specs.Numeral.{numbers_text};
 ghost use Rattle.cert_text.specs.Readers.{IsLineAt, IsRefused};
-ghost use Rattle.cert_form.specs.line_text.specs.Fields.{HasLine};
+ghost use Rattle.line_format.specs.Fields.{HasLine};
 
 use crate::CertStop;
-use choices::bid_book::line_text::wide_num::NumList;
-use choices::bid_book::line_text::{NumbersStop, line_len, numbers_behind};
+use line_format::{NumbersStop, line_len, numbers_behind};
 use std::alloc::Global;
+use wide_num::NumList;
 
 /// The numbers of a line, and where the next line begins. Where one is out of range the list has only as many numbers.
 #[derive(Drop)]
@@ -18,7 +18,7 @@ pub(crate) struct LineNumbers {
     pub(crate) next: usize,
 }
 
-/// Reads the line at the place, of a word and numbers, as a rule so many.
+/// Reads the line at the place, of a word and numbers, as a rule that many.
 pub(crate) fn take_line(
     alloc: Global,
     bytes: &[u8],

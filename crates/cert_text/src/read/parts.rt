@@ -1,7 +1,7 @@
 // The parts of a certificate without each winner.
 ghost use Rattle.std.specs.Prelude.{◌≡◌, ◌≤◌, ◌∷◌, length, IfOk, IfErr, [], map, pos};
-ghost use Rattle.cert_form.specs.Lines.{part_plan, parts_plan, unless_zero};
-ghost use Rattle.cert_form.specs.CertText.{as_numbers, part_lines, IsWithout, AreWithouts};
+ghost use Rattle.cert_grammar.specs.Lines.{part_plan, parts_plan, unless_zero};
+ghost use Rattle.cert_grammar.specs.CertText.{as_numbers, part_lines, IsWithout, AreWithouts};
 ghost use Rattle.cert_text.specs.Parts.{without_value};
 ghost use Rattle.cert_text.specs.PartReads.{without_kind, without_line, own_lines, AddsPart};
 ghost use Rattle.cert_text.specs.Readers.{Leads, Halts};

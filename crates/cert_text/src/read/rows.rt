@@ -1,8 +1,8 @@
 // The rows of a certificate.
 ghost use Rattle.std.specs.Prelude.{◌≡◌, ◌≤◌, ◌∷◌, length, IfOk, IfErr, [], map};
-ghost use Rattle.cert_form.specs.Lines.{kind, signed, rows_plan};
-ghost use Rattle.cert_form.specs.CertText.{line, row_lines, IsRow, AreRows};
-ghost use Rattle.cert_form.specs.wide_num.specs.Range.{InRange};
+ghost use Rattle.cert_grammar.specs.Lines.{kind, signed, rows_plan};
+ghost use Rattle.cert_grammar.specs.CertText.{line, row_lines, IsRow, AreRows};
+ghost use Rattle.wide_num.specs.Range.{InRange};
 ghost use Rattle.cert_text.specs.Parts.{row_value};
 ghost use Rattle.cert_text.specs.PartReads.{row_plan, own_row};
 ghost use Rattle.cert_text.specs.Readers.{Leads, Halts};
@@ -43,7 +43,7 @@ pub(crate) struct RowsRead {
     pub(crate) next: usize,
 }
 
-/// Reads so many rows.
+/// Reads that many rows.
 pub(crate) fn take_rows(
     alloc: Global,
     bytes: &[u8],

@@ -1,8 +1,8 @@
 // The stages of a certificate's text.
 ghost use Rattle.std.specs.Prelude.{◌≡◌, ◌≤◌, length, IfOk, IfErr, [], ◌∷◌, map};
-ghost use Rattle.cert_form.specs.CertText.{IsChoice, IsTable, AreWithouts, AreRows};
-ghost use Rattle.cert_form.specs.wide_num.specs.Range.{InRange};
-ghost use Rattle.cert_form.specs.line_text.specs.Range.{AllInRange};
+ghost use Rattle.cert_grammar.specs.CertText.{IsChoice, IsTable, AreWithouts, AreRows};
+ghost use Rattle.wide_num.specs.Range.{InRange};
+ghost use Rattle.line_format.specs.Range.{AllInRange};
 ghost use Rattle.cert_text.specs.Parts.{without_value, row_value};
 ghost use Rattle.cert_text.specs.StagePlans.{opening_plan, opening_lines, winning_kind, winning_lines, payment_plan, payment_lines, closing_plan, closing_lines};
 ghost use Rattle.cert_text.specs.Readers.{Leads, Halts};
@@ -12,9 +12,9 @@ use crate::read::parts::take_parts;
 use crate::read::rows::{take_number, take_rows};
 use crate::read::tables::{TableRead, take_named};
 use crate::{CertRows, CertStop, Shape, WithoutList};
-use choices::bid_book::line_text::wide_num::NumList;
 use choices::{Choice, Grid};
 use std::alloc::Global;
+use wide_num::NumList;
 
 /// The denominator and the value, and where the next line begins.
 #[derive(Clone, Copy)]

@@ -1,7 +1,7 @@
 // Tables of a certificate.
 ghost use Rattle.std.specs.Prelude.{◌≤◌, ◌∷◌, length, IfOk, IfErr, []};
-ghost use Rattle.cert_form.specs.Lines.{kind, these, table_plan};
-ghost use Rattle.cert_form.specs.CertText.{line, table_lines, IsTable};
+ghost use Rattle.cert_grammar.specs.Lines.{kind, these, table_plan};
+ghost use Rattle.cert_grammar.specs.CertText.{line, table_lines, IsTable};
 ghost use Rattle.cert_text.specs.Readers.{Leads, Halts};
 
 use crate::read::fields::{take_signed, take_these};

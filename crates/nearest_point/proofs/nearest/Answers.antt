@@ -2,7 +2,7 @@ use Rattle.std.proofs.Common.{◌≡◌, ◌^◌, length, arith, ap, ◌∙◌, 
 use Rattle.std.specs.Prelude.{ℤ, pos, ◌<ℤ◌, ◌≤ℤ◌}
 use Rattle.std.specs.Int.{w128}
 use Rattle.std.proofs.lemmas.Int.{ints}
-use Rattle.point_laws.specs.wide_num.specs.Sums.{nth}
+use Rattle.wide_num.specs.Sums.{nth}
 use Rattle.nearest_point.specs.Problem.{weight_at, coefficients, bounds}
 use Rattle.nearest_point.specs.Numbers.{place, spread}
 use Rattle.nearest_point.proofs.Answer.{Answer, answer_same}

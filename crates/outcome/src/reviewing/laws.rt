@@ -1,8 +1,8 @@
-// What holds of the text of a review, whoever writes it.
+// What holds of the text of a review, regardless of who writes it.
 ghost use Rattle.std.specs.Prelude.{◌≡◌, ℕ, List, length};
 ghost use Rattle.std.specs.List.{AllByRecursion};
-ghost use Rattle.review.specs.auction_model.specs.Book.{Book};
-ghost use Rattle.review.specs.book_form.specs.BookLines.{IsBookWithinLimits};
+ghost use Rattle.auction_model.specs.Book.{Book};
+ghost use Rattle.book_grammar.specs.BookLines.{IsBookWithinLimits};
 ghost use Rattle.review.specs.Edits.{edit_lots};
 ghost use Rattle.review.specs.declared.edit.Edit.{Edit};
 ghost use Rattle.outcome.specs.ReviewText.{IsReviewText};

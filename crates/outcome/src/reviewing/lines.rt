@@ -1,13 +1,13 @@
 // The lines of a review.
 ghost use Rattle.std.specs.Prelude.{◌≡◌, ◌∷◌, ◌++◌, List, ℕ, OnOk, codes};
 ghost use Rattle.std.specs.Fmt.{decimal, signed_decimal};
-ghost use Rattle.review.specs.line_text.specs.Decimals.{decimals_text};
+ghost use Rattle.line_format.specs.Decimals.{decimals_text};
 ghost use Rattle.outcome.specs.ReviewText.{IsStateLine, refusal_text, worded};
 
-use choices::bid_book::line_text::wide_num::Text;
-use choices::bid_book::line_text::{add_decimal, add_number, add_numbers, add_signed};
+use line_format::{add_decimal, add_number, add_numbers, add_signed};
 use review::{EditReply, Review};
 use std::alloc::AllocError;
+use wide_num::Text;
 
 /// Adds the line of this number for the book as it is: its net value and its winning choice.
 pub fn add_state(text: &mut Text, n: u64, review: &Review) -> Result<(), AllocError>
@@ -44,7 +44,7 @@ pub fn add_refusal(text: &mut Text, n: u64, refusal: EditReply) -> Result<(), Al
     add_refused(text, n, &refusal)
 }
 
-/// The same of a refusal that is lent.
+/// Adds the line of a refused edit, of a refusal that is borrowed.
 fn add_refused(text: &mut Text, n: u64, refusal: &EditReply) -> Result<(), AllocError>
     ensures { OnOk result (text.new ≡ text.old ++ (decimal n ++ 32 ∷ refusal_text refusal.now ++ codes "\n")) }
 {

@@ -6,13 +6,13 @@ ghost use Rattle.outcome.specs.ReviewText.{IsReplyLine, IsReviewText, behind};
 
 use crate::reviewing::lines::{add_refusal, add_state};
 use crate::win_text;
-use choices::bid_book::BidBook;
-use choices::bid_book::line_text::wide_num::Text;
+use bid_book::BidBook;
 use review::{Edit, EditReply, Review};
 use std::alloc::{AllocError, Global};
+use wide_num::Text;
 
 /// What is printed of the edits of a book: a line for the book as it is, a line for each edit in order, which is taken or refused, and
-/// the winners of the book behind the last. Each edit's package has the book's number of categories. The only error is want of memory.
+/// the winners of the book after the last. Each edit's package has the book's number of categories. The only error is out of memory.
 pub fn review_text(alloc: Global, book: BidBook, edits: &[Edit]) -> Result<Text, AllocError>
     requires { AllByRecursion (λ e. length (edit_lots e) ≡ length book.supply) edits.now }
     ensures { IfOk result (λ text. IsReviewText book edits.now text) }
@@ -22,7 +22,7 @@ pub fn review_text(alloc: Global, book: BidBook, edits: &[Edit]) -> Result<Text,
     Ok(text)
 }
 
-/// The same of a review that has begun.
+/// The text of the edits of a review that has begun.
 fn reviewed(alloc: Global, review: &mut Review, edits: &[Edit]) -> Result<Text, AllocError>
     requires { AllByRecursion (λ e. length (edit_lots e) ≡ length review.old.book.supply) edits.now }
     ensures { IfOk result (λ text. IsReviewText review.old.book edits.now text) }

@@ -2,25 +2,25 @@
 ghost use Rattle.std.specs.Prelude.{◌≡◌, ◌<◌, ◌+◌, ◌*◌, ◌^◌, ◌++◌, ◌∷◌, OnOk, List, ℕ, codes, length};
 ghost use Rattle.std.specs.Fmt.{decimal, signed_decimal};
 ghost use Rattle.std.specs.List.{AllByRecursion};
-ghost use Rattle.outcome.specs.auction_model.specs.Lowered.{of_bidder};
-ghost use Rattle.outcome.specs.auction_model.specs.Market.{number_of};
-ghost use Rattle.outcome.specs.cert_laws.specs.Sound.{cert_point};
+ghost use Rattle.auction_model.specs.Lowered.{of_bidder};
+ghost use Rattle.auction_model.specs.Market.{number_of};
+ghost use Rattle.cert_soundness.specs.Sound.{cert_point};
 ghost use Rattle.outcome.specs.Fractions.{IsFractionOf};
-ghost use Rattle.outcome.specs.print_form.specs.Fractions.{IsFractionText};
-ghost use Rattle.place_check.specs.place_cert.specs.CertValues.{place_cert_value};
-ghost use Rattle.place_check.specs.PlaceSound.{prices_in};
-ghost use Rattle.place_check.specs.slot_places.specs.Board.{market_of};
-ghost use Rattle.place_check.specs.slot_places.specs.Slots.{bid_of, bidder_of};
+ghost use Rattle.print_grammar.specs.Fractions.{IsFractionText};
+ghost use Rattle.placement_cert.specs.CertValues.{place_cert_value};
+ghost use Rattle.cert_soundness.specs.MarketPrices.{prices_in};
+ghost use Rattle.slot_places.specs.Board.{market_of_slots};
+ghost use Rattle.slot_places.specs.Slots.{bid_of, bidder_of};
 ghost use Rattle.place_price.specs.PlaceText.{ArePricedLines, placed_line, placed_lines};
 ghost use Rattle.place_price.specs.PlacePrintable.{CanPrint, IsBidder, IsLineOf, IsRestOf};
 
+use line_format::{add_decimal, add_number, add_signed};
 use outcome::{Fraction, add_fraction};
-use place_cert::PlaceCertificate;
-use place_cert::cert_text::choices::bid_book::line_text::wide_num::Text;
-use place_cert::cert_text::choices::bid_book::line_text::{add_decimal, add_number, add_signed};
-use place_check::slot_places::Slots;
-use place_check::vickrey;
+use placement_cert::PlaceCertificate;
+use placement_check::vickrey;
+use slot_places::Slots;
 use std::alloc::AllocError;
+use wide_num::Text;
 
 /// Adds the lines of bidders that are laid side by side in this order, the first from this slot on.
 pub(crate) fn add_placed(
@@ -54,7 +54,7 @@ fn add_placed_line(text: &mut Text, slots: &Slots, start: u64, j: u16) -> Result
     text.push(b'\n')
 }
 
-/// Adds the lines of the winners among bidders with these numbers in the choice, so many others being passed.
+/// Adds the lines of the winners among bidders with these numbers in the choice, that many others being passed.
 pub(crate) fn add_winners(
     text: &mut Text,
     slots: &Slots,
@@ -67,7 +67,7 @@ pub(crate) fn add_winners(
     requires rest { IsRestOf cert.now.choice before numbers.now }
     ensures { OnOk result
         ((lines : List ℕ)
-        × ArePricedLines slots.now (prices_in (market_of slots.now) (place_cert_value cert.now).cert)
+        × ArePricedLines slots.now (prices_in (market_of_slots slots.now) (place_cert_value cert.now).cert)
         (cert_point (place_cert_value cert.now).cert) before numbers.now lines × (text.new ≡ text.old ++ lines)) }
 {
     match numbers {
@@ -90,7 +90,7 @@ fn add_line_of(
     requires bidder { IsBidder slots.now j }
     ensures { OnOk result
         ((line : List ℕ)
-        × IsLineOf slots.now (prices_in (market_of slots.now) (place_cert_value cert.now).cert)
+        × IsLineOf slots.now (prices_in (market_of_slots slots.now) (place_cert_value cert.now).cert)
         (cert_point (place_cert_value cert.now).cert) j (number_of cert.now.choice j) line
         × (text.new ≡ text.old ++ line)) }
 {
@@ -112,7 +112,7 @@ fn add_winner(
     requires wins { 0 < number_of cert.now.choice j }
     ensures { OnOk result
         ((line : List ℕ)
-        × IsLineOf slots.now (prices_in (market_of slots.now) (place_cert_value cert.now).cert)
+        × IsLineOf slots.now (prices_in (market_of_slots slots.now) (place_cert_value cert.now).cert)
         (cert_point (place_cert_value cert.now).cert) j (number_of cert.now.choice j) line
         × (text.new ≡ text.old ++ line)) }
 {
@@ -145,7 +145,7 @@ fn add_bid(
     Ok(())
 }
 
-// Adds what stands behind the bid of winner `j`: its Vickrey price and what it pays.
+// Adds what follows the bid of winner `j`: its Vickrey price and what it pays.
 fn add_prices(
     text: &mut Text,
     slots: &Slots,
@@ -158,7 +158,7 @@ fn add_prices(
     ensures { OnOk result
         ((pays : List ℕ) × IsFractionText (of_bidder cert.now.pay j) cert.now.den pays
         × (text.new ≡ text.old ++ codes " vickrey "
-        ++ signed_decimal (prices_in (market_of slots.now) (place_cert_value cert.now).cert j)
+        ++ signed_decimal (prices_in (market_of_slots slots.now) (place_cert_value cert.now).cert j)
         ++ codes " pays " ++ pays ++ codes "\n")) }
 {
     text.add(b" vickrey ")?;

@@ -6,9 +6,9 @@ ghost use Rattle.slot_places.specs.Stages.{Adds, AddsBidder, AddsPlace, IsEntran
 
 use crate::read::fields::{read_within, two_fields};
 use crate::{MOST_PLACED, Place, Slots};
-use choices::bid_book::line_text::{LineStop, read_at_most};
-use choices::bid_book::lots::limits::{LimitKind, MOST_AMOUNT};
-use choices::bid_book::{Excess, Name, name_text};
+use bid_book::{Excess, Name, name_text};
+use limits::{LimitKind, MOST_AMOUNT};
+use line_format::{LineStop, read_at_most};
 use std::alloc::Global;
 
 /// Takes the line of a bidder or of a bid.

@@ -3,7 +3,7 @@ ghost use Rattle.std.specs.Prelude.{IfNone, IfSome, List, ℕ, ◌++◌, ◌∷�
 ghost use Rattle.std.specs.Fmt.{decimal};
 ghost use Rattle.std.specs.List.{AllByRecursion};
 
-use choices::bid_book::line_text::{field_len, read_at_most};
+use line_format::{field_len, read_at_most};
 
 /// The two fields of a text, of which the first ends at the first space.
 pub fn two_fields(text: &[u8]) -> Option<(&[u8], &[u8])>

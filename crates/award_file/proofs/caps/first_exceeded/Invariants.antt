@@ -1,6 +1,6 @@
 -- The caps that are left decide.
 use Rattle.std.proofs.Common.{◌≡◌, ◌+◌, drop}
-use Rattle.auction_rules.specs.lots.specs.auction_model.specs.Package.{together}
+use Rattle.auction_model.specs.Package.{together}
 use Rattle.auction_rules.specs.Terms.{first_broken}
 use Rattle.award_file.specs.Fields.{cap_values}
 use Rattle.award_file.proofs.caps.first_exceeded.Given as goal

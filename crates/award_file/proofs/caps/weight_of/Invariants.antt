@@ -1,6 +1,6 @@
 -- The sum of the categories passed so far, and of those that are left.
 use Rattle.std.proofs.Common.{◌≡◌, ◌+◌, ◌*◌, ◌^◌, ◌≤◌, drop}
-use Rattle.auction_rules.specs.lots.specs.auction_model.specs.Package.{together, cost_of}
+use Rattle.auction_model.specs.Package.{cost_of, together}
 use Rattle.award_file.proofs.caps.weight_of.Given as goal
 
 abbrev pub invariant-loop-i : goal.invariant-loop-i

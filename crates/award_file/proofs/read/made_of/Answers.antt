@@ -1,7 +1,7 @@
 use Rattle.std.proofs.Common.{◌≡◌, ℕ, ◌≤◌, None, List, length, map, sym, ap, subst, ◌∙◌, arith}
 use Rattle.std.proofs.lemmas.Result.{err_from_is_err_and}
-use Rattle.bid_book.specs.book_form.specs.BookForm.{IsOffer}
-use Rattle.bid_book.specs.book_form.specs.BookLines.{supply_excess}
+use Rattle.book_grammar.specs.BookForm.{IsOffer}
+use Rattle.book_grammar.specs.BookLines.{supply_excess}
 use Rattle.award_file.specs.declared.read.categories.Category.{Category as Read}
 use Rattle.award_file.specs.Award.{IsAward, IsSteps, steps_with}
 use Rattle.award_file.specs.Parts.{counts, terms_value}

@@ -1,9 +1,9 @@
 use Rattle.std.proofs.Common.{⊎_elim, ◌≡◌, Some, sym, subst, refl, ◌∙◌, ap}
 use Rattle.std.proofs.lemmas.Result.{err_from_is_err_and}
-use Rattle.bid_book.specs.book_form.specs.BookLines.{supply_excess}
-use Rattle.auction_rules.specs.lots.specs.declared.LotStop.{LotStop}
-use Rattle.auction_rules.specs.lots.specs.declared.LotStop.TheVariants as lots
-use Rattle.auction_rules.specs.lots.specs.Limits.{IsSupply, supply_stop}
+use Rattle.book_grammar.specs.BookLines.{supply_excess}
+use Rattle.lots.specs.declared.LotStop.{LotStop}
+use Rattle.lots.specs.declared.LotStop.TheVariants as lots
+use Rattle.lots.specs.Limits.{IsSupply, supply_stop}
 use Rattle.bid_book.proofs.SupplyLaws.{supply_within}
 use Rattle.award_file.specs.Parts.{counts}
 use Rattle.award_file.specs.Reading.{IsLimit, limit_stop}

@@ -5,8 +5,8 @@ use Rattle.std.proofs.lemmas.Result.{err_from_is_err_and}
 use Rattle.toml.specs.View.{table_view}
 use Rattle.award_file.specs.Reading.{IsFault}
 use Rattle.award_file.specs.Stated.{has_other}
-use Rattle.award_file.specs.Walk.{category_count, version_at, tick_at, categories_fault, bidders_fault, steps_fault, caps_fault, top_keys, entrants_of}
-use Rattle.award_file.specs.Walk.{caps_of, unless}
+use Rattle.award_file.specs.Walk.{bidders_fault, caps_fault, caps_of, categories_fault, category_count, entrants_of, steps_fault, tick_at, top_keys}
+use Rattle.award_file.specs.Walk.{unless, version_at}
 use Rattle.award_file.proofs.PartLaws.{terms-same}
 use Rattle.award_file.proofs.ReadingLaws.{third-stops, fourth-stops, last-decides, count-is}
 use Rattle.award_file.proofs.read.read_parts.Goals as goal

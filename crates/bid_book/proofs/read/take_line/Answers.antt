@@ -1,7 +1,7 @@
 use Rattle.std.proofs.Common.{◌≡◌, Err, ap, subst}
 use Rattle.std.proofs.lemmas.Result.{err_from_is_err_and}
 use Rattle.bid_book.specs.declared.read.Stage.{Stage}
-use Rattle.book_form.specs.line_text.specs.declared.stop.LineStop.TheVariants.{Form}
+use Rattle.line_format.specs.declared.stop.LineStop.TheVariants.{Form}
 use Rattle.bid_book.specs.Stages.{Step}
 use Rattle.bid_book.proofs.read.take_line.Goals as goal
 

@@ -3,9 +3,9 @@ use Rattle.std.specs.Prelude.{codes}
 use Rattle.std.proofs.lemmas.Result.{err_from_is_err_and}
 use Rattle.std.proofs.lemmas.Bool.Decides.{Decides-eqb}
 use Rattle.std.proofs.lemmas.Slice.Eq.{slice_eq-Decides}
-use Rattle.book_form.specs.line_text.specs.declared.stop.LineStop.TheVariants.{Form, Limit}
+use Rattle.line_format.specs.declared.stop.LineStop.TheVariants.{Form, Limit}
 use Rattle.bid_book.specs.declared.read.Stage.TheVariants.{Listing}
-use Rattle.lots.specs.auction_model.specs.Book.{Book}
+use Rattle.auction_model.specs.Book.{Book}
 use Rattle.bid_book.specs.Stages.{Adds, Step}
 use Rattle.bid_book.proofs.EntryLaws.{adds_step}
 use Rattle.bid_book.proofs.read.take_listed.Goals as goal

@@ -1,5 +1,5 @@
 use Rattle.std.proofs.Common.{◌≡◌, ◌++◌, List, ℕ, ap, ◌∙◌}
-use Rattle.book_form.specs.line_text.specs.Decimals.{decimals_text}
+use Rattle.line_format.specs.Decimals.{decimals_text}
 use Rattle.bid_book.specs.Lists.{bid_of}
 use Rattle.bid_book.proofs.WriteLaws.{whole_bid}
 use Rattle.bid_book.proofs.write.add_bid.Goals as goal

@@ -1,10 +1,10 @@
 use Rattle.std.proofs.Common.{◌≡◌, ◌++◌, ◌<◌, List, ℕ, length, get_or, ap, refl, ◌∙◌, arith}
-use Rattle.book_form.specs.line_text.specs.LineText.{text_of}
-use Rattle.lots.specs.auction_model.specs.Book.{BookBid, bidder_of, bids_of, no_bid}
-use Rattle.book_form.specs.BookLines.{bid_lines}
+use Rattle.line_format.specs.LineText.{text_of}
+use Rattle.auction_model.specs.Book.{BookBid, bidder_of, bids_of, no_bid}
+use Rattle.book_grammar.specs.BookLines.{bid_lines}
 use Rattle.bid_book.specs.Lists as lists
 use Rattle.bid_book.specs.Written.{bid_text}
-use Rattle.book_form.specs.line_text.proofs.NumberRuns.{all_added}
+use Rattle.line_format.proofs.NumberRuns.{all_added}
 use Rattle.bid_book.proofs.WriteLaws.{bid_is, next_bid, whole_bidder}
 use Rattle.bid_book.proofs.write.add_bidder.Goals as goal
 

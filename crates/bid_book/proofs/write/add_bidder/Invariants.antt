@@ -1,7 +1,7 @@
 use Rattle.std.proofs.Common.{◌≡◌, ◌++◌, drop}
-use Rattle.book_form.specs.line_text.specs.LineText.{text_of}
-use Rattle.lots.specs.auction_model.specs.Book.{bids_of}
-use Rattle.book_form.specs.BookLines.{bid_lines}
+use Rattle.line_format.specs.LineText.{text_of}
+use Rattle.auction_model.specs.Book.{bids_of}
+use Rattle.book_grammar.specs.BookLines.{bid_lines}
 use Rattle.bid_book.proofs.write.add_bidder.Given as goal
 
 abbrev pub invariant-loop-i : goal.invariant-loop-i

@@ -1,7 +1,7 @@
 use Rattle.std.proofs.Common.{◌++◌, ap, refl, ◌∙◌, arith}
-use Rattle.lots.specs.auction_model.specs.Book.{Bidder}
+use Rattle.auction_model.specs.Book.{Bidder}
 use Rattle.bid_book.specs.Written.{bidder_text, bidders_text}
-use Rattle.book_form.specs.line_text.proofs.NumberRuns.{all_added}
+use Rattle.line_format.proofs.NumberRuns.{all_added}
 use Rattle.bid_book.proofs.WriteLaws.{bidder_is, next_bidder}
 use Rattle.bid_book.proofs.write.add_bidders.Goals as goal
 

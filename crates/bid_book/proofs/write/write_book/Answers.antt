@@ -1,6 +1,6 @@
 use Rattle.std.proofs.Common.{◌≡◌, ◌++◌, List, ℕ, ap, ◌∙◌}
 use Rattle.std.specs.Prelude.{codes}
-use Rattle.book_form.specs.line_text.specs.Decimals.{decimals_text}
+use Rattle.line_format.specs.Decimals.{decimals_text}
 use Rattle.bid_book.proofs.WriteLaws.{whole_text}
 use Rattle.bid_book.proofs.write.write_book.Goals as goal
 

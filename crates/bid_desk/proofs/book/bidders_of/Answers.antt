@@ -1,6 +1,6 @@
 -- One bidder more.
 use Rattle.std.proofs.Common.{map}
-use Rattle.relative_cap.specs.clock_stage.specs.Kept.{categories_in}
+use Rattle.clock_stage.specs.Kept.{categories_in}
 use Rattle.relative_cap.specs.OwnRounds.{bid_value}
 use Rattle.bid_desk.proofs.BookLaws.{bidders-more, booked-at}
 use Rattle.bid_desk.proofs.book.bidders_of.Goals as goal

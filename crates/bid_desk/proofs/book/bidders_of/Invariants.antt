@@ -1,7 +1,7 @@
 -- The bidders so far.
 use Rattle.std.proofs.Common.{◌≡◌, map}
-use Rattle.relative_cap.specs.auction_rules.specs.BookOfLog.{book_bidder}
-use Rattle.relative_cap.specs.auction_rules.specs.Rounds.{listing}
+use Rattle.auction_rules.specs.BookOfLog.{book_bidder}
+use Rattle.auction_rules.specs.Rounds.{listing}
 use Rattle.bid_desk.specs.BookBids.{bids_by, submitted_in}
 use Rattle.bid_desk.proofs.book.bidders_of.Given as goal
 

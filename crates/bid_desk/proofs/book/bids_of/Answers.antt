@@ -1,6 +1,6 @@
--- Behind the last round the list alone is left, and each round puts its clock bid in.
+-- After the last round the list alone is left, and each round puts its clock bid in.
 use Rattle.std.proofs.Common.{◌+◌, ◌-◌, map, refl, subst, sym, arith}
-use Rattle.relative_cap.specs.clock_stage.specs.Kept.{categories_in}
+use Rattle.clock_stage.specs.Kept.{categories_in}
 use Rattle.relative_cap.specs.OwnRounds.{bid_value}
 use Rattle.bid_desk.specs.Lists.{IsKept}
 use Rattle.bid_desk.proofs.BookLaws.{bids-none, bids-more}

@@ -1,6 +1,6 @@
 -- The bids of the clock from the round on, and of the list.
 use Rattle.std.proofs.Common.{◌≡◌, ◌≤◌, length, map}
-use Rattle.relative_cap.specs.clock_stage.specs.Kept.{categories_in}
+use Rattle.clock_stage.specs.Kept.{categories_in}
 use Rattle.relative_cap.specs.OwnRounds.{bid_value}
 use Rattle.bid_desk.specs.Lists.{IsKept}
 use Rattle.bid_desk.proofs.BookLaws.{bids_from}

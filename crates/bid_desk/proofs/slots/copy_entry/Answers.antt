@@ -1,4 +1,4 @@
--- The entry is overwritten, or put behind those before the place.
+-- The entry is overwritten, or put after those before the place.
 use Rattle.std.proofs.Common.{◌<◌, length, rules}
 use Rattle.bid_desk.proofs.CopyLaws.{bid_of, bid-same, copied-behind, copied-over}
 use Rattle.bid_desk.proofs.slots.copy_entry.Goals as goal

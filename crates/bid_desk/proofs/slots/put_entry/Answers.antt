@@ -1,6 +1,6 @@
 -- The amount is overwritten, or an entry put in at its place.
 use Rattle.std.proofs.Common.{◌≡◌, ◌∙◌, List, ℕ, map, ap, set, subst}
-use Rattle.relative_cap.specs.lots.specs.declared.«package».Bid.{Bid}
+use Rattle.lots.specs.declared.«package».Bid.{Bid}
 use Rattle.relative_cap.specs.OwnRounds.{bid_value}
 use Rattle.bid_desk.specs.Differences.{SetsAmount}
 use Rattle.bid_desk.specs.Slots.{IsTakenAt, IsFreeAt}

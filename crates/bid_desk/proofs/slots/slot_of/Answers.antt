@@ -1,6 +1,6 @@
 -- The place where the search ends is that of the entry, or that before which it can be put in.
 use Rattle.std.proofs.Common.{ℕ, List, length, sym, ap, ◌∙◌, arith}
-use Rattle.relative_cap.specs.auction_model.specs.PackageTests.{is_same}
+use Rattle.auction_model.specs.PackageTests.{is_same}
 use Rattle.relative_cap.proofs.PlaceLaws.{lots-read}
 use Rattle.bid_desk.proofs.EntryLaws.{kept-entries, kept-order, slot-taken, slot-free}
 use Rattle.bid_desk.proofs.slots.slot_of.Goals as goal

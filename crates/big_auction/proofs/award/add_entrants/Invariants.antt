@@ -1,6 +1,6 @@
 use Rattle.std.proofs.Common.{◌≡◌, ◌++◌}
 use Rattle.std.specs.Prelude.{flat_map}
-use Rattle.clock_stage.specs.auction_rules.specs.Rounds.{listing}
+use Rattle.auction_rules.specs.Rounds.{listing}
 use Rattle.big_auction.specs.AwardText.{entrant_text}
 use Rattle.big_auction.specs.MadeAward.{made_entrant}
 use Rattle.big_auction.proofs.award.add_entrants.Given as goal

@@ -1,6 +1,6 @@
 use Rattle.std.proofs.Common.{ℕ, List, ◌++◌, ◌∙◌, ap}
 use Rattle.std.specs.Prelude.{codes, flat_map}
-use Rattle.clock_stage.specs.auction_rules.specs.Rounds.{listing}
+use Rattle.auction_rules.specs.Rounds.{listing}
 use Rattle.big_auction.specs.AwardText.{category_text, entrant_text, made_award_text, number_line, step_text}
 use Rattle.big_auction.specs.MadeAward.{made_categories, made_entrant}
 use Rattle.big_auction.proofs.Pieces.{award-pieces}

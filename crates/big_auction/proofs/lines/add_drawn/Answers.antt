@@ -1,11 +1,10 @@
-use Rattle.std.proofs.Common.{◌≡◌, ◌++◌, OnOk}
-use Rattle.clock_stage.specs.auction_rules.specs.declared.Event.{Event}
+use Rattle.std.proofs.Common.{OnOk, subst, ◌++◌, ◌≡◌}
+use Rattle.auction_rules.specs.declared.Event.{Event}
 use Rattle.big_auction.specs.LogText.{event_text}
 use Rattle.big_auction.specs.Parts.{counts_of, figures_of}
 use Rattle.big_auction.proofs.Drawing.{next-next}
 use Rattle.big_auction.proofs.LinesAdded.{draft-same}
 use Rattle.big_auction.proofs.lines.add_drawn.Goals as goal
-use Rattle.std.proofs.Common.{subst}
 
 pub returns-clause-text : goal.returns-clause-text
 returns-clause-text c =

@@ -1,6 +1,6 @@
 use Rattle.std.proofs.Common.{◌≡◌, ◌++◌, ◌∙◌, ℕ, List, ap, length, map, sym}
 use Rattle.std.proofs.lemmas.List.{length-map}
-use Rattle.clock_stage.specs.auction_rules.specs.Rounds.{prices_after}
+use Rattle.auction_rules.specs.Rounds.{prices_after}
 use Rattle.big_auction.specs.declared.values.Lots.{Lots}
 use Rattle.big_auction.specs.LogText.{log_text}
 use Rattle.big_auction.specs.MadeAward.{made_terms}

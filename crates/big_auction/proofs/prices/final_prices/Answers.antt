@@ -1,6 +1,6 @@
 use Rattle.std.proofs.Common.{map, arith, ◌∙◌, ◌≤◌, ap}
-use Rattle.clock_stage.specs.award_file.specs.Award.{Steps}
-use Rattle.clock_stage.specs.auction_rules.specs.Rounds.{raised_prices}
+use Rattle.award_file.specs.Award.{Steps}
+use Rattle.auction_rules.specs.Rounds.{raised_prices}
 use Rattle.big_auction.specs.MadeAward.{made_terms}
 use Rattle.big_auction.specs.Parts.{counts_of, figures_of, held_from}
 use Rattle.big_auction.proofs.Asking.{prices-low, prices-more}

@@ -1,5 +1,5 @@
 use Rattle.std.proofs.Common.{◌≡◌, map}
-use Rattle.clock_stage.specs.auction_rules.specs.Rounds.{prices_after}
+use Rattle.auction_rules.specs.Rounds.{prices_after}
 use Rattle.big_auction.specs.MadeAward.{made_terms}
 use Rattle.big_auction.specs.Parts.{counts_of, figures_of, held_from}
 use Rattle.big_auction.proofs.prices.final_prices.Given as goal

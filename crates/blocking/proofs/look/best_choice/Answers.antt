@@ -2,7 +2,7 @@ use Rattle.std.proofs.Common.{◌≡◌, rules}
 use Rattle.std.proofs.lemmas.Int.{to_z-of_z}
 use mir.Val.{to_z, of_z}
 use mir.Syntax.{w128}
-use Rattle.row_laws.specs.Surplus.{surpluses_of}
+use Rattle.core_laws.specs.Surplus.{surpluses_of}
 use Rattle.blocking.proofs.look.best_choice.Goals as goal
 
 pub returns-clause-found : goal.returns-clause-found

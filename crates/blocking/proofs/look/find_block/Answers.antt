@@ -2,8 +2,8 @@ use Rattle.std.proofs.Common.{◌≡◌, ◌-ℤ◌, ◌∙◌, ap, arith, refl,
 use Rattle.std.proofs.lemmas.Int.{ints, to_z-of_z}
 use mir.Val.{to_z, of_z}
 use mir.Syntax.{w128}
-use Rattle.row_laws.specs.auction_model.specs.Lowered.{of_bidder}
-use Rattle.row_laws.specs.auction_model.specs.Prices.{paid, sum_over, everyone}
+use Rattle.auction_model.specs.Lowered.{of_bidder}
+use Rattle.auction_model.specs.Prices.{everyone, paid, sum_over}
 use Rattle.blocking.specs.Look.{IsFound}
 use Rattle.blocking.proofs.Sizes.{row-range}
 use Rattle.blocking.proofs.Taking.{look-free, look-blocks, look-block, found-again, excess-fits}

@@ -1,7 +1,7 @@
 use Rattle.std.proofs.Common.{pos, ◌+◌, arith, sym, ◌∙◌, to_z, slice_index_or}
 use mir.Syntax.{w128}
-use Rattle.row_laws.specs.auction_model.specs.Lowered.{of_bidder}
-use Rattle.row_laws.specs.auction_model.specs.Prices.{sum_over, everyone}
+use Rattle.auction_model.specs.Lowered.{of_bidder}
+use Rattle.auction_model.specs.Prices.{everyone, sum_over}
 use Rattle.blocking.proofs.Parts.{over-step, next-fits, next-is}
 use Rattle.blocking.proofs.look.paid_by_all.Goals as goal
 

@@ -3,9 +3,9 @@ use Rattle.std.proofs.lemmas.Int.{to_z-of_z}
 use Rattle.std.proofs.lemmas.Bool.{ne_eqb}
 use mir.Val.{to_z, of_z}
 use mir.Syntax.{w128}
-use Rattle.row_laws.specs.auction_model.specs.Market.{number_of, uses}
-use Rattle.row_laws.specs.Winners.{idle_row, bits_after}
-use Rattle.row_laws.proofs.Bits.{bits-skip, bits-small}
+use Rattle.auction_model.specs.Market.{number_of, uses}
+use Rattle.core_laws.specs.Winners.{idle_row, bits_after}
+use Rattle.core_laws.proofs.Bits.{bits-skip, bits-small}
 use Rattle.blocking.proofs.row.row_members.Goals as goal
 
 pub with_bit-members-requires : goal.with_bit-members-requires

@@ -1,5 +1,5 @@
 use Rattle.std.proofs.Common.{◌≡◌, ◌≤◌, drop, length}
-use Rattle.row_laws.specs.Winners.{idle_row, bits_after}
+use Rattle.core_laws.specs.Winners.{idle_row, bits_after}
 use Rattle.blocking.proofs.row.row_members.Given as goal
 
 abbrev pub invariant-loop-k : goal.invariant-loop-k

@@ -2,9 +2,9 @@ use Rattle.std.proofs.Common.{◌≡◌, ℤ, pos, ◌+◌, ◌+ℤ◌, ℕ, Boo
 use Rattle.std.proofs.lemmas.Int.{to_z-of_z}
 use mir.Val.{to_z, of_z}
 use mir.Syntax.{w128}
-use Rattle.row_laws.specs.auction_model.specs.Lowered.{of_bidder}
-use Rattle.row_laws.specs.auction_model.specs.Prices.{sum_over}
-use Rattle.row_laws.specs.Winners.{idle_row}
+use Rattle.auction_model.specs.Lowered.{of_bidder}
+use Rattle.auction_model.specs.Prices.{sum_over}
+use Rattle.core_laws.specs.Winners.{idle_row}
 use Rattle.blocking.proofs.Parts.{over-step, part-is, next-fits, next-is}
 use Rattle.blocking.proofs.Sizes.{row-range, paid-at}
 use Rattle.blocking.proofs.row.row_paid.Goals as goal

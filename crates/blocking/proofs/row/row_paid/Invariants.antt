@@ -1,7 +1,7 @@
 use Rattle.std.proofs.Common.{◌≡◌}
-use Rattle.row_laws.specs.auction_model.specs.Lowered.{of_bidder}
-use Rattle.row_laws.specs.auction_model.specs.Prices.{sum_over}
-use Rattle.row_laws.specs.Winners.{idle_row}
+use Rattle.auction_model.specs.Lowered.{of_bidder}
+use Rattle.auction_model.specs.Prices.{sum_over}
+use Rattle.core_laws.specs.Winners.{idle_row}
 use Rattle.blocking.proofs.row.row_paid.Given as goal
 
 abbrev pub invariant-loop-k : goal.invariant-loop-k

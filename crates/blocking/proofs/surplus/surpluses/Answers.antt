@@ -1,9 +1,9 @@
 use Rattle.std.proofs.Common.{◌≡◌, suc, append-nil, ◌+◌, ◌++◌, [], drop, arith, rules, sym, ap, ◌∙◌, pos, slice_index_or, ◌-ℤ◌, ◌*ℤ◌}
 use Rattle.std.proofs.lemmas.Int.{ints, to_z-of_z}
 use Rattle.std.proofs.Math.ListN.{drop_of_length-le}
-use Rattle.row_laws.specs.auction_model.specs.Market.{worth_in}
-use Rattle.row_laws.specs.Surplus.{surpluses_after, surpluses_of}
-use Rattle.row_laws.proofs.Surplus.{surpluses-pushed}
+use Rattle.auction_model.specs.Market.{worth_in}
+use Rattle.core_laws.specs.Surplus.{surpluses_after, surpluses_of}
+use Rattle.core_laws.proofs.Surplus.{surpluses-pushed}
 use mir.Val.{to_z, of_z}
 use mir.Syntax.{w128}
 use Rattle.blocking.proofs.Sizes.{low-at, paid-at}

@@ -1,5 +1,5 @@
 use Rattle.std.proofs.Common.{◌≡◌, ◌++◌, drop}
-use Rattle.row_laws.specs.Surplus.{surpluses_of, surpluses_after}
+use Rattle.core_laws.specs.Surplus.{surpluses_of, surpluses_after}
 use Rattle.blocking.proofs.surplus.surpluses.Given as goal
 
 abbrev pub invariant-loop-k : goal.invariant-loop-k

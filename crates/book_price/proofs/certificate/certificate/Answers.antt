@@ -1,10 +1,10 @@
 use Rattle.std.proofs.Common.{◌≡◌, ◌∙◌, ap, arith, rules, subst, sym, to_z, of_z, List, map}
 use Rattle.std.proofs.lemmas.Int.{to_z-of_z}
 use Rattle.std.specs.Int.{w128}
-use Rattle.cert_laws.specs.auction_model.specs.Prices.{weight_of}
-use Rattle.cert_laws.specs.Priced.{IsPricedCert}
+use Rattle.auction_model.specs.Prices.{weight_of}
+use Rattle.cert_soundness.specs.Priced.{IsPricedCert}
 use Rattle.core_price.specs.declared.priced.PricedRow.{PricedRow}
-use Rattle.cert_laws.specs.row_laws.specs.Winners.{for_bidders}
+use Rattle.core_laws.specs.Winners.{for_bidders}
 use Rattle.book_price.specs.Made.{row_from}
 use Rattle.book_price.proofs.Certified.{long, made_is, made_shape, priced_passes, value_found, width}
 use Rattle.book_price.proofs.certificate.certificate.Goals as goal

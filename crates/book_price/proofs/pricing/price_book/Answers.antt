@@ -1,8 +1,8 @@
 use Rattle.std.proofs.Common.{◌∙◌, sym}
-use Rattle.cert_laws.specs.auction_model.specs.Book.{market_of}
-use Rattle.cert_laws.specs.auction_model.specs.Greatest.{IsWinning}
-use Rattle.cert_laws.specs.auction_model.proofs.BookMarket.{winning-count}
-use Rattle.vickrey.specs.value_table.proofs.Plain.{plain-winning}
+use Rattle.auction_model.specs.Book.{market_of}
+use Rattle.auction_model.specs.Greatest.{IsWinning}
+use Rattle.auction_model.proofs.BookMarket.{winning-count}
+use Rattle.value_table.proofs.Plain.{plain-winning}
 use Rattle.book_price.proofs.pricing.price_book.Goals as goal
 
 pub many_win-requires-clause-long : goal.many_win-requires-clause-long

@@ -1,11 +1,11 @@
 use Rattle.std.proofs.Common.{◌≡◌, ◌∙◌, List, ap, refl, subst, sym, ℕ}
 use Rattle.std.specs.List.{AllByRecursion}
-use Rattle.cert_laws.specs.auction_model.specs.Book.{market_of}
-use Rattle.cert_laws.specs.auction_model.specs.Prices.{weight_of}
-use Rattle.cert_laws.specs.auction_model.specs.PricingRun.{IsPricingRun}
-use Rattle.cert_laws.specs.cert_form.specs.Certificate.{CertValue}
+use Rattle.auction_model.specs.Book.{market_of}
+use Rattle.auction_model.specs.Prices.{weight_of}
+use Rattle.auction_model.specs.PricingRun.{IsPricingRun}
+use Rattle.cert_grammar.specs.Certificate.{CertValue}
 use Rattle.core_price.specs.Turns.{IsPointOfTurn, turns_of}
-use Rattle.cert_laws.specs.row_laws.specs.Weights.{FewWin}
+use Rattle.core_laws.specs.Weights.{FewWin}
 use Rattle.book_price.specs.Found.{cert_found}
 use Rattle.book_price.specs.Reduced.{IsReduced}
 use Rattle.book_price.proofs.FoundLaws.{found-by}

@@ -1,7 +1,7 @@
 use Rattle.std.proofs.Common.{◌≡◌, [], sym, subst, List}
-use Rattle.cca_work.specs.cca_inputs.specs.cca_base.proofs.Given.{keeps_still}
-use Rattle.cca_work.specs.cca_inputs.specs.Words.{command_value}
-use Rattle.cca_work.specs.cca_inputs.specs.declared.file_text.FileText.{FileText}
+use Rattle.cca_base.proofs.Given.{keeps_still}
+use Rattle.cca_cli.specs.Words.{command_value}
+use Rattle.cca_cli.specs.declared.file_text.FileText.{FileText}
 use Rattle.cca_run.specs.Run.{AppendsAll}
 use Rattle.cca_run.proofs.Appends.{no_texts, slice-first, slice-later}
 use Rattle.cca_run.proofs.append.+append_all.Goals as goal

@@ -1,9 +1,9 @@
 use Rattle.std.proofs.Common.{◌≡◌, sym, Some, rules}
 use Rattle.std.proofs.lemmas.Bool.{true≢false}
-use Rattle.cca_work.specs.cca_inputs.specs.Words.{command_value}
-use Rattle.cca_work.specs.cca_inputs.specs.Command.{output_as}
+use Rattle.cca_cli.specs.Words.{command_value}
+use Rattle.cca_cli.specs.Command.{output_as}
 use Rattle.cca_run.proofs.Appends.{part-one}
-use Rattle.cca_work.specs.cca_inputs.specs.cca_base.proofs.Given.{keeps_still}
+use Rattle.cca_base.proofs.Given.{keeps_still}
 use Rattle.cca_run.proofs.append.append_text.Goals as goal
 
 pub returns-in-Err-clause-ends : goal.returns-in-Err-clause-ends

@@ -1,5 +1,5 @@
 use Rattle.std.specs.Prelude.{false, refl}
-use Rattle.cca_work.specs.cca_inputs.specs.Command.{form_with}
+use Rattle.cca_cli.specs.Command.{form_with}
 use Rattle.cca_run.proofs.Accepted.{accepted-log}
 use Rattle.cca_run.proofs.LogBooks.{rules-log}
 use Rattle.cca_run.proofs.OneLog.{one_log-answer}

@@ -1,5 +1,5 @@
 use Rattle.std.specs.Prelude.{false, refl}
-use Rattle.cca_work.specs.cca_inputs.specs.Command.{form_with}
+use Rattle.cca_cli.specs.Command.{form_with}
 use Rattle.cca_run.proofs.Accepted.{accepted}
 use Rattle.cca_run.proofs.laws.written_cert_passes.Goals as goal
 

@@ -1,6 +1,6 @@
 use Rattle.std.proofs.Common.{ap, sym, Err}
 use Rattle.std.proofs.lemmas.Bool.{true≢false}
-use Rattle.cca_work.specs.cca_inputs.specs.cca_base.proofs.Writing.{as-fault}
+use Rattle.cca_base.proofs.Writing.{as-fault}
 use Rattle.cca_run.proofs.print.put_all.Goals as goal
 
 pub returns-in-Err-clause-written : goal.returns-in-Err-clause-written

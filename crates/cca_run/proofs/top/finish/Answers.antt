@@ -1,5 +1,5 @@
 use Rattle.std.proofs.Common.{◌∙◌}
-use Rattle.cca_work.specs.cca_inputs.specs.Words.{command_value}
+use Rattle.cca_cli.specs.Words.{command_value}
 use Rattle.cca_run.proofs.Finished.{append-failed}
 use Rattle.cca_run.proofs.top.finish.Goals as goal
 

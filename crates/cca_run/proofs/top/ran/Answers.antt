@@ -1,5 +1,5 @@
 use Rattle.std.proofs.Common.{Option, map, string_bytes, subst, ◌∙◌}
-use Rattle.cca_work.specs.cca_inputs.specs.Command.{CommandValue}
+use Rattle.cca_cli.specs.Command.{CommandValue}
 use Rattle.cca_run.specs.Ends.{RunEnds}
 use Rattle.cca_run.proofs.RunLaws.{runs}
 use Rattle.cca_run.proofs.top.ran.Goals as goal

@@ -38,3 +38,9 @@ returns-clause-given g c = c.ran.ensures.given
 
 pub returns-clause-every_log : goal.returns-clause-every_log
 returns-clause-every_log g c = c.ran.ensures.every_log
+
+pub returns-clause-loaded : goal.returns-clause-loaded
+returns-clause-loaded g c = c.ran.ensures.loaded
+
+pub returns-clause-seen : goal.returns-clause-seen
+returns-clause-seen g c = c.ran.ensures.seen

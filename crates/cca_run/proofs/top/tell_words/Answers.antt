@@ -1,6 +1,6 @@
 use Rattle.std.proofs.Common.{[], rules}
-use Rattle.cca_work.specs.cca_inputs.specs.cca_base.proofs.Given.{agrees_still, keeps_still}
-use Rattle.cca_work.proofs.Loads.{loaded-none}
+use Rattle.cca_base.proofs.Given.{agrees_still, keeps_still}
+use Rattle.cca_commands.proofs.Loads.{loaded-none}
 use Rattle.cca_run.proofs.top.tell_words.Goals as goal
 
 pub returns-clause-ends : goal.returns-clause-ends

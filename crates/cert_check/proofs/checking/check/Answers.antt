@@ -1,7 +1,7 @@
 use Rattle.std.proofs.Common.{◌≡◌, None, ◌∙◌, subst, arith, rules}
 use Rattle.cert_check.specs.Places.{IsFirstFailing}
-use Rattle.line_check.specs.cert_laws.specs.Tests.{Asks}
-use Rattle.line_check.specs.cert_laws.specs.auction_model.specs.Prices.{weight_of}
+use Rattle.cert_soundness.specs.Tests.{Asks}
+use Rattle.auction_model.specs.Prices.{weight_of}
 use Rattle.cert_text.specs.CertValues.{cert_value}
 use Rattle.cert_check.proofs.VerdictLaws.{held-next, held-all, fails-first}
 use Rattle.cert_check.proofs.checking.check.Goals as goal

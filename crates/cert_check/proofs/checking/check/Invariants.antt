@@ -1,4 +1,4 @@
-use Rattle.line_check.specs.cert_laws.specs.auction_model.specs.Prices.{weight_of}
+use Rattle.auction_model.specs.Prices.{weight_of}
 use Rattle.cert_text.specs.CertValues.{cert_value}
 use Rattle.cert_check.specs.Head.{HoldsUpTo}
 use Rattle.cert_check.proofs.checking.check.Given as goal

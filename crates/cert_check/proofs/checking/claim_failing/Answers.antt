@@ -2,7 +2,7 @@ use Rattle.std.proofs.Common.{sym, arith, rules}
 use Rattle.std.proofs.lemmas.Int.{to_z-of_z}
 use mir.Val.{SFits}
 use mir.Syntax.{w128}
-use Rattle.line_check.specs.cert_laws.specs.auction_model.specs.Prices.{weight_of}
+use Rattle.auction_model.specs.Prices.{weight_of}
 use Rattle.cert_text.specs.CertValues.{cert_value}
 use Rattle.cert_check.proofs.HeadLaws.{head-shown}
 use Rattle.cert_check.proofs.VerdictLaws.{held-head}

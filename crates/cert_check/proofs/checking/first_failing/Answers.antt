@@ -3,9 +3,9 @@ use Rattle.std.specs.Prelude.{IsTrue}
 use Rattle.std.proofs.lemmas.Int.{to_z-of_z}
 use mir.Val.{SFits}
 use mir.Syntax.{w128}
-use Rattle.line_check.specs.cert_laws.specs.auction_model.specs.Book.{market_of}
-use Rattle.line_check.specs.cert_laws.specs.auction_model.specs.Prices.{weight_of}
-use Rattle.line_check.specs.cert_laws.specs.Tests.{bidders_of, states}
+use Rattle.auction_model.specs.Book.{market_of}
+use Rattle.auction_model.specs.Prices.{weight_of}
+use Rattle.cert_soundness.specs.Tests.{bidders_of, states}
 use Rattle.cert_text.specs.CertValues.{cert_value}
 use Rattle.cert_check.proofs.ValueLaws.{allowed-by, cert-kept}
 use Rattle.cert_check.proofs.VerdictLaws.{held-C2, asks-C1, asks-C2, asks-C3}

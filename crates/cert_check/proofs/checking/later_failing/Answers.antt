@@ -1,12 +1,12 @@
 use Rattle.std.proofs.Common.{◌+◌, ◌*◌, List, ap, map, refl, sym, subst, arith}
-use Rattle.line_check.specs.cert_laws.specs.cert_form.specs.CertText.{AreWithouts}
-use Rattle.line_check.specs.cert_laws.specs.Tests.{bidders_of, states}
-use Rattle.line_check.specs.cert_laws.specs.auction_model.specs.Prices.{weight_of}
+use Rattle.cert_grammar.specs.CertText.{AreWithouts}
+use Rattle.cert_soundness.specs.Tests.{bidders_of, states}
+use Rattle.auction_model.specs.Prices.{weight_of}
 use Rattle.cert_text.specs.CertValues.{cert_value}
 use Rattle.cert_text.specs.Parts.{row_value, without_value}
 use Rattle.cert_text.specs.declared.certificate.WithoutPart.{WithoutPart}
 use Rattle.cert_check.proofs.ValueLaws.{cert-kept}
-use Rattle.cert_check.proofs.VerdictLaws.{held-C3, held-C4, asks-C4, asks-C5, asks-C6, asks-C9}
+use Rattle.cert_check.proofs.VerdictLaws.{held-C4, asks-C4, asks-C5, asks-C6, asks-C9}
 use Rattle.cert_check.proofs.checking.later_failing.Goals as goal
 
 pub nearest_failing-requires-clause-parts : goal.nearest_failing-requires-clause-parts
@@ -31,23 +31,17 @@ returns-in-4 c =
     asks-C4 c.args.claim.now.book.now (weight_of c.args.weights.now) cert c.args.test c.parts_test.result (omega arith)
     (c.parts_test.ensures cert c.requires.claim.choice_is (ap (map without_value) (sym c.items.ensures)))
 
-pub parts_test-requires-clause-parts : goal.parts_test-requires-clause-parts
-parts_test-requires-clause-parts c =
+pub parts_test-requires : goal.parts_test-requires
+parts_test-requires c =
     let b = bidders_of c.args.claim.now.book.now in
-    let s = states c.args.claim.now.book.now in (
-      c.args.cert.now.choice,
-      subst (λ (l : List WithoutPart). AreWithouts b s 1 c.args.cert.now.choice (map without_value l)) (sym c.items.ensures)
-          (cert-kept b s c.args.cert.now c.requires.shape).withouts,
-    )
-
-pub parts_test-requires-clause-shape : goal.parts_test-requires-clause-shape
-parts_test-requires-clause-shape c = (cert-kept (bidders_of c.args.claim.now.book.now) (states c.args.claim.now.book.now) c.args.cert.now
-    c.requires.shape).table
-
-pub parts_test-requires-clause-rules : goal.parts_test-requires-clause-rules
-parts_test-requires-clause-rules c = λ k s le lt.
-    (held-C3 c.args.claim.now.book.now (weight_of c.args.weights.now) (cert_value c.args.cert.now) c.args.test c.requires.before (omega arith)
-    (k * states c.args.claim.now.book.now + s)).rules k s le lt refl
+    let s = states c.args.claim.now.book.now in
+    record {
+      parts = (
+        c.args.cert.now.choice,
+        subst (λ (l : List WithoutPart). AreWithouts b s 1 c.args.cert.now.choice (map without_value l)) (sym c.items.ensures)
+            (cert-kept b s c.args.cert.now c.requires.shape).withouts,
+      );
+    }
 
 pub returns-in_default : goal.returns-in_default
 returns-in_default c =

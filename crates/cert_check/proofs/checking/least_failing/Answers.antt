@@ -1,6 +1,6 @@
 use Rattle.std.proofs.Common.{List, length, map, sym, subst, arith}
-use Rattle.line_check.specs.cert_laws.specs.cert_form.specs.CertText.{AreRows}
-use Rattle.line_check.specs.cert_laws.specs.Tests.{bidders_of}
+use Rattle.cert_grammar.specs.CertText.{AreRows}
+use Rattle.cert_soundness.specs.Tests.{bidders_of}
 use Rattle.cert_text.specs.Parts.{row_value}
 use Rattle.cert_text.specs.CertValues.{cert_value}
 use Rattle.cert_text.specs.declared.certificate.CertRow.{CertRow}

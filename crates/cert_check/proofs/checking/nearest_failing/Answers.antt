@@ -1,9 +1,9 @@
 use Rattle.std.proofs.Common.{ℕ, List, length, map, sym, subst, arith}
 use Rattle.std.specs.Prelude.{IsTrue}
-use Rattle.line_check.specs.cert_laws.specs.auction_model.specs.Market.{uses}
-use Rattle.line_check.specs.cert_laws.specs.cert_form.specs.Certificate.{part_of}
-use Rattle.line_check.specs.cert_laws.specs.cert_form.specs.CertText.{AreRows}
-use Rattle.line_check.specs.cert_laws.specs.Tests.{IsPart, bidders_of}
+use Rattle.auction_model.specs.Market.{uses}
+use Rattle.cert_grammar.specs.Certificate.{part_of}
+use Rattle.cert_grammar.specs.CertText.{AreRows}
+use Rattle.cert_soundness.specs.Tests.{IsPart, bidders_of}
 use Rattle.cert_text.specs.Parts.{row_value, without_value}
 use Rattle.cert_text.specs.CertValues.{cert_value}
 use Rattle.cert_text.specs.declared.certificate.WithoutPart.{WithoutPart}

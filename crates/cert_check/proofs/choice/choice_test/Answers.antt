@@ -2,7 +2,7 @@ use Rattle.std.proofs.Common.{◌≡◌, true, pos, [], Some, None, sym, ◌∙�
 use Rattle.std.proofs.lemmas.Int.{to_z-of_z}
 use mir.Val.{SFits}
 use mir.Syntax.{w128}
-use Rattle.line_check.specs.cert_laws.specs.Tests.{C2}
+use Rattle.cert_soundness.specs.Tests.{C2}
 use Rattle.cert_check.specs.Fields.{cert_of}
 use Rattle.cert_check.proofs.FieldLaws.{choice-of}
 use Rattle.cert_check.proofs.PlaceTests.{before-next, fails-here, holds-everywhere}

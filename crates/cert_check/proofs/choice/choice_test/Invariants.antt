@@ -1,7 +1,7 @@
 use Rattle.std.proofs.Common.{pos, []}
 use Rattle.cert_check.specs.Fields.{cert_of}
 use Rattle.cert_check.specs.Head.{HoldsBefore}
-use Rattle.line_check.specs.cert_laws.specs.Tests.{C2}
+use Rattle.cert_soundness.specs.Tests.{C2}
 use Rattle.cert_check.proofs.choice.choice_test.Given as goal
 
 abbrev pub invariant-loop-place : goal.invariant-loop-place

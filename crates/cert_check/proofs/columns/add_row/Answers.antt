@@ -3,8 +3,8 @@ use Rattle.std.specs.Prelude.{if◌then◌else◌}
 use Rattle.std.proofs.lemmas.Int.{ints, to_z-of_z}
 use mir.Val.{SFits}
 use mir.Syntax.{w128}
-use Rattle.line_check.specs.cert_laws.specs.auction_model.specs.Lowered.{of_bidder}
-use Rattle.line_check.specs.cert_laws.specs.cert_form.specs.Certificate.{is_member}
+use Rattle.auction_model.specs.Lowered.{of_bidder}
+use Rattle.cert_grammar.specs.Certificate.{is_member}
 use Rattle.cert_check.proofs.SumLaws.{counted-size, counted-same}
 use Rattle.cert_check.proofs.Written.{added-more}
 use Rattle.cert_check.proofs.columns.add_row.Goals as goal

@@ -1,6 +1,6 @@
 use Rattle.std.proofs.Common.{ℕ, pos}
 use Rattle.std.specs.Prelude.{if◌then◌else◌}
-use Rattle.line_check.specs.cert_laws.specs.cert_form.specs.Certificate.{is_member}
+use Rattle.cert_grammar.specs.Certificate.{is_member}
 use Rattle.cert_check.proofs.Written.{AreAdded}
 use Rattle.cert_check.proofs.columns.add_row.Given as goal
 

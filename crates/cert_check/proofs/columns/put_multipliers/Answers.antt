@@ -3,7 +3,7 @@ use Rattle.std.proofs.lemmas.Int.{to_z-of_z}
 use Rattle.std.proofs.lemmas.List.{length-map}
 use mir.Val.{SFits}
 use mir.Syntax.{w128}
-use Rattle.line_check.specs.cert_laws.specs.cert_form.specs.Certificate.{row_of}
+use Rattle.cert_grammar.specs.Certificate.{row_of}
 use Rattle.cert_text.specs.Parts.{row_value}
 use Rattle.cert_check.specs.Multipliers.{multiplier_of}
 use Rattle.cert_check.proofs.SumLaws.{row-at}

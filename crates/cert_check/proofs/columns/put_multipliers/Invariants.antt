@@ -1,5 +1,5 @@
 use Rattle.std.proofs.Common.{ℕ, map}
-use Rattle.line_check.specs.cert_laws.specs.cert_form.specs.Certificate.{row_of}
+use Rattle.cert_grammar.specs.Certificate.{row_of}
 use Rattle.cert_text.specs.Parts.{row_value}
 use Rattle.cert_check.specs.Multipliers.{multiplier_of}
 use Rattle.cert_check.proofs.Written.{AreWritten}

@@ -1,5 +1,5 @@
 use Rattle.std.proofs.Common.{ℕ, length, map}
-use Rattle.line_check.specs.cert_laws.specs.Tests.{sum_holding}
+use Rattle.cert_soundness.specs.Tests.{sum_holding}
 use Rattle.cert_text.specs.Parts.{row_value}
 use Rattle.cert_check.specs.Multipliers.{multiplier_of}
 use Rattle.cert_check.proofs.Written.{AreWritten}

@@ -3,9 +3,9 @@ use Rattle.std.specs.Prelude.{IsTrue, ◌↔◌, ◌≤ℤ◌}
 use Rattle.std.proofs.lemmas.Int.{to_z-of_z}
 use mir.Val.{SFits}
 use mir.Syntax.{w128}
-use Rattle.line_check.specs.cert_laws.specs.auction_model.specs.Market.{uses}
-use Rattle.line_check.specs.cert_laws.specs.cert_form.specs.Certificate.{row_of}
-use Rattle.line_check.specs.cert_laws.specs.Tests.{bidders_of}
+use Rattle.auction_model.specs.Market.{uses}
+use Rattle.cert_grammar.specs.Certificate.{row_of}
+use Rattle.cert_soundness.specs.Tests.{bidders_of}
 use Rattle.cert_check.specs.Fields.{cert_with}
 use Rattle.cert_check.proofs.PlaceLaws.{sign-C7, sum-C7}
 use Rattle.cert_check.proofs.multipliers.first_holds.Goals as goal

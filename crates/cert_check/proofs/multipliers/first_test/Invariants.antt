@@ -1,6 +1,6 @@
 use Rattle.std.proofs.Common.{List, []}
-use Rattle.line_check.specs.cert_laws.specs.cert_form.specs.Certificate.{RowValue}
-use Rattle.line_check.specs.cert_laws.specs.Tests.{C7, bidders_of}
+use Rattle.cert_grammar.specs.Certificate.{RowValue}
+use Rattle.cert_soundness.specs.Tests.{C7, bidders_of}
 use Rattle.cert_check.specs.Columns.{AreFirsts, AreFirstSums}
 use Rattle.cert_check.specs.Fields.{cert_with}
 use Rattle.cert_check.specs.Head.{HoldsBefore}

@@ -4,11 +4,11 @@ use Rattle.std.proofs.lemmas.Bool.{cond-true}
 use Rattle.std.proofs.lemmas.Int.{to_z-of_z}
 use mir.Val.{SFits}
 use mir.Syntax.{w128}
-use Rattle.line_check.specs.cert_laws.specs.auction_model.specs.Book.{market_of}
-use Rattle.line_check.specs.cert_laws.specs.auction_model.specs.Market.{uses, value_of, worth_in}
-use Rattle.line_check.specs.cert_laws.specs.auction_model.specs.Prices.{weight_of}
-use Rattle.line_check.specs.cert_laws.specs.cert_form.specs.Certificate.{RowValue, part_of, row_of}
-use Rattle.line_check.specs.cert_laws.specs.Tests.{bidders_of, sum_holding}
+use Rattle.auction_model.specs.Book.{market_of}
+use Rattle.auction_model.specs.Market.{uses, value_of, worth_in}
+use Rattle.auction_model.specs.Prices.{weight_of}
+use Rattle.cert_grammar.specs.Certificate.{RowValue, part_of, row_of}
+use Rattle.cert_soundness.specs.Tests.{bidders_of, sum_holding}
 use Rattle.cert_check.specs.Fields.{cert_with}
 use Rattle.cert_check.proofs.SumLaws.{in-range}
 use Rattle.cert_check.proofs.PlaceLaws.{sign-C8, sum-C8, nearest-same}

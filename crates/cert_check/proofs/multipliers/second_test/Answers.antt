@@ -1,6 +1,6 @@
 use Rattle.std.proofs.Common.{◌≡◌, ℕ, List, true, Some, None, subst, refl, arith, rules}
-use Rattle.line_check.specs.cert_laws.specs.auction_model.specs.Prices.{weight_of}
-use Rattle.line_check.specs.cert_laws.specs.Tests.{C8}
+use Rattle.auction_model.specs.Prices.{weight_of}
+use Rattle.cert_soundness.specs.Tests.{C8}
 use Rattle.cert_check.specs.Fields.{cert_with, AreValuesWithout}
 use Rattle.cert_check.proofs.FieldLaws.{second-of}
 use Rattle.cert_check.proofs.PlaceTests.{before-next, fails-here, holds-everywhere}

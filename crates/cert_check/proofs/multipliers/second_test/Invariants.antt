@@ -1,7 +1,7 @@
 use Rattle.std.proofs.Common.{List}
-use Rattle.line_check.specs.cert_laws.specs.auction_model.specs.Prices.{weight_of}
-use Rattle.line_check.specs.cert_laws.specs.cert_form.specs.Certificate.{RowValue, WithoutValue}
-use Rattle.line_check.specs.cert_laws.specs.Tests.{C8, bidders_of}
+use Rattle.auction_model.specs.Prices.{weight_of}
+use Rattle.cert_grammar.specs.Certificate.{RowValue, WithoutValue}
+use Rattle.cert_soundness.specs.Tests.{C8, bidders_of}
 use Rattle.cert_check.specs.Columns.{AreFirsts, AreSeconds, AreSecondSums}
 use Rattle.cert_check.specs.Fields.{cert_with, AreValuesWithout}
 use Rattle.cert_check.specs.Head.{HoldsBefore}

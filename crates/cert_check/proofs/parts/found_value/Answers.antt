@@ -2,10 +2,10 @@ use Rattle.std.proofs.Common.{IsTrue, List, ℕ, sym, ◌∙◌, ap, subst, rule
 use Rattle.std.proofs.lemmas.Int.{to_z-of_z}
 use mir.Val.{SFits}
 use mir.Syntax.{w128}
-use Rattle.line_check.specs.cert_laws.specs.auction_model.specs.Book.{menu_of, market_of}
-use Rattle.line_check.specs.cert_laws.specs.auction_model.specs.Market.{value_of}
-use Rattle.line_check.specs.cert_laws.specs.auction_model.proofs.BookMarket.{fits-known}
-use Rattle.line_check.specs.cert_laws.specs.cert_form.specs.Certificate.{WithoutValue}
+use Rattle.auction_model.specs.Book.{market_of, menu_of}
+use Rattle.auction_model.specs.Market.{value_of}
+use Rattle.auction_model.proofs.BookMarket.{fits-known}
+use Rattle.cert_grammar.specs.Certificate.{WithoutValue}
 use Rattle.cert_check.proofs.PartLaws.{from-found}
 use Rattle.cert_check.proofs.parts.found_value.Goals as goal
 

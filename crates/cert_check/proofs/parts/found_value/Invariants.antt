@@ -1,5 +1,5 @@
 use Rattle.std.proofs.Common.{◌≡◌, drop, map}
-use Rattle.line_check.specs.cert_laws.specs.cert_form.specs.Certificate.{part_of}
+use Rattle.cert_grammar.specs.Certificate.{part_of}
 use Rattle.cert_text.specs.Parts.{without_value}
 use Rattle.cert_check.proofs.parts.found_value.Given as goal
 

@@ -1,7 +1,7 @@
 use Rattle.std.proofs.Common.{sym, subst}
 use Rattle.std.specs.Prelude.{IsTrue, ◌↔◌, refl}
-use Rattle.line_check.specs.cert_laws.specs.cert_form.specs.Certificate.{WithoutValue}
-use Rattle.line_check.specs.cert_laws.specs.Tests.{bidders_of, states, IsPart}
+use Rattle.cert_grammar.specs.Certificate.{WithoutValue}
+use Rattle.cert_soundness.specs.Tests.{IsPart, bidders_of, states}
 use Rattle.cert_check.proofs.PartLaws.{HasForm, part-form, from-found}
 use Rattle.cert_check.proofs.parts.has_part.Goals as goal
 use Rattle.cert_check.proofs.parts.has_part.Goals.{Then-part-j}

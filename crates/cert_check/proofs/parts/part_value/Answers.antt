@@ -3,9 +3,9 @@ use Rattle.std.proofs.lemmas.Bool.{cond-true, cond-false, eq-eqb}
 use Rattle.std.proofs.lemmas.Int.{to_z-of_z}
 use mir.Val.{SFits}
 use mir.Syntax.{w128}
-use Rattle.line_check.specs.cert_laws.specs.auction_model.specs.Book.{market_of}
-use Rattle.line_check.specs.cert_laws.specs.auction_model.specs.Market.{uses, value_of, number_of}
-use Rattle.line_check.specs.cert_laws.specs.cert_form.specs.Certificate.{part_of}
+use Rattle.auction_model.specs.Book.{market_of}
+use Rattle.auction_model.specs.Market.{number_of, uses, value_of}
+use Rattle.cert_grammar.specs.Certificate.{part_of}
 use Rattle.cert_text.specs.Parts.{without_value}
 use Rattle.cert_check.proofs.PartLaws.{wins-some}
 use Rattle.cert_check.proofs.parts.part_value.Goals as goal

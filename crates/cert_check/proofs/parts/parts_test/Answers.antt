@@ -1,9 +1,9 @@
 use Rattle.std.proofs.Common.{[], map, ◌∙◌, ◌+◌, Some, None, sym, arith}
 use Rattle.std.proofs.lemmas.Bool.{iff_false}
 use Rattle.std.specs.Prelude.{IsTrue}
-use Rattle.line_check.specs.cert_laws.specs.auction_model.specs.Market.{uses}
-use Rattle.line_check.specs.cert_laws.specs.cert_form.specs.Certificate.{part_of}
-use Rattle.line_check.specs.cert_laws.specs.Tests.{IsPart}
+use Rattle.auction_model.specs.Market.{uses}
+use Rattle.cert_grammar.specs.Certificate.{part_of}
+use Rattle.cert_soundness.specs.Tests.{IsPart}
 use Rattle.cert_text.specs.Parts.{without_value}
 use Rattle.cert_check.specs.Fields.{cert_with}
 use Rattle.cert_check.proofs.FieldLaws.{parts-of}

@@ -2,7 +2,7 @@ use Rattle.std.proofs.Common.{◌∙◌, map, arith, rules}
 use Rattle.std.proofs.lemmas.Int.{to_z-of_z}
 use mir.Val.{SFits}
 use mir.Syntax.{w128}
-use Rattle.line_check.specs.cert_laws.specs.Tests.{bidders_of}
+use Rattle.cert_soundness.specs.Tests.{bidders_of}
 use Rattle.cert_text.specs.Parts.{without_value}
 use Rattle.cert_check.specs.Fields.{worth_without}
 use Rattle.cert_check.proofs.Written.{written-more, written-all}

@@ -1,14 +1,14 @@
 use Rattle.std.proofs.Common.{◌∙◌, sym, subst, ap, rules, arith, refl, replicate, pos, List, ℕ, IsTrue}
 use Rattle.std.proofs.lemmas.Bool.{false≢true}
 use Rattle.std.proofs.lemmas.Int.{to_z-of_z}
-use Rattle.line_check.specs.cert_laws.specs.auction_model.specs.Book.{menu_of, market_of, net_of}
-use Rattle.line_check.specs.cert_laws.specs.auction_model.specs.Market.{number_of, value_of}
-use Rattle.line_check.specs.cert_laws.specs.auction_model.specs.Menu.{without}
-use Rattle.line_check.specs.cert_laws.specs.auction_model.proofs.BookMarket.{fits-known}
+use Rattle.auction_model.specs.Book.{market_of, menu_of, net_of}
+use Rattle.auction_model.specs.Market.{number_of, value_of}
+use Rattle.auction_model.specs.Menu.{without}
+use Rattle.auction_model.proofs.BookMarket.{fits-known}
 use Rattle.cert_text.specs.Parts.{without_value}
-use Rattle.line_check.specs.Worths.{worth_with}
+use Rattle.table_check.specs.Worths.{worth_with}
 use Rattle.cert_check.proofs.PartLaws.{part-answer}
-use Rattle.cert_check.proofs.Worths.{plain-worth, plain-small, table-same, all-obey}
+use Rattle.cert_check.proofs.Worths.{plain-worth, plain-small, table-same}
 use mir.Val.{SFits, to_z, of_z}
 use mir.Syntax.{w128}
 use Rattle.cert_check.proofs.parts.shows_best.Goals as goal
@@ -42,13 +42,3 @@ returns c =
     (table-same (without (menu_of c.args.book.now) c.args.j) (worth_with c.args.book.now (pos 1) (replicate 16 (pos 0)))
     (net_of c.args.book.now) c.args.book.now.supply c.args.part.now.table (to_z w128 (of_z w128 c.value_among-most.result)) c.table_test.result
     (λ j i some inside. plain-worth c.args.book.now (replicate 16 (pos 0)) 16 refl j i) c.table_test.ensures)
-
-pub table_test-requires-clause-shape : goal.table_test-requires-clause-shape
-table_test-requires-clause-shape c = c.requires.shape
-
-pub table_test-requires-clause-whole : goal.table_test-requires-clause-whole
-table_test-requires-clause-whole c = λ _.
-    all-obey (menu_of c.args.book.now) (net_of c.args.book.now) (worth_with c.args.book.now (pos 1) (replicate 16 (pos 0))) c.args.book.now.supply
-    c.args.whole.now
-    (λ j i some inside. sym (plain-worth c.args.book.now (replicate 16 (pos 0)) 16 refl j i))
-    c.requires.rules

@@ -1,5 +1,5 @@
 use Rattle.std.proofs.Common.{◌≡◌, true, [], Some, None, arith, rules}
-use Rattle.line_check.specs.cert_laws.specs.Tests.{C5}
+use Rattle.cert_soundness.specs.Tests.{C5}
 use Rattle.cert_check.specs.Fields.{cert_with}
 use Rattle.cert_check.proofs.FieldLaws.{pays-of}
 use Rattle.cert_check.proofs.PlaceTests.{before-next, fails-here, holds-everywhere}

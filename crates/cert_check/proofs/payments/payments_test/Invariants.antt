@@ -1,7 +1,7 @@
 use Rattle.std.proofs.Common.{[]}
 use Rattle.cert_check.specs.Fields.{cert_with}
 use Rattle.cert_check.specs.Head.{HoldsBefore}
-use Rattle.line_check.specs.cert_laws.specs.Tests.{C5}
+use Rattle.cert_soundness.specs.Tests.{C5}
 use Rattle.cert_check.proofs.payments.payments_test.Given as goal
 
 abbrev pub invariant-loop-j : goal.invariant-loop-j

@@ -2,12 +2,12 @@ use Rattle.std.proofs.Common.{◌≡◌, ◌≤◌, ◌*ℤ◌, ◌-ℤ◌, ℕ,
 use Rattle.std.proofs.lemmas.Int.{ints, to_z-of_z}
 use mir.Val.{SFits}
 use mir.Syntax.{w128}
-use Rattle.line_check.specs.cert_laws.specs.auction_model.specs.Book.{market_of}
-use Rattle.line_check.specs.cert_laws.specs.auction_model.specs.Lowered.{of_bidder}
-use Rattle.line_check.specs.cert_laws.specs.auction_model.specs.Market.{value_of, worth_in}
-use Rattle.line_check.specs.cert_laws.specs.auction_model.specs.Prices.{sum_over}
-use Rattle.line_check.specs.cert_laws.specs.cert_form.specs.Certificate.{is_member}
-use Rattle.line_check.specs.cert_laws.specs.Tests.{bidders_of}
+use Rattle.auction_model.specs.Book.{market_of}
+use Rattle.auction_model.specs.Lowered.{of_bidder}
+use Rattle.auction_model.specs.Market.{value_of, worth_in}
+use Rattle.auction_model.specs.Prices.{sum_over}
+use Rattle.cert_grammar.specs.Certificate.{is_member}
+use Rattle.cert_soundness.specs.Tests.{bidders_of}
 use Rattle.cert_check.proofs.HeadLaws.{claim-known, allowed-value, some-won, times-small}
 use Rattle.cert_check.proofs.SumLaws.{bits-same}
 use Rattle.cert_check.proofs.rows.is_tight.Goals as goal

@@ -1,7 +1,7 @@
 use Rattle.std.proofs.Common.{◌≡◌, ◌+◌, ◌∙◌, ℕ, List, [], length, map, true, Some, None, refl, sym, ap, subst, arith, rules}
 use Rattle.std.proofs.lemmas.List.{length-map}
-use Rattle.line_check.specs.cert_laws.specs.cert_form.specs.CertText.{AreMembers}
-use Rattle.line_check.specs.cert_laws.specs.Tests.{C6, bidders_of}
+use Rattle.cert_grammar.specs.CertText.{AreMembers}
+use Rattle.cert_soundness.specs.Tests.{C6, bidders_of}
 use Rattle.cert_text.specs.Parts.{row_value}
 use Rattle.cert_check.specs.Fields.{cert_with, row_with}
 use Rattle.cert_check.proofs.FieldLaws.{rows-of, row-here}

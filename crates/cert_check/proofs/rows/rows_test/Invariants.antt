@@ -1,7 +1,7 @@
 use Rattle.std.proofs.Common.{◌+◌, [], map}
 use Rattle.cert_check.specs.Fields.{cert_with}
 use Rattle.cert_check.specs.Head.{HoldsBefore}
-use Rattle.line_check.specs.cert_laws.specs.Tests.{C6}
+use Rattle.cert_soundness.specs.Tests.{C6}
 use Rattle.cert_text.specs.Parts.{row_value}
 use Rattle.cert_check.proofs.rows.rows_test.Given as goal
 

@@ -2,8 +2,8 @@ use Rattle.std.proofs.Common.{◌≡◌, ◌+◌, ◌-◌, ◌^◌, ◌≤◌, �
 use Rattle.std.proofs.lemmas.Int.{ints, to_z-of_z}
 use mir.Val.{SFits}
 use mir.Syntax.{w128}
-use Rattle.line_check.specs.cert_laws.specs.auction_model.specs.Lowered.{of_bidder}
-use Rattle.line_check.specs.cert_laws.specs.cert_form.specs.Certificate.{is_member}
+use Rattle.auction_model.specs.Lowered.{of_bidder}
+use Rattle.cert_grammar.specs.Certificate.{is_member}
 use Rattle.cert_check.proofs.SumLaws.{over-next, in-range, counted-size, counted-same, next-fits, next-is, next-size}
 use Rattle.cert_check.proofs.sums.paid_by.Goals as goal
 

@@ -2,7 +2,7 @@ use Rattle.std.proofs.Common.{◌+◌, ◌^◌, ◌≤◌, ℕ, ℤ, List, map, 
 use Rattle.std.proofs.lemmas.Int.{ints, to_z-of_z}
 use mir.Val.{SFits}
 use mir.Syntax.{w128}
-use Rattle.line_check.specs.cert_laws.specs.cert_form.specs.Certificate.{RowValue, is_member, row_of}
+use Rattle.cert_grammar.specs.Certificate.{RowValue, is_member, row_of}
 use Rattle.cert_text.specs.Parts.{row_value}
 use Rattle.cert_check.specs.Multipliers.{multiplier_of}
 use Rattle.cert_check.proofs.SumLaws.{holding-next, row-at, multiplier-size, counted-size, counted-same, next-fits, next-is, next-size}

@@ -2,9 +2,9 @@ use Rattle.std.proofs.Common.{◌+◌, ◌^◌, ◌≤◌, ◌<◌, ℕ, ℤ, no
 use Rattle.std.proofs.lemmas.Int.{ints, to_z-of_z}
 use mir.Val.{SFits}
 use mir.Syntax.{w128}
-use Rattle.line_check.specs.cert_laws.specs.auction_model.specs.Book.{market_of}
-use Rattle.line_check.specs.cert_laws.specs.auction_model.specs.Market.{worth_in}
-use Rattle.line_check.specs.cert_laws.specs.cert_form.specs.Certificate.{is_member}
+use Rattle.auction_model.specs.Book.{market_of}
+use Rattle.auction_model.specs.Market.{worth_in}
+use Rattle.cert_grammar.specs.Certificate.{is_member}
 use Rattle.cert_check.proofs.SumLaws.{over-next, counted-size, counted-same, next-is, next-size}
 use Rattle.cert_check.proofs.sums.won_beside.Goals as goal
 

@@ -1,8 +1,8 @@
 use Rattle.std.proofs.Common.{◌≡◌, ◌≤◌, ◌*◌, ◌^◌, not, unsigned_abs}
-use Rattle.line_check.specs.cert_laws.specs.auction_model.specs.Book.{market_of}
-use Rattle.line_check.specs.cert_laws.specs.auction_model.specs.Market.{worth_in}
-use Rattle.line_check.specs.cert_laws.specs.auction_model.specs.Prices.{sum_over}
-use Rattle.line_check.specs.cert_laws.specs.cert_form.specs.Certificate.{is_member}
+use Rattle.auction_model.specs.Book.{market_of}
+use Rattle.auction_model.specs.Market.{worth_in}
+use Rattle.auction_model.specs.Prices.{sum_over}
+use Rattle.cert_grammar.specs.Certificate.{is_member}
 use Rattle.cert_check.proofs.sums.won_beside.Given as goal
 
 abbrev pub invariant-loop-k : goal.invariant-loop-k

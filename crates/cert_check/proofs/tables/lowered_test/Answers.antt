@@ -1,12 +1,12 @@
 use Rattle.std.proofs.Common.{◌∙◌, ap, rules, subst, ℕ, ℤ}
 use Rattle.std.proofs.lemmas.Int.{to_z-of_z}
-use Rattle.line_check.specs.cert_laws.specs.auction_model.specs.Book.{menu_of}
-use Rattle.line_check.specs.cert_laws.specs.auction_model.specs.Lowered.{of_bidder}
-use Rattle.line_check.specs.cert_laws.specs.auction_model.specs.Menu.{without}
-use Rattle.line_check.specs.cert_laws.specs.auction_model.specs.Prices.{sum_over, everyone}
-use Rattle.line_check.specs.LineTests.{TableAt}
+use Rattle.auction_model.specs.Book.{menu_of}
+use Rattle.auction_model.specs.Lowered.{of_bidder}
+use Rattle.auction_model.specs.Menu.{without}
+use Rattle.auction_model.specs.Prices.{everyone, sum_over}
+use Rattle.table_check.specs.LineTests.{TableAt}
 use Rattle.cert_check.specs.Places.{IsFirstFailing}
-use Rattle.line_check.specs.Worths.{worth_with}
+use Rattle.table_check.specs.Worths.{worth_with}
 use Rattle.cert_check.proofs.LoweredLaws.{lowered-answer}
 use mir.Val.{SFits, to_z, of_z}
 use mir.Syntax.{w128}

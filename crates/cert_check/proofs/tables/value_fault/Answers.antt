@@ -2,8 +2,8 @@ use Rattle.std.proofs.Common.{◌≡◌, ◌∙◌, ◌+◌, ◌*◌, ap, rules,
 use Rattle.std.proofs.lemmas.Int.{to_z-of_z}
 use mir.Val.{SFits}
 use mir.Syntax.{w128}
-use Rattle.line_check.specs.cert_laws.specs.auction_model.specs.Place.{states_of}
-use Rattle.line_check.specs.cert_laws.specs.Tests.{bidders_of, states, C3}
+use Rattle.auction_model.specs.Place.{states_of}
+use Rattle.cert_soundness.specs.Tests.{C3, bidders_of, states}
 use Rattle.cert_check.specs.Fields.{cert_headed}
 use Rattle.cert_check.specs.Places.{IsFirstFailing}
 use Rattle.cert_check.proofs.Worths.{plain-small}

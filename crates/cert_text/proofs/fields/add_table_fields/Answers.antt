@@ -1,8 +1,8 @@
 use Rattle.std.proofs.Common.{arith, refl, rules, subst, sym, []}
 use Rattle.std.specs.Prelude.{slice_index_or}
-use Rattle.cert_form.specs.line_text.specs.Numeral.{numbers_text}
-use Rattle.cert_form.specs.line_text.specs.Range.{AllInRange}
-use Rattle.cert_form.specs.line_text.proofs.NumberRuns.{all_added}
+use Rattle.line_format.specs.Numeral.{numbers_text}
+use Rattle.line_format.specs.Range.{AllInRange}
+use Rattle.line_format.proofs.NumberRuns.{all_added}
 use Rattle.cert_text.proofs.SpelledLaws.{copied-piece, range-part, room-kept}
 use Rattle.cert_text.proofs.fields.add_table_fields.Goals as goal
 

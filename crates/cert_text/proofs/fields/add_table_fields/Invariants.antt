@@ -1,6 +1,6 @@
 use Rattle.std.proofs.Common.{◌≡◌, ◌≤◌, ◌-◌, ◌++◌, [], drop, length}
 use Rattle.std.specs.Prelude.{slice_index_or}
-use Rattle.cert_form.specs.line_text.specs.Numeral.{numbers_text}
+use Rattle.line_format.specs.Numeral.{numbers_text}
 use Rattle.cert_text.proofs.fields.add_table_fields.Given as goal
 
 abbrev pub invariant-loop-done : goal.invariant-loop-done

@@ -1,7 +1,7 @@
 use Rattle.std.proofs.Common.{◌≡◌, ◌∙◌, ◌+◌, ◌-◌, ℕ, subst, arith, rules, get_or, drop, pos, FitsSigned, sym}
 use Rattle.std.specs.Int.{w128}
 use Rattle.std.proofs.lemmas.Int.{to_z-of_z}
-use Rattle.cert_form.specs.line_text.specs.Numeral.{numbers_text}
+use Rattle.line_format.specs.Numeral.{numbers_text}
 use Rattle.cert_text.proofs.SpelledLaws.{field-more}
 use Rattle.cert_text.proofs.fields.put_fields.Goals as goal
 

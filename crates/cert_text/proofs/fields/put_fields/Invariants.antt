@@ -1,5 +1,5 @@
 use Rattle.std.proofs.Common.{◌≡◌, ◌≤◌, ◌*◌, drop, length}
-use Rattle.cert_form.specs.line_text.specs.Numeral.{numbers_text}
+use Rattle.line_format.specs.Numeral.{numbers_text}
 use Rattle.cert_text.proofs.fields.put_fields.Given as goal
 
 abbrev pub invariant-loop-k : goal.invariant-loop-k

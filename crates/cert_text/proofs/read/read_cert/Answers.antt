@@ -1,9 +1,9 @@
 use Rattle.std.proofs.lemmas.Grind.{common_steps}
 use Rattle.std.proofs.Common.{sym, subst, rules, arith}
-use Rattle.cert_form.specs.line_text.specs.LineText.{stated}
-use Rattle.cert_form.specs.Certificate.{CertValue}
-use Rattle.cert_form.specs.Says.{CertSays}
-use Rattle.cert_form.specs.CertText.{IsCertificate}
+use Rattle.line_format.specs.LineText.{stated}
+use Rattle.cert_grammar.specs.Certificate.{CertValue}
+use Rattle.cert_grammar.specs.Says.{CertSays}
+use Rattle.cert_grammar.specs.CertText.{IsCertificate}
 use Rattle.cert_text.specs.Parts.{cert_from}
 use Rattle.cert_text.specs.Stops.{StopsAt}
 use Rattle.cert_text.proofs.WholeText.{version_stops, opening_stops, winning_stops, payment_stops, closing_stops, end_stops, text_read, made}

@@ -1,5 +1,5 @@
 use Rattle.std.proofs.Common.{◌≡◌, ◌++◌, drop}
-use Rattle.cert_form.specs.CertText.{table_lines}
+use Rattle.cert_grammar.specs.CertText.{table_lines}
 use Rattle.cert_text.specs.Written.{bytes_of}
 use Rattle.cert_text.proofs.spelled.add_known_table.Given as goal
 

@@ -1,5 +1,5 @@
 use Rattle.std.proofs.Common.{◌≡◌, ◌++◌, drop, map}
-use Rattle.cert_form.specs.CertText.{part_lines}
+use Rattle.cert_grammar.specs.CertText.{part_lines}
 use Rattle.cert_text.specs.Parts.{without_value}
 use Rattle.cert_text.specs.Written.{bytes_of}
 use Rattle.cert_text.proofs.spelled.add_parts.Given as goal

@@ -1,6 +1,6 @@
 use Rattle.std.proofs.Common.{rules, ℕ, ◌<◌, ◌^◌, ◌∙◌, ◌++◌, List, length, get_or, ap}
-use Rattle.cert_form.specs.CertText.{as_numbers}
-use Rattle.cert_form.specs.line_text.specs.Numeral.{numbers_text}
+use Rattle.cert_grammar.specs.CertText.{as_numbers}
+use Rattle.line_format.specs.Numeral.{numbers_text}
 use Rattle.cert_text.proofs.Written.{added_line, small_decimals}
 use Rattle.cert_text.proofs.write.add_number_line.Goals as goal
 

@@ -1,5 +1,5 @@
 use Rattle.std.proofs.Common.{◌≡◌, ◌++◌, drop, map}
-use Rattle.cert_form.specs.CertText.{row_lines}
+use Rattle.cert_grammar.specs.CertText.{row_lines}
 use Rattle.cert_text.specs.Parts.{row_value}
 use Rattle.cert_text.specs.Written.{bytes_of}
 use Rattle.cert_text.proofs.write.add_rows.Given as goal

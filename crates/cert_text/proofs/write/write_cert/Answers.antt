@@ -1,9 +1,9 @@
 use Rattle.std.proofs.lemmas.Grind.{common_steps}
 use Rattle.std.proofs.Common.{◌∙◌, ap, subst, sym, ◌++◌, ◌∷◌, [], List, ℕ, ℤ, codes, length, arith}
 use Rattle.std.specs.List.{AllByRecursion}
-use Rattle.cert_form.specs.CertText.{line}
-use Rattle.cert_form.specs.Lines.{version_lines}
-use Rattle.cert_text.specs.Written.{bytes_of, lines_of_rows, Adds, IsRowInRange}
+use Rattle.cert_grammar.specs.CertText.{line}
+use Rattle.cert_grammar.specs.Lines.{version_lines}
+use Rattle.cert_text.specs.Written.{bytes_of, lines_of_rows, AddsLines, IsRowInRange}
 use Rattle.cert_text.specs.declared.certificate.CertRow.{CertRow}
 use Rattle.cert_text.proofs.Written.{all_rows_range, lowered_range, table_range, whole_cert, withouts_range}
 use Rattle.cert_text.proofs.write.write_cert.Goals as goal
@@ -32,8 +32,8 @@ returns c =
     )
     c.in_ok-add_head.ensures
     c.in_ok-add_tables.ensures
-    (subst (λ (l : List ℤ). Adds c.add_tables.new.text c.add_signed_line.new.text (line (codes "pay") l ∷ [])) c.items.ensures c.in_ok-add_signed_line.ensures)
-    (subst (λ (l : List CertRow). Adds c.add_signed_line.new.text c.add_rows.new.text (lines_of_rows l)) c.items-2.ensures c.in_ok-add_rows.ensures)
+    (subst (λ (l : List ℤ). AddsLines c.add_tables.new.text c.add_signed_line.new.text (line (codes "pay") l ∷ [])) c.items.ensures c.in_ok-add_signed_line.ensures)
+    (subst (λ (l : List CertRow). AddsLines c.add_signed_line.new.text c.add_rows.new.text (lines_of_rows l)) c.items-2.ensures c.in_ok-add_rows.ensures)
     c.in_ok-add_table.ensures
     c.in_ok-add_signed_line-2.ensures
 

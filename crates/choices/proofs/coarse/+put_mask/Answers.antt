@@ -1,7 +1,7 @@
 use Rattle.std.proofs.Common.{◌≡◌, ◌∙◌, ℕ, ◌+◌, ◌*◌, ◌≤◌, ◌<◌, ap, sym, arith, length, get_or, take, drop, List}
 use Rattle.std.proofs.lemmas.List.{length-take-le, get_or-take, take_rest}
-use Rattle.bid_book.specs.auction_model.specs.Place.{states_of}
-use Rattle.bid_book.specs.auction_model.proofs.RunLaws.{width-first, widths-count, width-at_most}
+use Rattle.auction_model.specs.Place.{states_of}
+use Rattle.auction_model.proofs.RunLaws.{width-at_most, width-first, widths-count}
 use Rattle.choices.specs.Coarse.{Marks}
 use Rattle.choices.proofs.CoarseLaws.{marks-run, marks-parts}
 use Rattle.choices.proofs.coarse.+put_mask.Goals as goal

@@ -1,6 +1,6 @@
 use Rattle.std.proofs.Common.{sym, arith}
-use Rattle.bid_book.specs.auction_model.specs.Book.{menu_of}
-use Rattle.bid_book.specs.auction_model.proofs.ChoiceLaws.{other-length}
+use Rattle.auction_model.specs.Book.{menu_of}
+use Rattle.auction_model.proofs.ChoiceLaws.{other-length}
 use Rattle.choices.proofs.judging.are_known.Goals as goal
 
 pub returns-then-numbers-bidders : goal.returns-then-numbers-bidders

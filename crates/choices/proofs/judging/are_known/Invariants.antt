@@ -1,6 +1,6 @@
 use Rattle.std.proofs.Common.{◌≡◌, drop}
-use Rattle.bid_book.specs.auction_model.specs.Menu.{is_known_after}
-use Rattle.bid_book.specs.auction_model.specs.Book.{menu_of}
+use Rattle.auction_model.specs.Menu.{is_known_after}
+use Rattle.auction_model.specs.Book.{menu_of}
 use Rattle.choices.proofs.judging.are_known.Given as goal
 
 abbrev pub invariant-loop-k : goal.invariant-loop-k

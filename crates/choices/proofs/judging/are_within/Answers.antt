@@ -1,11 +1,11 @@
 use Rattle.std.proofs.Common.{◌≡◌, ◌<◌, ◌+◌, ◌∙◌, true, get_or, length, drop, [], refl, sym, ap, arith}
 use Rattle.std.proofs.lemmas.List.{drop_all}
-use Rattle.bid_book.specs.auction_model.specs.Book.{menu_of, lots_of}
-use Rattle.bid_book.specs.auction_model.specs.Menu.{fits_after}
-use Rattle.bid_book.specs.auction_model.specs.Place.{states_of, left_at}
-use Rattle.bid_book.specs.auction_model.proofs.ChoiceLaws.{known-length, known-of, fits-fails, fits-goes_on}
-use Rattle.bid_book.specs.auction_model.proofs.MenuLaws.{fits-at_end}
-use Rattle.bid_book.specs.auction_model.proofs.PlaceLaws.{states-positive, left_at-whole, left_at-less}
+use Rattle.auction_model.specs.Book.{lots_of, menu_of}
+use Rattle.auction_model.specs.Menu.{fits_after}
+use Rattle.auction_model.specs.Place.{left_at, states_of}
+use Rattle.auction_model.proofs.ChoiceLaws.{fits-fails, fits-goes_on, known-length, known-of}
+use Rattle.auction_model.proofs.MenuLaws.{fits-at_end}
+use Rattle.auction_model.proofs.PlaceLaws.{left_at-less, left_at-whole, states-positive}
 use Rattle.choices.proofs.judging.are_within.Goals as goal
 
 pub overflow_sub-place : goal.overflow_sub-place

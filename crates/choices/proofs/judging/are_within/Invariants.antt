@@ -1,7 +1,7 @@
 use Rattle.std.proofs.Common.{◌≡◌, ◌<◌, drop}
-use Rattle.bid_book.specs.auction_model.specs.Menu.{fits_after}
-use Rattle.bid_book.specs.auction_model.specs.Place.{states_of, left_at}
-use Rattle.bid_book.specs.auction_model.specs.Book.{menu_of}
+use Rattle.auction_model.specs.Menu.{fits_after}
+use Rattle.auction_model.specs.Place.{left_at, states_of}
+use Rattle.auction_model.specs.Book.{menu_of}
 use Rattle.choices.proofs.judging.are_within.Given as goal
 
 abbrev pub invariant-loop-k : goal.invariant-loop-k

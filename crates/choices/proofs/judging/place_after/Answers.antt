@@ -1,6 +1,6 @@
 use Rattle.std.proofs.Common.{sym}
-use Rattle.bid_book.specs.auction_model.proofs.PackageLaws.{less-empty}
-use Rattle.bid_book.specs.auction_model.proofs.PlaceLaws.{place_of-left_at}
+use Rattle.auction_model.proofs.PackageLaws.{less-empty}
+use Rattle.auction_model.proofs.PlaceLaws.{place_of-left_at}
 use Rattle.choices.proofs.judging.place_after.Goals as goal
 
 -- number 0 takes nothing

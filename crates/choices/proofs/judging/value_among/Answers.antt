@@ -1,9 +1,9 @@
 use Rattle.std.proofs.Common.{◌≡◌, ◌≤◌, ◌<◌, length, drop, [], ◌+ℤ◌, ap, arith, rules}
 use Rattle.std.proofs.lemmas.Int.{ints, to_z-of_z}
 use Rattle.std.proofs.lemmas.List.{drop_all}
-use Rattle.bid_book.specs.auction_model.specs.Book.{menu_of, net_of}
-use Rattle.bid_book.specs.auction_model.specs.Market.{sum_after}
-use Rattle.bid_book.specs.auction_model.proofs.ChoiceLaws.{known-length, known-of, sum-step}
+use Rattle.auction_model.specs.Book.{menu_of, net_of}
+use Rattle.auction_model.specs.Market.{sum_after}
+use Rattle.auction_model.proofs.ChoiceLaws.{known-length, known-of, sum-step}
 use mir.Val.{SFits, to_z}
 use mir.Syntax.{w128}
 use Rattle.choices.proofs.judging.value_among.Goals as goal

@@ -1,6 +1,6 @@
 use Rattle.std.proofs.Common.{◌≡◌, ◌≤◌, ◌*◌, ◌^◌, ◌+ℤ◌, ◌≤ℤ◌, pos, drop, unsigned_abs}
-use Rattle.bid_book.specs.auction_model.specs.Market.{sum_after}
-use Rattle.bid_book.specs.auction_model.specs.Book.{net_of}
+use Rattle.auction_model.specs.Market.{sum_after}
+use Rattle.auction_model.specs.Book.{net_of}
 use Rattle.choices.proofs.judging.value_among.Given as goal
 
 abbrev pub invariant-loop-k : goal.invariant-loop-k

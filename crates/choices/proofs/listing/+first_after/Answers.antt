@@ -1,11 +1,11 @@
 use Rattle.std.proofs.Common.{◌≡◌, ◌∙◌, ◌+◌, ◌-◌, ◌*◌, ◌^◌, ◌≤◌, ◌<◌, suc, ◌∷◌, length, ap, arith, rules, unsigned_abs, ℕ, ℤ, pos, ◌+ℤ◌, ◌≤ℤ◌, ◌<ℤ◌, refl}
 use Rattle.std.proofs.lemmas.Int.{ints, by_lt_z, to_z-of_z}
-use Rattle.bid_book.specs.auction_model.specs.Book.{menu_of, net_of, lots_of}
-use Rattle.bid_book.specs.auction_model.specs.Market.{sum_after}
-use Rattle.bid_book.specs.auction_model.specs.Package.{less}
-use Rattle.bid_book.specs.auction_model.specs.Place.{left_at}
-use Rattle.bid_book.specs.auction_model.proofs.PlaceLaws.{left_at-less}
-use Rattle.bid_book.specs.auction_model.proofs.TraceLaws.{first-last}
+use Rattle.auction_model.specs.Book.{lots_of, menu_of, net_of}
+use Rattle.auction_model.specs.Market.{sum_after}
+use Rattle.auction_model.specs.Package.{less}
+use Rattle.auction_model.specs.Place.{left_at}
+use Rattle.auction_model.proofs.PlaceLaws.{left_at-less}
+use Rattle.auction_model.proofs.TraceLaws.{first-last}
 use Rattle.choices.proofs.ListingLaws.{past-first, past-passes, past-better, past-worse, past-all}
 use mir.Val.{SFits}
 use mir.Syntax.{w128}

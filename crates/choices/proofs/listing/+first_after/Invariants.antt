@@ -1,7 +1,7 @@
 use Rattle.std.proofs.Common.{◌≡◌, ◌≤◌, ◌-◌, ◌*◌, ◌^◌, length, unsigned_abs}
-use Rattle.bid_book.specs.auction_model.specs.Market.{sum_after}
-use Rattle.bid_book.specs.auction_model.specs.Place.{left_at}
-use Rattle.bid_book.specs.auction_model.specs.Book.{net_of, menu_of}
+use Rattle.auction_model.specs.Market.{sum_after}
+use Rattle.auction_model.specs.Place.{left_at}
+use Rattle.auction_model.specs.Book.{menu_of, net_of}
 use Rattle.choices.proofs.ListingLaws.{IsBestPast}
 use Rattle.choices.proofs.listing.+first_after.Given as goal
 

@@ -1,6 +1,6 @@
 use Rattle.std.proofs.Common.{◌≡◌, ◌∙◌, ap, arith}
-use Rattle.bid_book.specs.auction_model.specs.Place.{states_of}
-use Rattle.bid_book.specs.auction_model.proofs.PlaceLaws.{states-positive, left_at-whole}
+use Rattle.auction_model.specs.Place.{states_of}
+use Rattle.auction_model.proofs.PlaceLaws.{left_at-whole, states-positive}
 use Rattle.choices.proofs.listing.first_by_listing.Goals as goal
 
 pub overflow_sub-whole : goal.overflow_sub-whole

@@ -1,7 +1,7 @@
 -- The eligibilities of the bidders so far.
 use Rattle.std.proofs.Common.{◌≡◌}
-use Rattle.award_file.specs.auction_rules.specs.Rounds.{listing}
-use Rattle.award_file.specs.auction_rules.specs.Terms.{entrant}
+use Rattle.auction_rules.specs.Rounds.{listing}
+use Rattle.auction_rules.specs.Terms.{entrant}
 use Rattle.clock_stage.proofs.clock.first_eligibility.Given as goal
 
 abbrev pub invariant-loop-j : goal.invariant-loop-j

@@ -1,8 +1,8 @@
 -- As many packages as bidders.
 use Rattle.std.proofs.Common.{◌≡◌, ◌∙◌, ℕ, List, map, ap, sym, length, rules}
 use Rattle.std.specs.Prelude.{replicate}
-use Rattle.award_file.specs.auction_model.specs.Package.{cost_of}
-use Rattle.award_file.specs.auction_rules.specs.Terms.{no_lots}
+use Rattle.auction_model.specs.Package.{cost_of}
+use Rattle.auction_rules.specs.Terms.{no_lots}
 use Rattle.clock_stage.specs.ClockState.{round_with}
 use Rattle.clock_stage.proofs.Demands.{map-same}
 use Rattle.clock_stage.proofs.closes.round_after.Goals as goal

@@ -1,6 +1,6 @@
 -- The sums so far, and those of what is left, which is as it was.
 use Rattle.std.proofs.Common.{◌≡◌, ℕ, ◌<◌, ◌≤◌, ◌++◌, drop, take, length, get_or}
-use Rattle.award_file.specs.auction_model.specs.Package.{together}
+use Rattle.auction_model.specs.Package.{together}
 use Rattle.clock_stage.proofs.demand.add_package.Given as goal
 
 abbrev pub invariant-loop-category : goal.invariant-loop-category

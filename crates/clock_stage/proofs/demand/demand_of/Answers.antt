@@ -3,7 +3,7 @@ use Rattle.std.proofs.Common.{◌≡◌, ◌∙◌, ◌+◌, ◌*◌, ◌≤◌,
 use Rattle.std.specs.Prelude.{All, replicate}
 use Rattle.std.proofs.lemmas.List.{length-replicate}
 use Rattle.std.proofs.lemmas.List.Elements.{All-replicate}
-use Rattle.award_file.specs.auction_model.specs.Package.{together}
+use Rattle.auction_model.specs.Package.{together}
 use Rattle.clock_stage.specs.Kept.{IsHeld}
 use Rattle.clock_stage.proofs.Demands.{added-most, length-together, sum_more, written, zeros-replicate}
 use Rattle.clock_stage.proofs.demand.demand_of.Goals as goal

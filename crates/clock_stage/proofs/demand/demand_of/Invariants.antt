@@ -1,7 +1,7 @@
 -- The sum of the packages so far, each count of which is at most 40 for each package.
 use Rattle.std.proofs.Common.{◌≡◌, ◌-◌, ◌*◌, ◌≤◌, [], length, map}
 use Rattle.std.specs.Prelude.{All, slice_index_or}
-use Rattle.award_file.specs.auction_rules.specs.Rounds.{sum_of}
+use Rattle.auction_rules.specs.Rounds.{sum_of}
 use Rattle.clock_stage.proofs.demand.demand_of.Given as goal
 
 abbrev pub invariant-loop-package : goal.invariant-loop-package

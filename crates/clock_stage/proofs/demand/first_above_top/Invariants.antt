@@ -1,6 +1,6 @@
 -- What is left decides.
 use Rattle.std.proofs.Common.{◌≡◌, ◌+◌, drop}
-use Rattle.award_file.specs.auction_rules.specs.Replies.{price_top}
+use Rattle.auction_rules.specs.Replies.{price_top}
 use Rattle.clock_stage.proofs.demand.first_above_top.Given as goal
 
 abbrev pub invariant-loop-category : goal.invariant-loop-category

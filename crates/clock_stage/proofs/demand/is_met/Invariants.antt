@@ -1,6 +1,6 @@
 -- What is left decides.
 use Rattle.std.proofs.Common.{◌≡◌, drop}
-use Rattle.award_file.specs.auction_model.specs.Package.{is_within}
+use Rattle.auction_model.specs.Package.{is_within}
 use Rattle.clock_stage.proofs.demand.is_met.Given as goal
 
 abbrev pub invariant-loop-category : goal.invariant-loop-category

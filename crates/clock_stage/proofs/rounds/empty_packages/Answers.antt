@@ -1,7 +1,7 @@
 -- The package of place 0 has no lot.
 use Rattle.std.proofs.Common.{◌≡◌, ◌∙◌, ℕ, map, ap, arith}
 use Rattle.std.specs.Prelude.{replicate}
-use Rattle.award_file.specs.auction_model.proofs.PlaceLaws.{states-positive}
+use Rattle.auction_model.proofs.PlaceLaws.{states-positive}
 use Rattle.clock_stage.proofs.Demands.{left_at-zero, replicate-push}
 use Rattle.clock_stage.proofs.rounds.empty_packages.Goals as goal
 

@@ -1,6 +1,6 @@
 -- The points of the packages so far.
 use Rattle.std.proofs.Common.{◌≡◌, take, map}
-use Rattle.award_file.specs.auction_model.specs.Package.{cost_of}
+use Rattle.auction_model.specs.Package.{cost_of}
 use Rattle.clock_stage.proofs.rounds.points_of.Given as goal
 
 abbrev pub invariant-loop-package : goal.invariant-loop-package

@@ -1,7 +1,7 @@
 -- The last of the thresholds passed so far, and of those that are left.
 use Rattle.std.proofs.Common.{◌≡◌, ◌≤◌, drop, map}
 use Rattle.std.specs.Prelude.{filter, nat_le}
-use Rattle.award_file.specs.auction_rules.specs.Step.{permille_at, last_or, share_of}
+use Rattle.auction_rules.specs.Step.{last_or, permille_at, share_of}
 use Rattle.clock_stage.proofs.steps.permille_of.Given as goal
 
 abbrev pub invariant-loop-from : goal.invariant-loop-from

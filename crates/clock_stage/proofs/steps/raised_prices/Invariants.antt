@@ -1,6 +1,6 @@
 -- The prices so far, and those of what is left.
 use Rattle.std.proofs.Common.{◌≡◌, ◌++◌, drop}
-use Rattle.award_file.specs.auction_rules.specs.Rounds.{raised_prices}
+use Rattle.auction_rules.specs.Rounds.{raised_prices}
 use Rattle.clock_stage.proofs.steps.raised_prices.Given as goal
 
 abbrev pub invariant-loop-category : goal.invariant-loop-category

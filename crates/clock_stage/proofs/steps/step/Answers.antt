@@ -1,7 +1,7 @@
 -- The quotient, rounded up and at least 1, is the least number of ticks, by the share of the greatest threshold that is reached.
 use Rattle.std.proofs.Common.{◌≡◌, ℕ, ◌+◌, ◌*◌, refl, sym, ◌∙◌, ap, arith, rules}
-use Rattle.award_file.specs.auction_rules.specs.Step.{permille_at, ticks_of}
-use Rattle.award_file.specs.auction_rules.proofs.Steps.{ticks_of-code}
+use Rattle.auction_rules.specs.Step.{permille_at, ticks_of}
+use Rattle.auction_rules.proofs.Steps.{ticks_of-code}
 use Rattle.clock_stage.proofs.RaisedLaws.{raised-price}
 use Rattle.clock_stage.proofs.steps.step.Goals as goal
 

@@ -1,5 +1,5 @@
 use Rattle.std.proofs.Common.{◌∙◌, ap, arith}
-use Rattle.blocking.specs.row_laws.specs.Winners.{winners_in}
+use Rattle.core_laws.specs.Winners.{winners_in}
 use Rattle.core_price.proofs.WinnerCount.{count-loser, count-winner, counted-all}
 use Rattle.core_price.proofs.bidders.count_winners.Goals as goal
 use Rattle.core_price.proofs.bidders.count_winners.Goals.{then-number-ne0, else-number-ne0}

@@ -1,6 +1,6 @@
 -- The winners that were passed and those that are left are all winners.
 use Rattle.std.proofs.Common.{◌≡◌, ◌+◌, ◌≤◌, drop}
-use Rattle.blocking.specs.row_laws.specs.Winners.{winners_in}
+use Rattle.core_laws.specs.Winners.{winners_in}
 use Rattle.core_price.proofs.bidders.count_winners.Given as goal
 
 abbrev pub invariant-loop-number : goal.invariant-loop-number

@@ -2,7 +2,7 @@
 use Rattle.std.proofs.Common.{◌≡◌, ◌<◌, length, rules, to_z, of_z}
 use Rattle.std.proofs.lemmas.Int.{to_z-of_z}
 use Rattle.std.specs.Int.{w128}
-use Rattle.nearest_point.specs.wide_num.specs.Sums.{nth}
+use Rattle.wide_num.specs.Sums.{nth}
 use Rattle.core_price.proofs.Spreading.{spread-inside, spread-loser, spread-winner}
 use Rattle.core_price.proofs.bidders.for_bidders.Goals as goal
 use Rattle.core_price.proofs.bidders.for_bidders.Goals.{then-number-eq0+in_ok-push, else-number-eq0+in_ok-push-2}

@@ -1,5 +1,5 @@
 use Rattle.std.proofs.Common.{◌≡◌, ◌≢◌, ◌∙◌, ap, sym, ℕ, suc, ◌+◌, ◌-◌, ◌<◌, List, length, get_or, drop, arith}
-use Rattle.blocking.specs.row_laws.specs.Winners.{has_bit}
+use Rattle.core_laws.specs.Winners.{has_bit}
 use Rattle.core_price.proofs.MemberLaws.{loser-made, loser-others, winner-made, winner-others}
 use Rattle.core_price.proofs.bidders.members_of.Goals as goal
 use Rattle.core_price.proofs.bidders.members_of.Goals.{then-number-ne0+in_ok-add_lowest, else-number-ne0}

@@ -2,7 +2,7 @@
 use Rattle.std.proofs.Common.{◌≡◌, ◌<◌, ◌∙◌, ap, arith, length, get_or, pos, rules, sym, to_z, of_z, []}
 use Rattle.std.proofs.lemmas.Int.{to_z-of_z}
 use Rattle.std.specs.Int.{w128}
-use Rattle.nearest_point.specs.wide_num.specs.Sums.{nth}
+use Rattle.wide_num.specs.Sums.{nth}
 use Rattle.core_price.specs.Kept.{pair_used}
 use Rattle.core_price.proofs.KeptLaws.{any-default, kept-one, kept-none}
 use Rattle.core_price.proofs.kept.kept_rows.Goals as goal

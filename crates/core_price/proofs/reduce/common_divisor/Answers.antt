@@ -2,7 +2,7 @@
 use Rattle.std.proofs.Common.{◌≡◌, rules, to_z, of_z}
 use Rattle.std.proofs.lemmas.Int.{to_z-of_z}
 use Rattle.std.specs.Int.{w128}
-use Rattle.nearest_point.specs.wide_num.specs.Sums.{nth}
+use Rattle.wide_num.specs.Sums.{nth}
 use Rattle.core_price.proofs.Divisors.{common-none, common-more}
 use Rattle.core_price.proofs.reduce.common_divisor.Goals as goal
 

@@ -3,14 +3,14 @@ use Rattle.std.proofs.Common.{◌≡◌, [], ◌∷◌, ◌++◌, ◌<◌, ◌^�
 use Rattle.std.proofs.lemmas.Int.{to_z-of_z}
 use Rattle.std.specs.Int.{w128}
 use Rattle.std.specs.declared.option.Option.TheVariants.{Some}
-use Rattle.nearest_point.specs.auction_model.specs.Prices.{IsUnblocked}
+use Rattle.auction_model.specs.Prices.{IsUnblocked}
 use Rattle.blocking.specs.declared.look.Block.{Block}
 use Rattle.blocking.specs.Look.{IsBlock}
-use Rattle.blocking.specs.row_laws.specs.Winners.{for_bidders, winners_in}
+use Rattle.core_laws.specs.Winners.{for_bidders, winners_in}
 use Rattle.nearest_point.specs.Shown.{IsShownNearest}
 use Rattle.core_price.specs.SoFar.{IsSoFar}
 use Rattle.core_price.specs.Turns.{point_of}
-use Rattle.blocking.specs.row_laws.specs.Weights.{weights_in}
+use Rattle.core_laws.specs.Weights.{weights_in}
 use Rattle.core_price.specs.declared.priced.Turn.{Turn}
 use Rattle.core_price.proofs.AskedLaws.{choices-block, choices-last, rows-block, rows-last}
 use Rattle.core_price.proofs.LookLaws.{can-look}

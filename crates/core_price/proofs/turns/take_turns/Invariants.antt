@@ -2,7 +2,7 @@
 use Rattle.std.proofs.Common.{◌≡◌, ◌++◌, ◌-◌, ◌^◌, length}
 use Rattle.core_price.specs.Rows.{block_choices, block_rows}
 use Rattle.core_price.specs.SoFar.{IsSoFar}
-use Rattle.blocking.specs.row_laws.specs.Winners.{winners_in}
+use Rattle.core_laws.specs.Winners.{winners_in}
 use Rattle.core_price.proofs.turns.take_turns.Given as goal
 
 abbrev pub invariant-turns : goal.invariant-turns

@@ -1,6 +1,6 @@
 -- A winner of another weight was met, or none.
 use Rattle.std.proofs.Common.{arith, subst}
-use Rattle.blocking.specs.row_laws.specs.Weights.{WeighAlike}
+use Rattle.core_laws.specs.Weights.{WeighAlike}
 use Rattle.core_price.proofs.WeightLaws.{all-alike, not-alike}
 use Rattle.core_price.proofs.weights.weigh_alike.Goals as goal
 

@@ -1,6 +1,6 @@
 -- The weights of the winners that were passed, and those that are left.
 use Rattle.std.proofs.Common.{◌≡◌, ◌++◌, drop}
-use Rattle.blocking.specs.row_laws.specs.Weights.{weights_in}
+use Rattle.core_laws.specs.Weights.{weights_in}
 use Rattle.core_price.proofs.weights.winner_weights.Given as goal
 
 abbrev pub invariant-loop-k : goal.invariant-loop-k

@@ -2,7 +2,7 @@ use Rattle.std.proofs.Common.{◌≡◌, ◌<◌, ◌^◌, ◌++◌, Some, take,
 use Rattle.std.specs.Prelude.{codes}
 use Rattle.std.proofs.lemmas.Bool.Decides.{Decides-eqb}
 use Rattle.std.proofs.lemmas.Slice.Eq.{strip_prefix_is}
-use Rattle.review.specs.line_text.proofs.Lines.{none-so}
+use Rattle.line_format.proofs.Lines.{none-so}
 use Rattle.edits_file.proofs.FieldLaws.{number_field}
 use Rattle.edits_file.proofs.fields.first_number.Goals as goal
 

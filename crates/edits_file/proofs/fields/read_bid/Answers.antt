@@ -1,7 +1,7 @@
 use Rattle.std.proofs.Common.{◌≡◌, ◌∷◌, Err, ap}
 use Rattle.std.specs.Fmt.{decimal}
 use Rattle.std.proofs.lemmas.Result.{err_from_is_err_and}
-use Rattle.review.specs.line_text.specs.declared.stop.LineStop.TheVariants.{Form}
+use Rattle.line_format.specs.declared.stop.LineStop.TheVariants.{Form}
 use Rattle.edits_file.proofs.FieldLaws.{bid_head, made_bid, no_bid}
 use Rattle.edits_file.proofs.fields.read_bid.Goals as goal
 

@@ -1,5 +1,5 @@
 use Rattle.std.proofs.Common.{◌≡◌, true, take, drop, sym, subst, take-append-drop, arith}
-use Rattle.review.specs.book_form.specs.BookForm.{IsName}
+use Rattle.book_grammar.specs.BookForm.{IsName}
 use Rattle.edits_file.proofs.FieldLaws.{no_name}
 use Rattle.edits_file.proofs.fields.read_bidder.Goals as goal
 

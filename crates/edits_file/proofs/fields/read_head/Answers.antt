@@ -1,6 +1,6 @@
 use Rattle.std.proofs.Common.{◌≡◌, ℕ, Err, length, ap, sym, subst, ◌∙◌}
 use Rattle.std.proofs.lemmas.Result.{err_from_is_err_and}
-use Rattle.review.specs.line_text.specs.declared.stop.LineStop.TheVariants.{Form}
+use Rattle.line_format.specs.declared.stop.LineStop.TheVariants.{Form}
 use Rattle.edits_file.specs.Stages.{BeginsWithCounts}
 use Rattle.edits_file.proofs.FieldLaws.{head_counts}
 use Rattle.edits_file.proofs.fields.read_head.Goals as goal

@@ -1,6 +1,6 @@
 use Rattle.std.proofs.Common.{◌≡◌, ◌<◌, [], Err, length, ap, arith}
 use Rattle.std.proofs.lemmas.Result.{err_from_is_err_and}
-use Rattle.review.specs.line_text.specs.declared.stop.LineStop.TheVariants.{Form}
+use Rattle.line_format.specs.declared.stop.LineStop.TheVariants.{Form}
 use Rattle.edits_file.proofs.FieldLaws.{no_package, package_head}
 use Rattle.edits_file.proofs.fields.read_package.Goals as goal
 

@@ -1,4 +1,4 @@
-use Rattle.review.specs.line_text.proofs.SomeAnswer.{some_answer}
+use Rattle.line_format.proofs.SomeAnswer.{some_answer}
 use Rattle.edits_file.specs.EditsForm.{AreNamedEdits, lines}
 use Rattle.edits_file.proofs.EditsDecided.{ends, leads}
 use Rattle.edits_file.proofs.Reading.{IsSound, NamedStep, named_excess, begin, finish, reads}

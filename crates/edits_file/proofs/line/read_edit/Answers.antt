@@ -3,7 +3,7 @@ use Rattle.std.specs.Prelude.{codes}
 use Rattle.std.proofs.lemmas.Bool.Decides.{Decides-eqb}
 use Rattle.std.proofs.lemmas.Result.{err_from_is_err_and}
 use Rattle.std.proofs.lemmas.Slice.Eq.{strip_prefix_is}
-use Rattle.review.specs.line_text.specs.declared.stop.LineStop.TheVariants.{Form}
+use Rattle.line_format.specs.declared.stop.LineStop.TheVariants.{Form}
 use Rattle.edits_file.proofs.LineLaws.{add_only, add_stated, raise_only, raise_stated, remove_only, remove_stated}
 use Rattle.edits_file.proofs.line.read_edit.Goals as goal
 

@@ -1,8 +1,8 @@
 use Rattle.std.proofs.Common.{◌≡◌, ◌∙◌, Err, ap, sym, length, subst}
 use Rattle.std.specs.List.{AllByRecursion}
-use Rattle.review.specs.line_text.specs.LineText.{FaultAt}
-use Rattle.review.specs.line_text.specs.declared.stop.TextStop.TheVariants.{Limit}
-use Rattle.review.specs.line_text.proofs.Runs.{text_read, fault_read, excess_read}
+use Rattle.line_format.specs.LineText.{FaultAt}
+use Rattle.line_format.specs.declared.stop.TextStop.TheVariants.{Limit}
+use Rattle.line_format.proofs.Runs.{excess_read, fault_read, text_read}
 use Rattle.review.specs.Edits.{edit_lots}
 use Rattle.review.specs.declared.edit.Edit.{Edit}
 use Rattle.edits_file.specs.EditsForm.{AreNamedEdits, lines}

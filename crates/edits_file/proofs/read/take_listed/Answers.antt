@@ -1,6 +1,6 @@
 use Rattle.std.proofs.Common.{inr, Some, ◌≤◌, ◌++◌, ◌∷◌, [], ◌∙◌, ap, length, refl}
-use Rattle.review.specs.bid_book.proofs.StopLaws.{one_limit}
-use Rattle.review.specs.limits.specs.declared.LimitKind.TheVariants.{Records}
+use Rattle.bid_book.proofs.StopLaws.{one_limit}
+use Rattle.limits.specs.declared.LimitKind.TheVariants.{Records}
 use Rattle.edits_file.specs.declared.read.Stage.TheVariants.{Listing}
 use Rattle.edits_file.proofs.Reading.{many_edits}
 use Rattle.edits_file.proofs.read.take_listed.Goals as goal

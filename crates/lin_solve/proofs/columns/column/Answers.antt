@@ -3,7 +3,7 @@ use Rattle.std.specs.Int.{w128}
 use Rattle.std.proofs.lemmas.Grind.{elements}
 use Rattle.std.proofs.lemmas.Int.{to_z-of_z}
 use Rattle.std.proofs.lemmas.List.{get_or_default}
-use Rattle.far_num.specs.wide_num.specs.Sums.{nth}
+use Rattle.wide_num.specs.Sums.{nth}
 use Rattle.lin_solve.specs.Matrix.{row}
 use Rattle.lin_solve.proofs.Pushed.{grown, grown_length}
 use Rattle.lin_solve.proofs.columns.column.Goals as goal

@@ -1,6 +1,6 @@
 use Rattle.std.proofs.Common.{◌≡◌, ℕ, ◌<◌, length}
 use Rattle.lin_solve.specs.Matrix.{row}
-use Rattle.far_num.specs.wide_num.specs.Sums.{nth}
+use Rattle.wide_num.specs.Sums.{nth}
 use Rattle.lin_solve.proofs.columns.column.Given as goal
 
 abbrev pub invariant-loop-line : goal.invariant-loop-line

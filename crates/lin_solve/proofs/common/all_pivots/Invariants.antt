@@ -1,5 +1,5 @@
 use Rattle.std.proofs.Common.{◌≡◌, length}
-use Rattle.far_num.specs.wide_num.specs.Sums.{nth}
+use Rattle.wide_num.specs.Sums.{nth}
 use Rattle.lin_solve.specs.Pivots.{ArePivots}
 use Rattle.lin_solve.proofs.common.all_pivots.Given as goal
 

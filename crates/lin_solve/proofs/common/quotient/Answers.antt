@@ -1,6 +1,6 @@
 use Rattle.std.proofs.Common.{◌≡◌, ◌*ℤ◌, unsigned_abs, FitsSigned, rules, ap, ◌∙◌, arith, sym, subst}
 use Rattle.std.specs.Int.{w128}
-use Rattle.far_num.specs.wide_num.specs.Range.{Divides}
+use Rattle.wide_num.specs.Range.{Divides}
 use Rattle.std.proofs.lemmas.Int.{to_z-of_z, unsigned_abs-mul}
 use Rattle.lin_solve.proofs.common.quotient.Goals as goal
 

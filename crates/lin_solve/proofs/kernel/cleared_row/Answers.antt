@@ -3,7 +3,7 @@ use Rattle.std.specs.Int.{w128}
 use Rattle.std.proofs.lemmas.Int.{to_z-of_z}
 use Rattle.lin_solve.specs.Bounds.{bound}
 use Rattle.lin_solve.specs.Elimination.{product}
-use Rattle.far_num.specs.wide_num.specs.Sums.{nth}
+use Rattle.wide_num.specs.Sums.{nth}
 use Rattle.lin_solve.proofs.Rooms.{reach_small, product_small, mixed_room, reach_room, apart_left, bound_some}
 use Rattle.lin_solve.proofs.kernel.cleared_row.Goals as goal
 

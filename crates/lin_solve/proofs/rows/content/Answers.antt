@@ -2,7 +2,7 @@ use Rattle.std.proofs.Common.{ℕ, suc, pos, unsigned_abs, slice_index_or, FitsS
 use Rattle.std.specs.Int.{w128, IsGcd}
 use Rattle.std.proofs.lemmas.Int.{to_z-of_z, ints}
 use Rattle.lin_solve.specs.Elimination.{ContentOf}
-use Rattle.far_num.specs.wide_num.specs.Sums.{nth}
+use Rattle.wide_num.specs.Sums.{nth}
 use Rattle.lin_solve.proofs.Gcds.{gcd_parts, content_none, content_more}
 use Rattle.lin_solve.proofs.rows.content.Goals as goal
 

@@ -1,6 +1,6 @@
 use Rattle.std.proofs.Common.{◌<◌, ◌^◌, pos, ◌≤ℤ◌, unsigned_abs}
 use Rattle.lin_solve.specs.Elimination.{ContentOf}
-use Rattle.far_num.specs.wide_num.specs.Sums.{nth}
+use Rattle.wide_num.specs.Sums.{nth}
 use Rattle.lin_solve.proofs.rows.content.Given as goal
 
 abbrev pub invariant-loop-x : goal.invariant-loop-x

@@ -1,7 +1,7 @@
 use Rattle.std.proofs.Common.{ℕ, ℤ, pos, ◌+ℤ◌, ◌*ℤ◌, length, unsigned_abs, slice_index_or, FitsSigned, arith, rules, ap, sym, ◌∙◌, add-one}
 use Rattle.std.specs.Int.{w128}
 use Rattle.std.proofs.lemmas.Int.{to_z-of_z}
-use Rattle.far_num.specs.wide_num.specs.Sums.{nth, dot}
+use Rattle.wide_num.specs.Sums.{dot, nth}
 use Rattle.lin_solve.proofs.Siegel.{dot_room}
 use Rattle.lin_solve.proofs.rows.dot.Goals as goal
 

@@ -1,7 +1,7 @@
 use Rattle.std.proofs.Common.{◌≡◌, ℕ, ℤ, pos, ◌-ℤ◌, ◌*ℤ◌, slice_index_or, FitsSigned, rules, ◌∷◌, [], ◌++◌, ◌∙◌, ap}
 use Rattle.std.specs.Int.{w128}
 use Rattle.std.proofs.lemmas.Int.{to_z-of_z}
-use Rattle.far_num.specs.wide_num.specs.Sums.{nth}
+use Rattle.wide_num.specs.Sums.{nth}
 use Rattle.lin_solve.proofs.Pushed.{grown, grown_length}
 use Rattle.lin_solve.proofs.rows.mix.Goals as goal
 

@@ -1,5 +1,5 @@
 use Rattle.std.proofs.Common.{◌≡◌, ℕ, ◌<◌, length, ◌-ℤ◌, ◌*ℤ◌}
-use Rattle.far_num.specs.wide_num.specs.Sums.{nth}
+use Rattle.wide_num.specs.Sums.{nth}
 use Rattle.lin_solve.proofs.rows.mix.Given as goal
 
 abbrev pub invariant-loop-i : goal.invariant-loop-i

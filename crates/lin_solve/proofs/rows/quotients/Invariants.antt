@@ -1,5 +1,5 @@
 use Rattle.std.proofs.Common.{◌≡◌, ℕ, ◌<◌, length, ◌*ℤ◌}
-use Rattle.far_num.specs.wide_num.specs.Sums.{nth}
+use Rattle.wide_num.specs.Sums.{nth}
 use Rattle.lin_solve.proofs.rows.quotients.Given as goal
 
 abbrev pub invariant-loop-x : goal.invariant-loop-x

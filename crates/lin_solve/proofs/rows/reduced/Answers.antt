@@ -1,7 +1,7 @@
 use Rattle.std.proofs.Common.{ℕ, ◌<◌, length, sym, ◌∙◌, subst}
 use Rattle.std.proofs.lemmas.Int.{to_z-of_z}
 use Rattle.lin_solve.specs.Elimination.{IsMix, IsPrimitivePart, Reduces}
-use Rattle.far_num.specs.wide_num.specs.Sums.{nth}
+use Rattle.wide_num.specs.Sums.{nth}
 use Rattle.lin_solve.proofs.Reducing.{reduces, mix_small, if_ok}
 use Rattle.lin_solve.proofs.rows.reduced.Goals as goal
 

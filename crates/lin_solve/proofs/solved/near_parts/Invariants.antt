@@ -1,5 +1,5 @@
 use Rattle.std.proofs.Common.{◌≡◌, ℕ, ◌<◌, length}
-use Rattle.far_num.specs.wide_num.specs.Sums.{nth}
+use Rattle.wide_num.specs.Sums.{nth}
 use Rattle.far_num.specs.Pairs.{near_at}
 use Rattle.lin_solve.proofs.solved.near_parts.Given as goal
 

@@ -1,7 +1,7 @@
 use Rattle.std.proofs.Common.{List, length, length-append, ◌≡◌, ◌<◌, [], ◌∷◌, ap, subst, sym, arith}
 use Rattle.std.proofs.lemmas.Result.{err_from_is_err_and}
 use Rattle.csv.specs.Records.{fields_of}
-use Rattle.award_file.specs.auction_rules.specs.declared.Event.{Event}
+use Rattle.auction_rules.specs.declared.Event.{Event}
 use Rattle.log_file.specs.LogForm.{States}
 use Rattle.log_file.specs.Statements.{IsUntaken}
 use Rattle.log_file.proofs.LogLaws.{fault_stop, memory_stop}

@@ -1,6 +1,6 @@
 use Rattle.std.proofs.Common.{codes}
 use Rattle.std.specs.Fmt.{decimal}
-use Rattle.award_file.specs.bid_book.specs.line_text.specs.Decimals.{decimals_text}
+use Rattle.line_format.specs.Decimals.{decimals_text}
 use Rattle.log_file.proofs.ReplyLaws.{regroup}
 use Rattle.log_file.proofs.reply.add_round.Goals as goal
 

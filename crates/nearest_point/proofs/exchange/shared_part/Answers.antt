@@ -3,7 +3,7 @@ use Rattle.std.specs.Prelude.{ℤ, pos, ◌-ℤ◌, ◌≤ℤ◌}
 use Rattle.std.specs.Int.{w128}
 use Rattle.std.proofs.lemmas.Int.{ints}
 use Rattle.lin_solve.proofs.Pushed.{grown, grown_length}
-use Rattle.point_laws.specs.wide_num.specs.Sums.{nth}
+use Rattle.wide_num.specs.Sums.{nth}
 use Rattle.nearest_point.proofs.exchange.shared_part.Goals as goal
 
 below : (r x : ℤ) → (r ≡ to_z w128 (of_z w128 x)) ⊎ (r ≡ pos 0) → ((pos 0 -ℤ pos 20) ≤ℤ x) × (x ≤ℤ pos 0)

@@ -1,7 +1,7 @@
 use Rattle.std.proofs.Common.{length, ℕ, ◌*ℤ◌, ◌<◌, ◌≤ℤ◌}
 use Rattle.nearest_point.specs.Found.{point_at}
 use Rattle.nearest_point.specs.Problem.{bounds, coefficients}
-use Rattle.point_laws.specs.wide_num.specs.Sums.{dot}
+use Rattle.wide_num.specs.Sums.{dot}
 use Rattle.nearest_point.proofs.judge.meets_all.Given as goal
 
 abbrev pub invariant-loop-k : goal.invariant-loop-k

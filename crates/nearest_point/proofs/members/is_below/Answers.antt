@@ -1,7 +1,7 @@
 use Rattle.std.proofs.Common.{◌≡◌, ℕ, ℤ, ◌*ℤ◌, ◌+ℤ◌, length, arith, ap, sym, ◌∙◌}
 use Rattle.std.proofs.lemmas.Int.{ints}
-use Rattle.lin_solve.specs.far_num.specs.Members.{holds}
-use Rattle.point_laws.specs.wide_num.specs.Sums.{dot, nth}
+use Rattle.far_num.specs.Members.{holds}
+use Rattle.wide_num.specs.Sums.{dot, nth}
 use Rattle.nearest_point.specs.Numbers.{at_t, large}
 use Rattle.nearest_point.proofs.Parts.{dot-at_t}
 use Rattle.nearest_point.proofs.Sizes.{back, product_back, less_is, more_is}

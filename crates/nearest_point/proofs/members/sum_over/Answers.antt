@@ -1,8 +1,8 @@
 use Rattle.std.proofs.Common.{◌≡◌, ℤ, ◌*ℤ◌, ◌+ℤ◌, arith, sym, ap, ◌∙◌, to_z, of_z}
 use Rattle.std.proofs.lemmas.Int.{ints}
 use Rattle.std.specs.Int.{w128}
-use Rattle.lin_solve.specs.far_num.specs.Members.{holds}
-use Rattle.point_laws.specs.wide_num.specs.Sums.{nth}
+use Rattle.far_num.specs.Members.{holds}
+use Rattle.wide_num.specs.Sums.{nth}
 use Rattle.nearest_point.proofs.Sizes.{total_more}
 use Rattle.nearest_point.proofs.members.sum_over.Goals as goal
 

@@ -1,6 +1,6 @@
 use Rattle.std.proofs.Common.{◌≡◌, ◌*◌, ◌^◌, ◌*ℤ◌, ◌≤◌, unsigned_abs}
-use Rattle.lin_solve.specs.far_num.specs.Members.{holds}
-use Rattle.point_laws.specs.wide_num.specs.Sums.{nth, total}
+use Rattle.far_num.specs.Members.{holds}
+use Rattle.wide_num.specs.Sums.{nth, total}
 use Rattle.nearest_point.proofs.members.sum_over.Given as goal
 
 abbrev pub invariant-loop-j : goal.invariant-loop-j

@@ -3,7 +3,7 @@ use Rattle.std.specs.Prelude.{ℤ}
 use Rattle.std.specs.Int.{w128}
 use Rattle.std.proofs.lemmas.Int.{ints}
 use Rattle.lin_solve.proofs.Pushed.{grown, grown_length}
-use Rattle.point_laws.specs.wide_num.specs.Sums.{nth, total}
+use Rattle.wide_num.specs.Sums.{nth, total}
 use Rattle.nearest_point.specs.Found.{row_of}
 use Rattle.nearest_point.specs.Problem.{weight_at}
 use Rattle.nearest_point.proofs.settle.point_part.Goals as goal

@@ -1,5 +1,5 @@
 use Rattle.std.proofs.Common.{◌≡◌, ℕ, ◌<◌, ◌^◌, ◌*ℤ◌, ◌+ℤ◌, length, unsigned_abs}
-use Rattle.point_laws.specs.wide_num.specs.Sums.{nth, total}
+use Rattle.wide_num.specs.Sums.{nth, total}
 use Rattle.nearest_point.specs.Found.{row_of}
 use Rattle.nearest_point.specs.Problem.{weight_at}
 use Rattle.nearest_point.proofs.settle.point_part.Given as goal

@@ -1,7 +1,7 @@
 use Rattle.std.proofs.Common.{◌≡◌, length, arith, rules, ap, ◌∙◌, List, to_z, of_z}
 use Rattle.std.specs.Int.{w128}
-use Rattle.lin_solve.specs.far_num.specs.Pairs.{far_at, near_at}
-use Rattle.lin_solve.specs.far_num.specs.declared.Far.{Far}
+use Rattle.far_num.specs.Pairs.{far_at, near_at}
+use Rattle.far_num.specs.declared.Far.{Far}
 use Rattle.nearest_point.specs.Found.{row_of}
 use Rattle.nearest_point.specs.Problem.{weight_at}
 use Rattle.nearest_point.specs.declared.settle.Multipliers.{Multipliers}

@@ -1,7 +1,7 @@
 use Rattle.std.proofs.Common.{◌≡◌, pos, ◌+ℤ◌, arith, refl, ◌∙◌, to_z, of_z, slice_index_or}
 use Rattle.std.proofs.lemmas.Int.{ints}
 use Rattle.std.specs.Int.{w128}
-use Rattle.point_laws.specs.wide_num.specs.Sums.{nth}
+use Rattle.wide_num.specs.Sums.{nth}
 use Rattle.nearest_point.specs.Numbers.{place}
 use Rattle.nearest_point.proofs.SetStep.{numbers_step, small_step, length_step, any_default}
 use Rattle.nearest_point.proofs.spread.spread_out.Goals as goal

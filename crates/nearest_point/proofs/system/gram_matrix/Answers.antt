@@ -5,7 +5,7 @@ use Rattle.std.proofs.lemmas.Int.{ints}
 use Rattle.lin_solve.specs.Matrix.{row}
 use Rattle.lin_solve.proofs.Pushed.{grown, grown_length}
 use Rattle.lin_solve.proofs.Reducing.{if_ok}
-use Rattle.point_laws.specs.wide_num.specs.Sums.{nth}
+use Rattle.wide_num.specs.Sums.{nth}
 use Rattle.nearest_point.specs.Found.{IsBelowBy, common, row_of}
 use Rattle.nearest_point.proofs.Grams.{entry_at}
 use Rattle.nearest_point.proofs.system.gram_matrix.Goals as goal

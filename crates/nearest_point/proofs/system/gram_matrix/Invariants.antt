@@ -1,5 +1,5 @@
 use Rattle.std.proofs.Common.{◌≡◌, ℕ, ◌*◌, ◌<◌, ◌/◌, ◌%◌, length, pos, ◌≤ℤ◌}
-use Rattle.point_laws.specs.wide_num.specs.Sums.{nth}
+use Rattle.wide_num.specs.Sums.{nth}
 use Rattle.nearest_point.specs.Found.{IsBelowBy, common, row_of}
 use Rattle.nearest_point.proofs.system.gram_matrix.Given as goal
 

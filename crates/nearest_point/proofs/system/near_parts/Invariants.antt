@@ -1,6 +1,6 @@
 use Rattle.std.proofs.Common.{◌≡◌, ℕ, ◌<◌, length}
-use Rattle.point_laws.specs.wide_num.specs.Sums.{nth}
-use Rattle.lin_solve.specs.far_num.specs.Pairs.{near_at}
+use Rattle.wide_num.specs.Sums.{nth}
+use Rattle.far_num.specs.Pairs.{near_at}
 use Rattle.nearest_point.proofs.system.near_parts.Given as goal
 
 abbrev pub invariant-loop-pair : goal.invariant-loop-pair

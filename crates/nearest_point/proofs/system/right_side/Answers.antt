@@ -1,6 +1,6 @@
 use Rattle.std.proofs.Common.{arith, length}
 use Rattle.std.proofs.lemmas.Int.{ints}
-use Rattle.point_laws.specs.wide_num.specs.Sums.{nth}
+use Rattle.wide_num.specs.Sums.{nth}
 use Rattle.nearest_point.proofs.Leaves.{sum_below, some_of, target_small}
 use Rattle.nearest_point.proofs.system.right_side.Goals as goal
 

@@ -1,6 +1,6 @@
 use Rattle.std.proofs.Common.{◌≡◌, ℕ, ◌<◌, ◌≤◌, length, pos, ◌-ℤ◌, unsigned_abs}
-use Rattle.lin_solve.specs.far_num.specs.Pairs.{far_at, near_at}
-use Rattle.point_laws.specs.wide_num.specs.Sums.{dot, nth}
+use Rattle.far_num.specs.Pairs.{far_at, near_at}
+use Rattle.wide_num.specs.Sums.{dot, nth}
 use Rattle.nearest_point.specs.Found.{IsEdge, row_of}
 use Rattle.nearest_point.specs.Numbers.{place}
 use Rattle.nearest_point.specs.Problem.{bounds}

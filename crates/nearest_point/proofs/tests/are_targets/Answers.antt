@@ -1,7 +1,7 @@
 use Rattle.std.proofs.Common.{◌≡◌, pos, ◌≤ℤ◌, arith, rules, below_more, to_z, of_z, FitsSigned}
 use Rattle.std.proofs.lemmas.Int.{ints, to_z-of_z}
 use Rattle.std.specs.Int.{w128}
-use Rattle.point_laws.specs.wide_num.specs.Sums.{nth}
+use Rattle.wide_num.specs.Sums.{nth}
 use Rattle.nearest_point.proofs.Sizes.{total_more}
 use Rattle.nearest_point.proofs.tests.are_targets.Goals as goal
 

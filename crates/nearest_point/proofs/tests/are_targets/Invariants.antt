@@ -1,5 +1,5 @@
 use Rattle.std.proofs.Common.{◌≡◌, ℕ, ◌<◌, pos, ◌≤ℤ◌}
-use Rattle.point_laws.specs.wide_num.specs.Sums.{nth, total}
+use Rattle.wide_num.specs.Sums.{nth, total}
 use Rattle.nearest_point.proofs.tests.are_targets.Given as goal
 
 abbrev pub invariant-loop-x : goal.invariant-loop-x

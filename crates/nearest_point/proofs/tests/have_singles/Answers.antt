@@ -1,7 +1,7 @@
 use Rattle.std.proofs.Common.{◌≡◌, ℕ, ◌*◌, ◌%◌, ◌^◌, ◌<◌, arith, ap, ◌∙◌, below_more, List, length, Option, Some, None, true, is_some, IfSome}
 use Rattle.std.proofs.Math.Nat.{mod-eq_of_lt}
 use Rattle.std.proofs.Math.Pow.{pow-lt}
-use Rattle.lin_solve.specs.far_num.specs.declared.Row.{Row}
+use Rattle.far_num.specs.declared.Row.{Row}
 use Rattle.nearest_point.specs.Problem.{row_at}
 use Rattle.nearest_point.proofs.tests.have_singles.Goals as goal
 

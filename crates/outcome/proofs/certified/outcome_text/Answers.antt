@@ -1,5 +1,5 @@
 use Rattle.std.proofs.lemmas.Result.{IfOk-weaker}
-use Rattle.print_form.specs.Prices.{IsPriceText}
+use Rattle.print_grammar.specs.Prices.{IsPriceText}
 use Rattle.outcome.proofs.Printable.{of-certificate, printable}
 use Rattle.outcome.proofs.certified.outcome_text.Goals as goal
 

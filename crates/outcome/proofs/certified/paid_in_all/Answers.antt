@@ -1,8 +1,8 @@
 use Rattle.std.proofs.Common.{rules, pos, ◌+ℤ◌, ◌*ℤ◌, ◌≤ℤ◌, ◌<ℤ◌, ◌≡◌, ◌<◌, ◌^◌, subst, sym, List, ℕ, ℤ, length, FitsSigned, to_z, of_z, arith}
 use Rattle.std.specs.Int.{w128}
 use Rattle.std.proofs.lemmas.Int.{to_z-of_z}
-use Rattle.core_price.specs.wide_num.specs.Range.{InRange}
-use Rattle.core_price.specs.wide_num.specs.Sums.{nth, total}
+use Rattle.wide_num.specs.Range.{InRange}
+use Rattle.wide_num.specs.Sums.{nth, total}
 use Rattle.outcome.specs.Fractions.{IsFractionOf}
 use Rattle.outcome.specs.Prices.{reserves_of}
 use Rattle.outcome.specs.Printable.{point_of}

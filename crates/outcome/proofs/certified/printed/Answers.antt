@@ -2,9 +2,9 @@ use Rattle.std.proofs.Common.{rules, codes, ◌≡◌, ◌∙◌, ap, subst, sym
 use Rattle.std.specs.Int.{w128}
 use Rattle.std.proofs.lemmas.Int.{to_z-of_z}
 use Rattle.std.specs.List.{AllByRecursion}
-use Rattle.core_price.specs.auction_model.specs.Book.{market_of}
-use Rattle.core_price.specs.auction_model.specs.Market.{value_of}
-use Rattle.print_form.specs.WinText.{net_line}
+use Rattle.auction_model.specs.Book.{market_of}
+use Rattle.auction_model.specs.Market.{value_of}
+use Rattle.print_grammar.specs.WinText.{net_line}
 use Rattle.outcome.specs.declared.prices.WinnerPrice.{WinnerPrice}
 use Rattle.outcome.specs.Fractions.{fraction_text}
 use Rattle.outcome.specs.Prices.{AreWinnerPrices, CanPrintPrice, lines_of}

@@ -1,7 +1,7 @@
 use Rattle.std.proofs.lemmas.Result.{IfOk-weaker}
 use Rattle.std.specs.Option.{option_map}
 use Rattle.core_price.specs.Turns.{turns_of}
-use Rattle.print_form.specs.Json.{IsOutcomeJson}
+use Rattle.print_grammar.specs.Json.{IsOutcomeJson}
 use Rattle.outcome.proofs.Printable.{of-certificate, printable}
 use Rattle.outcome.proofs.json.outcome_json.Goals as goal
 

@@ -5,11 +5,11 @@ use Rattle.std.proofs.lemmas.Int.{to_z-of_z}
 use Rattle.std.proofs.lemmas.Result.{IfOk-weaker}
 use Rattle.serde_json.specs.Data.{array}
 use Rattle.serde_json.specs.View.{items_of, view}
-use Rattle.core_price.specs.auction_model.specs.Book.{market_of, menu_of}
-use Rattle.core_price.specs.auction_model.specs.Market.{value_of}
-use Rattle.core_price.specs.auction_model.proofs.ChoiceLaws.{known-length}
-use Rattle.cert_facts.proofs.Ranges.{value-between}
-use Rattle.print_form.specs.Json.{amount_json}
+use Rattle.auction_model.specs.Book.{market_of, menu_of}
+use Rattle.auction_model.specs.Market.{value_of}
+use Rattle.auction_model.proofs.ChoiceLaws.{known-length}
+use Rattle.cert_summary.proofs.Ranges.{value-between}
+use Rattle.print_grammar.specs.Json.{amount_json}
 use Rattle.outcome.specs.declared.prices.WinnerPrice.{WinnerPrice}
 use Rattle.outcome.specs.Json.{winner_data}
 use Rattle.outcome.specs.Prices.{CanPrintPrice}

@@ -1,7 +1,7 @@
 use Rattle.std.proofs.Common.{rules, ◌≡◌, ◌∙◌, ap, ℤ, arith, FitsSigned, to_z, of_z}
 use Rattle.std.specs.Int.{w64, w128}
 use Rattle.std.proofs.lemmas.Int.{ints, to_z-of_z}
-use Rattle.print_form.specs.Json.{amount_json}
+use Rattle.print_grammar.specs.Json.{amount_json}
 use Rattle.outcome.proofs.json_values.amount_value.Goals as goal
 
 pub returns : goal.returns

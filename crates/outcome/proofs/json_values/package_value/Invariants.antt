@@ -1,6 +1,6 @@
 use Rattle.std.proofs.Common.{◌≡◌, map, take}
 use Rattle.serde_json.specs.View.{view}
-use Rattle.print_form.specs.Json.{count_json}
+use Rattle.print_grammar.specs.Json.{count_json}
 use Rattle.outcome.proofs.json_values.package_value.Given as goal
 
 abbrev pub invariant-counts : goal.invariant-counts

@@ -1,7 +1,7 @@
 use Rattle.std.proofs.Common.{◌≡◌, ◌∙◌, ap, sym, subst, List, ℕ, ◌++◌}
 use Rattle.std.proofs.lemmas.Result.{IfOk-weaker}
 use Rattle.core_price.specs.Turns.{turn_of}
-use Rattle.print_form.specs.Turns.{IsTurnLine}
+use Rattle.print_grammar.specs.Turns.{IsTurnLine}
 use Rattle.outcome.specs.Json.{EndsLine}
 use Rattle.outcome.proofs.PlainTexts.{turn-ends}
 use Rattle.outcome.proofs.json_values.round_value.Goals as goal

@@ -2,7 +2,7 @@ use Rattle.std.proofs.Common.{List, ◌++◌, drop, map}
 use Rattle.serde_json.specs.Data.{Data}
 use Rattle.serde_json.specs.View.{view}
 use Rattle.core_price.specs.Turns.{turns_of}
-use Rattle.print_form.specs.Json.{AreRounds}
+use Rattle.print_grammar.specs.Json.{AreRounds}
 use Rattle.outcome.proofs.json_values.round_values.Given as goal
 
 abbrev pub invariant-loop-i : goal.invariant-loop-i

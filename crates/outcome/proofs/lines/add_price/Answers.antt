@@ -1,7 +1,7 @@
 use Rattle.std.proofs.Common.{◌≡◌, ◌∙◌, ap, ◌++◌, ◌∷◌, [], List, ℕ, codes}
 use Rattle.std.specs.Fmt.{decimal, signed_decimal}
-use Rattle.core_price.specs.auction_model.specs.Book.{bidder_of, bid_of}
-use Rattle.print_form.specs.book_form.specs.line_text.specs.Decimals.{decimals_text}
+use Rattle.auction_model.specs.Book.{bid_of, bidder_of}
+use Rattle.line_format.specs.Decimals.{decimals_text}
 use Rattle.outcome.specs.Fractions.{fraction_text}
 use Rattle.outcome.proofs.LineLaws.{regroup}
 use Rattle.outcome.proofs.lines.add_price.Goals as goal

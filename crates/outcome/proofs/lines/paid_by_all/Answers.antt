@@ -1,7 +1,7 @@
 use Rattle.std.proofs.Common.{length, to_z, arith, pos, ◌≤ℤ◌, subst, sym}
 use Rattle.std.specs.Int.{w128}
-use Rattle.core_price.specs.wide_num.specs.Sums.{nth}
-use Rattle.core_price.specs.point_laws.proofs.Sums.{total-nonneg}
+use Rattle.wide_num.specs.Sums.{nth}
+use Rattle.projection_laws.proofs.Sums.{total-nonneg}
 use Rattle.outcome.proofs.Totals.{next-fits, next-is}
 use Rattle.outcome.proofs.lines.paid_by_all.Goals as goal
 

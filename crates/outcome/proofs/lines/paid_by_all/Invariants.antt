@@ -1,5 +1,5 @@
 use Rattle.std.proofs.Common.{◌≡◌}
-use Rattle.core_price.specs.wide_num.specs.Sums.{nth, total}
+use Rattle.wide_num.specs.Sums.{nth, total}
 use Rattle.outcome.proofs.lines.paid_by_all.Given as goal
 
 abbrev pub invariant-loop-paid : goal.invariant-loop-paid

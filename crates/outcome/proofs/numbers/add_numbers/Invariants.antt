@@ -1,5 +1,5 @@
 use Rattle.std.proofs.Common.{◌≡◌, ◌++◌, drop}
-use Rattle.print_form.specs.book_form.specs.line_text.specs.Decimals.{decimals_text}
+use Rattle.line_format.specs.Decimals.{decimals_text}
 use Rattle.outcome.proofs.numbers.add_numbers.Given as goal
 
 abbrev pub invariant-loop-number : goal.invariant-loop-number

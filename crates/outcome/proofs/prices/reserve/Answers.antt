@@ -1,5 +1,5 @@
 use Rattle.std.proofs.Common.{rules, ◌≡◌, pos}
-use Rattle.print_form.specs.Prices.{reserve_of}
+use Rattle.print_grammar.specs.Prices.{reserve_of}
 use Rattle.outcome.proofs.Reserves.{reserve-most}
 use Rattle.outcome.proofs.prices.reserve.Goals as goal
 

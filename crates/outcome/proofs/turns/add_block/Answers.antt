@@ -1,9 +1,8 @@
 use Rattle.std.proofs.Common.{rules, ◌≡◌, ◌∙◌, ap, subst, refl, ◌++◌, List, ℕ, ℤ, codes, length, FitsSigned, to_z, of_z}
 use Rattle.std.specs.Int.{w128}
 use Rattle.std.proofs.lemmas.Int.{to_z-of_z}
-use Rattle.print_form.specs.book_form.specs.line_text.specs.Decimals.{decimals_text}
-use Rattle.print_form.specs.row_laws.specs.Winners.{members_of}
-use Rattle.print_form.specs.row_laws.specs.Winners.{row_of}
+use Rattle.line_format.specs.Decimals.{decimals_text}
+use Rattle.core_laws.specs.Winners.{has_member, members_of}
 use Rattle.outcome.specs.Fractions.{IsFractionOf, fraction_text}
 use Rattle.outcome.proofs.TurnLaws.{block-line}
 use Rattle.outcome.proofs.turns.add_block.Goals as goal
@@ -12,7 +11,7 @@ pub returns : goal.returns
 returns c =
     let t = c.args.text.now in
     let b = c.args.block.now in
-    let members = decimals_text (members_of (row_of c.args.winners.now b.row.members) (length c.args.winners.now)) in
+    let members = decimals_text (members_of (has_member c.args.winners.now b.row.members) (length c.args.winners.now)) in
     let choice = decimals_text b.choice in
     let excess = fraction_text c.new.result in
     let fits : FitsSigned w128 c.args.block.now.excess = search rules in

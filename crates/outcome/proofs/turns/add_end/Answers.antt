@@ -2,9 +2,9 @@ use Rattle.std.proofs.Common.{rules, OnOk, length, sym, subst, Option, FitsSigne
 use Rattle.std.specs.Option.{option_map}
 use Rattle.std.specs.Int.{w128}
 use Rattle.std.proofs.lemmas.Int.{to_z-of_z}
-use Rattle.core_price.specs.blocking.specs.declared.look.Block.{Block}
-use Rattle.core_price.specs.blocking.specs.Look.{block_of}
-use Rattle.print_form.specs.Turns.{IsTurnEnd}
+use Rattle.blocking.specs.declared.look.Block.{Block}
+use Rattle.blocking.specs.Look.{block_of}
+use Rattle.print_grammar.specs.Turns.{IsTurnEnd}
 use Rattle.outcome.specs.Turns.{Grows}
 use Rattle.outcome.proofs.turns.add_end.Goals as goal
 

@@ -1,6 +1,6 @@
 use Rattle.std.proofs.Common.{ℕ, List, ◌++◌, drop}
 use Rattle.core_price.specs.Turns.{turns_of}
-use Rattle.print_form.specs.Turns.{AreTurnLines}
+use Rattle.print_grammar.specs.Turns.{AreTurnLines}
 use Rattle.outcome.proofs.turns.rounds_text.Given as goal
 
 abbrev pub invariant-loop-i : goal.invariant-loop-i

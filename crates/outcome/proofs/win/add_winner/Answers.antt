@@ -1,7 +1,7 @@
 use Rattle.std.proofs.Common.{◌≡◌, ◌∙◌, ap, ◌++◌, ◌∷◌, [], List, ℕ, codes}
 use Rattle.std.specs.Fmt.{decimal}
-use Rattle.print_form.specs.book_form.specs.line_text.specs.Decimals.{decimals_text}
-use Rattle.print_form.proofs.WinTextLaws.{winner-added}
+use Rattle.line_format.specs.Decimals.{decimals_text}
+use Rattle.print_grammar.proofs.WinTextLaws.{winner-added}
 use Rattle.outcome.proofs.win.add_winner.Goals as goal
 
 pub returns : goal.returns

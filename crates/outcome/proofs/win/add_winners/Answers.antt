@@ -1,8 +1,8 @@
 use Rattle.std.proofs.Common.{◌≡◌, ◌<◌, ◌≤◌, ◌+◌, ◌-◌, ◌++◌, ℕ, List, suc, length, get_or, sym, ◌∙◌, ap, arith}
-use Rattle.core_price.specs.auction_model.specs.Book.{BookBid, menu_of, bids_of, bid_of, lots_of}
-use Rattle.print_form.specs.WinText.{winner_line}
-use Rattle.core_price.specs.auction_model.specs.Market.{number_of}
-use Rattle.core_price.specs.auction_model.proofs.ChoiceLaws.{known-length, known-at}
+use Rattle.auction_model.specs.Book.{BookBid, bid_of, bids_of, lots_of, menu_of}
+use Rattle.print_grammar.specs.WinText.{winner_line}
+use Rattle.auction_model.specs.Market.{number_of}
+use Rattle.auction_model.proofs.ChoiceLaws.{known-at, known-length}
 use Rattle.outcome.proofs.WinLines.{loses, wins, all-written}
 use Rattle.outcome.proofs.win.add_winners.Goals as goal
 use Rattle.outcome.proofs.win.add_winners.Goals.{then-number-ne0+in_ok-add_winner, else-number-ne0}

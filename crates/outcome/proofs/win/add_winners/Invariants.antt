@@ -1,5 +1,5 @@
 use Rattle.std.proofs.Common.{◌≡◌, ◌++◌, drop}
-use Rattle.print_form.specs.WinText.{winner_lines}
+use Rattle.print_grammar.specs.WinText.{winner_lines}
 use Rattle.outcome.proofs.win.add_winners.Given as goal
 
 abbrev pub invariant-loop-k : goal.invariant-loop-k

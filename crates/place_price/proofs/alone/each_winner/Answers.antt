@@ -1,12 +1,12 @@
 use Rattle.std.proofs.Common.{◌≡◌, ◌≢◌, ◌∙◌, ◌<◌, ◌≤◌, ◌+◌, ◌-◌, sym, ap, arith, get_or, length, take, map, [], ◌∷◌, ◌++◌}
 use Rattle.std.proofs.lemmas.List.{map-append, take_all}
-use Rattle.book_price.specs.cert_laws.specs.auction_model.proofs.ListLaws.{each-push}
-use Rattle.book_price.specs.choices.specs.declared.chooser.Single.{Single}
-use Rattle.book_price.specs.choices.specs.Singles.{winners_after, IsSingle}
+use Rattle.auction_model.proofs.ListLaws.{each-push}
+use Rattle.choices.specs.declared.chooser.Single.{Single}
+use Rattle.choices.specs.Singles.{IsSingle, winners_after}
 use Rattle.place_price.proofs.Allowed.{lawful}
 use Rattle.place_price.proofs.Parts.{more-parts}
-use Rattle.place_check.specs.slot_places.specs.Board.{market_of}
-use Rattle.book_price.specs.vickrey.proofs.VickreyLaws.{winners-skip, winners-take}
+use Rattle.slot_places.specs.Board.{market_of_slots}
+use Rattle.vickrey.proofs.VickreyLaws.{winners-skip, winners-take}
 use Rattle.place_price.proofs.alone.each_winner.Goals as goal
 use Rattle.place_price.proofs.alone.each_winner.Goals.{then-number-ne0+in_ok-add_winner, else-number-ne0}
 
@@ -33,7 +33,7 @@ loop-k-preserved c =
           record {
             winners = ap (map winner) singles ∙ map-append winner c.loop-k.alone.singles.items (single ∷ []) ∙ ap (λ l. l ++ single.winner ∷ []) was.winners
                 ∙ ap (λ n. winners_after 0 (take k z) ++ n ∷ []) added.2 ∙ sym more;
-            each = rw singles (each-push (IsSingle (market_of slots) z) c.loop-k.alone.singles.items single was.each added.3);
+            each = rw singles (each-push (IsSingle (market_of_slots slots) z) c.loop-k.alone.singles.items single was.each added.3);
             parts = rw (singles, parts) (more-parts slots c.loop-k.alone.singles.items c.loop-k.alone.parts single part was.parts added.4);
           }
       | else-number-ne0 w ↦

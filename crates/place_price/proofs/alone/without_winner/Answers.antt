@@ -1,18 +1,18 @@
 use Rattle.std.proofs.Common.{◌≤◌, ◌*◌, ◌^◌, refl, sym, subst, rules, not, ℤ, ◌-ℤ◌, unsigned_abs}
 use Rattle.std.proofs.lemmas.Bool.{and_parts}
 use Rattle.std.proofs.lemmas.Int.{to_z-of_z, fits_signed_from_abs}
-use Rattle.book_price.specs.cert_laws.specs.auction_model.specs.Market.{uses}
-use Rattle.book_price.specs.cert_laws.specs.auction_model.specs.Prices.{IsVickreyPrice}
+use Rattle.auction_model.specs.Market.{uses}
+use Rattle.auction_model.specs.Prices.{IsVickreyPrice}
 use Rattle.place_price.proofs.Allowed.{left-small, own-small, price-is, price-small}
-use Rattle.place_check.specs.slot_places.specs.Board.{market_of}
-use Rattle.place_check.specs.slot_places.proofs.PlainSearch.{value-small}
+use Rattle.slot_places.specs.Board.{market_of_slots}
+use Rattle.slot_places.proofs.PlainSearch.{value-small}
 use mir.Val.{SFits}
 use mir.Syntax.{w128}
 use Rattle.place_price.proofs.alone.without_winner.Goals as goal
 
 pub placement-requires : goal.placement-requires
 placement-requires c =
-    let m = market_of c.args.chooser.now.slots.now in
+    let m = market_of_slots c.args.chooser.now.slots.now in
     let found = c.in_ok-found.found in
     (and_parts (m.allowed found.choice) (not (uses found.choice c.args.j)) c.in_ok-found.ensures.choice.passed).0
 
@@ -35,7 +35,7 @@ overflow_sub-single c =
 pub overflow_sub-single-2 : goal.overflow_sub-single-2
 overflow_sub-single-2 c =
     let slots = c.args.chooser.now.slots.now in
-    let m = market_of slots in
+    let m = market_of_slots slots in
     let z = c.args.chooser.now.winners in
     let kept = c.kept.ensures in
     let found = c.in_ok-found.found in
@@ -60,7 +60,7 @@ overflow_sub-single-2 c =
 pub returns-clause-single : goal.returns-clause-single
 returns-clause-single c =
     let slots = c.args.chooser.now.slots.now in
-    let m = market_of slots in
+    let m = market_of_slots slots in
     let z = c.args.chooser.now.winners in
     let kept = c.kept.ensures in
     let found = c.in_ok-found.found in

@@ -1,7 +1,7 @@
 use Rattle.std.proofs.Common.{◌≡◌, ◌++◌, drop, map}
 use Rattle.std.specs.List.{AllByRecursion}
 use Rattle.book_price.specs.Made.{row_from}
-use Rattle.place_check.specs.place_cert.specs.Parts.{row_value}
+use Rattle.placement_cert.specs.Parts.{row_value}
 use Rattle.place_price.specs.PlacedRows.{IsPlacedRow}
 use Rattle.place_price.proofs.bidder_rows.all_rows.Given as goal
 

@@ -1,13 +1,13 @@
 use Rattle.std.proofs.Common.{◌≡◌, ◌∙◌, ap, arith, refl, rules, subst, sym, to_z, of_z, List, map}
 use Rattle.std.proofs.lemmas.Int.{to_z-of_z}
 use Rattle.std.specs.Int.{w128}
-use Rattle.book_price.specs.core_price.specs.declared.priced.PricedRow.{PricedRow}
+use Rattle.core_price.specs.declared.priced.PricedRow.{PricedRow}
 use Rattle.book_price.specs.Made.{row_from}
-use Rattle.place_check.specs.PlacePriced.{IsPricedPlaceCert}
+use Rattle.placement_check.specs.PlacePriced.{IsPricedPlaceCert}
 use Rattle.place_price.proofs.Passes.{long, priced_passes}
 use Rattle.place_price.proofs.RowOrders.{kept-allowed}
 use Rattle.place_price.proofs.Shape.{made_is, made_shape}
-use Rattle.book_price.specs.row_laws.specs.Winners.{for_bidders}
+use Rattle.core_laws.specs.Winners.{for_bidders}
 use Rattle.place_price.proofs.certificate.certificate.Goals as goal
 
 pub what_is_added-requires-clause-allowed : goal.what_is_added-requires-clause-allowed

@@ -1,7 +1,7 @@
 use Rattle.std.proofs.Common.{◌≡◌, ◌∙◌, ap, arith, subst, sym, List, ℕ, length, replicate}
-use Rattle.book_price.specs.cert_laws.specs.auction_model.specs.Prices.{AreWeights}
+use Rattle.auction_model.specs.Prices.{AreWeights}
 use Rattle.book_price.proofs.Ones.{none-many, ones-weigh}
-use Rattle.book_price.specs.row_laws.specs.Weights.{ManyWin}
+use Rattle.core_laws.specs.Weights.{ManyWin}
 use Rattle.place_price.proofs.Allowed.{lawful, value-most}
 use Rattle.place_price.proofs.FoundLaws.{stop-memory}
 use Rattle.place_price.specs.Ones.{ones}

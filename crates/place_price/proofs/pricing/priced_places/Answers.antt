@@ -1,8 +1,8 @@
 use Rattle.std.proofs.Common.{refl, subst, sym, List}
 use Rattle.book_price.proofs.LastTurn.{point-is_last}
-use Rattle.book_price.specs.core_price.specs.Turns.{EndsWith, last_turn}
-use Rattle.book_price.specs.core_price.specs.declared.priced.Turn.{Turn}
-use Rattle.place_check.specs.place_cert.specs.CertValues.{place_cert_value}
+use Rattle.core_price.specs.Turns.{EndsWith, last_turn}
+use Rattle.core_price.specs.declared.priced.Turn.{Turn}
+use Rattle.placement_cert.specs.CertValues.{place_cert_value}
 use Rattle.place_price.proofs.FoundLaws.{run-of}
 use Rattle.place_price.proofs.pricing.priced_places.Goals as goal
 

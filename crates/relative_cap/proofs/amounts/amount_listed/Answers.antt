@@ -1,6 +1,6 @@
 -- Only the entry at the place can be for the package.
 use Rattle.std.proofs.Common.{ℕ, List, sym, ap, ◌∙◌, arith}
-use Rattle.clock_stage.specs.auction_model.specs.PackageTests.{is_same}
+use Rattle.auction_model.specs.PackageTests.{is_same}
 use Rattle.relative_cap.proofs.PlaceLaws.{amount-there, amount-past, amount-absent, lots-read}
 use Rattle.relative_cap.proofs.amounts.amount_listed.Goals as goal
 use Rattle.relative_cap.proofs.amounts.amount_listed.Goals.{else-place-list-via-then-place-list+else-is_same, else-place-list-via-else-place-list}

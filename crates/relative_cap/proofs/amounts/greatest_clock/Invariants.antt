@@ -1,6 +1,6 @@
 -- The greatest so far and what is left give the whole.
 use Rattle.std.proofs.Common.{◌≡◌, ◌≤◌, ◌^◌, drop, map, max}
-use Rattle.clock_stage.specs.auction_rules.specs.Caps.{clock_bid, greatest}
+use Rattle.auction_rules.specs.Caps.{clock_bid, greatest}
 use Rattle.relative_cap.specs.OwnRounds.{rounds_of}
 use Rattle.relative_cap.proofs.amounts.greatest_clock.Given as goal
 

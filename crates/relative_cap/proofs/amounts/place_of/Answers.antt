@@ -1,6 +1,6 @@
 -- The entry in the middle decides, since the list is in order.
 use Rattle.std.proofs.Common.{◌≡◌, ℕ, ◌+◌, ◌-◌, ◌/◌, ◌<◌, true, false, List, length, sym, ap, ◌∙◌, arith}
-use Rattle.clock_stage.specs.auction_model.specs.PackageTests.{is_before}
+use Rattle.auction_model.specs.PackageTests.{is_before}
 use Rattle.relative_cap.specs.Place.{lots_at}
 use Rattle.relative_cap.proofs.PlaceLaws.{before-more, behind-more, lots-read}
 use Rattle.relative_cap.proofs.amounts.place_of.Goals as goal

@@ -1,6 +1,6 @@
 -- The price of what was held is at most its highest amount.
 use Rattle.std.proofs.Common.{◌≡◌, map, refl, ap, ◌∙◌, arith}
-use Rattle.clock_stage.specs.auction_rules.specs.Caps.{highest}
+use Rattle.auction_rules.specs.Caps.{highest}
 use Rattle.relative_cap.specs.OwnRounds.{bid_value, own_in, rounds_of}
 use Rattle.relative_cap.proofs.AmountLaws.{price-least}
 use Rattle.relative_cap.proofs.caps.cap_by.Goals as goal

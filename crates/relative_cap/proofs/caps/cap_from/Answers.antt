@@ -1,6 +1,6 @@
 -- Both sums are small, and the price of what was held is at most the highest amount.
 use Rattle.std.proofs.Common.{◌≡◌, ◌≤◌, ◌^◌, ℕ, List, ap, ◌∙◌, arith, rules}
-use Rattle.clock_stage.specs.auction_model.specs.Package.{cost_of}
+use Rattle.auction_model.specs.Package.{cost_of}
 use Rattle.relative_cap.specs.OwnRounds.{own_in}
 use Rattle.relative_cap.proofs.AmountLaws.{price-most}
 use Rattle.relative_cap.proofs.caps.cap_from.Goals as goal

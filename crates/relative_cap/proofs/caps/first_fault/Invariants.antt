@@ -1,6 +1,6 @@
 -- What is left decides.
 use Rattle.std.proofs.Common.{◌≡◌, ◌+◌, drop, map}
-use Rattle.clock_stage.specs.auction_rules.specs.Caps.{cap_of, first_excess, list_fault}
+use Rattle.auction_rules.specs.Caps.{cap_of, first_excess, list_fault}
 use Rattle.relative_cap.specs.OwnRounds.{bid_value, rounds_of}
 use Rattle.relative_cap.proofs.caps.first_fault.Given as goal
 

@@ -1,4 +1,4 @@
--- One bid more, and behind the last nothing is left.
+-- One bid more, and after the last nothing is left.
 use Rattle.std.proofs.Common.{refl, arith}
 use Rattle.relative_cap.proofs.TestedLaws.{front-more, front-whole}
 use Rattle.relative_cap.proofs.entries.follow.Goals as goal

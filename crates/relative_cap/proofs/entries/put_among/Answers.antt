@@ -1,6 +1,6 @@
--- What is put in or overwritten stands behind the entries that stay.
+-- What is put in or overwritten follows the entries that stay.
 use Rattle.std.proofs.Common.{◌≡◌, ◌<◌, List, length, map, take, ap, sym, refl, subst, ◌∙◌, arith}
-use Rattle.clock_stage.specs.auction_model.specs.Book.{BookBid}
+use Rattle.auction_model.specs.Book.{BookBid}
 use Rattle.relative_cap.specs.declared.entries.TestedEntry.{TestedEntry}
 use Rattle.relative_cap.specs.Tested.{tested_bid}
 use Rattle.relative_cap.proofs.TestedLaws.{front-removed, front-inserted, front-set, inserted-each, bid-there}

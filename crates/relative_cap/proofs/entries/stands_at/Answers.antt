@@ -2,7 +2,7 @@
 use Rattle.std.proofs.Common.{[], sym, ◌∙◌}
 use Rattle.std.proofs.lemmas.List.{get_or-map}
 use Rattle.std.specs.Prelude.{slice_index_or}
-use Rattle.clock_stage.specs.auction_model.proofs.PackageTestLaws.{is_same-true}
+use Rattle.auction_model.proofs.PackageTestLaws.{is_same-true}
 use Rattle.relative_cap.specs.Tested.{tested_lots}
 use Rattle.relative_cap.proofs.entries.stands_at.Goals as goal
 

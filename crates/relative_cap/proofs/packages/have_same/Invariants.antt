@@ -1,6 +1,6 @@
 -- What is left decides.
 use Rattle.std.proofs.Common.{◌≡◌, drop}
-use Rattle.clock_stage.specs.auction_model.specs.PackageTests.{is_same}
+use Rattle.auction_model.specs.PackageTests.{is_same}
 use Rattle.relative_cap.proofs.packages.have_same.Given as goal
 
 abbrev pub invariant-loop-category : goal.invariant-loop-category

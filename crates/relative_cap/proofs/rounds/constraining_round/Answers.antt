@@ -1,6 +1,6 @@
 -- There is one such round.
 use Rattle.std.proofs.Common.{sym, subst}
-use Rattle.clock_stage.specs.auction_model.specs.Package.{cost_of}
+use Rattle.auction_model.specs.Package.{cost_of}
 use Rattle.relative_cap.specs.OwnRounds.{IsConstraining}
 use Rattle.relative_cap.proofs.RoundLaws.{constraining_number-is}
 use Rattle.relative_cap.proofs.rounds.constraining_round.Goals as goal

@@ -1,6 +1,6 @@
 -- The greatest eligibilities give the constraining round.
 use Rattle.std.proofs.Common.{sym, subst, ap, ◌∙◌}
-use Rattle.clock_stage.specs.auction_model.specs.PackageTests.{is_same}
+use Rattle.auction_model.specs.PackageTests.{is_same}
 use Rattle.relative_cap.specs.OwnRounds.{own_in, IsConstraining}
 use Rattle.relative_cap.specs.RoundsOfPackage.{IsRoundTerms}
 use Rattle.relative_cap.proofs.LevelLaws.{constraining-by_peaks}

@@ -1,6 +1,6 @@
 -- The price of at most 40 lots is an amount.
 use Rattle.std.proofs.Common.{List, ℕ, ap, ◌∙◌, arith}
-use Rattle.clock_stage.specs.auction_model.specs.Package.{cost_of}
+use Rattle.auction_model.specs.Package.{cost_of}
 use Rattle.relative_cap.specs.OwnRounds.{own_in, rounds_of}
 use Rattle.relative_cap.specs.RoundsOfPackage.{first_place}
 use Rattle.relative_cap.proofs.AmountLaws.{price-most}

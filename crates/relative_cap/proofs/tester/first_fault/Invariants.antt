@@ -1,7 +1,7 @@
 -- What is left decides.
 use Rattle.std.proofs.Common.{◌≡◌, ℕ, ◌+◌, List, Option, drop, map}
 use Rattle.std.specs.List.{All}
-use Rattle.clock_stage.specs.auction_rules.specs.Caps.{first_excess}
+use Rattle.auction_rules.specs.Caps.{first_excess}
 use Rattle.relative_cap.specs.Tested.{terms_cap, tested_bid}
 use Rattle.relative_cap.proofs.tester.first_fault.Given as goal
 

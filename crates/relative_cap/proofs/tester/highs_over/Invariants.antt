@@ -1,7 +1,7 @@
 -- The highest amounts over the entries so far.
 use Rattle.std.proofs.Common.{ℕ, List, [], map, take}
 use Rattle.std.specs.List.{All}
-use Rattle.clock_stage.specs.auction_rules.specs.State.{Round}
+use Rattle.auction_rules.specs.State.{Round}
 use Rattle.relative_cap.specs.Tested.{AreHighs, IsTested, tested_bid}
 use Rattle.relative_cap.proofs.tester.highs_over.Given as goal
 

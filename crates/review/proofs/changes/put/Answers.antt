@@ -1,6 +1,6 @@
 use Rattle.std.proofs.Common.{ℕ, List, sym, subst}
-use Rattle.value_table.specs.book_form.specs.BookLines.{IsBookWithinLimits}
-use Rattle.value_table.specs.bid_book.specs.Changes.{with_put}
+use Rattle.book_grammar.specs.BookLines.{IsBookWithinLimits}
+use Rattle.bid_book.specs.Changes.{with_put}
 use Rattle.review.proofs.changes.put.Goals as goal
 
 pub put_bid-requires-clause-kept : goal.put_bid-requires-clause-kept

@@ -1,9 +1,9 @@
 use Rattle.std.proofs.Common.{◌≡◌, length, sym, ap, subst, ◌∙◌}
-use Rattle.value_table.specs.auction_model.specs.Book.{Book, bids_of, market_of}
-use Rattle.value_table.specs.auction_model.specs.Entries.{with_entry}
-use Rattle.value_table.specs.auction_model.specs.Greatest.{IsWinning}
-use Rattle.value_table.specs.auction_model.proofs.BookMarket.{winning-count}
-use Rattle.value_table.specs.bid_book.specs.Changes.{with_put}
+use Rattle.auction_model.specs.Book.{Book, bids_of, market_of}
+use Rattle.auction_model.specs.Entries.{with_entry}
+use Rattle.auction_model.specs.Greatest.{IsWinning}
+use Rattle.auction_model.proofs.BookMarket.{winning-count}
+use Rattle.bid_book.specs.Changes.{with_put}
 use Rattle.review.specs.Reviewed.{AreSideLines}
 use Rattle.review.proofs.EditedLines.{bidders-same}
 use Rattle.review.proofs.changes.raise.Goals as goal

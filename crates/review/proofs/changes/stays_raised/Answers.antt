@@ -1,10 +1,10 @@
 use Rattle.std.proofs.Common.{◌≡◌, ◌-◌, ◌≤◌, ◌<◌, ℕ, List, Option, zero, suc, get_or, sym, ap, subst, ◌∙◌, arith}
-use Rattle.value_table.specs.auction_model.specs.Book.{Book, BookBid, bid_of, bids_of, market_of, no_bid}
-use Rattle.value_table.specs.auction_model.specs.Greatest.{IsWinning}
-use Rattle.value_table.specs.auction_model.proofs.BookMarket.{winning-count}
-use Rattle.value_table.specs.bid_book.specs.Changes.{with_bids}
-use Rattle.value_table.specs.bid_book.proofs.PackageOrder.{lots_at}
-use Rattle.value_table.specs.bid_book.proofs.PutLaws.{book-order}
+use Rattle.auction_model.specs.Book.{Book, BookBid, bid_of, bids_of, market_of, no_bid}
+use Rattle.auction_model.specs.Greatest.{IsWinning}
+use Rattle.auction_model.proofs.BookMarket.{winning-count}
+use Rattle.bid_book.specs.Changes.{with_bids}
+use Rattle.bid_book.proofs.PackageOrder.{lots_at}
+use Rattle.bid_book.proofs.PutLaws.{book-order}
 use Rattle.review.specs.Reviewed.{IsHigher}
 use Rattle.review.proofs.KeepLaws.{raise-stays, raised-bids}
 use Rattle.review.proofs.RaiseLaws.{raised-winning}

@@ -1,13 +1,13 @@
 use Rattle.std.proofs.Common.{◌≡◌, ◌-◌, ◌<◌, ◌≤◌, ℕ, List, length, sym, ap, subst, ◌∙◌, arith}
-use Rattle.value_table.specs.auction_model.specs.Book.{Book, bids_of, market_of}
-use Rattle.value_table.specs.auction_model.specs.Entries.{without_entry}
-use Rattle.value_table.specs.auction_model.specs.Greatest.{IsWinning}
-use Rattle.value_table.specs.auction_model.proofs.BookMarket.{winning-count}
-use Rattle.value_table.specs.bid_book.specs.Changes.{IsBidFor, with_bids}
-use Rattle.value_table.specs.bid_book.proofs.PackageOrder.{lots_at}
-use Rattle.value_table.specs.bid_book.proofs.PutLaws.{book-order}
+use Rattle.auction_model.specs.Book.{Book, bids_of, market_of}
+use Rattle.auction_model.specs.Entries.{without_entry}
+use Rattle.auction_model.specs.Greatest.{IsWinning}
+use Rattle.auction_model.proofs.BookMarket.{winning-count}
+use Rattle.bid_book.specs.Changes.{IsBidFor, with_bids}
+use Rattle.bid_book.proofs.PackageOrder.{lots_at}
+use Rattle.bid_book.proofs.PutLaws.{book-order}
 use Rattle.std.specs.List.{remove}
-use Rattle.value_table.specs.book_form.specs.BookLines.{IsBookWithinLimits}
+use Rattle.book_grammar.specs.BookLines.{IsBookWithinLimits}
 use Rattle.review.specs.Reviewed.{AreSideLines}
 use Rattle.review.proofs.EditedLines.{bidders-same}
 use Rattle.review.proofs.KeepLaws.{remove-stays}

@@ -1,6 +1,6 @@
 use Rattle.std.proofs.Common.{ℕ, below_more, arith, rules}
 use Rattle.std.proofs.lemmas.Int.{to_z-of_z}
-use Rattle.value_table.specs.auction_model.proofs.PlaceLaws.{place-less}
+use Rattle.auction_model.proofs.PlaceLaws.{place-less}
 use Rattle.review.specs.Reviewed.{IsBelowAt}
 use mir.Val.{SFits}
 use mir.Syntax.{w128}

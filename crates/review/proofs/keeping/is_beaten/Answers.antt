@@ -1,6 +1,6 @@
 use Rattle.std.proofs.Common.{◌-◌, ◌≤◌, ◌∙◌, ℕ, ℤ, List, length, sym, ap, subst, arith, rules}
 use Rattle.std.proofs.lemmas.Int.{to_z-of_z}
-use Rattle.value_table.specs.auction_model.specs.Place.{states_of}
+use Rattle.auction_model.specs.Place.{states_of}
 use Rattle.review.specs.Reviewed.{AreBelow}
 use Rattle.review.proofs.SizeLaws.{left-line, left-small, right-line, right-small}
 use mir.Val.{SFits}

@@ -1,8 +1,8 @@
 use Rattle.std.proofs.Common.{◌≡◌, ◌-◌, ◌<ℤ◌, ◌+ℤ◌, ℕ, get_or, pos, true, ap, subst, arith, rules}
 use Rattle.std.proofs.lemmas.Int.{fits_signed_from_abs, to_z-of_z, ints}
-use Rattle.value_table.specs.auction_model.specs.Package.{less}
-use Rattle.value_table.specs.auction_model.specs.Place.{left_at, place_of, states_of}
-use Rattle.value_table.specs.auction_model.proofs.PlaceLaws.{place-less}
+use Rattle.auction_model.specs.Package.{less}
+use Rattle.auction_model.specs.Place.{left_at, place_of, states_of}
+use Rattle.auction_model.proofs.PlaceLaws.{place-less}
 use Rattle.std.specs.Int.Signed.{lt_z}
 use mir.Val.{SFits}
 use mir.Syntax.{w128}

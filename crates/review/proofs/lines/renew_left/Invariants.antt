@@ -1,6 +1,6 @@
 use Rattle.review.specs.ReviewValue.{AreLeftLines, lines_of}
 use Rattle.value_table.specs.LineRooms.{HasRoom}
-use Rattle.value_table.specs.auction_model.specs.Place.{states_of}
+use Rattle.auction_model.specs.Place.{states_of}
 use Rattle.review.proofs.lines.renew_left.Given as goal
 
 abbrev pub invariant-loop-k : goal.invariant-loop-k

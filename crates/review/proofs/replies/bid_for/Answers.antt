@@ -2,7 +2,7 @@ use Rattle.std.proofs.Common.{◌≡◌, ◌≢◌, ◌+◌, ◌<◌, ℕ, suc, 
 use Rattle.std.proofs.lemmas.Bool.{false≢true}
 use Rattle.std.proofs.lemmas.Bool.Decides.{Decides-eqb}
 use Rattle.std.proofs.lemmas.Slice.Eq.{slice_eq-Decides}
-use Rattle.value_table.specs.auction_model.specs.Book.{BookBid, bids_of, no_bid}
+use Rattle.auction_model.specs.Book.{BookBid, bids_of, no_bid}
 use Rattle.review.specs.Edits.{amount_for}
 use Rattle.review.proofs.ReplyLaws.{amount-found, amount-passed, bid-next}
 use Rattle.review.proofs.replies.bid_for.Goals as goal

@@ -1,6 +1,6 @@
 -- What is left decides.
 use Rattle.std.proofs.Common.{◌≡◌, drop}
-use Rattle.value_table.specs.auction_model.specs.Book.{bids_of}
+use Rattle.auction_model.specs.Book.{bids_of}
 use Rattle.review.specs.Edits.{amount_for}
 use Rattle.review.proofs.replies.bid_for.Given as goal
 

@@ -1,7 +1,7 @@
 use Rattle.std.proofs.Common.{◌≤◌, ℕ, List, length, sym, ap, subst, ◌∙◌}
 use Rattle.std.specs.List.{All}
 use Rattle.std.proofs.lemmas.List.Elements.{All-from_recursion}
-use Rattle.value_table.specs.limits.specs.declared.TheConstants.{MOST_PRICE}
+use Rattle.limits.specs.declared.TheConstants.{MOST_PRICE}
 use Rattle.review.proofs.replies.reply_to_add.Goals as goal
 
 pub cost-reserve-requires-clause-categories : goal.cost-reserve-requires-clause-categories

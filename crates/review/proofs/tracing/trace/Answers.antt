@@ -1,18 +1,18 @@
-use Rattle.std.proofs.Common.{◌≡◌, ◌∙◌, ◌≤◌, ◌<◌, ◌+◌, ◌-◌, ◌++◌, ◌∷◌, [], ℕ, ℤ, List, length, get_or, set, take, sym, ap, subst, arith, rules, append_assoc}
-use Rattle.std.proofs.Common.{vec_len}
+use Rattle.std.proofs.Common.{List, [], ap, append_assoc, arith, get_or, length, rules, set, subst, sym, take, vec_len, ℕ, ℤ, ◌++◌, ◌+◌, ◌-◌, ◌<◌}
+use Rattle.std.proofs.Common.{◌∙◌, ◌∷◌, ◌≡◌, ◌≤◌}
 use Rattle.std.proofs.lemmas.Int.{to_z-of_z}
 use Rattle.std.proofs.lemmas.List.{append-nil, take_all, take_more_set}
 use Rattle.std.proofs.Math.ListN.{length-set}
-use Rattle.value_table.specs.auction_model.specs.Book.{market_of, menu_of, net_of}
-use Rattle.value_table.specs.auction_model.specs.Greatest.{IsFirstGreatest, IsWinning}
-use Rattle.value_table.specs.auction_model.specs.Market.{sum_after}
-use Rattle.value_table.specs.auction_model.specs.Menu.{fits_after}
-use Rattle.value_table.specs.auction_model.specs.Place.{left_at, states_of}
-use Rattle.value_table.specs.auction_model.specs.Steps.{IsFirstNumber}
-use Rattle.value_table.specs.auction_model.specs.Table.{IsEntry}
-use Rattle.value_table.specs.auction_model.proofs.PlaceLaws.{states-positive, left_at-whole}
-use Rattle.value_table.specs.auction_model.proofs.TraceLaws.{first-last}
-use Rattle.value_table.specs.auction_model.proofs.WalkLaws.{walk-by}
+use Rattle.auction_model.specs.Book.{market_of, menu_of, net_of}
+use Rattle.auction_model.specs.Greatest.{IsFirstGreatest, IsWinning}
+use Rattle.auction_model.specs.Market.{sum_after}
+use Rattle.auction_model.specs.Menu.{fits_after}
+use Rattle.auction_model.specs.Place.{left_at, states_of}
+use Rattle.auction_model.specs.Steps.{IsFirstNumber}
+use Rattle.auction_model.specs.Table.{IsEntry}
+use Rattle.auction_model.proofs.PlaceLaws.{left_at-whole, states-positive}
+use Rattle.auction_model.proofs.TraceLaws.{first-last}
+use Rattle.auction_model.proofs.WalkLaws.{walk-by}
 use Rattle.value_table.specs.SideLines.{IsRightLine}
 use Rattle.review.proofs.LineSets.{count-of, entry-read, line-read, read-own}
 use mir.Val.{SFits}

@@ -1,12 +1,12 @@
 use Rattle.std.proofs.Common.{◌≡◌, ◌<◌, ◌++◌, ℕ, List, length, take}
-use Rattle.value_table.specs.auction_model.specs.Book.{market_of, menu_of, net_of}
-use Rattle.value_table.specs.auction_model.specs.Greatest.{IsFirstGreatest, IsWinning}
-use Rattle.value_table.specs.auction_model.specs.Market.{sum_after}
-use Rattle.value_table.specs.auction_model.specs.Menu.{fits_after}
-use Rattle.value_table.specs.auction_model.specs.Place.{left_at, states_of}
+use Rattle.auction_model.specs.Book.{market_of, menu_of, net_of}
+use Rattle.auction_model.specs.Greatest.{IsFirstGreatest, IsWinning}
+use Rattle.auction_model.specs.Market.{sum_after}
+use Rattle.auction_model.specs.Menu.{fits_after}
+use Rattle.auction_model.specs.Place.{left_at, states_of}
 use Rattle.review.proofs.tracing.trace.Given as goal
 
--- a first greatest choice of the bidders that are left, behind the numbers so far, is the winning choice
+-- a first greatest choice of the bidders that are left, after the numbers so far, is the winning choice
 abbrev pub invariant-loop-k : goal.invariant-loop-k
 invariant-loop-k l = record {
   place : l.place < states_of l.book.supply;

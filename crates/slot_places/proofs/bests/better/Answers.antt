@@ -1,5 +1,5 @@
 use Rattle.std.proofs.Common.{◌≡◌, ◌∙◌, true, false, length, sym, ap, rules}
-use Rattle.choices.specs.auction_model.specs.Market.{is_earlier}
+use Rattle.auction_model.specs.Market.{is_earlier}
 use Rattle.slot_places.specs.SetTable.{holds, sum_outside}
 use Rattle.slot_places.specs.Steps.{searched, counted}
 use Rattle.slot_places.proofs.BestLaws.{before-same, before-by_sums, before-by_order, before-by_rest}

@@ -1,6 +1,6 @@
 use Rattle.std.proofs.Common.{◌≡◌, ◌∙◌, ◌+◌, sym, arith, subst, inl, inr, IsTrue}
 use Rattle.std.proofs.lemmas.Bool.{cases_eq}
-use Rattle.choices.specs.auction_model.specs.Market.{number_of}
+use Rattle.auction_model.specs.Market.{number_of}
 use Rattle.slot_places.specs.Board.{start_behind, starts_at}
 use Rattle.slot_places.specs.SetTable.{holds, sum_outside}
 use Rattle.slot_places.specs.Steps.{searched, counted}

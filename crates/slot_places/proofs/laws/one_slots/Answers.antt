@@ -1,5 +1,5 @@
 use Rattle.std.proofs.Common.{sym, ◌∙◌}
-use Rattle.choices.specs.line_text.proofs.OneAnswer.{one_answer}
+use Rattle.line_format.proofs.OneAnswer.{one_answer}
 use Rattle.slot_places.specs.SlotForm.{IsSlotText, slot_lines}
 use Rattle.slot_places.specs.Stages.{Step, excess}
 use Rattle.slot_places.proofs.Reading.{IsSound, begin, finish, reads}

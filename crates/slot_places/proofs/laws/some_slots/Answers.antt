@@ -1,4 +1,4 @@
-use Rattle.choices.specs.line_text.proofs.SomeAnswer.{some_answer}
+use Rattle.line_format.proofs.SomeAnswer.{some_answer}
 use Rattle.slot_places.specs.SlotForm.{IsSlotText, slot_lines}
 use Rattle.slot_places.specs.Stages.{Step, excess}
 use Rattle.slot_places.proofs.Reading.{IsSound, begin, finish, reads}

@@ -1,7 +1,7 @@
 use Rattle.std.proofs.Common.{◌≡◌, ◌∙◌, Err, ap, subst}
-use Rattle.choices.specs.line_text.specs.LineText.{FaultAt}
-use Rattle.choices.specs.line_text.specs.declared.stop.TextStop.TheVariants.{Limit}
-use Rattle.choices.specs.line_text.proofs.Runs.{text_read, fault_read, excess_read}
+use Rattle.line_format.specs.LineText.{FaultAt}
+use Rattle.line_format.specs.declared.stop.TextStop.TheVariants as text_stop
+use Rattle.line_format.proofs.Runs.{excess_read, fault_read, text_read}
 use Rattle.slot_places.specs.SlotForm.{IsSlotText, slot_lines}
 use Rattle.slot_places.proofs.Reading.{reads}
 use Rattle.slot_places.proofs.read.read_slots.Goals as goal
@@ -20,4 +20,4 @@ returns-in-Err-Limit-clause-limit c = λ kind count err.
     let kinds : c.in-Err-Limit.kind ≡ kind = cc (err) in
     let counts : c.in-Err-Limit.count ≡ count = cc (err) in
     excess_read reads c.args.bytes.now (kind, count) (c.in-Err-Limit.ensures.limit (kind, count)
-    (ap Err (c.in-Err-Limit.field-0-is ∙ (λ i. Limit (kinds i, counts i)))))
+    (ap Err (c.in-Err-Limit.field-0-is ∙ (λ i. text_stop.Limit (kinds i, counts i)))))

@@ -1,8 +1,8 @@
 use Rattle.std.proofs.Common.{◌∙◌, Some, ap, refl, arith}
-use Rattle.choices.specs.limits.specs.declared.LimitKind.TheVariants.{Lots}
+use Rattle.limits.specs.declared.LimitKind.TheVariants.{Lots}
 use Rattle.slot_places.specs.declared.read.Stage.TheVariants.{Listing}
 use Rattle.slot_places.specs.Stages.{opened}
-use Rattle.choices.specs.bid_book.proofs.StopLaws.{one_limit}
+use Rattle.bid_book.proofs.StopLaws.{one_limit}
 use Rattle.slot_places.proofs.EntryLaws.{many_lots}
 use Rattle.slot_places.proofs.read.take_band.Goals as goal
 

@@ -3,7 +3,7 @@ use Rattle.std.specs.Prelude.{codes}
 use Rattle.std.proofs.lemmas.Result.{err_from_is_err_and}
 use Rattle.std.proofs.lemmas.Bool.Decides.{Decides-eqb}
 use Rattle.std.proofs.lemmas.Slice.Eq.{slice_eq-Decides}
-use Rattle.choices.specs.line_text.specs.declared.stop.LineStop.TheVariants.{Form, Limit}
+use Rattle.line_format.specs.declared.stop.LineStop.TheVariants.{Form, Limit}
 use Rattle.slot_places.specs.declared.read.Stage.TheVariants.{Listing}
 use Rattle.slot_places.proofs.EntryLaws.{adds_step}
 use Rattle.slot_places.proofs.read.take_listed.Goals as goal

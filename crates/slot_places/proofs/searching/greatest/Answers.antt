@@ -1,7 +1,7 @@
 use Rattle.std.proofs.Common.{◌≡◌, ◌∙◌, rules, sym, subst, ap}
 use Rattle.std.proofs.lemmas.Int.{to_z-of_z}
-use Rattle.choices.specs.auction_model.specs.Market.{sum_after}
-use Rattle.choices.specs.auction_model.specs.Greatest.{IsFirstGreatest}
+use Rattle.auction_model.specs.Market.{sum_after}
+use Rattle.auction_model.specs.Greatest.{IsFirstGreatest}
 use Rattle.slot_places.specs.Board.{is_placed}
 use Rattle.slot_places.specs.Steps.{searched, counted}
 use Rattle.slot_places.proofs.TableLaws.{bests-first, first-placed, first-sum}

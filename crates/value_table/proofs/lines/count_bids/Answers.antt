@@ -1,7 +1,8 @@
 use Rattle.std.proofs.Common.{◌≡◌, ◌∙◌, ◌≤◌, ◌+◌, ◌-◌, sym, refl, arith, rules, length, map}
 use Rattle.std.proofs.lemmas.Int.{to_z-of_z}
 use Rattle.std.proofs.lemmas.List.{length-map}
-use Rattle.choices.specs.auction_model.proofs.BidderLaws.{bidder-none, bidder-all}
+use Rattle.auction_model.proofs.BidderLaws.{bidder-all, bidder-none}
+use Rattle.value_table.proofs.CoarseBlocks.{units-kept}
 use Rattle.value_table.proofs.CornerLaws.{line-grows}
 use Rattle.value_table.proofs.DownLaws.{bidder_from-none, bidder_from-more, bidder_from-beaten, bidder_from-all}
 use Rattle.value_table.specs.Counted.{counted_bids, counted, IsNeedless}
@@ -45,17 +46,18 @@ loop-i-preserved g c =
     let wide : SFits w128 c.worth.result = search rules in
     let worth : number c.narrowed-worth.result ≡ counted l c.args.j (i - 1 + 1) =
     c.narrowed-worth.ensures ∙ to_z-of_z w128 c.worth.result wide ∙ c.worth.ensures.worth in
-    let made = c.add_bid.new.line in
-    let places : length (map number made) ≡ length (map number c.loop-i.line) = length-map made number ∙ c.add_bid.auto.line
+    let made = c.add_bid-more.new.line in
+    let places : length (map number made) ≡ length (map number c.loop-i.line) = length-map made number ∙ c.add_bid-more.auto.line
     ∙ sym (length-map c.loop-i.line number) in
     record {
       line = bidder_from-more (counted_bids l) (counted l) l.book.now.supply c.args.j c.requires.bidder.0 i (omega (arith, c.loop-i-test.true))
           (omega (arith, c.loop-i-test.true, c.bids-i.ensures.bids)) (map number c.args.below.now)
           (map number c.loop-i.line) (map number made)
           c.requires.below c.loop-i.invariant.line places
-          (λ s h. rw up at (simp (c.supply.ensures.supply, c.bid-bid.ensures.lots, worth) at (c.add_bid.ensures.line s
+          (λ s h. rw up at (simp (c.supply.ensures.supply, c.bid-bid.ensures.lots, worth) at (c.add_bid-more.ensures.line s
           (omega (arith, h, length-map c.loop-i.line number)))));
-      units = c.add_bid.ensures.units;
+      units = units-kept number c.loop-i.shift c.shift_after-shift.result made c.args.below.now c.add_bid-more.new.low c.put_units-shift.new.high c.shift_after-shift.ensures
+          c.add_bid-more.ensures.units;
     }
 
 pub returns : goal.returns
@@ -78,17 +80,17 @@ loop-i-preserved-then-is_needless g c =
       units = c.loop-i.invariant.units;
     }
 
-pub add_bid-requires-clause-below_grows : goal.add_bid-requires-clause-below_grows
-add_bid-requires-clause-below_grows g c =
+pub add_bid-more-requires-clause-below_grows : goal.add_bid-more-requires-clause-below_grows
+add_bid-more-requires-clause-below_grows g c =
     let l = c.args.lowering.now in
     rw c.supply.ensures.supply
     (line-grows (counted_bids l) (counted l) l.book.now.supply c.args.j (map g.A.Amount.number c.args.below.now) c.requires.below)
 
-pub add_bid-requires-clause-line_grows : goal.add_bid-requires-clause-line_grows
-add_bid-requires-clause-line_grows g c = rw c.supply.ensures.supply c.loop-i.invariant.line.grows
+pub add_bid-more-requires-clause-line_grows : goal.add_bid-more-requires-clause-line_grows
+add_bid-more-requires-clause-line_grows g c = rw c.supply.ensures.supply c.loop-i.invariant.line.grows
 
-pub add_bid-requires-clause-lines : goal.add_bid-requires-clause-lines
-add_bid-requires-clause-lines g c =
+pub add_bid-more-requires-clause-lines : goal.add_bid-more-requires-clause-lines
+add_bid-more-requires-clause-lines g c =
     let l = c.args.lowering.now in
     let number = g.A.Amount.number in
     let known : c.loop-i.i - 1 + 1 ≤ (counted_bids l).bids c.args.j = omega (arith, c.loop-i-test.true, c.bids-i.ensures.bids) in

@@ -1,7 +1,7 @@
 use Rattle.std.proofs.Common.{◌≡◌, ◌∙◌, ◌+◌, ◌<◌, sym, ap, subst, arith, refl, length, map, get_or, List, [], ◌∷◌, ◌++◌, ℤ, suc}
 use Rattle.std.proofs.lemmas.List.{length-map, take_all, take_more}
-use Rattle.choices.specs.auction_model.specs.Table.{IsLine, AreLinesTo}
-use Rattle.choices.specs.auction_model.proofs.LinesLaws.{line-at, lines-more, lines-width}
+use Rattle.auction_model.specs.Table.{AreLinesTo, IsLine}
+use Rattle.auction_model.proofs.LinesLaws.{line-at, lines-more, lines-width}
 use Rattle.value_table.specs.Counted.{counted_bids, counted}
 use Rattle.value_table.proofs.TableLines.{entries, lines-even}
 use Rattle.value_table.proofs.lines.grid_of.Goals as goal

@@ -34,11 +34,5 @@ loop-k-preserved g c =
     subst (λ k. AreCountedLines l (suc c.args.top) k (map entries_of lines)) up c.loop-k.invariant in
     subst (λ (items : List _). AreCountedLines l (suc c.args.top) (c.loop-k.k - 1) (map entries_of items)) (sym made) (own, rest)
 
-pub units_room-requires : goal.units_room-requires
-units_room-requires g c = grind (arith, common_steps)
-
-pub units_room-requires-2 : goal.units_room-requires-2
-units_room-requires-2 g c = grind (arith, common_steps)
-
 pub index-requires : goal.index-requires
 index-requires g c = grind (arith, common_steps)

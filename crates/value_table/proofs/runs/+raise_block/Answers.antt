@@ -1,6 +1,6 @@
 use Rattle.std.proofs.Common.{◌-◌, arith, rules, get_or}
 use Rattle.std.proofs.lemmas.Grind.{common_steps}
-use Rattle.choices.specs.auction_model.proofs.RunLaws.{widths-count}
+use Rattle.auction_model.proofs.RunLaws.{widths-count}
 use Rattle.value_table.proofs.BlockLaws.{block-asks, block-corners, first-inside, reached-none, raised-first, raised-more, raised-whole}
 use Rattle.value_table.proofs.RowParts.{row-small, row-inside, row-place}
 use Rattle.value_table.proofs.runs.+raise_block.Goals as goal
@@ -94,3 +94,9 @@ pub returns : goal.returns
 returns g t c =
     raised-whole g.A.Amount.number g.A.Amount.most c.args.supply.now c.args.widths.now c.args.counts.now c.args.line.now c.args.below.now c.args.worth
     c.requires.some c.requires.lots c.loop-block.block c.loop-block.line c.loop-block-test.false c.loop-block.invariant
+
+pub slice_bounds-raise_block-end-in-loop-block-3 : goal.slice_bounds-raise_block-end-in-loop-block-3
+slice_bounds-raise_block-end-in-loop-block-3 g t c = grind (arith, common_steps)
+
+pub slice_bounds-raise_block-end-in-loop-block-4 : goal.slice_bounds-raise_block-end-in-loop-block-4
+slice_bounds-raise_block-end-in-loop-block-4 g t c = grind (arith, common_steps)

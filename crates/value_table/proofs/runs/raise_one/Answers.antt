@@ -2,8 +2,8 @@ use Rattle.std.proofs.Common.{◌≡◌, ◌∙◌, ◌<◌, ◌≤◌, ◌+◌,
 use Rattle.std.specs.Int.{int_max}
 use Rattle.std.proofs.lemmas.List.{length-map, length-take-le, length-drop}
 use Rattle.std.proofs.lemmas.Nat.{mul-le}
-use Rattle.choices.specs.auction_model.specs.Place.{states_of}
-use Rattle.choices.specs.auction_model.proofs.RunLaws.{width-first, widths-count, width-at_most, raised-before, run-back}
+use Rattle.auction_model.specs.Place.{states_of}
+use Rattle.auction_model.proofs.RunLaws.{raised-before, run-back, width-at_most, width-first, widths-count}
 use Rattle.value_table.proofs.NumberParts.{read-put, read-number, read-first, small-numbers}
 use Rattle.value_table.proofs.runs.raise_one.Goals as goal
 

@@ -1,7 +1,7 @@
 use Rattle.std.proofs.Common.{◌∙◌, ◌+◌, ◌-◌, ◌*◌, ◌≤◌, arith, length, drop, get_or}
 use Rattle.std.proofs.lemmas.Grind.{common_steps}
 use Rattle.std.proofs.lemmas.List.{length-drop, length-take-le}
-use Rattle.choices.specs.auction_model.proofs.RunLaws.{widths-count}
+use Rattle.auction_model.proofs.RunLaws.{widths-count}
 use Rattle.value_table.proofs.NumberParts.{small-numbers}
 use Rattle.value_table.proofs.RowSteps.{skip-less, start-inside, left-rows, two-back}
 use Rattle.value_table.proofs.runs.raise_two.Goals as goal

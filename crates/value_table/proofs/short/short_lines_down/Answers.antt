@@ -38,12 +38,6 @@ loop-k-preserved c =
     subst (λ k. AreCountedLines l (suc c.args.top) k (map entries_of lines)) up c.loop-k.invariant in
     subst (λ (items : List _). AreCountedLines l (suc c.args.top) (c.loop-k.k - 1) (map entries_of items)) (sym made) (own, rest)
 
-pub units_room-requires : goal.units_room-requires
-units_room-requires c = grind (arith, common_steps)
-
-pub units_room-requires-2 : goal.units_room-requires-2
-units_room-requires-2 c = grind (arith, common_steps)
-
 pub index-requires : goal.index-requires
 index-requires c = grind (arith, common_steps)
 

@@ -1,12 +1,12 @@
 use Rattle.std.proofs.Common.{◌-◌, List, ℤ, pos, false, refl, sym, subst, rules}
 use Rattle.std.proofs.lemmas.Int.{to_z-of_z}
 use Rattle.std.proofs.lemmas.List.{map-id}
-use Rattle.choices.specs.auction_model.specs.Lowered.{lowered}
-use Rattle.choices.specs.auction_model.specs.Menu.{without}
-use Rattle.choices.specs.auction_model.specs.Steps.{IsFirstNumber}
-use Rattle.choices.specs.auction_model.specs.Table.{IsLine}
-use Rattle.choices.specs.auction_model.specs.Book.{menu_of, net_of}
-use Rattle.choices.specs.auction_model.specs.Place.{left_at}
+use Rattle.auction_model.specs.Lowered.{lowered}
+use Rattle.auction_model.specs.Menu.{without}
+use Rattle.auction_model.specs.Steps.{IsFirstNumber}
+use Rattle.auction_model.specs.Table.{IsLine}
+use Rattle.auction_model.specs.Book.{menu_of, net_of}
+use Rattle.auction_model.specs.Place.{left_at}
 use Rattle.value_table.proofs.LineLaws.{entry-lowered, line-lowered, number-plain, zeros-range}
 use mir.Val.{SFits}
 use mir.Syntax.{w128}

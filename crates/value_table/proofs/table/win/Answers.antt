@@ -10,10 +10,6 @@ pub new-lowering-requires-clause-range : goal.new-lowering-requires-clause-range
 new-lowering-requires-clause-range c =
     rw c.deref.ensures.value (plain-range c.args.book.now 0 c.in_ok-surplus.surplus.items c.kept.ensures c.in_ok-surplus.ensures.zeros)
 
-pub plain_choice-requires-clause-zeros : goal.plain_choice-requires-clause-zeros
-plain_choice-requires-clause-zeros c =
-    λ k. ap (λ (l : List ℤ). get_or l k (pos 0)) (c.new-lowering.ensures.surplus ∙ c.deref.ensures.value) ∙ c.in_ok-surplus.ensures.zeros k
-
 pub returns : goal.returns
 returns c =
     let own = first-from c.args.book.now 0 (pos 1) c.deref.result.now c.new-lowering.result c.new-lowering.ensures c.in_ok-numbers.numbers

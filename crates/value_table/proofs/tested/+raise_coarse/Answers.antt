@@ -1,6 +1,6 @@
 use Rattle.std.proofs.Common.{◌≡◌, ◌∙◌, ◌+◌, ◌-◌, ◌*◌, ◌≤◌, ◌<◌, arith, rules, get_or, length, take, drop}
 use Rattle.std.proofs.lemmas.Grind.{common_steps}
-use Rattle.choices.specs.auction_model.proofs.RunLaws.{widths-count}
+use Rattle.auction_model.proofs.RunLaws.{widths-count}
 use Rattle.std.proofs.lemmas.List.{take_rest}
 use Rattle.choices.specs.Coarse.{HasMask}
 use Rattle.choices.proofs.CoarseLaws.{mask-down}
@@ -80,8 +80,8 @@ offset_bounds-below-from g t c =
           c.requires.lots.widths (omega (arith, c.requires.some, c.requires.lots.categories)) (omega (arith, c.loop-block-test.true)),
     )
 
-pub raise_coarse-requires : goal.raise_coarse-requires
-raise_coarse-requires g t c =
+pub raise_coarse-more-requires : goal.raise_coarse-more-requires
+raise_coarse-more-requires g t c =
     let number = g.A.Amount.number in
     let coarse = c.args.coarse.now in
     let supply = c.args.supply.now in
@@ -119,7 +119,7 @@ loop-block-preserved g t c =
     let counts = c.args.counts.now in
     let q = c.loop-block.block in
     let line = c.loop-block.line in
-    let made = c.raise_coarse.new.line in
+    let made = c.raise_coarse-more.new.line in
     let S = get_or c.args.widths.now 0 0 in
     let k = q * S + S - q * S in
     let from = (q - get_or counts 0 0) * S in
@@ -131,17 +131,29 @@ loop-block-preserved g t c =
       c.loop-block.auto.line,
       c.requires.lots.lines.line,
     ) in
-    let count : length made ≡ k = c.raise_coarse.auto.line ∙ mid_len (q * S) (q * S + S) line room in
+    let count : length made ≡ k = c.raise_coarse-more.auto.line ∙ mid_len (q * S) (q * S + S) line room in
     record {
       raised = raised-more number g.A.Amount.most supply c.args.widths.now counts c.args.line.now c.args.below.now c.args.worth c.requires.some c.requires.lots
-          q line made c.loop-block.auto.block c.loop-block-test.true c.loop-block.auto.line c.raise_coarse.auto.line c.raise_coarse.ensures.line
+          q line made c.loop-block.auto.block c.loop-block-test.true c.loop-block.auto.line c.raise_coarse-more.auto.line c.raise_coarse-more.ensures.line
           c.loop-block.invariant.raised;
       units = units-put number c.args.coarse.now.shift line made c.args.below.now (take (from + S - from) (drop from c.args.below.now)) c.loop-block.low
-          c.raise_coarse.new.low c.args.high.now (take (from + S - from) (drop from c.args.high.now)) (q * S) k (omega (arith, room)) count
-          c.loop-block.invariant.units c.raise_coarse.ensures.units;
+          c.raise_coarse-more.new.low c.args.high.now (take (from + S - from) (drop from c.args.high.now)) (q * S) k (omega (arith, room)) count
+          c.loop-block.invariant.units c.raise_coarse-more.ensures.units;
     }
 
 pub returns-clause-line : goal.returns-clause-line
 returns-clause-line g t c =
     raised-whole g.A.Amount.number g.A.Amount.most c.args.supply.now c.args.widths.now c.args.counts.now c.args.line.now c.args.below.now c.args.worth
     c.requires.some c.requires.lots c.loop-block.block c.loop-block.line c.loop-block-test.false c.loop-block.invariant.raised
+
+pub slice_bounds-raise_coarse-end-in-loop-block-3 : goal.slice_bounds-raise_coarse-end-in-loop-block-3
+slice_bounds-raise_coarse-end-in-loop-block-3 g t c = grind (arith, common_steps)
+
+pub slice_bounds-raise_coarse-end-in-loop-block-4 : goal.slice_bounds-raise_coarse-end-in-loop-block-4
+slice_bounds-raise_coarse-end-in-loop-block-4 g t c = grind (arith, common_steps)
+
+pub slice_bounds-raise_coarse-end-in-loop-block-5 : goal.slice_bounds-raise_coarse-end-in-loop-block-5
+slice_bounds-raise_coarse-end-in-loop-block-5 g t c = grind (arith, common_steps)
+
+pub slice_bounds-raise_coarse-end-in-loop-block-6 : goal.slice_bounds-raise_coarse-end-in-loop-block-6
+slice_bounds-raise_coarse-end-in-loop-block-6 g t c = grind (arith, common_steps)

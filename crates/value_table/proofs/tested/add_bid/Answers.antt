@@ -1,8 +1,8 @@
 use Rattle.std.proofs.Common.{◌≡◌, ◌∙◌, ap, arith, get_or, map, take, pos}
 use Rattle.std.proofs.lemmas.List.{length-take}
-use Rattle.choices.specs.auction_model.specs.Package.{IsNothingFrom}
-use Rattle.choices.specs.auction_model.specs.Steps.{raised}
-use Rattle.choices.specs.auction_model.proofs.TrimLaws.{raised-trim}
+use Rattle.auction_model.specs.Package.{IsNothingFrom}
+use Rattle.auction_model.specs.Steps.{raised}
+use Rattle.auction_model.proofs.TrimLaws.{raised-trim}
 use Rattle.value_table.proofs.CornerLaws.{trim-corners}
 use Rattle.value_table.proofs.tested.add_bid.Goals as goal
 

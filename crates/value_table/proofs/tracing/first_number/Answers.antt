@@ -1,10 +1,10 @@
 use Rattle.std.proofs.Common.{map, ◌≡◌, ◌∙◌, ◌<◌, ◌≤◌, ◌+◌, ℕ, IsTrue, sym, ap, refl, arith, rules, below_more, ℤ, ◌<ℤ◌, ◌≤ℤ◌}
 use Rattle.std.proofs.lemmas.Int.{to_z-of_z, ints, by_lt_z}
 use Rattle.std.proofs.lemmas.Bool.{false≢true}
-use Rattle.choices.specs.auction_model.specs.Package.{is_within}
-use Rattle.choices.specs.auction_model.specs.Place.{left_at}
-use Rattle.choices.specs.auction_model.specs.Steps.{sum_with}
-use Rattle.choices.specs.auction_model.proofs.WalkLaws.{number-bounds, number-none, number-found}
+use Rattle.auction_model.specs.Package.{is_within}
+use Rattle.auction_model.specs.Place.{left_at}
+use Rattle.auction_model.specs.Steps.{sum_with}
+use Rattle.auction_model.proofs.WalkLaws.{number-bounds, number-found, number-none}
 use Rattle.value_table.specs.Counted.{counted_bids, counted}
 use mir.Val.{SFits, to_z, of_z}
 use mir.Syntax.{w128}

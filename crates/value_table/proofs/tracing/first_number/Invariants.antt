@@ -1,7 +1,7 @@
 use Rattle.std.proofs.Common.{◌+◌, ◌<◌, ℕ, map, IsTrue, ◌<ℤ◌}
-use Rattle.choices.specs.auction_model.specs.Package.{is_within}
-use Rattle.choices.specs.auction_model.specs.Place.{left_at}
-use Rattle.choices.specs.auction_model.specs.Steps.{sum_with}
+use Rattle.auction_model.specs.Package.{is_within}
+use Rattle.auction_model.specs.Place.{left_at}
+use Rattle.auction_model.specs.Steps.{sum_with}
 use Rattle.value_table.specs.Counted.{counted_bids, counted}
 use Rattle.value_table.proofs.tracing.first_number.Given as goal
 

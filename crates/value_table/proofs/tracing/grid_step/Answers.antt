@@ -1,8 +1,8 @@
 use Rattle.std.proofs.Common.{◌≡◌, ◌∙◌, ◌≤◌, ◌<◌, ◌-◌, ℕ, ℤ, List, [], sym, subst, arith, rules, get_or, length}
 use Rattle.std.proofs.lemmas.Int.{to_z-of_z}
 use Rattle.std.proofs.lemmas.List.{map-id}
-use Rattle.choices.specs.auction_model.specs.Place.{left_at, states_of}
-use Rattle.choices.specs.auction_model.specs.Table.{entry_at, IsEntry}
+use Rattle.auction_model.specs.Place.{left_at, states_of}
+use Rattle.auction_model.specs.Table.{IsEntry, entry_at}
 use Rattle.value_table.specs.Counted.{counted_bids, counted, IsCountedLine, IsCountedTable}
 use Rattle.value_table.specs.declared.lowering.Lowering.{Lowering}
 use mir.Val.{SFits}

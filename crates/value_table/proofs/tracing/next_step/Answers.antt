@@ -1,5 +1,5 @@
 use Rattle.std.proofs.Common.{map, rules}
-use Rattle.choices.specs.auction_model.proofs.WalkLaws.{walk-by}
+use Rattle.auction_model.proofs.WalkLaws.{walk-by}
 use Rattle.std.proofs.lemmas.Int.{to_z-of_z}
 use Rattle.value_table.specs.Counted.{counted_bids, counted}
 use mir.Val.{SFits}

@@ -1,5 +1,5 @@
 use Rattle.std.proofs.Common.{◌≤◌, arith, length}
-use Rattle.choices.specs.auction_model.specs.Book.{bids_of}
+use Rattle.auction_model.specs.Book.{bids_of}
 use Rattle.value_table.specs.Counted.{seat}
 use Rattle.value_table.proofs.NarrowLaws.{counted-fewer}
 use Rattle.value_table.proofs.tracing.place_left.Goals as goal

@@ -1,8 +1,8 @@
 use Rattle.std.proofs.lemmas.Grind.{common_steps}
 use Rattle.std.proofs.Common.{◌≡◌, ◌∙◌, ◌≤◌, ◌^◌, ℤ, ap, arith, rules, get_or, map, pos, ◌+ℤ◌, unsigned_abs}
 use Rattle.std.proofs.lemmas.Int.{to_z-of_z, fits_signed_from_abs}
-use Rattle.choices.specs.auction_model.specs.Package.{less}
-use Rattle.choices.specs.auction_model.specs.Place.{left_at, place_of}
+use Rattle.auction_model.specs.Package.{less}
+use Rattle.auction_model.specs.Place.{left_at, place_of}
 use Rattle.value_table.specs.Counted.{counted_bids, counted}
 use Rattle.value_table.proofs.Sizes.{line-small}
 use mir.Val.{SFits}

@@ -1,8 +1,8 @@
 use Rattle.std.proofs.Common.{◌<◌, List, ℕ, ◌++◌}
-use Rattle.choices.specs.auction_model.specs.Place.{left_at, states_of}
-use Rattle.choices.specs.auction_model.specs.Menu.{fits_after}
-use Rattle.choices.specs.auction_model.specs.Market.{sum_after}
-use Rattle.choices.specs.auction_model.specs.Greatest.{IsFirstGreatest}
+use Rattle.auction_model.specs.Place.{left_at, states_of}
+use Rattle.auction_model.specs.Menu.{fits_after}
+use Rattle.auction_model.specs.Market.{sum_after}
+use Rattle.auction_model.specs.Greatest.{IsFirstGreatest}
 use Rattle.value_table.specs.Counted.{counted_bids, counted}
 use Rattle.value_table.proofs.tracing.trace_lines.Given as goal
 

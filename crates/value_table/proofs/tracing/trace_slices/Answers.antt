@@ -1,12 +1,12 @@
 use Rattle.std.proofs.Common.{◌≡◌, ◌∙◌, ◌+◌, ◌-◌, ℤ, ap, arith, rules, get_or, length, map, List, [], ◌∷◌, pos, append_assoc, append-nil}
 use Rattle.std.proofs.lemmas.Int.{to_z-of_z}
 use Rattle.std.proofs.lemmas.List.{length-map}
-use Rattle.choices.specs.auction_model.specs.Place.{left_at, states_of}
-use Rattle.choices.specs.auction_model.specs.Market.{sum_after}
-use Rattle.choices.specs.auction_model.specs.Menu.{fits_after}
-use Rattle.choices.specs.auction_model.specs.Greatest.{IsFirstGreatest}
-use Rattle.choices.specs.auction_model.proofs.PlaceLaws.{states-positive, left_at-whole}
-use Rattle.choices.specs.auction_model.proofs.TraceLaws.{first-last}
+use Rattle.auction_model.specs.Place.{left_at, states_of}
+use Rattle.auction_model.specs.Market.{sum_after}
+use Rattle.auction_model.specs.Menu.{fits_after}
+use Rattle.auction_model.specs.Greatest.{IsFirstGreatest}
+use Rattle.auction_model.proofs.PlaceLaws.{left_at-whole, states-positive}
+use Rattle.auction_model.proofs.TraceLaws.{first-last}
 use Rattle.value_table.specs.Counted.{counted_bids, counted}
 use Rattle.value_table.proofs.TableLines.{entries}
 use mir.Val.{SFits}

@@ -1,9 +1,9 @@
 use Rattle.std.proofs.Common.{◌≡◌, ◌∙◌, ◌-◌, ap, subst, arith, rules, get_or, length, map, ℤ, pos, [], List}
 use Rattle.std.proofs.lemmas.Int.{to_z-of_z}
 use Rattle.std.proofs.lemmas.List.{length-map}
-use Rattle.choices.specs.auction_model.specs.Place.{states_of, left_at}
-use Rattle.choices.specs.auction_model.specs.Table.{IsEntry}
-use Rattle.choices.specs.auction_model.proofs.PlaceLaws.{states-positive, left_at-whole}
+use Rattle.auction_model.specs.Place.{left_at, states_of}
+use Rattle.auction_model.specs.Table.{IsEntry}
+use Rattle.auction_model.proofs.PlaceLaws.{left_at-whole, states-positive}
 use Rattle.value_table.specs.Counted.{counted_bids, counted, IsCountedLine}
 use Rattle.value_table.proofs.Sizes.{line-small}
 use Rattle.value_table.proofs.TableLines.{entries}

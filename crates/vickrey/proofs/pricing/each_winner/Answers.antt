@@ -1,11 +1,11 @@
 use Rattle.std.proofs.Common.{◌≡◌, ◌≢◌, ◌∙◌, ◌<◌, ◌≤◌, ◌+◌, ◌-◌, sym, ap, arith, get_or, length, take, map, [], ◌∷◌, ◌++◌}
 use Rattle.std.proofs.lemmas.List.{map-append, take_all, length-map}
-use Rattle.value_table.specs.auction_model.specs.Book.{market_of}
-use Rattle.value_table.specs.choices.specs.declared.chooser.Single.{Single}
-use Rattle.value_table.specs.choices.specs.Singles.{winners_after, IsSingle}
+use Rattle.auction_model.specs.Book.{market_of}
+use Rattle.choices.specs.declared.chooser.Single.{Single}
+use Rattle.choices.specs.Singles.{IsSingle, winners_after}
 use Rattle.value_table.specs.TableValue.{TableValue}
-use Rattle.value_table.specs.auction_model.proofs.BookMarket.{winning-count}
-use Rattle.value_table.specs.auction_model.proofs.ListLaws.{each-push}
+use Rattle.auction_model.proofs.BookMarket.{winning-count}
+use Rattle.auction_model.proofs.ListLaws.{each-push}
 use Rattle.vickrey.proofs.VickreyLaws.{winners-skip, winners-take, tables-more}
 use Rattle.vickrey.proofs.pricing.each_winner.Goals as goal
 use Rattle.vickrey.proofs.pricing.each_winner.Goals.{then-number-ne0+in_ok-one+in_ok-push+in_ok-push-2, else-number-ne0}

@@ -1,8 +1,8 @@
 use Rattle.std.proofs.Common.{◌≡◌, take, map}
 use Rattle.std.specs.List.{AllByRecursion}
-use Rattle.value_table.specs.auction_model.specs.Book.{market_of}
-use Rattle.value_table.specs.choices.specs.declared.chooser.Single.{Single}
-use Rattle.value_table.specs.choices.specs.Singles.{winners_after, IsSingle}
+use Rattle.auction_model.specs.Book.{market_of}
+use Rattle.choices.specs.declared.chooser.Single.{Single}
+use Rattle.choices.specs.Singles.{IsSingle, winners_after}
 use Rattle.value_table.specs.TableValue.{TableValue}
 use Rattle.vickrey.specs.VickreyValue.{AreTablesWithout}
 use Rattle.vickrey.proofs.pricing.each_winner.Given as goal

@@ -1,13 +1,13 @@
 use Rattle.std.proofs.Common.{◌∙◌, ap, arith, rules, pos, ◌-ℤ◌}
 use Rattle.std.proofs.lemmas.Int.{to_z-of_z, fits_signed_from_abs}
-use Rattle.value_table.specs.auction_model.specs.Book.{net_of, market_of}
-use Rattle.value_table.specs.auction_model.specs.Lowered.{lowered}
-use Rattle.value_table.specs.auction_model.specs.Market.{sum_after}
-use Rattle.value_table.specs.auction_model.specs.Menu.{fits_after}
-use Rattle.value_table.specs.auction_model.specs.Greatest.{IsFirstGreatest}
-use Rattle.value_table.specs.auction_model.specs.Prices.{IsVickreyPrice}
-use Rattle.value_table.specs.auction_model.specs.Table.{IsEntry}
-use Rattle.value_table.specs.auction_model.proofs.BookMarket.{winning-count}
+use Rattle.auction_model.specs.Book.{market_of, net_of}
+use Rattle.auction_model.specs.Lowered.{lowered}
+use Rattle.auction_model.specs.Market.{sum_after}
+use Rattle.auction_model.specs.Menu.{fits_after}
+use Rattle.auction_model.specs.Greatest.{IsFirstGreatest}
+use Rattle.auction_model.specs.Prices.{IsVickreyPrice}
+use Rattle.auction_model.specs.Table.{IsEntry}
+use Rattle.auction_model.proofs.BookMarket.{winning-count}
 use Rattle.value_table.specs.BookTable.{menu_without}
 use Rattle.vickrey.proofs.VickreyLaws.{greatest-all, first-without, some-used, price-is, winner-known, own-small, left-size, price-size, table-without}
 use mir.Val.{SFits}

@@ -1,6 +1,6 @@
 use Rattle.std.proofs.Common.{length}
-use Rattle.bid_book.specs.line_text.proofs.OneAnswer.{one_answer}
-use Rattle.bid_book.specs.auction_model.specs.Prices.{AreWeights}
+use Rattle.line_format.proofs.OneAnswer.{one_answer}
+use Rattle.auction_model.specs.Prices.{AreWeights}
 use Rattle.weights_file.specs.Stages.{Step, excess}
 use Rattle.weights_file.specs.WeightsForm.{lines}
 use Rattle.weights_file.proofs.Reading.{IsSound, begin, finish, reads}

@@ -5,7 +5,7 @@ use Rattle.std.proofs.lemmas.Bool.Decides.{Decides-eqb}
 use Rattle.std.proofs.lemmas.List.{append_cancel_left}
 use Rattle.std.proofs.lemmas.Option.{IfSome_then}
 use Rattle.std.proofs.lemmas.Slice.Eq.{strip_prefix_is}
-use Rattle.bid_book.specs.line_text.proofs.Lines.{none-so}
+use Rattle.line_format.proofs.Lines.{none-so}
 use Rattle.weights_file.proofs.line.line_weight.Goals as goal
 
 pub returns-in_err-behind_name-clause-none : goal.returns-in_err-behind_name-clause-none

@@ -1,5 +1,5 @@
 use Rattle.std.proofs.Common.{sym, ◌∙◌, arith}
-use Rattle.bid_book.specs.wide_num.proofs.Decimal.{decimal_one}
+use Rattle.wide_num.proofs.Decimal.{decimal_one}
 use Rattle.weights_file.proofs.line.read_weight.Goals as goal
 
 pub returns-in_default-clause-none : goal.returns-in_default-clause-none

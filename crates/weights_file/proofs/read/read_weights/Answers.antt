@@ -1,7 +1,7 @@
 use Rattle.std.proofs.Common.{◌≡◌, Err, ap, length, subst}
-use Rattle.bid_book.specs.line_text.specs.LineText.{FaultAt}
-use Rattle.bid_book.specs.line_text.proofs.Runs.{text_read, fault_read}
-use Rattle.bid_book.specs.auction_model.specs.Prices.{AreWeights}
+use Rattle.line_format.specs.LineText.{FaultAt}
+use Rattle.line_format.proofs.Runs.{fault_read, text_read}
+use Rattle.auction_model.specs.Prices.{AreWeights}
 use Rattle.weights_file.specs.Stages.{Step}
 use Rattle.weights_file.specs.WeightsForm.{lines}
 use Rattle.weights_file.proofs.Reading.{begin, finish, reads}

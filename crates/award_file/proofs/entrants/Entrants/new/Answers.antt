@@ -1,4 +1,4 @@
--- No name stands twice among none.
+-- No name occurs twice among none.
 use Rattle.std.proofs.Common.{◌≡◌, [], sym, ap, rules}
 use Rattle.std.specs.Prelude.{map}
 use Rattle.award_file.specs.Fields.{entrant_value}

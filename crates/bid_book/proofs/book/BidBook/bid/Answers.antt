@@ -1,5 +1,5 @@
 use Rattle.std.proofs.Common.{◌≤◌, length, sym, ap, arith}
-use Rattle.lots.specs.auction_model.specs.Book.{BookBid}
+use Rattle.auction_model.specs.Book.{BookBid}
 use Rattle.bid_book.proofs.BookReads.{bid-at, categories-at, count-read, bidders-read}
 use Rattle.bid_book.proofs.book.BidBook.bid.Goals as goal
 

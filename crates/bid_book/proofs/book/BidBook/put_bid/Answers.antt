@@ -1,7 +1,7 @@
 use Rattle.std.proofs.Common.{◌≡◌, ◌≤◌, ◌-◌, ℕ, List, get_or, length, map, sym, ap, subst, ◌∙◌, arith}
 use Rattle.std.proofs.lemmas.Bool.{false≢true}
 use Rattle.std.proofs.lemmas.List.{length-map}
-use Rattle.lots.specs.auction_model.specs.Book.{Book, BookBid, bids_of, no_bid}
+use Rattle.auction_model.specs.Book.{Book, BookBid, bids_of, no_bid}
 use Rattle.bid_book.specs.Changes.{InPackageOrder}
 use Rattle.bid_book.specs.Fields.{bid_value, HasNet}
 use Rattle.bid_book.specs.Kept.{IsBidBook}

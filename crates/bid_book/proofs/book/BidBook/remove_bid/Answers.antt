@@ -1,6 +1,6 @@
 use Rattle.std.proofs.Common.{◌≤◌, ◌-◌, length, sym, subst, arith}
 use Rattle.std.specs.List.{remove}
-use Rattle.lots.specs.auction_model.specs.Book.{bids_of}
+use Rattle.auction_model.specs.Book.{bids_of}
 use Rattle.bid_book.specs.Fields.{HasNet}
 use Rattle.bid_book.specs.Kept.{IsBidBook}
 use Rattle.bid_book.proofs.BookReads.{bidders-read}

@@ -1,5 +1,5 @@
 use Rattle.std.proofs.Common.{◌≡◌, length, drop}
-use Rattle.lots.specs.auction_model.specs.Package.{is_within}
+use Rattle.auction_model.specs.Package.{is_within}
 use Rattle.bid_book.proofs.book.better.are_no_more.Given as goal
 
 abbrev pub invariant-loop-i : goal.invariant-loop-i

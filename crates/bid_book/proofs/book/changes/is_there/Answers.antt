@@ -2,7 +2,7 @@ use Rattle.std.proofs.Common.{◌≡◌, ◌<◌, length, get_or, map, sym, ap, 
 use Rattle.std.proofs.lemmas.Bool.Decides.{Decides-eqb}
 use Rattle.std.proofs.lemmas.Slice.Eq.{slice_eq-Decides}
 use Rattle.std.proofs.lemmas.List.{get_or-map}
-use Rattle.lots.specs.auction_model.specs.Book.{BookBid, no_bid}
+use Rattle.auction_model.specs.Book.{BookBid, no_bid}
 use Rattle.bid_book.specs.Fields.{bid_value}
 use Rattle.bid_book.proofs.book.changes.is_there.Goals as goal
 

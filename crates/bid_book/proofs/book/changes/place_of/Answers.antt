@@ -1,9 +1,9 @@
 use Rattle.std.proofs.Common.{◌≡◌, ℕ, true, false, List, length, get_or, map, sym, ap, ◌∙◌, arith, below_more}
 use Rattle.std.proofs.lemmas.Bool.{false≢true}
 use Rattle.std.proofs.lemmas.List.{get_or-map, length-map}
-use Rattle.lots.specs.auction_model.specs.Book.{BookBid, no_bid}
-use Rattle.lots.specs.auction_model.specs.PackageTests.{is_before}
-use Rattle.lots.specs.auction_model.proofs.PackageTestLaws.{comes-is_before}
+use Rattle.auction_model.specs.Book.{BookBid, no_bid}
+use Rattle.auction_model.specs.PackageTests.{is_before}
+use Rattle.auction_model.proofs.PackageTestLaws.{comes-is_before}
 use Rattle.bid_book.specs.Fields.{bid_value}
 use Rattle.bid_book.proofs.PlaceLaws.{not-comes}
 use Rattle.bid_book.proofs.book.changes.place_of.Goals as goal

@@ -1,6 +1,6 @@
 use Rattle.std.proofs.Common.{◌≡◌, ◌<◌, ℕ, List, length, replicate, sym, ap, ◌∙◌, subst, arith}
 use Rattle.std.proofs.lemmas.Bool.Decides.{nat_tests}
-use Rattle.lots.specs.auction_model.specs.Package.{ComesBefore}
+use Rattle.auction_model.specs.Package.{ComesBefore}
 use Rattle.bid_book.specs.Stages.{lots_before}
 use Rattle.bid_book.proofs.PackageOrder.{empty_comes, comes_some, lots_none, lots_some}
 use Rattle.bid_book.proofs.read.entries.comes_next.Goals as goal

@@ -1,7 +1,7 @@
 use Rattle.std.proofs.Common.{◌≡◌, ◌≢◌, ◌<◌, true, length, get_or, sym, ◌∙◌, arith}
 use Rattle.std.proofs.lemmas.Bool.Decides.{Decides-eqb}
 use Rattle.std.proofs.lemmas.Slice.Eq.{slice_eq-Decides}
-use Rattle.lots.specs.auction_model.specs.Book.{Bidder, no_bidder}
+use Rattle.auction_model.specs.Book.{Bidder, no_bidder}
 use Rattle.bid_book.proofs.Within.{each_at}
 use Rattle.bid_book.proofs.EntryLaws.{unused_more, name_at}
 use Rattle.bid_book.proofs.read.entries.is_used.Goals as goal

@@ -1,10 +1,11 @@
+use Rattle.std.proofs.lemmas.Grind.{common_steps}
 use Rattle.std.proofs.Common.{◌≡◌, ◌<◌, ◌≤◌, ℕ, Err, List, [], ◌∷◌, ◌++◌, length, sym, ap, ◌∙◌, subst, arith}
 use Rattle.std.specs.Prelude.{IsTrue, pos, ◌-ℤ◌}
 use Rattle.std.proofs.lemmas.Result.{err_from_is_err_and}
 use Rattle.std.proofs.lemmas.Bool.Decides.{nat_tests}
-use Rattle.lots.specs.auction_model.specs.Package.{ComesBefore, cost_of, is_within}
-use Rattle.book_form.specs.line_text.specs.Decimals.{decimals_text}
-use Rattle.book_form.specs.line_text.specs.declared.stop.LineStop.TheVariants.{Form}
+use Rattle.auction_model.specs.Package.{ComesBefore, cost_of, is_within}
+use Rattle.line_format.specs.Decimals.{decimals_text}
+use Rattle.line_format.specs.declared.stop.LineStop.TheVariants.{Form}
 use Rattle.bid_book.specs.Stages.{lots_before}
 use Rattle.bid_book.specs.Stops.{AreNumbers}
 use Rattle.bid_book.proofs.EntryLaws.{bid_numbers, bid_some, bid_read, numbers_last, net_is}
@@ -83,3 +84,6 @@ returns-clause-ok c =
       },
       net_is c.in-Some.amount c.cost-reserve.result top low ∙ ap (λ (n : ℕ). pos c.in-Some.amount -ℤ pos n) cost,
     )
+
+pub cost-reserve-requires-clause-most : goal.cost-reserve-requires-clause-most
+cost-reserve-requires-clause-most c = grind (arith, common_steps)

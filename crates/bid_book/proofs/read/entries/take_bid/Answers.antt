@@ -1,6 +1,6 @@
 use Rattle.std.proofs.Common.{inr, ◌≡◌, ◌<◌, ℕ, Some, None, length, sym, ap, ◌∙◌, subst, arith}
-use Rattle.lots.specs.auction_model.specs.Book.{Book, bids_of}
-use Rattle.lots.specs.limits.specs.declared.LimitKind.TheVariants.{Bids}
+use Rattle.auction_model.specs.Book.{Book, bids_of}
+use Rattle.limits.specs.declared.LimitKind.TheVariants.{Bids}
 use Rattle.bid_book.specs.Fields.{bid_value}
 use Rattle.bid_book.specs.Stages.{AddsBid, with_bid, last_bids, last_excess}
 use Rattle.bid_book.proofs.Within.{grown}

@@ -1,8 +1,9 @@
+use Rattle.std.proofs.lemmas.Grind.{elements}
 use Rattle.std.proofs.Common.{inl, ◌≡◌, ◌++◌, ◌∷◌, [], List, ℕ, Some, None, length, refl, sym, ap, ◌∙◌, subst, arith}
 use Rattle.std.specs.Prelude.{codes}
-use Rattle.lots.specs.auction_model.specs.Book.{Book, bidder_with, with_bidders}
-use Rattle.book_form.specs.BookLines.{IsBookWithinLimits}
-use Rattle.lots.specs.limits.specs.declared.LimitKind.TheVariants.{Bidders}
+use Rattle.auction_model.specs.Book.{Book, bidder_with, with_bidders}
+use Rattle.book_grammar.specs.BookLines.{IsBookWithinLimits}
+use Rattle.limits.specs.declared.LimitKind.TheVariants.{Bidders}
 use Rattle.bid_book.specs.Stages.{AddsBidder, last_excess}
 use Rattle.bid_book.proofs.Within.{grown}
 use Rattle.bid_book.proofs.StopLaws.{one_limit}
@@ -38,3 +39,6 @@ returns-clause-ok c =
       adds_name c.args.book.now (codes "bidder " ++ c.args.name.now) c.args.name.now c.in-Some.ensures.some.1 (c.is_used.ensures.0 c.if-is_used.false) refl,
       none,
     )
+
+pub returns-then-is_used-clause-form : goal.returns-then-is_used-clause-form
+returns-then-is_used-clause-form c = grind (arith, elements)

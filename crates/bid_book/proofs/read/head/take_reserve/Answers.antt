@@ -1,4 +1,5 @@
-use Rattle.std.proofs.Common.{◌≤◌, ◌^◌, length, sym, ap, ◌∙◌, subst}
+use Rattle.std.proofs.lemmas.Grind.{elements}
+use Rattle.std.proofs.Common.{◌≤◌, ◌^◌, length, sym, ap, ◌∙◌, subst, arith}
 use Rattle.std.specs.List.{AllByRecursion}
 use Rattle.bid_book.proofs.HeadLaws.{reserves_read}
 use Rattle.bid_book.proofs.read.head.take_reserve.Goals as goal
@@ -15,3 +16,6 @@ returns-then-not-are_reserves-clause-form c = λ err t step.
     let same = reserves_read c.args.line.now c.in_ok-reserves.reserves.items c.args.supply step.0 numbers.0 numbers.1 step.1 step.2 in
     let is = c.are_reserves.ensures.1 (subst (AllByRecursion (λ n. n ≤ 2 ^ 36)) (sym (c.deref.ensures.value ∙ same)) step.2.each) in
     cc
+
+pub returns-in_err-reserves-clause-form : goal.returns-in_err-reserves-clause-form
+returns-in_err-reserves-clause-form c = grind (arith, elements)

@@ -1,6 +1,6 @@
 use Rattle.bid_book.proofs.HeadLaws.{supply_limit, supply_no_form}
 use Rattle.std.proofs.Common.{◌≡◌, ◌∙◌, refl, sym}
-use Rattle.book_form.specs.line_text.specs.declared.stop.LineStop.TheVariants.{Form, Limit}
+use Rattle.line_format.specs.declared.stop.LineStop.TheVariants.{Form, Limit}
 use Rattle.bid_book.specs.Stops.{line_stop}
 use Rattle.bid_book.proofs.read.head.take_supply.Goals as goal
 

@@ -1,7 +1,7 @@
 -- The answer of each kind of line.
 use Rattle.std.proofs.Common.{sym, subst}
-use Rattle.relative_cap.specs.auction_rules.specs.declared.Event.{Event}
-use Rattle.relative_cap.specs.auction_rules.specs.declared.Event.TheVariants.{Submit}
+use Rattle.auction_rules.specs.declared.Event.{Event}
+use Rattle.auction_rules.specs.declared.Event.TheVariants.{Submit}
 use Rattle.bid_desk.specs.Reached.{Takes}
 use Rattle.bid_desk.proofs.TakeLaws.{takes-other}
 use Rattle.bid_desk.proofs.desk.Desk.answer.Goals as goal

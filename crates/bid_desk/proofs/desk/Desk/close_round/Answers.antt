@@ -1,8 +1,9 @@
 -- The close is one more line of the log that the desk stands for, unless there was no memory.
 use Rattle.std.proofs.Common.{◌≡◌, ◌∙◌, true, false, ap, sym, subst, inl, inr, refl}
-use Rattle.relative_cap.specs.auction_rules.specs.declared.Event.TheVariants.{Close}
-use Rattle.relative_cap.specs.auction_rules.specs.State.{DeskState, reply_in, state_with}
-use Rattle.relative_cap.specs.clock_stage.specs.ClockState.{ClockState, reply_to_close}
+use Rattle.std.proofs.lemmas.Bool.{false≢true}
+use Rattle.auction_rules.specs.declared.Event.TheVariants.{Close}
+use Rattle.auction_rules.specs.State.{DeskState, reply_in, state_with}
+use Rattle.clock_stage.specs.ClockState.{ClockState, reply_to_close}
 use Rattle.bid_desk.specs.Closes.{reply_value}
 use Rattle.bid_desk.specs.DeskValue.{desk_value}
 use Rattle.bid_desk.specs.Reached.{IsReached}
@@ -24,6 +25,7 @@ invariant_of-self c =
             told.1)
       ],
       testers-running c.self.inside.award c.self.inside.clock c.close-closed.new.self c.self.inside.testers.items clock.0 c.self.invariant.2,
+      λ closed. absurd (false≢true (sym clock.1 ∙ closed)),
     )
 
 pub returns : goal.returns

@@ -1,6 +1,6 @@
 -- The state stands for a log, whose book keeps the limits.
 use Rattle.std.proofs.Common.{◌∙◌, List, ap, length, map}
-use Rattle.relative_cap.specs.auction_rules.specs.State.{DeskState, book_in}
+use Rattle.auction_rules.specs.State.{DeskState, book_in}
 use Rattle.bid_desk.specs.BookBids.{submitted_in}
 use Rattle.bid_desk.specs.DeskValue.{desk_value}
 use Rattle.bid_desk.specs.Lists.{Lists}

@@ -1,9 +1,9 @@
 -- The drop is one more line of the log that the desk stands for.
 use Rattle.std.proofs.Common.{◌≡◌, ◌∙◌, ◌-◌, ◌<◌, length, ap, refl, sym, rules}
-use Rattle.relative_cap.specs.auction_rules.specs.declared.Event.{Event}
-use Rattle.relative_cap.specs.auction_rules.specs.declared.Event.TheVariants.{Drop}
-use Rattle.relative_cap.specs.auction_rules.specs.declared.Reply.TheVariants as reply
-use Rattle.relative_cap.specs.auction_rules.specs.State.{DeskState, reply_in, state_with}
+use Rattle.auction_rules.specs.declared.Event.{Event}
+use Rattle.auction_rules.specs.declared.Event.TheVariants.{Drop}
+use Rattle.auction_rules.specs.declared.Reply.TheVariants as reply
+use Rattle.auction_rules.specs.State.{DeskState, reply_in, state_with}
 use Rattle.bid_desk.specs.DeskValue.{desk_value}
 use Rattle.bid_desk.proofs.DeskLaws.{reached-next}
 use Rattle.bid_desk.proofs.SealedLaws.{drop-state, known-place}
@@ -24,6 +24,7 @@ invariant_of-self c =
           (ap (λ (s : DeskState). reply_in s line) c.self.view_is ∙ sym c.reply_to_drop-reply.ensures.reply ∙ is) inside c.index_mut-lists.ensures.value
           c.remove.ensures),
       c.self.invariant.2,
+      c.self.invariant.3,
     )
 
 pub returns-then-matches : goal.returns-then-matches

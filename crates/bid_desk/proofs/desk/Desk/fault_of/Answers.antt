@@ -1,7 +1,7 @@
 -- The entries are drafts of a bidder of the award, and the testers are over its closed rounds.
 use Rattle.std.proofs.Common.{◌≡◌, ◌∙◌, ◌-◌, ◌<◌, List, length, map, ap, sym, false}
-use Rattle.relative_cap.specs.auction_rules.specs.Replies.{is_clock}
-use Rattle.relative_cap.specs.auction_rules.specs.State.{DeskState, Round, drafts_of}
+use Rattle.auction_rules.specs.Replies.{is_clock}
+use Rattle.auction_rules.specs.State.{DeskState, Round, drafts_of}
 use Rattle.relative_cap.specs.OwnRounds.{bid_value, eligibility_in}
 use Rattle.bid_desk.proofs.DeskLaws.{sealed-stage}
 use Rattle.bid_desk.proofs.EntryLaws.{entries-of, order-of, points-of}

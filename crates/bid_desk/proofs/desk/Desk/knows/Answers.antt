@@ -1,7 +1,7 @@
 -- A desk stands for a log, and so it has the lists of each bidder.
 use Rattle.std.proofs.Common.{subst, arith}
 use Rattle.std.proofs.lemmas.Bool.{leb-true}
-use Rattle.relative_cap.specs.auction_rules.specs.State.{DeskState}
+use Rattle.auction_rules.specs.State.{DeskState}
 use Rattle.bid_desk.specs.DeskValue.{desk_value}
 use Rattle.bid_desk.specs.Known.{IsKnown}
 use Rattle.bid_desk.proofs.ReachedLaws.{known-reached}

@@ -1,9 +1,9 @@
 -- The draft is one more line of the log that the desk stands for, unless there was no memory.
 use Rattle.std.proofs.Common.{◌≡◌, ◌∙◌, ◌-◌, ◌<◌, length, ap, inr, refl, sym, rules}
-use Rattle.relative_cap.specs.auction_rules.specs.declared.Event.{Event}
-use Rattle.relative_cap.specs.auction_rules.specs.declared.Event.TheVariants.{Draft}
-use Rattle.relative_cap.specs.auction_model.specs.Entries.{with_entry}
-use Rattle.relative_cap.specs.auction_rules.specs.State.{DeskState, reply_in, state_with}
+use Rattle.auction_rules.specs.declared.Event.{Event}
+use Rattle.auction_rules.specs.declared.Event.TheVariants.{Draft}
+use Rattle.auction_model.specs.Entries.{with_entry}
+use Rattle.auction_rules.specs.State.{DeskState, reply_in, state_with}
 use Rattle.bid_desk.specs.DeskValue.{desk_value}
 use Rattle.bid_desk.specs.Lists.{lists_with}
 use Rattle.bid_desk.proofs.DeskLaws.{reached-next}
@@ -24,6 +24,7 @@ invariant_of-self-2 c =
           c.args.amount _ c.index_mut-lists.result.now c.put.new.self
           (ap (λ (s : DeskState). reply_in s line) c.self.view_is ∙ c.requires.admitted) inside c.index_mut-lists.ensures.value put),
       c.self.invariant.2,
+      c.self.invariant.3,
     )
 
 pub returns : goal.returns

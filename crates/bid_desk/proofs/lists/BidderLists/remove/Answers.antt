@@ -1,7 +1,7 @@
 -- The entry is taken out at its place.
 use Rattle.std.proofs.Common.{◌∙◌, List, map, ap}
-use Rattle.relative_cap.specs.auction_model.specs.Book.{BookBid}
-use Rattle.relative_cap.specs.auction_model.specs.Entries.{without_entry}
+use Rattle.auction_model.specs.Book.{BookBid}
+use Rattle.auction_model.specs.Entries.{without_entry}
 use Rattle.relative_cap.specs.OwnRounds.{bid_value}
 use Rattle.bid_desk.specs.Lists.{Lists, lists_with}
 use Rattle.bid_desk.proofs.EntryLaws.{removed-by}

@@ -1,7 +1,7 @@
 -- The lists differ in the amount at the place alone.
 use Rattle.std.proofs.Common.{rules, ◌≡◌, ◌∙◌, ◌<◌, List, map, ap, set, sym, subst, arith, length}
 use Rattle.std.specs.Vec.{vec_len}
-use Rattle.relative_cap.specs.auction_model.specs.Book.{BookBid}
+use Rattle.auction_model.specs.Book.{BookBid}
 use Rattle.relative_cap.specs.OwnRounds.{bid_value}
 use Rattle.bid_desk.specs.Differences.{IsSameButAt}
 use Rattle.bid_desk.specs.Lists.{Lists, lists_with}

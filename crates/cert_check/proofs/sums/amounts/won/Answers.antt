@@ -1,6 +1,6 @@
 use Rattle.std.proofs.Common.{arith}
-use Rattle.line_check.specs.cert_laws.specs.auction_model.specs.Book.{menu_of}
-use Rattle.line_check.specs.cert_laws.specs.auction_model.proofs.ChoiceLaws.{known-length}
+use Rattle.auction_model.specs.Book.{menu_of}
+use Rattle.auction_model.proofs.ChoiceLaws.{known-length}
 use Rattle.cert_check.proofs.MemberLaws.{known-number}
 use Rattle.cert_check.proofs.sums.amounts.won.Goals as goal
 

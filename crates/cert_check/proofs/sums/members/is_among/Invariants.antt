@@ -1,5 +1,5 @@
 use Rattle.std.proofs.Common.{◌≡◌, drop}
-use Rattle.line_check.specs.cert_laws.specs.cert_form.specs.Certificate.{is_member}
+use Rattle.cert_grammar.specs.Certificate.{is_member}
 use Rattle.cert_check.proofs.sums.members.is_among.Given as goal
 
 abbrev pub invariant-loop-member : goal.invariant-loop-member

@@ -1,6 +1,6 @@
 use Rattle.std.proofs.Common.{ℕ, IsTrue, length, get_or, refl, sym, ◌∙◌, arith}
 use Rattle.std.proofs.lemmas.Bool.{false≢true}
-use Rattle.line_check.specs.cert_laws.specs.auction_model.specs.Market.{uses}
+use Rattle.auction_model.specs.Market.{uses}
 use Rattle.cert_check.proofs.MemberLaws.{members-in, member-at, of-members}
 use Rattle.cert_check.proofs.PartLaws.{loses-zero}
 use Rattle.cert_check.proofs.sums.members.uses_all.Goals as goal

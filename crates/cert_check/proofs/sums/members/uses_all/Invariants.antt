@@ -1,5 +1,5 @@
 use Rattle.std.proofs.Common.{ℕ, ◌<◌, IsTrue, get_or}
-use Rattle.line_check.specs.cert_laws.specs.auction_model.specs.Market.{uses}
+use Rattle.auction_model.specs.Market.{uses}
 use Rattle.cert_check.proofs.sums.members.uses_all.Given as goal
 
 abbrev pub invariant-loop-member : goal.invariant-loop-member

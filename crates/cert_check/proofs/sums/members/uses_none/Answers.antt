@@ -1,6 +1,6 @@
 use Rattle.std.proofs.Common.{◌≡◌, ℕ, length, get_or, refl, ◌∙◌, arith}
 use Rattle.std.proofs.lemmas.Bool.{false≢true}
-use Rattle.line_check.specs.cert_laws.specs.auction_model.specs.Market.{number_of}
+use Rattle.auction_model.specs.Market.{number_of}
 use Rattle.cert_check.proofs.MemberLaws.{members-in, member-at, of-members}
 use Rattle.cert_check.proofs.sums.members.uses_none.Goals as goal
 

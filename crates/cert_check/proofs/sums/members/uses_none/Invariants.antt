@@ -1,5 +1,5 @@
 use Rattle.std.proofs.Common.{◌≡◌, ℕ, ◌<◌, get_or}
-use Rattle.line_check.specs.cert_laws.specs.auction_model.specs.Market.{number_of}
+use Rattle.auction_model.specs.Market.{number_of}
 use Rattle.cert_check.proofs.sums.members.uses_none.Given as goal
 
 abbrev pub invariant-loop-member : goal.invariant-loop-member

@@ -1,10 +1,10 @@
 use Rattle.std.proofs.Common.{rules, ◌≡◌, ◌∙◌, ◌+◌, ap, arith, ◌≤◌, ◌-ℤ◌, length, ℕ, subst}
 use Rattle.std.proofs.lemmas.Int.{to_z-of_z}
-use Rattle.line_check.specs.cert_laws.specs.auction_model.specs.Place.{states_of}
-use Rattle.line_check.specs.cert_laws.specs.auction_model.specs.Book.{bids_of}
-use Rattle.line_check.specs.cert_laws.specs.auction_model.proofs.PlaceLaws.{states-positive}
-use Rattle.line_check.specs.cert_laws.specs.Tests.{states}
-use Rattle.line_check.specs.cert_laws.proofs.Winning.{allowed-length}
+use Rattle.auction_model.specs.Place.{states_of}
+use Rattle.auction_model.specs.Book.{bids_of}
+use Rattle.auction_model.proofs.PlaceLaws.{states-positive}
+use Rattle.cert_soundness.specs.Tests.{states}
+use Rattle.cert_soundness.proofs.Winning.{allowed-length}
 use Rattle.cert_check.specs.EarlierBids.{IsLeft}
 use Rattle.cert_check.proofs.EarlierLaws.{left-start, left-known, left-own, left-next}
 use mir.Val.{SFits, to_z}

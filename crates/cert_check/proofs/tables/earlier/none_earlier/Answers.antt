@@ -1,6 +1,6 @@
 use Rattle.std.proofs.Common.{rules}
 use Rattle.std.proofs.lemmas.Int.{to_z-of_z}
-use Rattle.line_check.specs.cert_laws.proofs.Winning.{allowed-length}
+use Rattle.cert_soundness.proofs.Winning.{allowed-length}
 use Rattle.cert_check.proofs.EarlierLaws.{left-test}
 use mir.Val.{SFits}
 use mir.Syntax.{w128}

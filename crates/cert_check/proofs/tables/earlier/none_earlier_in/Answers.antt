@@ -1,9 +1,9 @@
 use Rattle.std.proofs.Common.{◌∙◌, ap, refl, rules, sym}
 use Rattle.std.proofs.lemmas.Int.{to_z-of_z}
-use Rattle.line_check.specs.cert_laws.specs.auction_model.specs.Place.{states_of}
-use Rattle.line_check.specs.cert_laws.specs.Tests.{bidders_of, states}
+use Rattle.auction_model.specs.Place.{states_of}
+use Rattle.cert_soundness.specs.Tests.{bidders_of, states}
 use Rattle.cert_check.specs.Fields.{cert_headed}
-use Rattle.line_check.proofs.TableLines.{room-front, table-small}
+use Rattle.table_check.proofs.TableLines.{room-front, table-small}
 use mir.Val.{SFits}
 use mir.Syntax.{w128}
 use Rattle.cert_check.proofs.tables.earlier.none_earlier_in.Goals as goal

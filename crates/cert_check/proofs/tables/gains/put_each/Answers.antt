@@ -1,7 +1,7 @@
 use Rattle.std.proofs.Common.{◌≡◌, ◌<◌, ◌≤◌, ◌∙◌, ℕ, ℤ, subst, to_z, of_z, arith, rules}
 use Rattle.std.proofs.lemmas.Int.{to_z-of_z}
-use Rattle.line_check.specs.cert_laws.specs.auction_model.specs.Lowered.{of_bidder}
-use Rattle.line_check.specs.cert_laws.specs.Tests.{bidders_of}
+use Rattle.auction_model.specs.Lowered.{of_bidder}
+use Rattle.cert_soundness.specs.Tests.{bidders_of}
 use Rattle.cert_check.specs.Gains.{gain_of}
 use Rattle.cert_check.proofs.Written.{written-more, written-all}
 use mir.Val.{SFits}

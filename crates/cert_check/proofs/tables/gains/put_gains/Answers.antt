@@ -1,7 +1,7 @@
 use Rattle.std.proofs.Common.{◌≡◌, ◌<◌, ◌≤◌, ℕ, arith, rules}
 use Rattle.std.proofs.lemmas.Int.{to_z-of_z}
-use Rattle.line_check.specs.cert_laws.specs.auction_model.specs.Lowered.{of_bidder}
-use Rattle.line_check.specs.cert_laws.specs.Tests.{bidders_of}
+use Rattle.auction_model.specs.Lowered.{of_bidder}
+use Rattle.cert_soundness.specs.Tests.{bidders_of}
 use Rattle.cert_check.specs.Gains.{gain_of}
 use Rattle.cert_check.proofs.LoweredLaws.{can-lower}
 use Rattle.cert_check.proofs.Worths.{lowered-small}

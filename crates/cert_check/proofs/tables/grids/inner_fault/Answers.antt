@@ -1,7 +1,7 @@
 use Rattle.std.proofs.Common.{◌≡◌, ◌∙◌, ◌+◌, suc, ap, arith, get_or, [], ℕ, sym}
-use Rattle.line_check.specs.cert_laws.specs.auction_model.specs.Place.{states_of}
-use Rattle.line_check.specs.cert_laws.specs.Tests.{bidders_of, states}
-use Rattle.line_check.proofs.TableLines.{room-front, table-small}
+use Rattle.auction_model.specs.Place.{states_of}
+use Rattle.cert_soundness.specs.Tests.{bidders_of, states}
+use Rattle.table_check.proofs.TableLines.{room-front, table-small}
 use Rattle.cert_check.proofs.tables.grids.inner_fault.Goals as goal
 
 pub put_line-requires-clause-places : goal.put_line-requires-clause-places

@@ -1,7 +1,7 @@
 use Rattle.std.proofs.Common.{◌≡◌, ◌∙◌, ℕ, sym, subst}
-use Rattle.line_check.specs.cert_laws.specs.Tests.{bidders_of, states}
-use Rattle.line_check.specs.Faults.{FirstFault}
-use Rattle.line_check.specs.LineTests.{ObeysIn}
+use Rattle.cert_soundness.specs.Tests.{bidders_of, states}
+use Rattle.table_check.specs.Faults.{FirstFault}
+use Rattle.table_check.specs.LineTests.{ObeysIn}
 use Rattle.cert_check.proofs.tables.grids.rule_fault.Goals as goal
 
 pub returns-then-k-bidders-clause-place : goal.returns-then-k-bidders-clause-place

@@ -1,8 +1,8 @@
 use Rattle.std.proofs.Common.{◌≡◌, ◌∙◌, ◌+◌, ◌*◌, ◌<◌, ◌≤◌, ap, arith, ℕ, inl, inr, subst, Some, sym}
 use Rattle.std.proofs.lemmas.Bool.{cases_lt}
-use Rattle.line_check.specs.cert_laws.specs.auction_model.specs.Place.{states_of}
-use Rattle.line_check.specs.cert_laws.specs.Tests.{bidders_of, states}
-use Rattle.line_check.specs.LineTests.{ObeysIn, RulesAt}
+use Rattle.auction_model.specs.Place.{states_of}
+use Rattle.cert_soundness.specs.Tests.{bidders_of, states}
+use Rattle.table_check.specs.LineTests.{ObeysIn, RulesAt}
 use Rattle.cert_check.specs.Places.{IsFirstFailing}
 use Rattle.cert_check.proofs.TableLaws.{table-fails, line-keeps}
 use Rattle.cert_check.proofs.tables.grids.table_fault.Goals as goal

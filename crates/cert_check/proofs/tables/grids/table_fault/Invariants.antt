@@ -1,6 +1,6 @@
 use Rattle.std.proofs.Common.{ℕ, ◌<◌, IsTrue, [], get_or}
-use Rattle.line_check.specs.Growth.{Grows}
-use Rattle.line_check.specs.LineTests.{ObeysIn}
+use Rattle.table_check.specs.Growth.{Grows}
+use Rattle.table_check.specs.LineTests.{ObeysIn}
 use Rattle.cert_check.proofs.tables.grids.table_fault.Given as goal
 
 abbrev pub invariant-loop-k : goal.invariant-loop-k

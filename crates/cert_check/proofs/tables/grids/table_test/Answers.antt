@@ -1,14 +1,14 @@
 use Rattle.std.proofs.Common.{◌≡◌, ◌∙◌, ◌+◌, ◌-◌, ◌*◌, ap, arith, rules, ℕ, Some, sym, subst, refl, ◌<ℤ◌, ℤ}
 use Rattle.std.proofs.lemmas.Int.{to_z-of_z, ints}
-use Rattle.line_check.specs.cert_laws.specs.auction_model.specs.Place.{states_of}
-use Rattle.line_check.specs.cert_laws.specs.auction_model.specs.Table.{entry_at}
-use Rattle.line_check.specs.cert_laws.specs.auction_model.proofs.PlaceLaws.{states-positive}
-use Rattle.cert_text.specs.choices.specs.Lines.{width_of}
-use Rattle.line_check.specs.cert_laws.specs.Tests.{bidders_of, states}
-use Rattle.line_check.specs.LineTests.{TestsTable}
+use Rattle.auction_model.specs.Place.{states_of}
+use Rattle.auction_model.specs.Table.{entry_at}
+use Rattle.auction_model.proofs.PlaceLaws.{states-positive}
+use Rattle.choices.specs.Lines.{width_of}
+use Rattle.cert_soundness.specs.Tests.{bidders_of, states}
+use Rattle.table_check.specs.LineTests.{TestsTable}
 use Rattle.cert_check.specs.Places.{IsFirstFailing}
 use Rattle.cert_check.proofs.TableLaws.{test-rule, test-most}
-use Rattle.line_check.proofs.TableLines.{table-width}
+use Rattle.table_check.proofs.TableLines.{table-width}
 use mir.Val.{SFits}
 use mir.Syntax.{w128}
 use Rattle.cert_check.proofs.tables.grids.table_test.Goals as goal

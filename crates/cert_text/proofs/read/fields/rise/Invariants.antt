@@ -1,5 +1,5 @@
 use Rattle.std.proofs.Common.{◌↔◌, drop}
-use Rattle.cert_form.specs.CertText.{AreMembers}
+use Rattle.cert_grammar.specs.CertText.{AreMembers}
 use Rattle.cert_text.proofs.read.fields.rise.Given as goal
 
 abbrev pub invariant-loop-j : goal.invariant-loop-j

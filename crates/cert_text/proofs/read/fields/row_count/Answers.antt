@@ -1,6 +1,6 @@
 use Rattle.std.proofs.Common.{ap, sym, ◌∙◌, length, List}
 use Rattle.std.specs.Prelude.{ℤ}
-use Rattle.cert_form.proofs.Written.{long_numbers}
+use Rattle.cert_grammar.proofs.Written.{long_numbers}
 use Rattle.cert_text.proofs.read.fields.row_count.Goals as goal
 
 pub returns-then-numbers-ne1 : goal.returns-then-numbers-ne1

@@ -1,5 +1,5 @@
 use Rattle.std.proofs.Common.{List, ℕ, sym, subst}
-use Rattle.cert_form.specs.CertText.{IsChoice}
+use Rattle.cert_grammar.specs.CertText.{IsChoice}
 use Rattle.cert_text.specs.Readers.{LeadsChosen}
 use Rattle.cert_text.proofs.read.fields.take_choice.Goals as goal
 

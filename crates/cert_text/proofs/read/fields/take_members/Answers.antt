@@ -1,6 +1,6 @@
 use Rattle.std.proofs.Common.{◌≤◌, ◌<◌, List, ℕ, length, sym, subst, arith, rules}
-use Rattle.cert_form.specs.CertText.{AreMembers}
-use Rattle.cert_form.specs.Lines.{members}
+use Rattle.cert_grammar.specs.CertText.{AreMembers}
+use Rattle.cert_grammar.specs.Lines.{members}
 use Rattle.cert_text.proofs.SmallNumbers.{members_next, members_other, members_small}
 use Rattle.cert_text.proofs.read.fields.take_members.Goals as goal
 

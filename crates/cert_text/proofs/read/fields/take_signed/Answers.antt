@@ -1,5 +1,5 @@
 use Rattle.std.proofs.Common.{◌≡◌, length, ap, ◌∙◌}
-use Rattle.cert_form.specs.Lines.{signed}
+use Rattle.cert_grammar.specs.Lines.{signed}
 use Rattle.cert_text.proofs.PlanSteps.{line_next, line_unfit, line_out, line_range}
 use Rattle.cert_text.proofs.read.fields.take_signed.Goals as goal
 

@@ -2,8 +2,8 @@ use Rattle.std.proofs.Common.{◌≡◌, ℕ, [], ◌∷◌, subst, arith, to_z,
 use Rattle.std.specs.Prelude.{ℤ, pos}
 use Rattle.std.specs.Int.{w128}
 use Rattle.std.proofs.lemmas.Int.{ints}
-use Rattle.cert_form.specs.Lines.{kind, these}
-use Rattle.cert_form.specs.CertText.{line}
+use Rattle.cert_grammar.specs.Lines.{kind, these}
+use Rattle.cert_grammar.specs.CertText.{line}
 use Rattle.cert_text.specs.Readers.{Leads, Halts}
 use Rattle.cert_text.proofs.read.parts.take_winner.Goals as goal
 

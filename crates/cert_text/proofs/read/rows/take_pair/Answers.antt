@@ -3,8 +3,8 @@ use Rattle.std.proofs.Common.{◌≡◌, List, [], ◌∷◌, get_or, sym, ap, s
 use Rattle.std.specs.Prelude.{ℤ, pos}
 use Rattle.std.specs.Int.{w128}
 use Rattle.std.proofs.lemmas.Int.{to_z-of_z}
-use Rattle.cert_form.specs.Lines.{kind, signed}
-use Rattle.cert_form.specs.CertText.{line}
+use Rattle.cert_grammar.specs.Lines.{kind, signed}
+use Rattle.cert_grammar.specs.CertText.{line}
 use Rattle.cert_text.specs.Readers.{Leads}
 use Rattle.cert_text.proofs.RowSteps.{two_numbers}
 use Rattle.cert_text.proofs.read.rows.take_pair.Goals as goal

@@ -1,7 +1,7 @@
 use Rattle.std.proofs.Common.{rules}
 use Rattle.std.specs.Prelude.{map}
 use Rattle.cert_text.specs.Parts.{row_value}
-use Rattle.cert_form.specs.Lines.{counted}
+use Rattle.cert_grammar.specs.Lines.{counted}
 use Rattle.cert_text.proofs.PlanSteps.{same_kind}
 use Rattle.cert_text.proofs.StageSteps.{payment_first, payment_second, payment_third, payment_done}
 use Rattle.cert_text.proofs.read.stages.take_payments.Goals as goal

@@ -1,6 +1,6 @@
 use Rattle.std.proofs.Common.{[], ◌∷◌, rules}
-use Rattle.cert_form.specs.Lines.{kind, these, table_plan}
-use Rattle.cert_form.specs.CertText.{line, table_lines}
+use Rattle.cert_grammar.specs.Lines.{kind, these, table_plan}
+use Rattle.cert_grammar.specs.CertText.{line, table_lines}
 use Rattle.cert_text.proofs.PlanSteps.{halts_before, halts_then, leads_then}
 use Rattle.cert_text.proofs.read.tables.take_named.Goals as goal
 

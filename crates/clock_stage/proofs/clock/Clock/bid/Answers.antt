@@ -2,7 +2,7 @@
 use Rattle.std.proofs.Common.{◌≡◌, ◌∙◌, ◌-◌, ◌≤◌, ℕ, List, length, ap, sym, subst, rules, arith}
 use Rattle.std.specs.Prelude.{sum}
 use Rattle.std.proofs.lemmas.Grind.{common_steps}
-use Rattle.award_file.specs.auction_rules.specs.declared.Reply.TheVariants as reply
+use Rattle.auction_rules.specs.declared.Reply.TheVariants as reply
 use Rattle.clock_stage.specs.ClockState.{ClockState, clock_with}
 use Rattle.clock_stage.specs.Rounds.{round_value}
 use Rattle.clock_stage.proofs.KeptLaws.{bid-kept}

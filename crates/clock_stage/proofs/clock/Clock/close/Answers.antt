@@ -1,10 +1,10 @@
 -- Each way of a close keeps what a clock keeps, and a clock that stands for a log then stands for it with the close.
 use Rattle.std.proofs.Common.{◌≡◌, ◌∙◌, ◌++◌, ◌∷◌, [], Bool, true, false, ap, sym, subst, inl, inr, arith}
 use Rattle.std.proofs.lemmas.Grind.{common_steps}
-use Rattle.award_file.specs.auction_rules.specs.Terms.{Terms}
-use Rattle.award_file.specs.auction_rules.specs.State.{Round}
-use Rattle.clock_stage.specs.declared.closes.Closing.{Closing}
-use Rattle.clock_stage.specs.declared.closes.Closing.TheVariants.{Next, Ends}
+use Rattle.auction_rules.specs.Terms.{Terms}
+use Rattle.auction_rules.specs.State.{Round}
+use Rattle.clock_stage.specs.declared.closes.CloseStep.{CloseStep}
+use Rattle.clock_stage.specs.declared.closes.CloseStep.TheVariants.{Next, Ends}
 use Rattle.clock_stage.specs.ClockState.{ClockState, clock_with}
 use Rattle.clock_stage.specs.Closing.{IsClosing}
 use Rattle.clock_stage.specs.Kept.{IsClock, IsFor}
@@ -13,8 +13,8 @@ use Rattle.clock_stage.proofs.KeptLaws.{next-kept, next-for, end-kept}
 use Rattle.clock_stage.proofs.ClockLaws.{close-stands}
 use Rattle.clock_stage.proofs.clock.Clock.close.Goals as goal
 
--- what was worked out, said of the clock as it is seen
-told : (award : Terms) (clock fields : ClockState) (running : Bool) (closing closed : Closing) → clock_with running fields.rounds fields.posted ≡ clock
+-- what was computed, said of the clock as it is seen
+told : (award : Terms) (clock fields : ClockState) (running : Bool) (closing closed : CloseStep) → clock_with running fields.rounds fields.posted ≡ clock
     → clock.running ≡ true
     → closing ≡ closed → IsClosing award (clock_with true fields.rounds fields.posted) closing → IsClosing award clock closed
 told award clock fields running closing closed seen runs is closes =

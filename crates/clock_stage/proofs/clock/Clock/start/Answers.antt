@@ -1,10 +1,10 @@
 -- Round 1 is posted at the reserves.
 use Rattle.std.proofs.Common.{◌≡◌, ◌∙◌, ℕ, List, [], ap, sym, subst, length, rules}
 use Rattle.std.specs.Prelude.{replicate, true}
-use Rattle.award_file.specs.auction_rules.specs.Terms.{entrant, no_lots}
-use Rattle.award_file.specs.auction_rules.specs.State.{Round}
-use Rattle.award_file.specs.auction_rules.specs.Rounds.{listing}
-use Rattle.award_file.specs.auction_rules.proofs.States.{length-listing}
+use Rattle.auction_rules.specs.Terms.{entrant, no_lots}
+use Rattle.auction_rules.specs.State.{Round}
+use Rattle.auction_rules.specs.Rounds.{listing}
+use Rattle.auction_rules.proofs.States.{length-listing}
 use Rattle.award_file.specs.Award.{IsAward}
 use Rattle.clock_stage.specs.ClockState.{clock_with, round_with}
 use Rattle.clock_stage.specs.Kept.{IsClock}

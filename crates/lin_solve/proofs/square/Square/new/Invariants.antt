@@ -1,6 +1,6 @@
 use Rattle.std.proofs.Common.{◌≡◌, ℕ, ◌<◌, ◌+◌, ◌*◌, length, slice_index_or, []}
 use Rattle.lin_solve.specs.Matrix.{row}
-use Rattle.far_num.specs.wide_num.specs.Sums.{nth}
+use Rattle.wide_num.specs.Sums.{nth}
 use Rattle.lin_solve.proofs.square.Square.new.Given as goal
 
 abbrev pub invariant-loop-k : goal.invariant-loop-k

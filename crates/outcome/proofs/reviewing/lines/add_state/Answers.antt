@@ -1,8 +1,8 @@
 use Rattle.std.proofs.Common.{◌∙◌, ap, sym, List, ℕ, FitsSigned, of_z, rules, to_z}
 use Rattle.std.specs.Int.{w128}
 use Rattle.std.proofs.lemmas.Int.{to_z-of_z}
-use Rattle.review.specs.auction_model.specs.Book.{market_of}
-use Rattle.review.specs.auction_model.specs.Market.{value_of}
+use Rattle.auction_model.specs.Book.{market_of}
+use Rattle.auction_model.specs.Market.{value_of}
 use Rattle.outcome.proofs.StateLines.{state_put}
 use Rattle.outcome.proofs.reviewing.lines.add_state.Goals as goal
 

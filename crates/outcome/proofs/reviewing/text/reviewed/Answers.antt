@@ -1,6 +1,6 @@
 use Rattle.std.proofs.Common.{List, ℕ, ◌++◌, ◌∙◌, ap, refl}
-use Rattle.review.specs.auction_model.specs.Book.{Book}
-use Rattle.outcome.specs.print_form.specs.WinText.{win_text}
+use Rattle.auction_model.specs.Book.{Book}
+use Rattle.print_grammar.specs.WinText.{win_text}
 use Rattle.outcome.proofs.ReviewLines.{all_done, none_yet, one_more}
 use Rattle.outcome.proofs.reviewing.text.reviewed.Goals as goal
 

@@ -1,9 +1,9 @@
 use Rattle.std.proofs.Common.{rules}
 use Rattle.std.proofs.lemmas.Result.{on_ok_weaker}
-use Rattle.outcome.specs.cert_laws.specs.Sound.{cert_point}
-use Rattle.place_check.specs.place_cert.specs.CertValues.{place_cert_value}
-use Rattle.place_check.specs.PlaceSound.{prices_in}
-use Rattle.place_check.specs.slot_places.specs.Board.{market_of}
+use Rattle.cert_soundness.specs.Sound.{cert_point}
+use Rattle.placement_cert.specs.CertValues.{place_cert_value}
+use Rattle.cert_soundness.specs.MarketPrices.{prices_in}
+use Rattle.slot_places.specs.Board.{market_of_slots}
 use Rattle.place_price.proofs.PlacePrinting.{slice-lines, slice-rest}
 use Rattle.place_price.proofs.printing.lines.+add_winners.Goals as goal
 
@@ -26,7 +26,7 @@ returns-in_ok-add_line_of-in-len1-up t c =
     let p = (place_cert_value c.args.cert.now).cert in
     let own = c.in_ok-add_line_of-in-len1-up.ensures in
     on_ok_weaker c.add_winners.result
-    (λ h. slice-lines slots (prices_in (market_of slots) p) (cert_point p) p.choice c.args.numbers.now c.args.before c.args.text.now c.add_line_of.new.text
+    (λ h. slice-lines slots (prices_in (market_of_slots slots) p) (cert_point p) p.choice c.args.numbers.now c.args.before c.args.text.now c.add_line_of.new.text
     c.add_winners.new.text own.0 h.0
     c.in-len1-up.len_at_least c.requires.rest own.1 own.2 h.1 h.2)
     c.add_winners.ensures

@@ -1,7 +1,7 @@
 use Rattle.std.proofs.Common.{◌≡◌, ◌∙◌, ap, ◌++◌, ◌∷◌, List, ℕ, codes}
 use Rattle.std.specs.Fmt.{decimal}
-use Rattle.outcome.specs.auction_model.specs.Market.{number_of}
-use Rattle.place_check.specs.slot_places.specs.Slots.{bid_of, bidder_of}
+use Rattle.auction_model.specs.Market.{number_of}
+use Rattle.slot_places.specs.Slots.{bid_of, bidder_of}
 use Rattle.place_price.proofs.printing.lines.add_bid.Goals as goal
 
 pub returns : goal.returns

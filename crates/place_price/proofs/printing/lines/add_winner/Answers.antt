@@ -1,12 +1,12 @@
 use Rattle.std.proofs.Common.{◌≡◌, ◌∙◌, ap, ◌++◌, ◌∷◌, [], List, ℕ, codes}
 use Rattle.std.specs.Fmt.{decimal, signed_decimal}
-use Rattle.outcome.specs.cert_laws.specs.Sound.{cert_point}
-use Rattle.outcome.specs.auction_model.specs.Market.{number_of}
+use Rattle.cert_soundness.specs.Sound.{cert_point}
+use Rattle.auction_model.specs.Market.{number_of}
 use Rattle.outcome.proofs.LineLaws.{regroup}
-use Rattle.place_check.specs.place_cert.specs.CertValues.{place_cert_value}
-use Rattle.place_check.specs.PlaceSound.{prices_in}
-use Rattle.place_check.specs.slot_places.specs.Board.{market_of}
-use Rattle.place_check.specs.slot_places.specs.Slots.{bid_of, bidder_of}
+use Rattle.placement_cert.specs.CertValues.{place_cert_value}
+use Rattle.cert_soundness.specs.MarketPrices.{prices_in}
+use Rattle.slot_places.specs.Board.{market_of_slots}
+use Rattle.slot_places.specs.Slots.{bid_of, bidder_of}
 use Rattle.place_price.proofs.PlacePrinting.{winner-line}
 use Rattle.place_price.proofs.printing.lines.add_winner.Goals as goal
 
@@ -14,7 +14,7 @@ pub returns : goal.returns
 returns c =
     let slots = c.args.slots.now in
     let p = (place_cert_value c.args.cert.now).cert in
-    let v = prices_in (market_of slots) p in
+    let v = prices_in (market_of_slots slots) p in
     let t = c.args.text.now in
     let j = c.args.j in
     let n = number_of p.choice j in

@@ -1,7 +1,7 @@
 -- The entries are those of the list, and the highest amounts are those over the list.
 use Rattle.std.proofs.Common.{◌≡◌, List, Option, ℕ, map, sym, ap, subst, ◌∙◌}
 use Rattle.std.specs.List.{All}
-use Rattle.clock_stage.specs.auction_rules.specs.Caps.{cap_of, first_excess}
+use Rattle.auction_rules.specs.Caps.{cap_of, first_excess}
 use Rattle.relative_cap.specs.declared.entries.TestedEntry.{TestedEntry}
 use Rattle.relative_cap.specs.OwnRounds.{bid_value, rounds_of}
 use Rattle.relative_cap.specs.Tested.{FitsTerms, IsTester, terms_cap, tested_bid}

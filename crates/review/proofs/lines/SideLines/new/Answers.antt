@@ -1,6 +1,6 @@
 use Rattle.std.proofs.Common.{◌≡◌, ◌+◌, ℕ, length, replicate, sym, ap, subst, ◌∙◌, arith}
 use Rattle.value_table.specs.LineRooms.{HasRoom}
-use Rattle.value_table.specs.auction_model.specs.Place.{states_of}
+use Rattle.auction_model.specs.Place.{states_of}
 use Rattle.review.specs.ReviewValue.{AreRightLines, lines_of}
 use Rattle.review.proofs.LineSets.{zero_line, zero-left, zero-right}
 use Rattle.review.proofs.lines.SideLines.new.Goals as goal

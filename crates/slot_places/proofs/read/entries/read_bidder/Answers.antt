@@ -1,9 +1,9 @@
 use Rattle.std.proofs.Common.{◌≢◌, ◌∙◌, List, ℕ, sym, subst, arith}
 use Rattle.std.specs.List.{AllByRecursion}
 use Rattle.std.proofs.lemmas.Bool.{false≢true}
-use Rattle.choices.specs.book_form.specs.BookForm.{IsName}
+use Rattle.book_grammar.specs.BookForm.{IsName}
 use Rattle.slot_places.specs.Slots.{SlotBidder}
-use Rattle.choices.specs.line_text.proofs.Lines.{none-so}
+use Rattle.line_format.proofs.Lines.{none-so}
 use Rattle.slot_places.proofs.EntryLaws.{entrant_fields, made_entrant}
 use Rattle.slot_places.proofs.read.entries.read_bidder.Goals as goal
 

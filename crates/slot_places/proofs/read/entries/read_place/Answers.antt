@@ -2,7 +2,7 @@ use Rattle.std.proofs.Common.{◌≡◌, ◌++◌, Some, arith}
 use Rattle.std.specs.Prelude.{codes}
 use Rattle.std.proofs.lemmas.Bool.Decides.{Decides-eqb}
 use Rattle.std.proofs.lemmas.Slice.Eq.{strip_prefix_is}
-use Rattle.choices.specs.line_text.proofs.Lines.{none-so}
+use Rattle.line_format.proofs.Lines.{none-so}
 use Rattle.slot_places.proofs.EntryLaws.{no_fields, next_fields}
 use Rattle.slot_places.proofs.read.entries.read_place.Goals as goal
 

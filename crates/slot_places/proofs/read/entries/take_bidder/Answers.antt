@@ -1,13 +1,13 @@
 use Rattle.std.proofs.Common.{inl, ◌≡◌, ◌++◌, ◌∷◌, [], List, ℕ, Some, None, length, refl, sym, ap, ◌∙◌, subst, arith}
 use Rattle.std.specs.Prelude.{codes}
-use Rattle.choices.specs.limits.specs.declared.LimitKind.TheVariants.{Bidders}
+use Rattle.limits.specs.declared.LimitKind.TheVariants.{Bidders}
 use Rattle.slot_places.specs.Slots.{SlotList}
 use Rattle.slot_places.specs.SlotForm.{AreSlotsWithinLimits}
 use Rattle.slot_places.specs.Stages.{AddsBidder, bidder_with, with_bidders, excess_of}
 use Rattle.slot_places.proofs.Growth.{bidder_marks}
 use Rattle.slot_places.proofs.Within.{grown}
 use Rattle.slot_places.proofs.EntryLaws.{many_bidders, few_bidders, adds_entrant}
-use Rattle.choices.specs.bid_book.proofs.StopLaws.{one_limit}
+use Rattle.bid_book.proofs.StopLaws.{one_limit}
 use Rattle.slot_places.proofs.read.entries.take_bidder.Goals as goal
 
 pub returns-then-bidders-ge-MOST_PLACED-clause-limit : goal.returns-then-bidders-ge-MOST_PLACED-clause-limit

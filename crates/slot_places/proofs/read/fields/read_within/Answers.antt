@@ -1,5 +1,5 @@
 use Rattle.std.proofs.Common.{◌∙◌, ◌<◌, ◌^◌, sym, arith, rules}
-use Rattle.choices.specs.wide_num.proofs.Decimal.{decimal_one}
+use Rattle.wide_num.proofs.Decimal.{decimal_one}
 use Rattle.slot_places.proofs.read.fields.read_within.Goals as goal
 
 pub returns-in_default-clause-none : goal.returns-in_default-clause-none

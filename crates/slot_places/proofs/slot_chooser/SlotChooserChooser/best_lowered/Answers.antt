@@ -1,8 +1,8 @@
 use Rattle.std.proofs.Common.{rules}
 use Rattle.std.proofs.lemmas.Int.{to_z-of_z}
-use Rattle.choices.specs.auction_model.specs.Lowered.{lowered}
-use Rattle.choices.specs.auction_model.specs.Market.{sum_after}
-use Rattle.choices.specs.auction_model.specs.Greatest.{IsFirstGreatest}
+use Rattle.auction_model.specs.Lowered.{lowered}
+use Rattle.auction_model.specs.Market.{sum_after}
+use Rattle.auction_model.specs.Greatest.{IsFirstGreatest}
 use Rattle.slot_places.specs.Slots.{amount_of}
 use Rattle.slot_places.specs.Board.{is_placed, board_without}
 use Rattle.slot_places.specs.SetTable.{IsSetTable}

@@ -1,5 +1,5 @@
 use Rattle.std.proofs.Common.{arith}
-use Rattle.choices.specs.auction_model.proofs.ChoiceLaws.{known-length}
+use Rattle.auction_model.proofs.ChoiceLaws.{known-length}
 use Rattle.slot_places.specs.Board.{menu_of, board_of}
 use Rattle.slot_places.proofs.MarketLaws.{placed-number, slots-idle}
 use Rattle.slot_places.proofs.slots.Slots.can_follow.Goals as goal

@@ -1,5 +1,5 @@
 use Rattle.std.proofs.Common.{◌≡◌, ◌∙◌, ap, arith, length}
-use Rattle.choices.specs.auction_model.specs.Lowered.{sum_to}
+use Rattle.auction_model.specs.Lowered.{sum_to}
 use Rattle.slot_places.specs.Slots.{SlotList, width_of}
 use Rattle.slot_places.specs.SlotForm.{width_together}
 use Rattle.slot_places.proofs.Within.{widths_are}

@@ -1,5 +1,5 @@
 use Rattle.std.proofs.Common.{◌≡◌}
-use Rattle.choices.specs.auction_model.specs.Lowered.{sum_to}
+use Rattle.auction_model.specs.Lowered.{sum_to}
 use Rattle.slot_places.specs.Slots.{width_of}
 use Rattle.slot_places.proofs.slots.Slots.room.Given as goal
 

@@ -1,12 +1,12 @@
 use Rattle.std.proofs.Common.{◌∙◌, refl, rules}
 use Rattle.std.proofs.lemmas.Int.{to_z-of_z}
-use Rattle.choices.specs.auction_model.specs.Book.{menu_of, net_of}
-use Rattle.choices.specs.auction_model.specs.Lowered.{lowered}
-use Rattle.choices.specs.auction_model.specs.Market.{sum_after}
-use Rattle.choices.specs.auction_model.specs.Menu.{fits_after}
-use Rattle.choices.specs.auction_model.specs.Greatest.{IsFirstGreatest}
-use Rattle.choices.specs.auction_model.specs.Table.{IsEntry}
-use Rattle.choices.specs.auction_model.proofs.PlainLaws.{IsFirstGreatest-same, fits-without_none}
+use Rattle.auction_model.specs.Book.{menu_of, net_of}
+use Rattle.auction_model.specs.Lowered.{lowered}
+use Rattle.auction_model.specs.Market.{sum_after}
+use Rattle.auction_model.specs.Menu.{fits_after}
+use Rattle.auction_model.specs.Greatest.{IsFirstGreatest}
+use Rattle.auction_model.specs.Table.{IsEntry}
+use Rattle.auction_model.proofs.PlainLaws.{IsFirstGreatest-same, fits-without_none}
 use Rattle.value_table.specs.BookTable.{menu_without}
 use Rattle.value_table.proofs.SingleLaws.{range-of, greatest-is}
 use mir.Val.{SFits}

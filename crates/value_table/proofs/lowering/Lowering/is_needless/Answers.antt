@@ -1,7 +1,7 @@
 use Rattle.std.proofs.Common.{ℕ, subst, ◌<◌, ◌≤◌, ◌≤ℤ◌, arith, rules, length, pos}
 use Rattle.std.proofs.lemmas.Int.{to_z-of_z, ints}
-use Rattle.choices.specs.auction_model.specs.Book.{bids_of}
-use Rattle.choices.specs.bid_book.specs.Better.{IsBetter}
+use Rattle.auction_model.specs.Book.{bids_of}
+use Rattle.bid_book.specs.Better.{IsBetter}
 use Rattle.value_table.specs.Counted.{seat, counted}
 use Rattle.value_table.proofs.NarrowLaws.{counted-fewer}
 use Rattle.value_table.proofs.Needless.{needless-better, needless-idle, idle-sign}

@@ -1,6 +1,6 @@
 use Rattle.std.proofs.Common.{◌≡◌, ◌∙◌, ◌-◌, sym, ap, rules, get_or, pos, ◌-ℤ◌, ◌*ℤ◌}
 use Rattle.std.proofs.lemmas.Int.{to_z-of_z}
-use Rattle.choices.specs.auction_model.specs.Book.{net_of}
+use Rattle.auction_model.specs.Book.{net_of}
 use Rattle.value_table.proofs.Sizes.{parts-small, worth-small, lowered-at}
 use Rattle.value_table.specs.Counted.{net_at, counted}
 use mir.Val.{SFits, to_z, of_z}

@@ -1,5 +1,5 @@
 use Rattle.std.proofs.Common.{◌∙◌, ap}
-use Rattle.choices.specs.auction_model.specs.Place.{states_of}
+use Rattle.auction_model.specs.Place.{states_of}
 use Rattle.value_table.specs.SideValues.{SidesValue}
 use Rattle.value_table.proofs.SideLaws.{full-sides}
 use Rattle.value_table.proofs.sides.Sides.build.Goals as goal

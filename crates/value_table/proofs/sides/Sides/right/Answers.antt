@@ -1,6 +1,6 @@
 use Rattle.std.proofs.Common.{◌≤◌, ◌<◌, sym, subst, rules, get_or, pos, []}
 use Rattle.std.proofs.lemmas.Int.{to_z-of_z}
-use Rattle.choices.specs.auction_model.specs.Place.{left_at}
+use Rattle.auction_model.specs.Place.{left_at}
 use Rattle.value_table.specs.SideValues.{SidesValue, AreSidesOf, IsRightEntry}
 use Rattle.value_table.proofs.SideLaws.{right-is}
 use mir.Val.{SFits}

@@ -1,7 +1,7 @@
 use Rattle.std.proofs.Common.{◌≡◌, ◌∙◌, ◌≤◌, ◌<◌, ◌-◌, ◌^◌, ℕ, sym, ap, subst, arith, rules, get_or, length, List, [], ℤ, pos, unsigned_abs}
 use Rattle.std.proofs.lemmas.Int.{to_z-of_z}
 use Rattle.choices.specs.Lines.{width_of}
-use Rattle.choices.specs.auction_model.specs.Place.{states_of}
+use Rattle.auction_model.specs.Place.{states_of}
 use Rattle.value_table.specs.SideValues.{SidesValue, AreSidesOf, IsGreatestPair}
 use Rattle.value_table.proofs.SideLaws.{without-is}
 use mir.Val.{SFits}

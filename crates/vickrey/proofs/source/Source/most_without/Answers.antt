@@ -1,8 +1,8 @@
 use Rattle.std.proofs.Common.{rules, pos}
 use Rattle.std.proofs.lemmas.Int.{to_z-of_z}
-use Rattle.value_table.specs.auction_model.specs.Book.{net_of}
-use Rattle.value_table.specs.auction_model.specs.Lowered.{lowered}
-use Rattle.value_table.specs.auction_model.specs.Table.{IsEntry}
+use Rattle.auction_model.specs.Book.{net_of}
+use Rattle.auction_model.specs.Lowered.{lowered}
+use Rattle.auction_model.specs.Table.{IsEntry}
 use Rattle.value_table.specs.BookTable.{menu_without}
 use Rattle.vickrey.proofs.VickreyLaws.{greatest-without}
 use mir.Val.{SFits}

@@ -1,6 +1,0 @@
-use Rattle.std.proofs.Common.{pos, unsigned_abs, ℕ, ◌<◌, ◌≤ℤ◌, ◌≤◌}
-use Rattle.line_text.specs.wide_num.specs.Sums.{nth}
-use Rattle.base_tests.proofs.equations.are_small.Given as goal
-
-abbrev pub invariant-loop-x : goal.invariant-loop-x
-invariant-loop-x l = (k : ℕ) → k < l.x-index → (pos 0 ≤ℤ nth l.entries k) × (unsigned_abs (nth l.entries k) ≤ l.top)

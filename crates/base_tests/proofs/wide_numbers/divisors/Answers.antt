@@ -1,5 +1,0 @@
-use Rattle.std.proofs.Common.{negsuc, refl}
-use Rattle.base_tests.proofs.wide_numbers.divisors.Goals as goal
-
-pub div_exact-requires-clause-divides : goal.div_exact-requires-clause-divides
-div_exact-requires-clause-divides g c = (negsuc 2, refl)

@@ -1,0 +1,2 @@
+pub mod BookForm
+pub mod BookLines

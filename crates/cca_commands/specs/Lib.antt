@@ -1,0 +1,4 @@
+pub mod Checked
+pub mod Gives
+pub mod ReadFaults
+pub mod Works

@@ -1,9 +1,0 @@
-pub mod Checked
-pub mod Gives
-pub mod ReadFaults
-pub mod Works
-pub use Rattle.big_auction
-pub use Rattle.cca_inputs
-pub use Rattle.log_replay
-pub use Rattle.place_price
-pub use Rattle.place_price.specs.outcome

@@ -1,5 +1,0 @@
-use Rattle.cert_form.proofs.Laws.{one_saying}
-use Rattle.cert_form.proofs.one_cert.Goals as goal
-
-pub returns : goal.returns
-returns c = λ bidders states bytes x y h g. one_saying bidders states bytes x y h g

@@ -1,5 +1,0 @@
-use Rattle.cert_form.proofs.Laws.{text_says}
-use Rattle.cert_form.proofs.text_of_cert.Goals as goal
-
-pub returns : goal.returns
-returns c = λ bidders states value small is. text_says bidders states value small is

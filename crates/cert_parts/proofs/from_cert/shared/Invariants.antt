@@ -1,6 +1,0 @@
-use Rattle.std.proofs.Common.{◌≡◌, take}
-use Rattle.cert_parts.proofs.from_cert.shared.Given as goal
-
--- the first lines
-abbrev pub invariant-loop-k : goal.invariant-loop-k
-invariant-loop-k l = l.lines ≡ take l.k l.table

@@ -1,5 +1,0 @@
-use Rattle.cert_pieces.proofs.DigitWords.{both_of}
-use Rattle.cert_pieces.proofs.line.words.both_fours.Goals as goal
-
-pub returns-clause-spelled : goal.returns-clause-spelled
-returns-clause-spelled t = λ a b are. both_of t.args.fours a b are

@@ -1,9 +1,0 @@
-use Rattle.std.proofs.Common.{ap, ◌∙◌, arith}
-use Rattle.cert_pieces.specs.Forms.{room_for}
-use Rattle.cert_pieces.proofs.Segments.{in_room}
-use Rattle.cert_pieces.proofs.room.numbers_span.Goals as goal
-
-pub returns-clause-within : goal.returns-clause-within
-returns-clause-within c =
-    let width = c.width-width.ensures ∙ ap room_for c.form.ensures in
-    omega (arith, in_room c.args.shape.bidders c.args.shape.states c.args.due c.requires, width, c.start-start.ensures)

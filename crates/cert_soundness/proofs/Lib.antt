@@ -1,0 +1,16 @@
+pub mod Bounds
+pub mod Winning
+pub mod Sizes
+pub mod Places
+pub mod Verdicts
+pub mod Core
+pub mod Gains
+pub mod Rows
+pub mod Aims
+pub mod Prices
+pub mod MarketOutcome
+pub mod Outcome
+pub mod Exact
+pub mod TextSizes
+pub mod ShortText
+pub mod WorkedCases

@@ -1,0 +1,10 @@
+// The size of a number of which digits were read.
+ghost use Rattle.std.specs.Prelude.{◌^◌, ◌<◌};
+
+/// The size of a number of which digits were read, while it is below 2^120.
+#[derive(Clone, Copy, Debug, PartialEq, Eq)]
+pub(crate) struct Magnitude {
+    pub(crate) size: u128,
+    pub(crate) beyond: bool,
+    pub ghost small: { size < 2 ^ 120 },
+}

@@ -1,6 +1,0 @@
-use Rattle.std.proofs.Common.{ℕ, ◌<◌, ◌^◌, ◌≤ℤ◌}
-use Rattle.cert_laws.specs.wide_num.specs.Sums.{nth}
-use Rattle.line_check.proofs.blocks.none_below.Given as goal
-
-abbrev pub invariant-loop-i : goal.invariant-loop-i
-invariant-loop-i l = l.gaps < 2 ^ 63 → (s : ℕ) → s < l.i → nth l.below s ≤ℤ nth l.line s

@@ -1,9 +1,0 @@
-pub mod Faults
-pub mod Narrow
-pub mod Growth
-pub mod Corners
-pub mod Worths
-pub mod LineTests
-pub use Rattle.cert_laws
-pub use Rattle.cert_laws.specs.auction_model
-pub use Rattle.cert_laws.specs.wide_num

@@ -1,0 +1,23 @@
+//! Texts by lines: the definitions of a form, the length of the next line, and how the numbers of a line are read and written.
+//!
+//! A number is decimal digits without a leading zero, after a `-` where it is below zero, and follows one space. What is
+//! written here takes memory for the text alone; the only error is want of it.
+#![tactic(auto)]
+
+mod fields;
+mod line;
+mod next;
+mod numbers;
+mod reader;
+mod stop;
+mod write;
+
+pub use fields::{field_len, read_at_most};
+pub use line::numbers_behind;
+pub use next::line_len;
+pub use numbers::{NumbersStop, read_numbers, short_field};
+pub use reader::{LineReader, read_lines};
+pub use stop::{LineStop, TextStop};
+pub use write::{
+    add_amounts, add_decimal, add_number, add_numbers, add_signed, add_signed_numbers,
+};

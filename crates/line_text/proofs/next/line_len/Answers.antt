@@ -1,8 +1,0 @@
-use Rattle.line_text.proofs.FirstFeed.{feed_found, feed_none}
-use Rattle.line_text.proofs.next.line_len.Goals as goal
-
-pub returns-clause-found : goal.returns-clause-found
-returns-clause-found c = feed_found c.args.bytes.now c.memchr.result c.memchr.ensures
-
-pub returns-clause-none : goal.returns-clause-none
-returns-clause-none c = feed_none c.args.bytes.now c.memchr.result c.memchr.ensures

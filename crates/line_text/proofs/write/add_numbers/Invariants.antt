@@ -1,6 +1,0 @@
-use Rattle.std.proofs.Common.{◌≡◌, ◌++◌, drop}
-use Rattle.line_text.specs.Decimals.{decimals_text}
-use Rattle.line_text.proofs.write.add_numbers.Given as goal
-
-abbrev pub invariant-loop-number : goal.invariant-loop-number
-invariant-loop-number l = l.text ++ decimals_text (drop l.number-index l.numbers) ≡ l.initial.text ++ decimals_text l.numbers

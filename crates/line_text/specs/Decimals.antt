@@ -1,8 +1,0 @@
--- Natural numbers in the library's decimal digits.
-use Rattle.std.specs.Prelude.{ℕ, List, [], ◌∷◌, ◌++◌}
-use Rattle.std.specs.Fmt.{decimal}
-
--- numbers, each behind one space
-abbrev pub decimals_text : List ℕ → List ℕ
-decimals_text [] = []
-decimals_text (n ∷ ns) = 32 ∷ decimal n ++ decimals_text ns

@@ -1,6 +1,0 @@
-use Rattle.place_cert.specs.CertValues.{place_cert_value}
-use Rattle.place_check.specs.Verdicts.{HoldsUpTo}
-use Rattle.place_check.proofs.checking.check_places.Given as goal
-
-abbrev pub invariant-loop-test : goal.invariant-loop-test
-invariant-loop-test l = HoldsUpTo l.slots (place_cert_value l.cert) l.test

@@ -1,7 +1,0 @@
-use Rattle.cert_check.specs.Head.{HoldsBefore}
-use Rattle.place_cert.specs.CertValues.{place_cert_value}
-use Rattle.place_check.specs.PlaceTests.{Asks}
-use Rattle.place_check.proofs.checking.first_failing.Given as goal
-
-abbrev pub invariant-loop-place : goal.invariant-loop-place
-invariant-loop-place l = HoldsBefore (Asks l.slots (place_cert_value l.cert) l.test) l.place

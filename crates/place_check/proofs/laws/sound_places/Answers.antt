@@ -1,5 +1,0 @@
-use Rattle.place_check.proofs.Sound.{sound}
-use Rattle.place_check.proofs.laws.sound_places.Goals as goal
-
-pub returns : goal.returns
-returns c = λ slots p pay_is h. sound slots p h pay_is

@@ -1,5 +1,0 @@
-use Rattle.place_check.proofs.PartLaws.{IsFrom}
-use Rattle.place_check.proofs.parts.has_part.Given as goal
-
-abbrev pub invariant-loop-part : goal.invariant-loop-part
-invariant-loop-part l = IsFrom l.cert.withouts l.part-index l.j

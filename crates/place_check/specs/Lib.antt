@@ -1,9 +1,0 @@
-pub mod PlaceTests
-pub mod PlaceSound
-pub mod PlacePriced
-pub mod Verdicts
-pub mod OfferRules
-pub mod Shown
-pub mod RowSums
-pub use Rattle.place_cert
-pub use Rattle.slot_places

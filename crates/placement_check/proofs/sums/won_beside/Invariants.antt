@@ -1,0 +1,13 @@
+use Rattle.std.proofs.Common.{◌≡◌, ◌≤◌, ◌*◌, ◌^◌, ◌≤ℤ◌, pos, not, unsigned_abs}
+use Rattle.slot_places.specs.Board.{market_of_slots}
+use Rattle.auction_model.specs.Market.{worth_in}
+use Rattle.auction_model.specs.Prices.{sum_over}
+use Rattle.cert_grammar.specs.Certificate.{is_member}
+use Rattle.placement_check.proofs.sums.won_beside.Given as goal
+
+abbrev pub invariant-loop-k : goal.invariant-loop-k
+invariant-loop-k l = record {
+  sum : l.sum ≡ sum_over (λ j. not (is_member l.members j)) (worth_in (market_of_slots l.slots) l.choice) l.k;
+  least : pos 0 ≤ℤ l.sum;
+  size : unsigned_abs l.sum ≤ l.k * 2 ^ 42;
+}

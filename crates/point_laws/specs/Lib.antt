@@ -1,3 +1,0 @@
-pub mod Multipliers
-pub mod Points
-pub use Rattle.wide_num

@@ -1,5 +1,0 @@
-use Rattle.print_form.proofs.PriceTextLaws.{same-text}
-use Rattle.print_form.proofs.one_price_text.Goals as goal
-
-pub returns : goal.returns
-returns c = λ book z v w p q t u long dp dq same agree. same-text book z v w p q dp dq same agree t u long

@@ -1,0 +1,5 @@
+pub mod Fractions
+pub mod Json
+pub mod Prices
+pub mod Turns
+pub mod WinText

@@ -1,7 +1,0 @@
-use Rattle.row_laws.specs.Surplus.{surpluses_of}
-use Rattle.row_laws.proofs.Excess.{taken}
-use Rattle.row_laws.proofs.Surplus.{surpluses-are}
-use Rattle.row_laws.proofs.taken_block.Goals as goal
-
-pub returns : goal.returns
-returns c = λ m z p f lawful asks best. taken m lawful z p (surpluses_of m z p.den p.at) (surpluses-are m z p asks) f best

@@ -1,6 +1,0 @@
-use Rattle.std.proofs.Common.{◌∙◌, string_bytes, map, get_or}
-use Rattle.cca_run.specs.cca_base.proofs.KnownNames.{each-known}
-use Rattle.run_tests.proofs.clean.clean_files.Goals as goal
-
-pub returns : goal.returns
-returns c = λ k d h. c.in_ok-files.ensures.names (get_or (map string_bytes c.args.words.now) k d) ∙ each-known string_bytes c.args.words.now k d h

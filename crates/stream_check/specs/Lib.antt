@@ -1,0 +1,9 @@
+pub mod Tests
+pub mod Totals
+pub mod InRoom
+pub mod Rules
+pub mod Grown
+pub mod Lines
+pub mod Moments
+pub mod Standing
+pub mod WholeRoom

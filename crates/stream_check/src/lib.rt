@@ -1,0 +1,15 @@
+//! A certificate of a book, checked from pieces of its text, line by line, without holding it and without memory.
+//!
+//! A `StreamCheck` keeps two lines of the table that is read, the choices and the payments in a room that the caller hands in. However
+//! a text is cut into pieces, the answer is that of `read_cert` and `check` for the whole text.
+#![tactic(auto)]
+
+mod check;
+mod facts;
+mod judging;
+mod kept;
+mod moment;
+mod room;
+mod row_totals;
+
+pub use check::StreamCheck;

@@ -1,0 +1,14 @@
+use Rattle.std.proofs.Common.{◌≡◌, ℕ, ◌<◌, ◌*◌, length, take, drop}
+use Rattle.auction_model.specs.Place.{states_of}
+use Rattle.table_check.specs.Growth.{Grows, RisesBy}
+use Rattle.table_check.proofs.growth.+is_growing.Given as goal
+
+abbrev pub decreases-is_growing : goal.decreases-is_growing
+decreases-is_growing l = length l.supply.now
+
+abbrev pub invariant-loop-block : goal.invariant-loop-block
+invariant-loop-block l = record {
+  width : l.width ≡ states_of (drop 1 l.supply);
+  rises : RisesBy l.width l.line;
+  blocks : (q : ℕ) → q < l.block → Grows (drop 1 l.supply) (take l.width (drop (q * l.width) l.line));
+}

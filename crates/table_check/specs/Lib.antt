@@ -1,0 +1,6 @@
+pub mod Faults
+pub mod Narrow
+pub mod Growth
+pub mod Corners
+pub mod Worths
+pub mod LineTests
