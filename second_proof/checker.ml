@@ -1,9 +1,25 @@
-(* checker check BOOK CERT | weigh-check BOOK WEIGHTS CERT | place-check SLOTS CERT
+(* checker check BOOK CERT | weigh-check BOOK WEIGHTS CERT | place-check SLOTS CERT | audit AWARD LOG CERT | auction AWARD LOG
 
-   Reads the files, runs the extracted tests, and prints what cca prints of the same words. Only the reading of the files
-   and the printing are written by hand: by docs/FORMATS.md and docs/CERTIFICATES.md alone. *)
+   Prints what cca prints of the same words; "auction" prints the book after the replies. The answers are Coq's, with their words.
+   What is written by hand reads the files: it says which text isn't of its form, by docs/FORMATS.md and docs/CERTIFICATES.md alone,
+   and proposes what the others state. An answer on the tests counts only where Coq prints what was proposed as the bytes of the
+   files. Awards and logs have to be in their plain spelling. *)
 open Tests
-open Numbers
+
+(* ---- the numbers of OCaml as numbers of Coq ---- *)
+
+let nat_of k =
+  let rec go k acc = if k = 0 then acc else go (k - 1) (S acc) in
+  go k O
+
+let rec int_of_nat = function O -> 0 | S k -> 1 + int_of_nat k
+
+let rec positive k = if k = 1 then XH else if k land 1 = 1 then XI (positive (k lsr 1)) else XO (positive (k lsr 1))
+let z_of k = if k = 0 then Z0 else if k > 0 then Zpos (positive k) else Zneg (positive (-k))
+
+let rec power_of_two k = if k = 0 then XH else XO (power_of_two (k - 1))
+let wide = Zpos (power_of_two 120)
+let ten15 = z_of 1_000_000_000_000_000
 
 exception Refused of int (* the byte where the first faulty line begins *)
 exception Limit of string * int
@@ -75,7 +91,7 @@ let count_off count f = List.init count (fun i -> f i)
 let amount_top = 1 lsl 42
 let price_top = 1 lsl 36
 
-type known_book = { book : book; names : string list; reserve : int list; states : int; asked : (int list * int) list list }
+type known_book = { book : book; names : string list; states : int }
 
 let limited what count most = if count > most then raise (Limit (what, count))
 let states_of supply = List.fold_left (fun a s -> a * (s + 1)) 1 supply
@@ -134,10 +150,9 @@ let read_book text =
   let bidders = read_bidders r supply reserve [] (line r) in
   finish r;
   let bid (counts, amount) = { lots = List.map nat_of counts; amount = z_of amount } in
-  let asked = List.map snd bidders in
-  let offers = List.map (List.map bid) asked in
+  let offers = List.map (fun (_, bids) -> List.map bid bids) bidders in
   let book = { supply = List.map nat_of supply; reserves = List.map z_of reserve; offers } in
-  { book; names = List.map fst bidders; reserve; states = states_of supply; asked }
+  { book; names = List.map fst bidders; states = states_of supply }
 
 let read_weights names text =
   let r = reader text in
@@ -154,7 +169,7 @@ let read_weights names text =
 
 (* ---- the slots ---- *)
 
-type known_slots = { slots : slot_bidder list; slot_names : string list; widths : int list; placed : (int * int) list list }
+type known_slots = { slots : slot_bidder list; slot_names : string list; band : int }
 
 let rec read_places r last before bids =
   match line r with
@@ -185,10 +200,7 @@ let read_slots text =
   finish r;
   let slot_bid (start, amount) = { start = z_of start; offer = z_of amount } in
   let slot_bidder (_, width, bids) = { width = z_of width; starts = List.map slot_bid bids } in
-  { slots = List.map slot_bidder bidders;
-    slot_names = List.map (fun (name, _, _) -> name) bidders;
-    widths = List.map (fun (_, width, _) -> width) bidders;
-    placed = List.map (fun (_, _, bids) -> bids) bidders }
+  { slots = List.map slot_bidder bidders; slot_names = List.map (fun (name, _, _) -> name) bidders; band }
 
 (* ---- the certificate ---- *)
 
@@ -254,7 +266,7 @@ let read_payments r kind =
 let read_count_of_rows r kind =
   match line r with [ "rows"; s ] -> number r 0 (if kind.bidders = 0 then 0 else 10) s | _ -> bad r
 
-(* the certificate behind its first line, and its order as the file has it *)
+(* the certificate after its first line *)
 let read_certificate r kind =
   let c_den = read_one r "den" in
   let c_value = read_one r "value" in
@@ -268,8 +280,7 @@ let read_certificate r kind =
   let c_lowered = read_table r kind "lowered" in
   word r "end";
   finish r;
-  ( { c_den; c_value; c_order = order_of order; c_choice = List.map nat_of choice; c_table; c_withouts; c_pay; c_rows; c_lowered },
-    choice, order )
+  { c_den; c_value; c_order = order_of order; c_choice = List.map nat_of choice; c_table; c_withouts; c_pay; c_rows; c_lowered }
 
 let read_book_certificate bidders states text =
   let r = reader text in
@@ -305,80 +316,96 @@ let stop status text =
   print_string (text ^ "\n");
   exit status
 
-let reading what limit name parse =
-  try parse (load limit name) with
+(* what is read of a file, or the answer that it can't be *)
+let reading_with what read =
+  try read () with
   | Sys_error _ -> stop 4 ("cca: read fault " ^ what)
   | Refused x -> stop 3 (Printf.sprintf "cca: refused %s %d" what x)
   | Limit (kind, count) -> stop 7 (Printf.sprintf "cca: limit %s %d" kind count)
 
-(* ---- what is printed ---- *)
+let reading what limit name parse = reading_with what (fun () -> parse (load limit name))
 
-(* yes and these lines, or the first test that fails and its place *)
-let print_verdict letter verdict lines =
-  match verdict with
-  | Yes -> stop 0 (String.concat "\n" ("yes" :: lines ()))
-  | No (test, place) -> stop 1 (Printf.sprintf "no %c%d %s" letter (int_of_nat test) (text_of place))
+(* ---- texts: lines of fields, as Coq has them ---- *)
 
-let spaced numbers = String.concat " " (List.map string_of_int numbers)
+(* each field is made once, to save room *)
+let made : (string, char list) Hashtbl.t = Hashtbl.create 65536
 
-(* the line of winner j, whose bid is this, with the reserve of its package in all amounts *)
-let winner_line cert vickrey name asked amount reserve j =
-  let gross = Z.add (List.nth cert.c_pay j) (Z.mul cert.c_den (z_of reserve)) in
-  Printf.sprintf "winner %s %s bid %d vickrey %s pays %s" name asked amount
-    (text_of (Z.add (vickrey (nat_of j)) (z_of reserve))) (fraction_text gross cert.c_den)
+let chars s =
+  match Hashtbl.find_opt made s with
+  | Some l -> l
+  | None ->
+    let l = List.init (String.length s) (String.get s) in
+    Hashtbl.add made s l;
+    l
 
-let numbered choice = List.filter (fun (_, i) -> i > 0) (List.mapi (fun j i -> (j, i)) choice)
+let string_of l = String.of_seq (List.to_seq l)
 
-let revenue cert reserves =
-  let paid = List.fold_left Z.add Z0 cert.c_pay in
-  let gross = Z.add paid (Z.mul cert.c_den (z_of reserves)) in
-  "revenue " ^ fraction_text gross cert.c_den
-
-let book_lines known cert choice () =
-  let asked (j, i) = List.nth (List.nth known.asked j) (i - 1) in
-  let reserve bid = cost known.reserve (fst bid) in
-  let winner (j, i) =
-    let counts, amount = asked (j, i) in
-    winner_line cert (price_v known.book cert) (List.nth known.names j) (spaced counts) amount (cost known.reserve counts) j
+(* the lines of fields of a file; the last line has to have its line feed, else what follows it is a field that no text has *)
+let text_of_file separator file =
+  let fields line = List.map chars (String.split_on_char separator line) in
+  let rec lines = function
+    | [ "" ] -> []
+    | [ unended ] -> [ [ chars (unended ^ "\n") ] ]
+    | line :: rest -> fields line :: lines rest
+    | [] -> []
   in
-  let won = numbered choice in
-  let reserves = List.fold_left (fun a w -> a + reserve (asked w)) 0 won in
-  List.map winner won @ [ "net " ^ text_of cert.c_value; revenue cert reserves ]
+  lines (String.split_on_char '\n' file)
 
-let slot_lines known cert choice order () =
-  let name j = List.nth known.slot_names j in
-  let placed k =
-    let start = text_of (start_of known.slots cert.c_order (nat_of (k - 1))) in
-    Printf.sprintf "placed %s %s %d" (name (k - 1)) start (List.nth known.widths (k - 1))
+(* prints an answer, and ends with the status of its last line *)
+let answer text =
+  let lines = List.rev_map (List.map string_of) text in
+  let status =
+    match List.hd lines with
+    | "no" :: _ -> 1
+    | "cca:" :: "refused" :: _ -> 3
+    | "cca:" :: "limit" :: _ -> 7
+    | "cca:" :: _ -> 9
+    | _ -> 0
   in
-  let winner (j, i) =
-    let start, amount = List.nth (List.nth known.placed j) (i - 1) in
-    winner_line cert (placement_v known.slots cert) (name j) (string_of_int start) amount 0 j
-  in
-  List.map placed order @ List.map winner (numbered choice) @ [ "value " ^ text_of cert.c_value; revenue cert 0 ]
+  stop status (String.concat "\n" (List.rev_map (String.concat " ") lines))
 
-(* ---- the three commands ---- *)
+(* ---- the commands ---- *)
 
 let cert_bytes = 67108864
 
-let weight_of weights j =
-  let rec go j l = match (j, l) with O, x :: _ -> x | S k, _ :: rest -> go k rest | _, [] -> ones O in
-  go j weights
-
 let check_book book_name weights_name cert_name =
-  let known = reading "book" 1048576 book_name read_book in
-  let weights =
+  let known, book_text = reading "book" 1048576 book_name (fun file -> (read_book file, text_of_file ' ' file)) in
+  let weights, weights_text =
     match weights_name with
-    | None -> List.map (fun _ -> z_of 1) known.names
-    | Some name -> reading "weights" 65536 name (read_weights known.names)
+    | None -> (List.map (fun _ -> z_of 1) known.names, [])
+    | Some name -> reading "weights" 65536 name (fun file -> (read_weights known.names file, text_of_file ' ' file))
   in
-  let cert, choice, _ = reading "cert" cert_bytes cert_name (read_book_certificate (List.length known.names) known.states) in
-  print_verdict 'C' (check_verdict known.book (weight_of weights) cert) (book_lines known cert choice)
+  let read file = (read_book_certificate (List.length known.names) known.states file, text_of_file ' ' file) in
+  let cert, cert_text = reading "cert" cert_bytes cert_name read in
+  answer (check_answer (List.map chars known.names) known.book weights cert book_text weights_text cert_text)
 
 let check_places slots_name cert_name =
-  let known = reading "slots" 65536 slots_name read_slots in
-  let cert, choice, order = reading "cert" cert_bytes cert_name (read_place_certificate (List.length known.slots)) in
-  print_verdict 'P' (place_verdict known.slots cert) (slot_lines known cert choice order)
+  let known, slots_text = reading "slots" 65536 slots_name (fun file -> (read_slots file, text_of_file ' ' file)) in
+  let read file = (read_place_certificate (List.length known.slots) file, text_of_file ' ' file) in
+  let cert, cert_text = reading "cert" cert_bytes cert_name read in
+  answer (places_answer (z_of known.band) (List.map chars known.slot_names) known.slots cert slots_text cert_text)
+
+(* Coq reads the award and the log. The certificate is read once it asks for that, when the book is known. *)
+let audit award_name log_name cert_name =
+  let award = reading "award" 65536 award_name (text_of_file ' ') in
+  let log = reading "log" 8388608 log_name (text_of_file ',') in
+  let cert = reading "cert" cert_bytes cert_name Fun.id in
+  let propose book _ =
+    let states = states_of (List.map int_of_nat book.supply) in
+    Some (reading_with "cert" (fun () -> read_book_certificate (List.length book.offers) states cert))
+  in
+  answer (audit_answer read_award read_log propose award log (text_of_file ' ' cert))
+
+let auction award_name log_name =
+  let award = reading "award" 65536 award_name (text_of_file ' ') in
+  let log = reading "log" 8388608 log_name (text_of_file ',') in
+  match plain_award read_award award with
+  | None -> answer (refused (chars "award"))
+  | Some a -> (
+    match (above_limit a, plain_log read_log a log) with
+    | Some stop, _ -> answer stop
+    | None, None -> answer (refused (chars "log"))
+    | None, Some lines -> answer (auction_answer a lines))
 
 (* names of files aren't empty, don't begin with "-", and no two are the same *)
 let are_names names =
@@ -390,4 +417,6 @@ let () =
   | [ "check"; book; cert ] when are_names [ book; cert ] -> check_book book None cert
   | [ "weigh-check"; book; weights; cert ] when are_names [ book; weights; cert ] -> check_book book (Some weights) cert
   | [ "place-check"; slots; cert ] when are_names [ slots; cert ] -> check_places slots cert
+  | [ "audit"; award; log; cert ] when are_names [ award; log; cert ] -> audit award log cert
+  | [ "auction"; award; log ] when are_names [ award; log ] -> auction award log
   | _ -> stop 2 "cca: words"
