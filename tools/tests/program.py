@@ -1,8 +1,13 @@
 """The program that CCA_PROGRAM names, run over files in a folder of its own.
 
-The merge gate names the program that it has just proved and built. Where no program is named, the tests of it are left out.
+The merge gate names the program that it has just proved and built. Where no program is named, the tests of it are left
+out.
 """
-import os, subprocess, tempfile, typing, unittest
+import os
+import subprocess
+import tempfile
+import typing
+import unittest
 
 PROGRAM = os.environ.get("CCA_PROGRAM")
 with_program = unittest.skipUnless(PROGRAM, "CCA_PROGRAM names no program")
@@ -10,18 +15,21 @@ with_program = unittest.skipUnless(PROGRAM, "CCA_PROGRAM names no program")
 
 class Ended(typing.NamedTuple):
     """What a run printed, its status, and the bytes of each file that it left."""
+
     printed: str
     status: int
     files: dict
 
 
 def run(*words, **files):
-    """Runs the program with these words in a folder with these files alone, each named in the words by its name here."""
+    """Runs the program with these words in a folder with these files alone, each by its name here."""
     with tempfile.TemporaryDirectory() as folder:
         for name, text in files.items():
             with open(os.path.join(folder, name), "wb") as file:
                 file.write(text.encode() if isinstance(text, str) else text)
-        ended = subprocess.run([os.path.abspath(PROGRAM), *words], cwd=folder, stdin=subprocess.DEVNULL, capture_output=True)
+        ended = subprocess.run(
+            [os.path.abspath(PROGRAM), *words], cwd=folder, stdin=subprocess.DEVNULL, capture_output=True
+        )
         left = {name: read(os.path.join(folder, name)) for name in sorted(os.listdir(folder))}
     if ended.returncode < 0 or ended.stderr:
         raise AssertionError(f"cca {' '.join(words)}: status {ended.returncode}, {ended.stderr!r}")

@@ -1,9 +1,14 @@
 """Books and certificates for the tests, and the tools as modules.
 
-`certificate_of` writes a certificate from its choices, payments and rows. Its tables are worked out by going down the bidders, and
-nothing of tools/rules stands in it.
+`certificate_of` writes a certificate from its choices, payments and rows. Its tables are worked out by going down the
+bidders, and nothing of cca_tools stands in it.
 """
-import importlib.machinery, importlib.util, itertools, operator, os, sys, tempfile
+import importlib
+import itertools
+import operator
+import os
+import sys
+import tempfile
 
 TOOLS = os.path.join(os.path.dirname(os.path.realpath(__file__)), "..")
 EXAMPLES = os.path.join(TOOLS, "..", "examples")
@@ -12,11 +17,7 @@ sys.path.insert(0, TOOLS)
 
 def tool(name):
     """A tool as a module."""
-    loader = importlib.machinery.SourceFileLoader(name.replace("-", "_"), os.path.join(TOOLS, name))
-    module = importlib.util.module_from_spec(importlib.util.spec_from_loader(loader.name, loader))
-    sys.dont_write_bytecode = True
-    loader.exec_module(module)
-    return module
+    return importlib.import_module(f"cca_tools.commands.{name.replace('-', '_')}")
 
 
 def sample(name):
@@ -29,9 +30,17 @@ def lines(text):
     return "".join(line + "\n" for line in text.split(" / ")).encode()
 
 
+def taking(name):
+    """A tool as a function from its words to what it prints; a fault is a `Stop`."""
+    module = tool(name)
+    run = getattr(module, name.replace("-", "_"))
+    return lambda words: run(module.parser().words_of(words))
+
+
 def said(run, *texts):
     """What a tool prints of files with these bytes, and its status."""
-    from rules.stops import Stop
+    from cca_tools.rules.stops import Stop
+
     with tempfile.TemporaryDirectory() as folder:
         names = [os.path.join(folder, str(at)) for at, _ in enumerate(texts)]
         for name, text in zip(names, texts):
@@ -51,7 +60,9 @@ def table_of(supply, bids, worths):
     for packages, counts in zip(reversed(bids), reversed(worths)):
         after, line = line, {}
         for place in places:
-            ways = [(worth, tuple(a - b for a, b in zip(place, package))) for (package, _), worth in zip(packages, counts)]
+            ways = [
+                (worth, tuple(a - b for a, b in zip(place, package))) for (package, _), worth in zip(packages, counts)
+            ]
             line[place] = max([after[place]] + [worth + after[left] for worth, left in ways if min(left) >= 0])
         made.insert(0, line)
     return [spaced("t", line.values()) for line in made]
@@ -62,7 +73,8 @@ def spaced(word, numbers):
 
 
 def certificate_of(supply, bids, choice, without, den, pay, rows, head=("cert 1",), reserves=()):
-    """A certificate of a book; without reserves these are 0. Rows are (members, first, second, choice), and all numbers count from 1."""
+    """A certificate of a book; without reserves these are 0. Rows are (members, first, second, choice), and all numbers
+    count from 1."""
     net = [[amount - sum(map(operator.mul, package, reserves)) for package, amount in of_one] for of_one in bids]
     own = [net[j][number - 1] if number else 0 for j, number in enumerate(choice)]
     text = [*head, f"den {den}", f"value {sum(own)}", spaced("choice", choice), "table", *table_of(supply, bids, net)]
@@ -78,28 +90,50 @@ def certificate_of(supply, bids, choice, without, den, pay, rows, head=("cert 1"
 
 
 def spectrum():
-    """The book of the log of the UK's sample, and its certificate by the choices, payments and rows that docs/GUIDE.md shows."""
-    from rules.auction import replay
-    from rules.award import read_award
-    from rules.book import book_text
-    from rules.log import read_log
+    """The book of the log of the UK's sample, and its certificate by the choices, payments and rows that docs/GUIDE.md
+    shows."""
+    from cca_tools.rules.auction import replay
+    from cca_tools.rules.award import read_award
+    from cca_tools.rules.book import book_text
+    from cca_tools.rules.log import read_log
+
     award = read_award(sample("spectrum.award"))
     book = replay(award, read_log(sample("spectrum.log"), award)).book()
     without = {1: (0, 1, 3, 1, 2), 2: (1, 0, 1, 1, 3), 3: (3, 1, 0, 2, 2), 4: (1, 1, 1, 0, 2), 5: (3, 1, 2, 1, 0)}
-    rows = [((1,), 1, 0, without[1]), ((2,), 1, 0, without[2]), ((3,), 1, 0, without[3]), ((4, 5), 1, 200, (3, 1, 3, 0, 0))]
+    rows = [
+        ((1,), 1, 0, without[1]),
+        ((2,), 1, 0, without[2]),
+        ((3,), 1, 0, without[3]),
+        ((4, 5), 1, 200, (3, 1, 3, 0, 0)),
+    ]
     pay = 47400, 30000, 32000, 6200, 60200
-    return book_text(book), certificate_of(book.supply, book.bids, (1,) * 5, without, 1, pay, rows, reserves=book.reserves)
+    return book_text(book), certificate_of(
+        book.supply, book.bids, (1,) * 5, without, 1, pay, rows, reserves=book.reserves
+    )
 
 
 def six_bidders():
     """A certificate of examples/six-bidders.book, in which five of six bidders win."""
     supply, reserves = (4, 1, 14, 9), (200000, 250000, 15000, 100)
-    bids = [[((2, 0, 0, 0), 550000)], [((0, 1, 0, 0), 350000)], [((2, 0, 4, 5), 710500)], [((0, 0, 7, 0), 225000)], [((0, 0, 3, 4), 105400)],
-            [((4, 0, 7, 0), 1285000)]]
+    bids = [
+        [((2, 0, 0, 0), 550000)],
+        [((0, 1, 0, 0), 350000)],
+        [((2, 0, 4, 5), 710500)],
+        [((0, 0, 7, 0), 225000)],
+        [((0, 0, 3, 4), 105400)],
+        [((4, 0, 7, 0), 1285000)],
+    ]
     others = (0, 1, 0, 1, 0, 1)
     without = {1: others, 2: (1, 0, 1, 1, 1, 0), 3: others, 4: (1, 1, 1, 0, 1, 0), 5: (1, 1, 1, 1, 0, 0)}
-    rows = [((1, 3, 4), 0, 70000, (0, 1, 0, 0, 1, 1)), ((1, 3, 5), 1, 0, others), ((4,), 1, -70000, without[4]), ((2,), 1, 0, without[2])]
-    return certificate_of(supply, bids, (1, 1, 1, 1, 1, 0), without, 1, (140000, 0, 240000, 0, 0, 0), rows, reserves=reserves)
+    rows = [
+        ((1, 3, 4), 0, 70000, (0, 1, 0, 0, 1, 1)),
+        ((1, 3, 5), 1, 0, others),
+        ((4,), 1, -70000, without[4]),
+        ((2,), 1, 0, without[2]),
+    ]
+    return certificate_of(
+        supply, bids, (1, 1, 1, 1, 1, 0), without, 1, (140000, 0, 240000, 0, 0, 0), rows, reserves=reserves
+    )
 
 
 def book_of(supply, bids, names=None):

@@ -141,7 +141,7 @@ class Case(unittest.TestCase):
             folder.mkdir(parents=True)
         shutil.copy2(ROOT / "cca", self.root)
         (self.root / "bench").mkdir()
-        for name in ("kit.py", "libraries", "proofs"):
+        for name in ("building.py", "kit.py", "libraries", "proofs"):
             shutil.copy2(ROOT / "bench" / name, self.root / "bench")
         (self.root / "HANDLES").write_text("Handles allowed: none.\n")
         (self.root / "crates.txt").write_text("# Crates.\n" + "".join(f"{name}: {low} # .\n" for name, low in USES.items()))
@@ -199,7 +199,7 @@ class Both:
     def test_builds_once(self):
         status, out, told = self.call("a", "b")
         self.assertEqual((status, out), (3, self.built()))
-        self.assertRegex(told, r"\Acca isn't built yet: 5 of its 5 crates are now proved and built, which takes .*\n")
+        self.assertRegex(told, r"\Acca isn't built yet: 5 of its 5 crates are now proved and built, which takes .*\nMeanwhile ./trial .*\n")
         self.assertEqual(sorted(self.named(told)), sorted(PROGRAM))
         self.assertIn(", 5 of 5 crates, ", told)
         self.assertTrue(told.endswith("cca is built.\n"))
@@ -214,6 +214,7 @@ class Both:
         status, out, told = self.call("a", "b")
         self.assertEqual((status, out), (3, self.built(left="other")))
         self.assertRegex(told, r"\AThe sources of cca have changed: 3 of its 5 crates are now ")
+        self.assertNotIn("./trial", told)
         self.assertEqual(sorted(self.named(told)), ["cca", "left", "top"])
         self.assertEqual(sorted(set(self.noted("proved"))), ["cca", "left", "top"])
 

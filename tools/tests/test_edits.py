@@ -12,12 +12,12 @@ NAMED = {
     "nearest_point": ["lays_the_whole_deficit_on_the_first_winner"],
     "cert_check": ["skips_the_tables_without_each_winner", "a_row_may_use_its_members", "an_earlier_bid_may_tie",
                    "says_no_to_each_negative_second_multiplier"],
-    "piece_check": ["tests_the_coalitions_of_the_listed_rows_alone"],
+    "stream_check": ["tests_the_coalitions_of_the_listed_rows_alone"],
     "relative_cap": ["takes_the_highest_amount_over_the_clock_bids_alone"],
     "clock_stage": ["eligibility_falls_with_each_bid"],
     "bid_desk": ["keeps_one_draft_list_for_all_bidders"],
     "log_replay": ["refuses_each_complete_log"],
-    "cca_work": ["says_no_to_each_certificate", "answers_the_limit_of_winners_to_each_book", "price_loads_the_certificate_for_the_book"],
+    "cca_commands": ["says_no_to_each_certificate", "answers_the_limit_of_winners_to_each_book", "price_loads_the_certificate_for_the_book"],
     "cca_run": ["always_a_fault_of_reading", "always_a_fault_of_writing"],
 }
 

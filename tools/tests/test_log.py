@@ -1,9 +1,10 @@
 """The log: records as they are read of any bytes, and the first record that states no line."""
-import unittest, unittest.mock
+import unittest
+import unittest.mock
 from samples import sample
-from rules.award import read_award
-from rules.log import read_log, records
-from rules.stops import MOST, Stop
+from cca_tools.rules.award import read_award
+from cca_tools.rules.log import read_log, records
+from cca_tools.rules.stops import MOST, Stop
 
 AWARD = read_award(sample("sample.award"))
 UK = read_award(sample("spectrum.award"))
@@ -15,8 +16,10 @@ def fields(data):
 
 def answer(text, award=AWARD):
     try:
-        return [(line.number, line.row, line.kind, line.name, line.bidder, line.package, line.amount) for line in read_log(text.encode(),
-                                                                                                                           award)]
+        return [
+            (line.number, line.row, line.kind, line.name, line.bidder, line.package, line.amount)
+            for line in read_log(text.encode(), award)
+        ]
     except Stop as stop:
         return stop.line
 
@@ -53,22 +56,59 @@ class Records(unittest.TestCase):
 class Lines(unittest.TestCase):
     def test_kinds(self):
         text = "bid,east,3,\n\ndraft,west,2,45\ndrop,north,0,\nsubmit,east,,\nclose,,,\n"
-        self.assertEqual(answer(text), [
-            (1, 1, "bid", "east", 1, (3,), None), (2, 3, "draft", "west", 2, (2,), 45), (3, 4, "drop", "north", 0, (0,), None),
-            (4, 5, "submit", "east", 1, None, None), (5, 6, "close", "", 0, None, None)])
-        self.assertEqual(answer('"bid","east","1 0 65535 4",', UK), [(1, 1, "bid", "east", 0, (1, 0, 65535, 4), None)])
-        self.assertEqual(answer("draft,east,3,1000000000000000000"), [(1, 1, "draft", "east", 1, (3,), 10 ** 18)])
+        self.assertEqual(
+            answer(text),
+            [
+                (1, 1, "bid", "east", 1, (3,), 0),
+                (2, 3, "draft", "west", 2, (2,), 45),
+                (3, 4, "drop", "north", 0, (0,), 0),
+                (4, 5, "submit", "east", 1, (), 0),
+                (5, 6, "close", "", 0, (), 0),
+            ],
+        )
+        self.assertEqual(answer('"bid","east","1 0 65535 4",', UK), [(1, 1, "bid", "east", 0, (1, 0, 65535, 4), 0)])
+        self.assertEqual(answer("draft,east,3,1000000000000000000"), [(1, 1, "draft", "east", 1, (3,), 10**18)])
 
     def test_faults(self):
-        for text in ("bid,west,2", "bid,west,2,,", "bid,west", "x", "bids,west,2,", "BID,west,2,", "bid,West,2,", "bid,,2,", "bid,2west,2,",
-                     "bid,west,,",
-                     "bid,west,2 0,", "bid,west, 2,", "bid,west,2 ,", "bid,west,02,", "bid,west,-2,", "bid,west,2.5,", "bid,west,65536,",
-                     "bid,west,2,0",
-                     "draft,west,2,", "draft,west,2,-1", "draft,west,2,01", "draft,west,2,1.5", "draft,west,2,1000000000000000001",
-                     "draft,west,,5",
-                     "drop,west,2,5", "submit,west,2,", "submit,west,,0", "submit,,,", "close,west,,", "close,,2,", "close,,,0",
-                     " bid,west,2,",
-                     "bid,west,2, ", "bid,west,\u0662,", "bid,w\u00e9st,2,", "draft,west,2," + "9" * 5000, "bid,a23456789012345678901,2,"):
+        for text in (
+            "bid,west,2",
+            "bid,west,2,,",
+            "bid,west",
+            "x",
+            "bids,west,2,",
+            "BID,west,2,",
+            "bid,West,2,",
+            "bid,,2,",
+            "bid,2west,2,",
+            "bid,west,,",
+            "bid,west,2 0,",
+            "bid,west, 2,",
+            "bid,west,2 ,",
+            "bid,west,02,",
+            "bid,west,-2,",
+            "bid,west,2.5,",
+            "bid,west,65536,",
+            "bid,west,2,0",
+            "draft,west,2,",
+            "draft,west,2,-1",
+            "draft,west,2,01",
+            "draft,west,2,1.5",
+            "draft,west,2,1000000000000000001",
+            "draft,west,,5",
+            "drop,west,2,5",
+            "submit,west,2,",
+            "submit,west,,0",
+            "submit,,,",
+            "close,west,,",
+            "close,,2,",
+            "close,,,0",
+            " bid,west,2,",
+            "bid,west,2, ",
+            "bid,west,\u0662,",
+            "bid,w\u00e9st,2,",
+            "draft,west,2," + "9" * 5000,
+            "bid,a23456789012345678901,2,",
+        ):
             with self.subTest(text=text):
                 self.assertEqual(answer("close,,,\n\n" + text + "\nx\n"), "cca: refused log 2")
 

@@ -1,19 +1,25 @@
 """tools/check-places: the worked example, each test failed once, and the faults of slots and certificates."""
 import unittest
-from samples import lines, said, sample, tool
+from samples import lines, said, sample
+from voices import check_places
 
-check_places = tool("check-places").check_places
 SLOTS = sample("band.slots")
 # The choice 1 1 0 is worth 18 by the order x, z, y. Entry M is what those outside the set M can still reach behind it.
-CERT = lines("pcert 1 / den 1 / value 18 / order 1 3 2 / choice 1 1 0 / table / t 18 8 12 0 8 8 0 0 "
-             "/ without 1 / order 2 3 1 / choice 0 0 1 / table / t 12 8 12 0 8 8 0 0 "
-             "/ without 2 / order 2 3 1 / choice 0 0 1 / table / t 12 0 12 0 0 0 0 0 / pay 7 5 0 / rows 1 / row 1 2 / mult 1 3 / order 2 3 1 / choice 0 0 1 / lowered / t 12 5 12 0 5 5 0 0 / end")
-YES = ("yes\nplaced x 1 2\nplaced z 3 1\nplaced y 4 1\nwinner x 1 bid 10 vickrey 4 pays 7\nwinner y 4 bid 8 vickrey 2 pays 5\nvalue 18\nrevenue 12")
+CERT = lines(
+    "pcert 1 / den 1 / value 18 / order 1 3 2 / choice 1 1 0 / table / t 18 8 12 0 8 8 0 0 / without 1 / order 2 3 1 /"
+    " choice 0 0 1 / table / t 12 8 12 0 8 8 0 0 / without 2 / order 2 3 1 / choice 0 0 1 / table / t 12 0 12 0 0 0 0 0"
+    " / pay 7 5 0 / rows 1 / row 1 2 / mult 1 3 / order 2 3 1 / choice 0 0 1 / lowered / t 12 5 12 0 5 5 0 0 / end"
+)
+YES = (
+    "yes\nplaced x 1 2\nplaced z 3 1\nplaced y 4 1\nwinner x 1 bid 10 vickrey 4 pays 7\nwinner y 4 bid 8 vickrey 2 pays"
+    " 5\nvalue 18\nrevenue 12"
+)
 
 EDITS = [
     ("den 1", "den 0", "no P1 1"),
     ("choice 1 1 0", "choice 1 2 0", "no P2 2"),
     ("order 1 3 2", "order 1 2 3", "no P2 4"),
+    ("order 1 3 2", "order 3 1 2", "no P2 4"),
     ("order 1 3 2", "order 1 3 3", "no P2 4"),
     ("order 1 3 2", "order 1 3 65535", "no P2 4"),
     ("order 1 3 2", "order 1 3 0", "no P2 4"),
@@ -47,15 +53,25 @@ class Placements(unittest.TestCase):
                 self.assertEqual(said(check_places, SLOTS, cert), (line, 1 if line.startswith("no") else 3))
 
     def test_sentences(self):
-        from rules.placement import read_places, read_slots
-        from rules.placement_tests import first_fault
+        from cca_tools.rules.placement import read_places, read_slots
+        from cca_tools.rules.placement_tests import first_fault
+
         slots = read_slots(SLOTS)
 
         def why(was, put):
             return first_fault(slots, read_places(CERT.replace(was, put, 1), slots)).why
-        self.assertEqual(why(b"t 18 8", b"t 17 8"), "in the head's table entry 0, with nobody placed, is 17, which is too low: x placed next counts "
-                                                    "10, and the entry behind it is 8")
-        self.assertIn("entry 5, with x and z placed, is 7, which is too low: y placed next counts 8", why(b"12 0 8 8", b"12 0 8 7"))
+
+        self.assertEqual(
+            why(b"t 18 8", b"t 17 8"),
+            (
+                "in the head's table entry 0, with nobody placed, is 17, which is too low: x placed next counts "
+                "10, and the entry after it is 8"
+            ),
+        )
+        self.assertIn(
+            "entry 5, with x and z placed, is 7, which is too low: y placed next counts 8",
+            why(b"12 0 8 8", b"12 0 8 7"),
+        )
         self.assertIn("y begins at slot 3, and its bid is for slot 4", why(b"order 1 3 2", b"order 1 2 3"))
 
     def test_nobody(self):
@@ -63,16 +79,37 @@ class Placements(unittest.TestCase):
         self.assertEqual(said(check_places, lines("slots 1 / band 4 / end"), cert), ("yes\nvalue 0\nrevenue 0", 0))
 
     def test_faults_of_slots(self):
-        for was, put, place in [("slots 1", "slots 2", 0), ("band 4", "band 0", 8), ("band 4", "band 1000", 8),
-                                ("bidder x 2", "bidder x 0", 15), ("bidder x 2", "bidder x", 15), ("bidder x 2", "bidder X 2", 15),
-                                ("bidder x 2\n", "", 15), ("place 1 10", "place 4 10", 26), ("place 1 10", "place 1 4398046511105", 26), ("place 1 10", "place 0 10", 26), ("place 1 10", "place 1 9\nplace 1 10", 36),
-                                ("bidder y 1", "bidder y 3", 37), ("bidder y 1", "bidder x 1", 37), ("end\n", "end", 80), ("end\n", "end\n\n", 84)]:
+        for was, put, place in [
+            ("slots 1", "slots 2", 0),
+            ("band 4", "band 0", 8),
+            ("band 4", "band 1000", 8),
+            ("bidder x 2", "bidder x 0", 15),
+            ("bidder x 2", "bidder x", 15),
+            ("bidder x 2", "bidder X 2", 15),
+            ("bidder x 2\n", "", 15),
+            ("place 1 10", "place 1 10 9", 26),
+            ("place 1 10", "place 4 10", 26),
+            ("place 1 10", "place 1 4398046511105", 26),
+            ("place 1 10", "place 0 10", 26),
+            ("place 1 10", "place 1 9\nplace 1 10", 36),
+            ("bidder y 1", "bidder y 3", 37),
+            ("bidder y 1", "bidder x 1", 37),
+            ("end\n", "end", 80),
+            ("end\n", "end\n\n", 84),
+        ]:
             with self.subTest(put=put):
-                self.assertEqual(said(check_places, SLOTS.replace(was.encode(), put.encode(), 1), CERT), (f"cca: refused slots {place}", 3))
+                self.assertEqual(
+                    said(check_places, SLOTS.replace(was.encode(), put.encode(), 1), CERT),
+                    (f"cca: refused slots {place}", 3),
+                )
 
     def test_edges_that_stand(self):
         one = "slots 1 / band 40 / bidder x 1 / "
-        for slots in "slots 1 / band 1 / bidder x 1 / place 1 0 / end", one + "place 40 0 / end", one + "place 1 9 / place 2 5 / end":
+        for slots in (
+            "slots 1 / band 1 / bidder x 1 / place 1 0 / end",
+            one + "place 40 0 / end",
+            one + "place 1 9 / place 2 5 / end",
+        ):
             self.assertEqual(said(check_places, lines(slots), b""), ("cca: refused cert 0", 3))
 
     def test_limits_of_slots(self):
@@ -81,7 +118,10 @@ class Placements(unittest.TestCase):
             many = "".join(f"bidder b{j} 1 / " for j in range(count))
             self.assertEqual(said(check_places, lines(f"slots 1 / band 40 / {many}end"), b""), answer)
         self.assertEqual(said(check_places, b"#" * 65537, b""), ("cca: limit bytes 65537", 7))
-        self.assertEqual(said(check_places, lines("slots 1 / band 40 / bidder x 40 / place 1 4398046511104 / end"), b""), ("cca: refused cert 0", 3))
+        self.assertEqual(
+            said(check_places, lines("slots 1 / band 40 / bidder x 40 / place 1 4398046511104 / end"), b""),
+            ("cca: refused cert 0", 3),
+        )
 
     def test_words(self):
         for texts in [(SLOTS,), (SLOTS, CERT, CERT)]:

@@ -200,6 +200,16 @@ class Reviews(Stopping):
                    "winner b1 1 5\nnet 2\n")
         self.assertEqual(run("review", "book", "edits", book=book, edits=edits)[:2], (printed, 0))
 
+    def test_most_bids(self):
+        """A bidder has no room for a bid past 600, and has it again once one is dropped. Bid `n` is for the lots that its three digits say."""
+        def bid(number):
+            return f"{' '.join(format(number, '03'))} {number}\n"
+        book = "book 1\nsupply 9 9 9\nreserve 0 0 0\nbidder b1\n" + "".join("bid " + bid(number) for number in range(1, 601)) + "end\n"
+        edits = f"edits 1\nadd b1 {bid(601)}drop b1 0 0 1\nadd b1 {bid(601)}add b1 {bid(602)}end\n"
+        printed = ("0 net 600 choice 600\n1 full 600\n2 net 600 choice 599\n3 net 601 choice 600\n4 full 600\n"
+                   "winner b1 6 0 1 601\nnet 601\n")
+        self.assertEqual(run("review", "book", "edits", book=book, edits=edits)[:2], (printed, 0))
+
     def test_book_without_bidders(self):
         self.assertEqual(run("review", "book", "edits", book=NO_BIDDERS, edits="edits 1\nend\n")[:2], ("0 net 0 choice\nnet 0\n", 0))
 

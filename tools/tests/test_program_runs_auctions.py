@@ -61,6 +61,9 @@ LOWERED_PRICES = "winner east 1 bid 20 vickrey 10 pays 10 / winner west 2 bid 24
 DROPPED_PRICES = "winner east 1 bid 20 vickrey 10 pays 10 / winner west 2 bid 24 vickrey 20 pays 20 / net 14 / revenue 30"
 LOWERED_OBJECT = ('{"net":14,"revenue":"34","winners":[{"bid":20,"name":"east","package":[1],"pays":"10","vickrey":10},'
                   '{"bid":24,"name":"west","package":[2],"pays":"24","vickrey":24}]}')
+SAMPLE_PRICES = ("winner everest 1 0 3 0 bid 420000 vickrey 292400 pays 292400 / winner harbour 0 1 2 4 bid 400000 vickrey 310400 pays 310400 / "
+                 "winner meridian 1 0 4 5 bid 380000 vickrey 292500 pays 292500 / winner niche 0 0 5 0 bid 120000 vickrey 81000 pays 81200 / "
+                 "winner tarn 2 0 0 0 bid 500000 vickrey 460000 pays 460200 / net 559100 / revenue 1436700")
 
 
 @with_program
@@ -72,6 +75,12 @@ class Award(Case):
                 cert = run("award", "AWARD", "LOG", "CERT", **given).files["CERT"]
                 self.ends("award AWARD LOG CERT", given, prices, CERT=cert)
                 self.ends("audit AWARD LOG CERT", given | {"CERT": cert}, f"yes / {prices}")
+
+    def test_sample(self):
+        """The certificate of the sample in examples/ is what the program makes of it."""
+        given, cert = {"AWARD": sample("spectrum.award"), "LOG": sample("spectrum.log")}, sample("spectrum.cert")
+        self.ends("award AWARD LOG CERT", given, SAMPLE_PRICES, CERT=cert)
+        self.ends("audit AWARD LOG CERT", given | {"CERT": cert}, f"yes / {SAMPLE_PRICES}")
 
     def test_turns_and_object(self):
         given = {"AWARD": AWARD, "LOG": LOWERED}

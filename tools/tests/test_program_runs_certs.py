@@ -2,7 +2,7 @@
 import re, unittest
 from program import with_program
 from samples import certificate_of, lines, sample
-from test_check import EDITS
+from test_check import EDITS, WRONG_SIGN
 from test_places import CERT as PLACE_CERT, EDITS as PLACE_EDITS
 from test_program_runs import (CERT, DAY_CRAMTON, LOCALS, LOCALS_BIDS, LOCALS_PRICES, NOBODY, NOBODY_CERT, PRICES, TIE, TWO_GLOBALS,
                                TWO_GLOBALS_BIDS, TWO_GLOBALS_PRICES, Case)
@@ -41,6 +41,7 @@ class Books(Case):
         """The last three are certificates of other books, for other numbers of bidders or of states."""
         for name, book, cert, told, status in [
                 ("equal payments", DAY_CRAMTON, CERT.replace(b"pay 17 15", b"pay 16 16"), "no C8 2", 1),
+                ("payments of the other sign", DAY_CRAMTON, WRONG_SIGN, "no C8 4", 1),
                 ("later of two choices", TIE, LATER_OF_TWO, "no C3 10", 1),
                 ("cut in the last line", DAY_CRAMTON, CERT[:-2], "cca: refused cert 472", 3),
                 ("empty", DAY_CRAMTON, b"", "cca: refused cert 0", 3),
@@ -71,6 +72,12 @@ class Books(Case):
             with self.subTest(count):
                 start = CERT.rfind(b"\n", 0, count) + 1
                 self.judges(DAY_CRAMTON, CERT[:count], f"cca: refused cert {start}", 3)
+
+    def test_most_bytes(self):
+        """Within the limit of bytes the text is judged, and past it nothing else is, not even a text that is refused at its first line."""
+        for count, told, status in (67_108_864, "cca: refused cert 0", 3), (67_108_865, "cca: limit bytes 67108865", 7):
+            with self.subTest(count):
+                self.judges(DAY_CRAMTON, b"\n" * count, told, status)
 
 
 SLOTS = sample("band.slots")

@@ -1,16 +1,20 @@
 """The report: what stands in it, as text and as a page."""
-import hashlib, importlib.util, os, re, subprocess, sys, tempfile, unittest
+import hashlib
+import os
+import re
+import subprocess
+import sys
+import tempfile
+import unittest
 from fractions import Fraction
 from html.parser import HTMLParser
 
 from samples import EXAMPLES, TOOLS, certificate_of, book_of, sample, spectrum
-from page import core, html, plain, source, words
-from page.report import page
-from rules.stops import Stop
-from rules.view import view_text
+from cca_tools.page import core, html, plain, source, words
+from cca_tools.page.report import page
+from cca_tools.rules.stops import Stop
+from cca_tools.rules.view import view_text
 
-HAS_LIBRARIES = all(importlib.util.find_spec(name) for name in ("jinja2", "matplotlib"))
-NEEDED = "a page needs jinja2 and matplotlib: apt-get install python3-jinja2 python3-matplotlib"
 AWARD, LOG = sample("spectrum.award"), sample("spectrum.log")
 BIDDERS = "everest", "harbour", "meridian", "niche", "tarn"
 # The refused lines of the sample, as docs/GUIDE.md has them.
@@ -109,9 +113,20 @@ class Told(unittest.TestCase):
 
 class Numbers(unittest.TestCase):
     def test_a_price_stands_as_the_program_prints_it(self):
-        self.assertEqual(words.price(Fraction(46, 3)), "15+1/3")
-        self.assertEqual(words.price(292400), "292,400")
-        self.assertEqual(words.price(Fraction(4398046511104 * 2 + 1, 2)), "4,398,046,511,104+1/2")
+        self.assertEqual(words.exact(Fraction(46, 3)), "15+1/3")
+        self.assertEqual(words.exact(292400), "292,400")
+        self.assertEqual(words.exact(Fraction(4398046511104 * 2 + 1, 2)), "4,398,046,511,104+1/2")
+
+    def test_a_price_as_people_write_it(self):
+        self.assertEqual(words.price(Fraction(41, 2)), "20\N{VULGAR FRACTION ONE HALF}")
+        self.assertEqual(words.price(Fraction(2, 3)), "\N{VULGAR FRACTION TWO THIRDS}")
+        self.assertEqual(words.price(Fraction(46, 7)), "6+4/7")
+        self.assertEqual(words.price_cell(Fraction(41, 2)).code, "20+1/2")
+        self.assertEqual(
+            (words.price_cell(Fraction(46, 7)).words, words.price_cell(Fraction(46, 7)).code),
+            ("\N{ALMOST EQUAL TO} 6.57", "6+4/7"),
+        )
+        self.assertEqual((words.price_cell(292400).words, words.price_cell(292400).code), ("292,400", ""))
 
     def test_per_cent(self):
         self.assertEqual(words.per_cent(310400, 400000), "77.6 %")
@@ -121,7 +136,8 @@ class Numbers(unittest.TestCase):
 
     def test_commas_leave_names_and_short_numbers_alone(self):
         self.assertEqual(words.commas("a800 and c2600 at 534800, 6 of 999"), "a800 and c2600 at 534,800, 6 of 999")
-        self.assertEqual(words.commas("81200+1/3"), "81,200+1/3")
+        self.assertEqual(words.commas("81200+1/3"), "81,200\N{VULGAR FRACTION ONE THIRD}")
+        self.assertEqual(words.commas("81200+1/7, 303800 + 231000"), "81,200+1/7, 303,800 + 231,000")
 
     def test_lists(self):
         self.assertEqual(words.listed([]), "nobody")
@@ -130,9 +146,13 @@ class Numbers(unittest.TestCase):
 
     def test_turns_as_the_program_prints_them(self):
         first, second = source.turns_of(
-            "round 1 point 14 12 row 1 2 choice 0 0 1 0 0 excess 6\nround 2 point 15+1/2 16+1/2 end\nwinner b1 1 0 bid 28 vickrey 14 pays 17\n"
+            "round 1 point 14 12 row 1 2 choice 0 0 1 0 0 excess 6\nround 2 point 15+1/2 16+1/2 end\nwinner b1 1 0 bid"
+            " 28 vickrey 14 pays 17\n"
         )
-        self.assertEqual((first.number, first.point, first.row, first.choice, first.excess), (1, (14, 12), (1, 2), (0, 0, 1, 0, 0), 6))
+        self.assertEqual(
+            (first.number, first.point, first.row, first.choice, first.excess),
+            (1, (14, 12), (1, 2), (0, 0, 1, 0, 0), 6),
+        )
         self.assertEqual((second.number, second.point, second.row), (2, (Fraction(31, 2), Fraction(33, 2)), ()))
 
 
@@ -169,8 +189,12 @@ class OfABook(Told):
 
     def test_each_winner_has_its_sentence(self):
         told = flat(text_of(*self.files))
-        self.assert_told("b1 pays 17: its Vickrey price of 14, and 3 more, since b3 offers 32 for what b1 and b2 win", told)
-        self.assert_told("b2 pays 15: its Vickrey price of 12, and 3 more, since b3 offers 32 for what b1 and b2 win", told)
+        self.assert_told(
+            "b1 pays 17: its Vickrey price of 14, and 3 more, since b3 offers 32 for what b1 and b2 win", told
+        )
+        self.assert_told(
+            "b2 pays 15: its Vickrey price of 12, and 3 more, since b3 offers 32 for what b1 and b2 win", told
+        )
 
     def test_without_a_program_it_says_so(self):
         told = flat(text_of(*self.files))
@@ -202,7 +226,8 @@ class OfABook(Told):
         self.assert_told("A book of bids, with 0 bidders.", told)
 
     def test_three_winners(self):
-        # Least are 12 for b1 and b2, and 7 for b2 and b3, of which b3 pays no more than its 1: so b2 pays 6, and b1 the other 6.
+        # Least are 12 for b1 and b2, and 7 for b2 and b3, of which b3 pays no more than its 1: so b2 pays 6, and b1 the
+        # other 6.
         supply, bids = (1, 1, 1), [
             [((1, 0, 0), 9)],
             [((0, 1, 0), 9)],
@@ -215,7 +240,13 @@ class OfABook(Told):
         pair, chain, small = (0, 0, 1, 1, 0, 0, 0), (1, 0, 0, 0, 1, 0, 0), (1, 1, 0, 0, 0, 1, 0)
         rows = [((1, 2), 1, 1, pair), ((3,), 1, -2, small), ((2, 3), 0, 2, chain)]
         cert = certificate_of(
-            supply, bids, (1, 1, 1, 0, 0, 0, 0), {1: (0, 1, 1, 0, 0, 0, 1), 2: pair, 3: small}, 1, (6, 6, 1, 0, 0, 0, 0), rows
+            supply,
+            bids,
+            (1, 1, 1, 0, 0, 0, 0),
+            {1: (0, 1, 1, 0, 0, 0, 1), 2: pair, 3: small},
+            1,
+            (6, 6, 1, 0, 0, 0, 0),
+            rows,
         )
         facts = facts_of(book_of(supply, bids), cert)
         self.assertIsNone(facts.fault)
@@ -255,24 +286,50 @@ class OfALog(Told):
         self.assertEqual([row[2] for row in found[3]], ["15 of 9", "14 of 9", "14 of 9", "9 of 9"])
 
     def test_eligibility(self):
-        harbour = tables(self.made, "By round")[4 + 1]
-        self.assertEqual([(row[0], row[2]) for row in harbour], [("1", "68 of 68"), ("2", "48 of 68"), ("3 to 4", "48 of 48")])
+        (every,) = tables(self.made, "Points asked for and eligibility by round")
+        self.assertEqual(
+            [(row[1], row[3]) for row in every if row[0] == "harbour"],
+            [("1", "68 of 68"), ("2", "48 of 68"), ("3 to 4", "48 of 48")],
+        )
 
     def test_each_line_has_its_reply(self):
         codes = {line: reply.code for line, reply in replies(self.made).items()}
         self.assertEqual(len(codes), 63)
-        self.assertEqual({line: code for line, code in codes.items() if not re.match(r"ok$|round |sealed$|closed$", code)}, REFUSED)
+        self.assertEqual(
+            {line: code for line, code in codes.items() if not re.match(r"ok$|round |sealed$|closed$", code)}, REFUSED
+        )
 
     def test_a_refusal_is_worked_out(self):
         told = replies(self.made)
-        self.assert_told("3 x 20 + 1 x 40 = 100 points, and tarn is eligible for 96", told[5].words)
-        self.assert_told("303,800 + 231,000 = 534,800", told[33].words)
+        plain_words = told[5].words.replace("\N{NO-BREAK SPACE}", " ")
+        self.assert_told("3 x 20 + 1 x 40 = 100 points, and tarn is eligible for 96", plain_words)
         self.assert_told("315,700", told[37].words)
+
+    def test_a_refused_list_has_its_arithmetic_in_a_table(self):
+        cell = replies(self.made)[33]
+        self.assert_told("Refused. Entry 2 of the list, ", cell.words)
+        self.assert_told("is above its cap of 534,800.", cell.words)
+        self.assertEqual(dict(cell.details)["cap"], "303,800 + 231,000 = 534,800")
+        self.assertEqual(dict(cell.details)["highest amount named for that"], "303,800")
+        self.assertEqual(dict(cell.details)["what the package costs more there"], "+231,000")
+
+    def test_net_of_reserve(self):
+        (net,) = tables(self.made, "The same net of reserve")
+        self.assertEqual([row[4] for row in net], ["47,400", "30,000", "32,000", "6,200", "60,200", "175,800"])
+        self.assertEqual(net[3], ["niche", "75,000", "45,000", "6,000", "6,200"])
+
+    def test_where_bids_come_from(self):
+        """By the log: tarn asked for 2 1 4 0 in round 1 at the reserves, and has the others on its list."""
+        (bids,) = tables(self.made, "Bids of tarn")
+        self.assertEqual(
+            [(row[2], row[4]) for row in bids],
+            [("500,000", "list"), ("536,000", "list"), ("810,000", "list"), ("710,000", "round 1")],
+        )
 
     def test_winners_and_sums(self):
         winners = tables(self.made, "Winners and prices, reserves included")[0]
         self.assertEqual(
-            [(row[0], *row[2:5]) for row in winners],
+            [(row[0], *row[3:6]) for row in winners],
             [
                 ("everest", "420,000", "292,400", "292,400"),
                 ("harbour", "400,000", "310,400", "310,400"),
@@ -283,16 +340,37 @@ class OfALog(Told):
         )
         self.assertRegex(self.told, "revenue 1,436,700 bid by winners 1,820,000 .* 78.9 % net value 559,100")
 
+    def test_the_final_clock_price_of_each_package(self):
+        """By the prices of round 4 in docs/GUIDE.md: 242600 275700 19200 400."""
+        winners = tables(self.made, "Winners and prices, reserves included")[0]
+        self.assertEqual([row[2] for row in winners], ["300,200", "315,700", "321,400", "96,000", "485,200"])
+
+    def test_titles_say_the_finding(self):
+        titles = {section.key: section.finding for section in self.made.sections}
+        told = "Three of five winners pay their Vickrey price; a coalition raises niche and tarn by 200 each"
+        self.assertEqual((titles["winners"], titles["why"]), (told, told))
+        self.assertEqual(titles["rounds"], "The clock took four rounds, and prices rose in all four categories")
+
     def test_the_vickrey_price_is_worked_out(self):
         (tarn,) = tables(self.made, "Without tarn")
         self.assertEqual(
             [(row[0], row[-1]) for row in tarn],
-            [("everest", "+240,000"), ("meridian", "+220,000"), ("harbour and niche", "0"), ("its Vickrey price", "460,000")],
+            [
+                ("everest", "+240,000"),
+                ("meridian", "+220,000"),
+                ("harbour and niche", "0"),
+                ("its Vickrey price", "460,000"),
+            ],
         )
         (niche,) = tables(self.made, "Without niche")
         self.assertEqual(
             [(row[0], row[-1]) for row in niche],
-            [("tarn", "+36,000"), ("the seller", "+45,000"), ("everest, harbour and meridian", "0"), ("its Vickrey price", "81,000")],
+            [
+                ("tarn", "+36,000"),
+                ("the seller", "+45,000"),
+                ("everest, harbour and meridian", "0"),
+                ("its Vickrey price", "81,000"),
+            ],
         )
 
     def test_files_by_their_sums(self):
@@ -302,12 +380,19 @@ class OfALog(Told):
     def test_lots(self):
         (lots,) = tables(self.made, "Where the lots went")
         self.assertEqual(lots[2], ["c2600", "14", "everest 3, harbour 2, meridian 4, niche 5", "0", "0"])
+        self.assert_told("All lots are sold.", self.told)
 
     def test_a_log_in_progress(self):
         told = flat(text_of(AWARD, b"".join(LOG.splitlines(True)[:15])))
         self.assert_told("The auction is in round 2.", told)
         self.assert_told("The auction isn't over: the clock runs. So there are no winners and no prices yet.", told)
         self.assert_told("2 220,000 4 of 4 so far 0", told)
+        self.assert_told("WHERE THE AUCTION IS ==================== Round 2 is open.", told)
+        self.assert_told("a800 220,000 4 of 4 0", told)
+
+    def test_an_open_sealed_round(self):
+        told = flat(text_of(AWARD, b"".join(LOG.splitlines(True)[:50])))
+        self.assert_told("Lists are taken. A close now ends the auction.", told)
 
     def test_a_log_that_a_limit_stops(self):
         award = AWARD.replace(b"reserve = 250000", b"reserve = 68719476736")
@@ -317,7 +402,7 @@ class OfALog(Told):
     def test_without_bids(self):
         told = flat(text_of(AWARD, log_of("close,,,", "close,,,")))
         self.assert_told("The clock ended with round 1", told)
-        self.assert_told("The log has 2 lines, and 0 of them were refused.", told)
+        self.assert_told("The log has 2 lines, and none of them were refused.", told)
 
     def test_without_bidders(self):
         award = AWARD[: AWARD.index(b"[[bidder]]")] + AWARD[AWARD.index(b"[[step]]") :]
@@ -355,7 +440,9 @@ class OfABidder(Told):
             auction = facts_of(AWARD, log).auction
             for j, name in enumerate(BIDDERS, 1):
                 with self.subTest(count=count, name=name):
-                    self.assertEqual(self.view(AWARD, log, name=name), self.view(AWARD, view_text(auction, j).encode(), name=name))
+                    self.assertEqual(
+                        self.view(AWARD, log, name=name), self.view(AWARD, view_text(auction, j).encode(), name=name)
+                    )
 
     def test_a_refused_close_is_in_no_view(self):
         self.assertEqual(self.view(AWARD, LOG), self.view(AWARD, LOG + b"close,,,\n"))
@@ -371,11 +458,13 @@ class OfABidder(Told):
 
     def test_a_view_takes_no_certificate(self):
         auction = facts_of(AWARD, LOG).auction
-        with self.assertRaisesRegex(Stop, "A bidder's own view has no certificate"):
+        with self.assertRaisesRegex(Stop, "a bidder's own view has no certificate"):
             facts_of(AWARD, view_text(auction, 1).encode(), spectrum()[1], bidder="everest")
 
     def test_nothing_depends_on_terms_of_others(self):
-        award = AWARD.replace(b"eligibility = 60", b"eligibility = 61").replace(b"holding = [2, 0, 0, 0]", b"holding = [1, 0, 0, 0]")
+        award = AWARD.replace(b"eligibility = 60", b"eligibility = 61").replace(
+            b"holding = [2, 0, 0, 0]", b"holding = [1, 0, 0, 0]"
+        )
         begun = b"".join(LOG.splitlines(True)[:8])
         self.assertEqual(self.view(AWARD, begun), self.view(award, begun))
 
@@ -383,14 +472,18 @@ class OfABidder(Told):
         made = page(facts_of(AWARD, LOG), "tarn")
         self.assert_told("You sent 13 lines; 2 of them were refused.", flat(plain.text(made)))
         told = replies(made)
-        self.assertEqual([(line, reply.code) for line, reply in told.items() if reply.tone == "bad"], [(1, "points 96"), (15, "no-draft")])
+        self.assertEqual(
+            [(line, reply.code) for line, reply in told.items() if reply.tone == "bad"],
+            [(1, "points 96"), (15, "no-draft")],
+        )
         self.assertEqual(len(told), 13 + 5)
 
     def test_winners_behind_the_award(self):
         told = self.view(AWARD, LOG, spectrum()[1])
         self.assert_told("You win 2 x a800 with your bid of 500,000, and pay 460,200, 92.0 % of it.", flat(told))
         self.assert_told(
-            "Your Vickrey price, what the others would offer more if you hadn't bid, is 460,000. You pay 200 more.", flat(told)
+            "Your Vickrey price, what the others would offer more if you hadn't bid, is 460,000. You pay 200 more.",
+            flat(told),
         )
         for name, pays in zip(BIDDERS, ("292,400", "310,400", "292,500", "81,200", "460,200")):
             self.assertRegex(told, rf"{name} .* {pays}\n")
@@ -417,7 +510,11 @@ class Form(HTMLParser):
         named = dict(attributes)
         self.tags[tag] = self.tags.get(tag, 0) + 1
         self.ids += [named["id"]] if "id" in named else []
-        self.links += [value for name, value in attributes if value and re.match(r"(https?:)?//", value) and not name.startswith("xmlns")]
+        self.links += [
+            value
+            for name, value in attributes
+            if value and re.match(r"(https?:)?//", value) and not name.startswith("xmlns")
+        ]
         if tag == "figure":
             self.figures.append(named.get("aria-describedby"))
         if tag not in ("meta", "br"):
@@ -435,7 +532,6 @@ class Form(HTMLParser):
         self.texts.append(text)
 
 
-@unittest.skipUnless(HAS_LIBRARIES, NEEDED)
 class OfAPage(Told):
     @classmethod
     def setUpClass(cls):
@@ -453,12 +549,33 @@ class OfAPage(Told):
         self.assertEqual(len(self.form.ids), len(set(self.form.ids)))
 
     def test_each_picture_has_a_title_words_and_a_table(self):
-        self.assertEqual(len(self.form.figures), 4 + 5 + 1)
+        self.assertEqual(len(self.form.figures), 1 + 1 + 4 + 1)
         for name in self.form.figures:
             self.assertIn(name, self.form.ids)
         self.assertEqual(self.form.tags["svg"], len(self.form.figures))
         self.assertEqual(self.form.tags["desc"], len(self.form.figures))
-        self.assertEqual(self.form.tags["title"], len(self.form.figures) + 1)
+
+    def test_each_mark_says_its_number(self):
+        for words_ in (
+            "tarn wins 2 of 4 lots of a800",
+            "tarn pays 460,200, 92.0 % of its bid",
+            "what tarn wins cost 485,200 at the final prices of the clock",
+            "round 1: 7 asked for, of 4, 3 too many",
+            "round 4: 242,600, 121.3 % of the reserve",
+            "harbour, rounds 1 to 2: eligible for 68 points",
+        ):
+            self.assert_told(f"<title>{words_}</title>", self.text)
+
+    def test_a_printed_page_has_the_sums_of_the_files(self):
+        self.assertIn(f'content: "award {hashlib.sha256(AWARD).hexdigest()[:12]}, log ', self.text)
+        self.assertIn('counter(page) " of " counter(pages)', self.text)
+
+    def test_no_library_is_loaded(self):
+        script = "import sys; import cca_tools.page.html, cca_tools.commands.report; print(*sys.modules)"
+        how = {**os.environ, "PYTHONPATH": TOOLS}
+        loaded = subprocess.run([sys.executable, "-c", script], capture_output=True, text=True, env=how).stdout.split()
+        self.assertIn("cca_tools.page.charts", loaded)
+        self.assertEqual({"matplotlib", "numpy", "jinja2"} & set(loaded), set())
 
     def test_pictures_have_letters(self):
         self.assertRegex(self.text, r"<text[^>]*>\s*242,600\s*</text>")
@@ -471,6 +588,7 @@ class OfAPage(Told):
         for sentence in (
             "tarn pays 460,200: its Vickrey price of 460,000, and 200 more",
             "303,800 + 231,000 = 534,800",
+            "Three of five winners pay their Vickrey price",
             "below-clock 315700",
         ):
             self.assert_told(sentence, told)
@@ -493,25 +611,35 @@ class OfAPage(Told):
 class OfTheTool(Told):
     def run_tool(self, *words, program="/nowhere", standard=None):
         how = {**os.environ, "CCA_PROGRAM": program}
-        done = subprocess.run([sys.executable, os.path.join(TOOLS, "report"), *words], stdin=standard, capture_output=True, text=True, env=how)
+        done = subprocess.run(
+            [sys.executable, os.path.join(TOOLS, "report"), *words],
+            stdin=standard,
+            capture_output=True,
+            text=True,
+            env=how,
+        )
+        self.said = done.stderr
         return done.stdout, done.returncode
 
     def path(self, name):
         return os.path.join(EXAMPLES, name)
 
     def test_statuses(self):
-        award, log, book, cert = map(self.path, ("spectrum.award", "spectrum.log", "day-cramton.book", "day-cramton.cert"))
+        award, log, book, cert = map(
+            self.path, ("spectrum.award", "spectrum.log", "day-cramton.book", "day-cramton.cert")
+        )
         for given, line, status in (
-            ((), "cca: words", 2),
-            ((award,), "cca: words", 2),
-            (("--text", award, log, cert, book), "cca: words", 2),
-            (("--text", "--text", book), "cca: words", 2),
-            (("--text", log, award), "cca: refused award 0 0", 3),
-            (("--text", book, book + "x"), "cca: read fault cert", 4),
-            (("--text", book, award), "cca: refused cert 0", 3),
+            ((), "`tools/report --help` says what it takes.", 2),
+            ((award,), "`tools/report --help` says what it takes.", 2),
+            (("--text", award, log, cert, book), "`tools/report --help` says what it takes.", 2),
+            (("--text", log, award), "tools/report: cca: refused award 0 0", 3),
+            (("--text", book, book + "x"), "tools/report: cca: read fault cert", 4),
+            (("--text", book, award), "tools/report: cca: refused cert 0", 3),
         ):
             with self.subTest(words=given):
-                self.assertEqual(self.run_tool(*given), (line + "\n", status))
+                self.assertEqual(self.run_tool(*given), ("", status))
+                told = self.said.splitlines()
+                self.assertEqual(told[-1] if status == 2 else told[0], line)
 
     def test_done(self):
         told, status = self.run_tool("--text", self.path("day-cramton.book"), self.path("day-cramton.cert"))
@@ -548,8 +676,11 @@ class OfTheTool(Told):
             self.assert_told("b1 pays 17", told)
 
     def test_a_stranger_sees_nothing(self):
-        told, status = self.run_tool("--text", "--bidder", "stranger", self.path("spectrum.award"), self.path("spectrum.log"))
-        self.assertEqual((told, status), ("The award has no bidder stranger.\n", 2))
+        told, status = self.run_tool(
+            "--text", "--bidder", "stranger", self.path("spectrum.award"), self.path("spectrum.log")
+        )
+        self.assertEqual((told, status), ("", 2))
+        self.assertIn("the award has no bidder `stranger`; its bidders are everest, ", self.said)
 
 
 if __name__ == "__main__":

@@ -1,12 +1,12 @@
 """tools/why: the prices of the samples as docs/GUIDE.md explains them, and prices whose multipliers have both signs."""
 import unittest
 from fractions import Fraction
-from samples import book_of, certificate_of, lines, said, sample, six_bidders, spectrum, tool
-from rules.book import read_book
-from rules.certificate import read_certificate
-from rules.why import LEGEND, Reasons, offer_of, vickrey_offer, why_lines
+from samples import book_of, certificate_of, lines, said, sample, six_bidders, spectrum, taking
+from cca_tools.rules.book import read_book
+from cca_tools.rules.certificate import read_certificate
+from cca_tools.rules.why import LEGEND, Reasons, offer_of, vickrey_offer, why_lines
 
-why = tool("why").why
+why = taking("why")
 LOCALS = [[((1, 0, 0), 10)], [((0, 1, 0), 10)], [((0, 0, 1), 10)]]
 
 
@@ -24,11 +24,22 @@ class Spectrum(unittest.TestCase):
         self.assertEqual(self.cert, sample("spectrum.cert"))
 
     def test_sentences(self):
-        self.assertEqual(self.reasons.sentence(2), "harbour pays 310400: its Vickrey price, which is what its winning costs the others, and no "
-                                                   "coalition makes it pay more.")
-        for j, start in (4, "niche pays 81200: its Vickrey price of 81000"), (5, "tarn pays 460200: its Vickrey price of 460000"):
-            self.assertEqual(self.reasons.sentence(j), start + ", and 200 more, since everest, meridian and the seller with its reserve offer 541400 "
-                                                       "for what niche and tarn win, and that is 400 more than their Vickrey prices.")
+        self.assertEqual(
+            self.reasons.sentence(2),
+            (
+                "harbour pays 310400: its Vickrey price, which is what its winning costs the others, and no "
+                "coalition makes it pay more."
+            ),
+        )
+        for j, start in (4, "niche pays 81200: its Vickrey price of 81000"), (
+            5,
+            "tarn pays 460200: its Vickrey price of 460000",
+        ):
+            self.assertEqual(
+                self.reasons.sentence(j),
+                start + ", and 200 more, since everest, meridian and the seller with its reserve offer 541400 "
+                "for what niche and tarn win, and that is 400 more than their Vickrey prices.",
+            )
 
     def test_vickrey_of_tarn(self):
         offer = vickrey_offer(self.reasons.certificate, 5)
@@ -37,12 +48,19 @@ class Spectrum(unittest.TestCase):
 
     def test_vickrey_of_niche(self):
         offer = vickrey_offer(self.reasons.certificate, 4)
-        self.assertEqual(([(change.j, change.more) for change in offer.changes], offer.kept, offer.gross), ([(5, 36000)], 45000, 81000))
+        self.assertEqual(
+            ([(change.j, change.more) for change in offer.changes], offer.kept, offer.gross),
+            ([(5, 36000)], 45000, 81000),
+        )
 
     def test_coalition(self):
         (offer,) = self.reasons.coalitions
-        self.assertEqual(([(change.j, change.more) for change in offer.changes], offer.kept), ([(1, 240000), (3, 256400)], 45000))
-        self.assertEqual((offer.members, offer.same, offer.gross, self.reasons.excess(offer)), ([4, 5], [2], 541400, 400))
+        self.assertEqual(
+            ([(change.j, change.more) for change in offer.changes], offer.kept), ([(1, 240000), (3, 256400)], 45000)
+        )
+        self.assertEqual(
+            (offer.members, offer.same, offer.gross, self.reasons.excess(offer)), ([4, 5], [2], 541400, 400)
+        )
 
     def test_gross_is_net_with_the_reserves(self):
         certificate = self.reasons.certificate
@@ -58,9 +76,10 @@ class Spectrum(unittest.TestCase):
         self.assertEqual(said(why, self.book, self.cert)[1], 0)
 
 
-RESERVED = """\
-a pays 22+1/2: its Vickrey price of 15, and 7+1/2 more, since c offers 40 for what a and b win, and that is 15 more than their Vickrey prices.
-b pays 17+1/2: its Vickrey price of 10, and 7+1/2 more, since c offers 40 for what a and b win, and that is 15 more than their Vickrey prices.
+MORE = "c offers 40 for what a and b win, and that is 15 more than their Vickrey prices"
+RESERVED = f"""\
+a pays 22+1/2: its Vickrey price of 15, and 7+1/2 more, since {MORE}.
+b pays 17+1/2: its Vickrey price of 10, and 7+1/2 more, since {MORE}.
 
 a wins `1` with a bid of 30 (20 net of reserve), and pays 22+1/2 (12+1/2 net of reserve).
   Without a:
@@ -88,21 +107,47 @@ Coalition 1: c, for what a and b win.
 class SixBidders(unittest.TestCase):
     def test_sentences(self):
         reasons = reasons_of(sample("six-bidders.book"), six_bidders())
-        asked = ("p6 and the seller with its reserve offer 1345500 for what p1, p3 and p4 win, and that is 140000 more than their Vickrey prices")
-        self.assertEqual(reasons.sentence(1), f"p1 pays 540000: its Vickrey price of 470000, and 70000 more, since {asked}.")
-        self.assertEqual(reasons.sentence(4), f"p4 pays 105000: its Vickrey price. It pays no more although {asked}: the sum of all payments is least "
-                                              "where others bear that.")
+        asked = (
+            "p6 and the seller with its reserve offer 1345500 for what p1, p3 and p4 win, and that is 140000 more than"
+            " their Vickrey prices"
+        )
+        self.assertEqual(
+            reasons.sentence(1), f"p1 pays 540000: its Vickrey price of 470000, and 70000 more, since {asked}."
+        )
+        self.assertEqual(
+            reasons.sentence(4),
+            (
+                f"p4 pays 105000: its Vickrey price. It pays no more although {asked}: the sum of all payments is least"
+                " where others bear that."
+            ),
+        )
         for number, names in (1, "p1, p3 and p4"), (2, "p1, p3 and p5"):
-            self.assertEqual(list(reasons.coalition_lines(number))[0], f"Coalition {number}: p6 and the seller with its reserve, for what {names} win.")
+            self.assertEqual(
+                list(reasons.coalition_lines(number))[0],
+                f"Coalition {number}: p6 and the seller with its reserve, for what {names} win.",
+            )
 
 
 class Small(unittest.TestCase):
     def test_whole_text_with_reserves(self):
-        book = lines("book 1 / supply 3 / reserve 10 / bidder a / bid 1 30 / bidder b / bid 1 25 / bidder c / bid 3 50 / end")
+        book = lines(
+            "book 1 / supply 3 / reserve 10 / bidder a / bid 1 30 / bidder b / bid 1 25 / bidder c / bid 3 50 / end"
+        )
         bids = [[((1,), 30)], [((1,), 25)], [((3,), 50)]]
-        cert = certificate_of((3,), bids, (1, 1, 0), {1: (0, 0, 1), 2: (1, 0, 0)}, 2, (25, 15, 0), [((1, 2), 2, 15, (0, 0, 1))], reserves=(10,))
+        cert = certificate_of(
+            (3,),
+            bids,
+            (1, 1, 0),
+            {1: (0, 0, 1), 2: (1, 0, 0)},
+            2,
+            (25, 15, 0),
+            [((1, 2), 2, 15, (0, 0, 1))],
+            reserves=(10,),
+        )
         text = list(why_lines(read_certificate(cert, read_book(book))))
-        self.assertEqual([line for line in text if line != LEGEND], RESERVED.replace("prices.\n\n", "prices.\n\n\n", 1).split("\n"))
+        self.assertEqual(
+            [line for line in text if line != LEGEND], RESERVED.replace("prices.\n\n", "prices.\n\n\n", 1).split("\n")
+        )
 
     def test_all_that_it_bid(self):
         cert = certificate_of((1,), [[((1,), 9)]] * 2, (1, 0), {1: (0, 1)}, 1, (9, 0), [((1,), 1, 0, (0, 1))])
@@ -112,41 +157,81 @@ class Small(unittest.TestCase):
     def test_rows_that_take(self):
         bids = [*LOCALS, [((1, 1, 0), 8)], [((0, 1, 1), 8)]]
         without = {1: (0, 1, 1, 0, 0), 2: (1, 0, 1, 0, 0), 3: (1, 1, 0, 0, 0)}
-        rows = [((1, 2), 1, -4, (0, 0, 1, 1, 0)), ((2, 3), 0, 12, (1, 0, 0, 0, 1)), ((1,), 0, 4, without[1]), ((3,), 1, -12, without[3])]
+        rows = [
+            ((1, 2), 1, -4, (0, 0, 1, 1, 0)),
+            ((2, 3), 0, 12, (1, 0, 0, 0, 1)),
+            ((1,), 0, 4, without[1]),
+            ((3,), 1, -12, without[3]),
+        ]
         cert = certificate_of((1, 1, 1), bids, (1, 1, 1, 0, 0), without, 1, (0, 8, 0, 0, 0), rows)
         book = book_of((1, 1, 1), bids)
         self.assertEqual(said(why, book, cert)[1], 0)
         reasons = reasons_of(book, cert)
-        self.assertEqual(reasons.sharing(1), "They pay just that and no more, so it takes from what others ask of them: b1 pays 4 less and b2 pays 4 "
-                                             "less, which is the same for each.")
-        self.assertEqual(reasons.sharing(2), "Because of it b2 pays 12 more and b3 pays 12 more, which is the same for each. What others ask of them "
-                                             "changes that.")
-        self.assertEqual([reasons.share_text(1, share).split(",")[0] for share in reasons.shares(1)], ["4 less", "4 more"])
-        self.assertEqual([reasons.share_text(2, share).split(",")[0] for share in reasons.shares(2)], ["4 less", "12 more because of coalition 2 (below)."])
+        self.assertEqual(
+            reasons.sharing(1),
+            (
+                "They pay just that and no more, so it takes from what others ask of them: b1 pays 4 less and b2 pays 4"
+                " less, which is the same for each."
+            ),
+        )
+        self.assertEqual(
+            reasons.sharing(2),
+            (
+                "Because of it b2 pays 12 more and b3 pays 12 more, which is the same for each. What others ask of them"
+                " changes that."
+            ),
+        )
+        self.assertEqual(
+            [reasons.share_text(1, share).split(",")[0] for share in reasons.shares(1)], ["4 less", "4 more"]
+        )
+        self.assertEqual(
+            [reasons.share_text(2, share).split(",")[0] for share in reasons.shares(2)],
+            ["4 less", "12 more because of coalition 2 (below)."],
+        )
 
     def test_negative_multipliers(self):
         bids = [*LOCALS, [((1, 1, 0), 8)], [((0, 1, 1), 8)]]
         without = {1: (0, 1, 1, 0, 0), 2: (1, 0, 1, 0, 0), 3: (1, 1, 0, 0, 0)}
         rows = [((1, 2), 1, 0, (0, 0, 1, 1, 0)), ((2, 3), 0, 8, (1, 0, 0, 0, 1)), ((3,), 1, -8, without[3])]
-        reasons = reasons_of(book_of((1, 1, 1), bids), certificate_of((1, 1, 1), bids, (1, 1, 1, 0, 0), without, 1, (0, 8, 0, 0, 0), rows))
+        reasons = reasons_of(
+            book_of((1, 1, 1), bids),
+            certificate_of((1, 1, 1), bids, (1, 1, 1, 0, 0), without, 1, (0, 8, 0, 0, 0), rows),
+        )
         self.assertEqual([(share.amount, share.coalition) for share in reasons.shares(3)], [(8, 2), (-8, 0)])
-        self.assertTrue(reasons.sentence(3).startswith("b3 pays 0: its Vickrey price. It pays no more although b5 offers 8 for what b2 and b3 win"))
+        self.assertTrue(
+            reasons.sentence(3).startswith(
+                "b3 pays 0: its Vickrey price. It pays no more although b5 offers 8 for what b2 and b3 win"
+            )
+        )
         self.assertEqual(reasons.sharing(1), "They pay just that, since other coalitions ask it of them already.")
-        self.assertTrue(reasons.sentence(2).startswith("b2 pays 8: its Vickrey price of 0, and 8 more, since b5 offers 8"))
+        self.assertTrue(
+            reasons.sentence(2).startswith("b2 pays 8: its Vickrey price of 0, and 8 more, since b5 offers 8")
+        )
 
     def test_shares_come_to_what_is_paid_above(self):
         bids = [*LOCALS, [((1, 1, 1), 11)]]
         without = {1: (0, 1, 1, 0), 2: (1, 0, 1, 0), 3: (1, 1, 0, 0)}
-        cert = certificate_of((1, 1, 1), bids, (1, 1, 1, 0), without, 3, (11, 11, 11, 0), [((1, 2, 3), 3, 11, (0, 0, 0, 1))])
+        cert = certificate_of(
+            (1, 1, 1), bids, (1, 1, 1, 0), without, 3, (11, 11, 11, 0), [((1, 2, 3), 3, 11, (0, 0, 0, 1))]
+        )
         reasons = reasons_of(book_of((1, 1, 1), bids), cert)
         for j in 1, 2, 3:
-            self.assertEqual((reasons.pays(j), sum(share.amount for share in reasons.shares(j))), (Fraction(11, 3), Fraction(11, 3)))
+            self.assertEqual(
+                (reasons.pays(j), sum(share.amount for share in reasons.shares(j))), (Fraction(11, 3), Fraction(11, 3))
+            )
 
     def test_weights(self):
-        cert = sample("day-cramton.cert").replace(b"den 1", b"den 2").replace(b"pay 17 15", b"pay 31 33").replace(b"mult 1 3", b"mult 2 3")
+        cert = (
+            sample("day-cramton.cert")
+            .replace(b"den 1", b"den 2")
+            .replace(b"pay 17 15", b"pay 31 33")
+            .replace(b"mult 1 3", b"mult 2 3")
+        )
         reasons = reasons_of(sample("day-cramton.book"), cert, [1, 3, 1, 1, 1])
         self.assertEqual([reasons.shares(j)[0].amount for j in (1, 2)], [Fraction(3, 2), Fraction(9, 2)])
-        self.assertEqual(reasons.sharing(1), "Because of it b1 pays 1+1/2 more and b2 pays 4+1/2 more, by their weights of 1 and 3.")
+        self.assertEqual(
+            reasons.sharing(1), "Because of it b1 pays 1+1/2 more and b2 pays 4+1/2 more, by their weights of 1 and 3."
+        )
 
     def test_nobody(self):
         cert = lines("cert 1 / den 1 / value 0 / choice / table / t 0 0 / pay / rows 0 / lowered / t 0 0 / end")
@@ -156,7 +241,10 @@ class Small(unittest.TestCase):
     def test_a_certificate_that_fails(self):
         wrong = sample("day-cramton.cert").replace(b"pay 17 15", b"pay 16 16")
         self.assertEqual(said(why, sample("day-cramton.book"), wrong), ("no C8 2", 1))
-        self.assertEqual(said(why, sample("spectrum.award"), sample("spectrum.log")[:200], wrong)[0].split()[:3], ["cca:", "refused", "log"])
+        self.assertEqual(
+            said(why, sample("spectrum.award"), sample("spectrum.log")[:200], wrong)[0].split()[:3],
+            ["cca:", "refused", "log"],
+        )
 
 
 if __name__ == "__main__":

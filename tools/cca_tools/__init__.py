@@ -1,0 +1,44 @@
+"""The second program of `cca`: auctions, books and certificates in Python, written from the pages of `docs/` alone.
+
+What a caller needs is here: the readers, the auction, the tests of a certificate, and the stop that each of them may
+raise.
+"""
+
+from cca_tools.data.bids import Sold, read_bids
+from cca_tools.data.prices import Price, Prices, price
+from cca_tools.rules.auction import Auction, Reply, replay
+from cca_tools.rules.award import Award, read_award
+from cca_tools.rules.book import Book, book_text, read_book
+from cca_tools.rules.certificate import Certificate, read_certificate
+from cca_tools.rules.certificate_tests import first_fault
+from cca_tools.rules.log import Line, read_log
+from cca_tools.rules.stops import Stop, load
+from cca_tools.rules.weights import read_weights
+from cca_tools.version import version
+
+__version__ = version()
+
+__all__ = [
+    "Auction",
+    "Award",
+    "Book",
+    "Certificate",
+    "Line",
+    "Price",
+    "Prices",
+    "Reply",
+    "Sold",
+    "Stop",
+    "__version__",
+    "book_text",
+    "first_fault",
+    "load",
+    "price",
+    "read_award",
+    "read_bids",
+    "read_book",
+    "read_certificate",
+    "read_log",
+    "read_weights",
+    "replay",
+]

@@ -1,0 +1,38 @@
+"""`python3 -m cca_tools COMMAND ..`: the commands of the scripts in `tools/`."""
+
+from __future__ import annotations
+
+import difflib
+import importlib
+import pathlib
+import sys
+from collections.abc import Sequence
+
+from cca_tools.command_line import HELP, VERSION
+from cca_tools.rules.stops import DONE, WORDS
+from cca_tools.version import version_line
+
+FOLDER = pathlib.Path(__file__).parent / "commands"
+COMMANDS = sorted(path.stem.replace("_", "-") for path in FOLDER.glob("[a-z]*.py"))
+USAGE = (
+    f"usage: python3 -m cca_tools COMMAND ..\n\nA COMMAND is one of {', '.join(COMMANDS)}; COMMAND --help says more."
+)
+
+
+def main(argv: Sequence[str]) -> int:
+    """Runs the command that the first word names with the words after it, and gives its status."""
+    if list(argv) in (*HELP, VERSION):
+        print(version_line("cca_tools") if list(argv) == VERSION else USAGE)
+        return DONE
+    if not argv or argv[0] not in COMMANDS:
+        near = difflib.get_close_matches(argv[0], COMMANDS, 1) if argv else []
+        meant = f"\n`{argv[0]}` is no command; did you mean {near[0]}?" if near else ""
+        print(f"{USAGE}{meant}", file=sys.stderr)
+        return WORDS
+    command = importlib.import_module(f"cca_tools.commands.{argv[0].replace('-', '_')}")
+    status: int = command.main(argv[1:])
+    return status
+
+
+if __name__ == "__main__":
+    sys.exit(main(sys.argv[1:]))

@@ -1,0 +1,211 @@
+"""What each command of the package does around its own work: its words, its help, what it prints and its status.
+
+An answer, also "no" (status 1), goes to standard output. A fault goes to standard error with what it means and what to
+do next; where the output of a command has to agree with that of `cca`, the line of the fault goes to standard output,
+as `cca` has it.
+"""
+
+from __future__ import annotations
+
+import argparse
+import difflib
+import os
+import sys
+import traceback
+from collections.abc import Callable, Iterator, Sequence
+from typing import IO, NoReturn, TypeAlias
+
+from cca_tools.rules.printable import printable
+from cca_tools.rules.stops import CRASH, DONE, MEMORY, NO, NO_TEXT, WORDS, WRITE_FAULT, Stop
+from cca_tools.rules.telling import meaning, told
+from cca_tools.terminal import Colour, broken, painted, progress, screen
+from cca_tools.version import version_line
+
+Run: TypeAlias = Callable[[argparse.Namespace], str]
+ColourOf: TypeAlias = Callable[[str], Colour | None]
+HELP = (["-h"], ["--help"])
+VERSION = ["--version"]
+
+
+class Alone(argparse.Action):
+    """An option that is answered before words are read, and so is wrong among others."""
+
+    def __call__(
+        self,
+        parser: argparse.ArgumentParser,
+        namespace: argparse.Namespace,
+        values: object,
+        option_string: str | None = None,
+    ) -> None:
+        parser.error(f"{option_string} has to be the only word")
+
+
+class Parser(argparse.ArgumentParser):
+    """The words of a command: a fault of them is a `Stop` that names the wrong word, and an option is written in full.
+
+    `-h` and `--help` are taken as the only word alone, so that a status of 0 never comes from a word among others.
+    """
+
+    def __init__(
+        self, name: str, about: str, *usage: str, agrees: bool = False, colour_of: ColourOf = lambda line: None
+    ) -> None:
+        """`name` is that of the script in `tools/`, `about` the docstring of the command's module.
+
+        `usage` has the forms of the words where there are several, without the name; `agrees` is whether what it prints
+        has to agree with `cca`; `colour_of` gives the colour of a line that is printed on a terminal.
+        """
+        super().__init__(
+            prog=f"tools/{name}",
+            usage="\n       ".join(f"%(prog)s {form}" for form in usage) or None,
+            description=about.strip(),
+            formatter_class=argparse.RawDescriptionHelpFormatter,
+            add_help=False,
+            allow_abbrev=False,
+        )
+        self.agrees, self.colour_of = agrees, colour_of
+        self.files: list[str] = []
+        self.add_argument("-h", "--help", action=Alone, nargs=0, help="print this, where it is the only word")
+        self.add_argument("--version", action=Alone, nargs=0, help="print the version, where it is the only word")
+
+    def add_file(self, name: str, about: str, nargs: str = "") -> None:
+        """A word that names a file, or several. The names of all files of a command differ."""
+        dest = name.lower().replace("-", "_")
+        self.files.append(dest)
+        if nargs == "*":
+            self.add_argument(dest, metavar=name, help=about, nargs=nargs, default=[])
+        elif nargs:
+            self.add_argument(dest, metavar=name, help=about, nargs=nargs)
+        else:
+            self.add_argument(dest, metavar=name, help=about)
+
+    def words_of(self, argv: Sequence[str]) -> argparse.Namespace:
+        """The words, tested."""
+        self.need_options(argv)
+        options = self.parse_args(argv)
+        names = list(self.names_of_files(options))
+        if "" in names:
+            self.error("the name of a file is empty")
+        for place, name in enumerate(names):
+            if name in names[:place]:
+                self.error(f"two of the files have the same name, {name}")
+        return options
+
+    def need_options(self, argv: Sequence[str]) -> None:
+        """Stops at the first word that looks like an option and is none."""
+        known = [name for action in self._actions for name in action.option_strings]
+        for word in argv:
+            if word.startswith("-") and word != "-" and word.partition("=")[0] not in known:
+                near = difflib.get_close_matches(word, known, 1)
+                self.error(f"there is no option {word}" + (f"; did you mean {near[0]}?" if near else ""))
+
+    def names_of_files(self, options: argparse.Namespace) -> Iterator[str]:
+        """The names of files among the words."""
+        for dest in self.files:
+            value = getattr(options, dest)
+            yield from value if isinstance(value, list) else [] if value is None else [value]
+
+    def error(self, message: str) -> NoReturn:
+        raise Stop("cca: words", WORDS, why=message, usage=self.format_usage())
+
+
+def run_command(parser: Parser, run: Run, argv: Sequence[str]) -> int:
+    """Runs a command with these words: prints what `run` gives for them, or the line of its stop. Gives the status."""
+    if not all(map(is_text, argv)):
+        return NO_TEXT
+    complete(parser)
+    try:
+        with progress.of(parser.prog):
+            text = text_of(parser, run, argv)
+        return DONE if printed(parser, text) else WRITE_FAULT
+    except Stop as stop:
+        return stopped(parser, stop)
+    except MemoryError:
+        return stopped(parser, Stop("cca: memory", MEMORY, why="there isn't enough memory"))
+    except Exception:
+        return crashed(parser)
+
+
+def text_of(parser: Parser, run: Run, argv: Sequence[str]) -> str:
+    """What a command prints for these words."""
+    if list(argv) in HELP:
+        return parser.format_help().rstrip()
+    return version_line(parser.prog) if list(argv) == VERSION else run(parser.words_of(argv))
+
+
+def complete(parser: Parser) -> None:
+    """Completes words for a shell that asks for it, where python3-argcomplete is there."""
+    if "_ARGCOMPLETE" in os.environ:
+        try:
+            import argcomplete
+        except ImportError:
+            return
+        argcomplete.autocomplete(parser)
+
+
+def stopped(parser: Parser, stop: Stop) -> int:
+    """Prints a stop, and gives its status."""
+    if stop.status == NO:
+        text = stop.line if parser.agrees else told(stop)
+        return NO if printed(parser, text) else WRITE_FAULT
+    if parser.agrees and not printed(parser, stop.line):
+        return WRITE_FAULT
+    if stop.status != WORDS and not parser.agrees:
+        say(f"{parser.prog}: {stop.line}", "red")
+    for line in fault_lines(parser, stop):
+        say(line)
+    return stop.status
+
+
+def fault_lines(parser: Parser, stop: Stop) -> Iterator[str]:
+    """What is said of a fault: usage and the wrong word, or what its line means, and what to do next."""
+    if stop.status == WORDS:
+        if stop.usage:
+            yield stop.usage.rstrip()
+        yield f"{parser.prog}: {stop.why}{'' if stop.why.endswith('?') else '.'}"
+        yield f"`{parser.prog} --help` says what it takes."
+        return
+    yield from meaning(stop)
+
+
+def crashed(parser: Parser) -> int:
+    """Says that the command failed where it shouldn't, which is no answer about its files, and gives the status of
+    that."""
+    traceback.print_exc()
+    say(f"{parser.prog}: this is a fault of the tool, and no answer. Please report it with the lines above.")
+    return CRASH
+
+
+def printed(parser: Parser, text: str) -> bool:
+    """Whether the text and a line feed could be written to standard output."""
+    return written(sys.stdout, "\n".join(dressed(text, sys.stdout, parser.colour_of)))
+
+
+def say(text: str, colour: Colour | None = None) -> None:
+    """Writes a line on standard error, as far as that takes it."""
+    written(sys.stderr, "\n".join(dressed(text, sys.stderr, lambda line: colour)))
+
+
+def dressed(text: str, stream: IO[str], colour_of: ColourOf) -> Iterator[str]:
+    """The lines of a text without control characters; on a screen they are broken at its width, and have their
+    colours."""
+    columns = screen(stream)
+    for line in map(printable, text.split("\n")):
+        parts = broken(line, columns) if columns else [line]
+        colour = colour_of(line)
+        yield from (painted(part, colour, stream) if colour else part for part in parts)
+
+
+def written(stream: IO[str], text: str) -> bool:
+    """Whether the text and a line feed could be written, past the stream's own buffer."""
+    try:
+        stream.flush()
+        with open(stream.fileno(), "wb", closefd=False) as out:
+            out.write((text + "\n").encode("utf-8", "replace"))
+    except OSError:
+        return False
+    return True
+
+
+def is_text(word: str) -> bool:
+    """Whether the bytes of a word are UTF-8."""
+    return not any("\ud800" <= sign <= "\udfff" for sign in word)

@@ -1,0 +1,95 @@
+"""Makes a book of bids in a table or in JSON, and prints it. Each change that this takes is said on standard
+error: names are made small, bids sorted by their packages, of equal packages the greatest is kept, and where amounts
+have decimals all are multiplied by a power of ten.
+
+A table (CSV with `,`, `;` or tabs) has a row for each bid: the bidder, a count for each category or one cell with all
+counts, and the amount. A first row with names of columns may come before (`bidder`, `package`, `amount`); without it
+the columns are in this order:
+
+    bidder,lots800,lots2600,amount          North Tel;1 4;48,000.50
+    North Tel,1,4,"48,000.50"
+
+JSON is {"supply": [4, 14], "reserve": [10, 2], "bids": [{"bidder": "north", "package": [1, 4], "amount": 48000.5}]}.
+What is sold comes from --supply, from --award, or from the JSON. A file that is a book already is read as it is, and
+--as csv or --as json prints it in the other forms.
+
+Statuses are those of `cca`; 3 where a row states no bid, with the row. What it doesn't test: that a bid above its
+bidder's means was meant. Bidders are in the order in which they come first, and that order decides ties.
+"""
+
+from __future__ import annotations
+
+import argparse
+from collections.abc import Sequence
+from decimal import Decimal
+
+from cca_tools.command_line import Parser, run_command, say
+from cca_tools.data.bids import Made, Sold, csv_text, json_text, read_bids
+from cca_tools.data.numbers import amount_of
+from cca_tools.rules.award import read_award
+from cca_tools.rules.book import book_text, read_book
+from cca_tools.rules.stops import load
+
+TEXTS = {"book": lambda book: book_text(book).decode().rstrip("\n"), "csv": csv_text, "json": json_text}
+
+
+def parser() -> Parser:
+    """The words of the command."""
+    words = Parser("book", __doc__)
+    words.add_file("FILE", "the bids, as CSV, as JSON or as a book")
+    words.add_argument("--supply", metavar="COUNTS", help='the lots of each category, as "4 1 14 9"')
+    words.add_argument("--reserve", metavar="AMOUNTS", help="the reserve of a lot of each category; 0 where not given")
+    words.add_argument("--award", metavar="AWARD", help="an award, instead of --supply and --reserve")
+    words.add_argument("--decimal", choices=[".", ","], default=".", help="the decimal mark of amounts")
+    words.add_argument("--as", dest="form", choices=sorted(TEXTS), default="book", help="what is printed")
+    return words
+
+
+def numbers_of(text: str, option: str) -> list[Decimal]:
+    """The numbers of an option."""
+    found = [amount_of(part) for part in text.replace(",", " ").split()]
+    if not found or None in found:
+        parser().error(f"{option} takes numbers with spaces between them, and `{text}` isn't that")
+    return [number for number in found if number is not None]
+
+
+def sold_of(options: argparse.Namespace) -> Sold | None:
+    """What the words say is sold."""
+    if options.award:
+        if options.supply or options.reserve:
+            parser().error("--award says what is sold, so --supply and --reserve aren't given")
+        return Sold.of_award(read_award(load(options.award, "award")))
+    if not options.supply:
+        if options.reserve:
+            parser().error("--reserve needs --supply")
+        return None
+    supply = numbers_of(options.supply, "--supply")
+    if any(count != int(count) for count in supply):
+        parser().error(f"--supply takes whole numbers, and `{options.supply}` isn't that")
+    reserves = numbers_of(options.reserve, "--reserve") if options.reserve else [Decimal(0)] * len(supply)
+    if len(reserves) != len(supply):
+        parser().error(f"--supply has {len(supply)} numbers, and --reserve {len(reserves)}")
+    return Sold(tuple(map(int, supply)), tuple(reserves))
+
+
+def made_of(options: argparse.Namespace) -> Made:
+    """The book, with what was changed."""
+    data, sold = load(options.file, "bids"), sold_of(options)
+    if data.startswith(b"book "):
+        return Made(read_book(data), 1)
+    if sold is None and not data.lstrip(b"\xef\xbb\xbf \t\r\n").startswith(b"{"):
+        parser().error('a table doesn\'t say what is sold: give --supply, as --supply "4 1 14 9", or --award')
+    return read_bids(data, sold, options.decimal)
+
+
+def book(options: argparse.Namespace) -> str:
+    """The book, in one of the forms."""
+    made = made_of(options)
+    for change in made.changes:
+        say(f"tools/book: {change}")
+    return TEXTS[options.form](made.book)
+
+
+def main(argv: Sequence[str]) -> int:
+    """Runs the command with these words, and gives its status."""
+    return run_command(parser(), book, argv)

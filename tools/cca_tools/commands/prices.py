@@ -1,0 +1,57 @@
+"""Prints the prices of books as a table, one row for each bidder: package, reserve, bid, Vickrey price and price, each
+with the reserve of the package in it, and the last three net of it too. Amounts are exact, `41/2` where one isn't
+whole; the price also comes as a decimal with six digits. A loser has no package, and 0 everywhere. With --json it is
+one object a line.
+
+Prices come from the program: that of CCA_PROGRAM, or the one that ./cca has built. Books are priced on all processors,
+and come in the order of the words. A book beyond a limit, as one with seven winners, doesn't stop the others: its
+rows have the limit in the column `stopped`. Another fault of a book ends the run with its status, which is that of
+`cca`. `tools/book` makes books of tables; --unit is what it multiplied amounts by.
+"""
+
+from __future__ import annotations
+
+import argparse
+import os
+from collections.abc import Sequence
+from concurrent.futures import ThreadPoolExecutor
+
+from cca_tools.command_line import Parser, run_command
+from cca_tools.data.prices import cells_of_book, csv_text, json_lines, need_program
+from cca_tools.rules.book import read_book
+from cca_tools.rules.stops import load
+
+
+def parser() -> Parser:
+    """The words of the command."""
+    words = Parser("prices", __doc__)
+    words.add_file("BOOK", "a book of bids", nargs="+")
+    words.add_argument("--json", action="store_true", help="print an object of JSON for each bidder, one a line")
+    words.add_argument("--unit", metavar="N", default="1", help="divide amounts by N")
+    return words
+
+
+def unit_of(text: str) -> int:
+    """The number by which amounts are divided."""
+    if not (text.isascii() and text.isdigit() and int(text)):
+        parser().error(f"--unit takes a whole number from 1 on, and `{text}` isn't that")
+    return int(text)
+
+
+def rows_of(name: str, unit: int) -> list[list[str]]:
+    """The rows of a book."""
+    return list(cells_of_book(name, read_book(load(name, "book")), unit))
+
+
+def prices(options: argparse.Namespace) -> str:
+    """The rows of all books."""
+    unit = unit_of(options.unit)
+    need_program()
+    with ThreadPoolExecutor(os.cpu_count()) as pool:
+        rows = [row for of_one in pool.map(lambda name: rows_of(name, unit), options.book) for row in of_one]
+    return json_lines(rows) if options.json else csv_text(rows)
+
+
+def main(argv: Sequence[str]) -> int:
+    """Runs the command with these words, and gives its status."""
+    return run_command(parser(), prices, argv)

@@ -1,0 +1,125 @@
+"""Holds many auctions of bidders with drawn values by a plan, and makes a table with a row for each auction and a page
+with pictures. The plan is TOML; its files are looked up from its folder:
+
+    plan = 1
+    award = "spectrum.award"
+    values = "spectrum.values"     # or several; tools/rehearse --help has their form
+    auctions = 1000                # of each case
+    seed = 1                       # of the first auction; the next one has the next number
+    [vary]                         # each a number or a list; what isn't here is as the award has it
+    version = [1, 2]               # 2 has the final cap
+    increment = [50, 100]          # the award's steps of prices, in percent of them
+    share = [100, 90]              # what bidders name of their values in the sealed round, in percent
+    bidders = [4, 5]               # the first ones of the award
+    reserve = 100                  # the award's reserves, in percent of them
+
+Each choice of what varies is a case. An auction of the same number has the same values in all cases, so differences
+between cases are taken auction by auction. An auction can be held again alone, with the seed of its row, by
+tools/rehearse --fit. The folder of --out (the plan's name without its end) gets `table.csv`, `page.html`, its pictures
+and `rows.jsonl`. A study that was stopped goes on where it was when it is run
+again, also with more auctions.
+
+In `table.csv` money is gross and in the award's unit. `value` is what all lots are worth where they end, and `best`
+what they could be worth, both by true values, with unsold lots at their reserve; `efficiency` is the one over the
+other. `core`, `vickrey` and `bids` are what the winners pay by each rule for the same bids, `raised` is whether the
+core raised a price above Vickrey's, and a bidder's `profit` is its value less its price. Of every hundredth auction,
+the first one too, the certificate is tested by the rules of tools/audit (`audit`); one that fails stops the study. An
+auction beyond a limit of the program has that in `stopped`, and no prices.
+
+Prices come from the program, that of CCA_PROGRAM or the one that ./cca has built. All processors work, or with
+--scheduler the workers of Dask, as at tcp://127.0.0.1:8786: each needs python3-distributed and the program, at the
+same path or where its own CCA_PROGRAM says. Statuses are those of `cca`; 70 where a certificate fails or something is
+missing.
+"""
+
+from __future__ import annotations
+
+import argparse
+import os
+import sys
+import time
+from collections.abc import Sequence
+
+from cca_tools.command_line import Parser, run_command
+from cca_tools.data.prices import need_program
+from cca_tools.rules.stops import CRASH, Stop
+from cca_tools.studies.measures import results_of
+from cca_tools.page import html
+from cca_tools.studies.pages import drawings, page_of, summary
+from cca_tools.studies.plan import read_plan
+from cca_tools.studies.runners import here, on_dask
+from cca_tools.studies.store import PAGE, TABLE, Store, table_text
+from cca_tools.terminal import is_terminal
+
+STEPS = 10  # so often it is said how far a study is where standard error is no terminal
+
+
+def parser() -> Parser:
+    """The words of the command."""
+    words = Parser("study", __doc__)
+    words.add_file("PLAN", "what is tried")
+    words.add_argument("--out", metavar="FOLDER", help="where the results are written")
+    words.add_argument("--scheduler", metavar="ADDRESS", help="a scheduler of Dask, whose workers hold the auctions")
+    return words
+
+
+def time_text(seconds: float) -> str:
+    """A time in few letters."""
+    minutes, rest = divmod(round(seconds), 60)
+    return f"{minutes} min {rest} s" if minutes else f"{rest} s"
+
+
+class Count:
+    """Says on standard error how many auctions there are, and how long the rest takes."""
+
+    def __init__(self, done: int, every: int) -> None:
+        self.start, self.at_start, self.done, self.every = time.monotonic(), done, done, every
+        self.said = done * STEPS // every
+
+    def one_more(self) -> None:
+        """Counts an auction."""
+        self.done += 1
+        left = (time.monotonic() - self.start) / (self.done - self.at_start) * (self.every - self.done)
+        text = f"tools/study: {self.done:,} of {self.every:,} auctions, {time_text(left)} left"
+        if is_terminal(sys.stderr):
+            print(f"\r{text}\x1b[K", end="\n" if self.done == self.every else "", file=sys.stderr, flush=True)
+        elif self.done * STEPS // self.every > self.said:
+            self.said = self.done * STEPS // self.every
+            print(text, file=sys.stderr, flush=True)
+
+
+def fill(store: Store, scheduler: str | None) -> None:
+    """Holds the auctions of which there is no row yet."""
+    jobs = store.left()
+    if not jobs:
+        return
+    every = len(store.plan.cases) * store.plan.auctions
+    counted = Count(every - len(jobs), every)
+    for done in on_dask(store.plan, jobs, scheduler) if scheduler else here(store.plan, jobs):
+        if done.stop:
+            line, status, why = done.stop
+            raise Stop(line, status, why=f"auction {done.job.number} of case {done.job.case + 1}: {why}")
+        store.keep(done.job, done.row)
+        counted.one_more()
+
+
+def study(options: argparse.Namespace) -> str:
+    """The results in words; the table and the page are files."""
+    plan = read_plan(options.plan)
+    title = os.path.splitext(os.path.basename(options.plan))[0]
+    need_program()
+    store = Store(options.out or title, plan)
+    try:
+        fill(store, options.scheduler)
+    except KeyboardInterrupt:
+        raise Stop("cca: stopped", CRASH, why=f"{len(store.rows)} auctions are kept; run it again to go on") from None
+    results = results_of(plan, store.table())
+    written = [store.write(TABLE, table_text(store))]
+    written.append(store.write(PAGE, html.page(page_of(results, title))))
+    written += [store.write(f"{it.key}.svg", it.text(is_file=True)) for it in drawings(results)]
+    return "\n".join([*summary(results), *(f"written: {name}" for name in written)])
+
+
+def main(argv: Sequence[str]) -> int:
+    """Runs the command with these words, and gives its status."""
+    return run_command(parser(), study, argv)

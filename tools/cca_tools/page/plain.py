@@ -1,0 +1,138 @@
+"""A report as plain text, as wide as the terminal."""
+
+from __future__ import annotations
+
+import sys
+import textwrap
+from collections.abc import Iterator, Sequence
+
+from cca_tools.page.document import (
+    Block,
+    Card,
+    Cards,
+    Cell,
+    Content,
+    Figures,
+    Heading,
+    Page,
+    Picture,
+    Points,
+    Table,
+    Words,
+)
+from cca_tools.page.html import parts
+from cca_tools.terminal import width as terminal_width
+
+# How wide the text is where it goes to a file.
+WIDTH = 100
+
+
+def columns_of_text() -> int:
+    """How wide the text is."""
+    return terminal_width(sys.stdout, WIDTH)
+
+
+def cell_lines(cell: Content, width: int) -> list[str]:
+    """The lines of a cell: its words, and after them what it is in the program's form where that has room."""
+    words, code, _ = parts(cell)
+    code = f"[{code}]" if words and code else code
+    if isinstance(cell, Cell) and cell.details:
+        rows = [f"{head}: {'; '.join(filter(None, values))}" for head, *values in cell.details]
+        return [
+            line
+            for part in (words, *rows, code)
+            for line in textwrap.wrap(part, width, break_on_hyphens=False, subsequent_indent="  ")
+        ]
+    whole = f"{words}  {code}" if words and code else words or code
+    if len(whole) <= width:
+        return [whole]
+    return [line for part in (words, code) for line in textwrap.wrap(part, width, break_on_hyphens=False)]
+
+
+def length(cell: Content) -> int:
+    """How many letters a cell has on one line."""
+    words, code, _ = parts(cell)
+    return len(words) + (len(code) + 4 if words and code else len(code))
+
+
+def wrapped(text: str, before: str = "") -> list[str]:
+    """The lines of a paragraph, with a mark before the first."""
+    return textwrap.wrap(
+        text.replace("`", ""),
+        columns_of_text(),
+        initial_indent=before,
+        subsequent_indent=" " * len(before),
+        break_on_hyphens=False,
+    ) or [""]
+
+
+def widths_of(table: Table, cells: Sequence[Sequence[Content]]) -> list[int]:
+    """The width of each column: as wide as its widest cell, and the widest columns of words made narrower until all has
+    room."""
+    widths = [max([len(column.head), *(length(row[i]) for row in cells)]) for i, column in enumerate(table.columns)]
+    words = [i for i, column in enumerate(table.columns) if column.kind == "words"] or [len(widths) - 1]
+    while sum(widths) + 2 * (len(widths) - 1) > columns_of_text() and max(widths[i] for i in words) > 12:
+        widths[max(words, key=lambda i: widths[i])] -= 1
+    return widths
+
+
+def row_lines(table: Table, cells: Sequence[Content], widths: Sequence[int]) -> Iterator[str]:
+    """The lines of a row."""
+    columns = [cell_lines(cell, width) for cell, width in zip(cells, widths)]
+    for line in range(max(map(len, columns))):
+        places = (column[line] if line < len(column) else "" for column in columns)
+        yield "  ".join(
+            f"{place:>{width}}" if column.kind == "number" else f"{place:<{width}}"
+            for place, width, column in zip(places, widths, table.columns)
+        ).rstrip()
+
+
+def table_lines(table: Table) -> Iterator[str]:
+    """The lines of a table, and an empty one."""
+    widths = widths_of(table, table.rows)
+    if table.title:
+        yield table.title
+    yield from row_lines(table, [column.head for column in table.columns], widths)
+    yield "  ".join("-" * width for width in widths)
+    for row in table.rows:
+        yield from row_lines(table, row, widths)
+    if table.note:
+        yield from wrapped(table.note)
+    yield ""
+
+
+def block_lines(block: Block) -> Iterator[str]:
+    """The lines of a block, and an empty one. What the marks of pictures mean isn't shown, since there are none."""
+    if isinstance(block, Words):
+        yield from [*wrapped(block.text), ""]
+    elif isinstance(block, Points):
+        yield from [*(line for item in block.items for line in wrapped(item, before="- ")), ""]
+    elif isinstance(block, Heading):
+        yield from [block.text, "-" * len(block.text), ""]
+    elif isinstance(block, Figures):
+        width = max(len(head) for head, _ in block.pairs)
+        yield from [*(f"{head:<{width}}  {value}" for head, value in block.pairs), ""]
+    elif isinstance(block, (Table, Picture)):
+        yield from table_lines(block.table if isinstance(block, Picture) else block)
+    elif isinstance(block, Cards):
+        for card in block.cards:
+            yield from card_lines(card)
+
+
+def card_lines(card: Card) -> Iterator[str]:
+    """The lines of a card."""
+    if card.title:
+        yield f"{card.title}: {card.note}" if card.note else card.title
+    for block in card.blocks:
+        yield from block_lines(block)
+
+
+def text(page: Page) -> str:
+    """The whole report."""
+    lines = [page.title, "=" * len(page.title), *wrapped(page.under), ""]
+    for section in page.sections:
+        lines += [section.title.upper(), "=" * len(section.title), ""]
+        lines += [*wrapped(f"{section.finding}."), ""] if section.finding else []
+        for block in section.blocks:
+            lines += block_lines(block)
+    return "\n".join(lines).rstrip("\n").replace("\N{NO-BREAK SPACE}", " ")

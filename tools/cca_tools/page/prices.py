@@ -1,0 +1,216 @@
+"""Why these prices: a sentence for each winner, the turns of pricing, the coalitions that raise prices, and each
+winner's Vickrey price."""
+
+from __future__ import annotations
+
+from collections.abc import Iterable, Iterator, Mapping
+from fractions import Fraction
+
+from cca_tools.page import core, findings
+from cca_tools.page.document import (
+    Block,
+    Card,
+    Cards,
+    Cell,
+    Content,
+    Heading,
+    Key,
+    Picture,
+    Points,
+    Section,
+    Table,
+    Words,
+    columns,
+)
+from cca_tools.page.source import Source, Turn, given
+from cca_tools.page.words import listed, number, price, price_cell
+from cca_tools.rules.types import Amount, Bid, BidderNumber
+from cca_tools.rules.why import LEGEND, Offer, offer_of, vickrey_offer
+
+ASKED_FIRST = "Each winner is asked for its Vickrey price"
+ASKED_LATER = (
+    "Asked is the least sum that meets all demands so far, and of such payments the nearest to the Vickrey prices"
+)
+
+
+def names_of(source: Source, members: Iterable[BidderNumber]) -> str:
+    """What some bidders are called."""
+    return listed(source.names.bidder(j) for j in members)
+
+
+def bid_words(source: Source, bid: Bid | None) -> str:
+    """A bid in words."""
+    return f"{source.names.package(bid[0])} for {number(bid[1])}" if bid else "nothing"
+
+
+def signed(value: Amount) -> str:
+    """An amount with its sign."""
+    return f"{value:+,}" if value else "0"
+
+
+def offer_table(source: Source, offer: Offer, title: str, last: str) -> Table:
+    """What the others would bring more without some winners, bidder by bidder."""
+    heads = columns("Bidder", "Would win", "In place of", "Brings more #")
+    rows: list[list[Content]] = [
+        [source.names.bidder(it.j), bid_words(source, it.then), bid_words(source, it.now), signed(it.more)]
+        for it in offer.changes
+    ]
+    if offer.unsold != offer.unsold_then:
+        then, now = (f"keeps {source.names.package(lots)}" for lots in (offer.unsold_then, offer.unsold))
+        rows.append(["the seller", then, now, signed(offer.kept)])
+    if offer.same:
+        rows.append([names_of(source, offer.same), "the same as now", "", "0"])
+    rows.append([last, "", "", Cell(number(offer.gross), tone="strong")])
+    return Table(title, heads, rows)
+
+
+def winner_card(source: Source, j: BidderNumber) -> Card:
+    """What would win without a winner."""
+    name = source.names.bidder(j)
+    package, bid = source.won(j)
+    table = offer_table(source, vickrey_offer(given(source.certificate), j), f"Without {name}", "its Vickrey price")
+    return Card(
+        name, [table], f"wins {source.names.package(package)} with {number(bid)} and pays {price(source.pays(j))}"
+    )
+
+
+def turn_words(source: Source, turn: Turn) -> Iterator[str]:
+    """A turn of pricing in sentences."""
+    gross = {j: net + source.reserve(j) for j, net in zip(source.winners, turn.point)}
+    each = listed(f"{source.names.bidder(j)} {price(amount)}" for j, amount in gross.items())
+    yield f"{ASKED_FIRST if turn.number == 1 else ASKED_LATER}: {each}; together {price(sum(gross.values()))}."
+    yield block_words(source, turn) if turn.row else "No coalition blocks these prices, so pricing ends here."
+
+
+def block_words(source: Source, turn: Turn) -> str:
+    """Who offers more for what some winners win, and what these have to pay from then on."""
+    offer = offer_of(given(source.certificate), turn.row, turn.choice)
+    members, is_one = names_of(source, turn.row), len(turn.row) == 1
+    offers = "offers" if len(offer.names) + (offer.kept > 0) < 2 else "offer"
+    return (
+        f"{source.told(source.reasons.offering(offer))} {offers} {number(offer.gross)} for what"
+        f" {members} {'wins' if is_one else 'win'}, and that is {price(turn.excess)} more than is paid for it. So from"
+        f" the next turn on {members} {'has' if is_one else 'have'} to pay"
+        f" {number(offer.gross)}{'' if is_one else ' together'}."
+    )
+
+
+def turns(source: Source) -> list[Block]:
+    """The turns of pricing, as the program has them."""
+    if not source.turns:
+        missing = "The program isn't here to show the turns of pricing. What follows is from the certificate."
+        return [Words(missing)] if given(source.certificate).rows else []
+    cards = [Card(f"Turn {turn.number}", [Words(text) for text in turn_words(source, turn)]) for turn in source.turns]
+    return [Heading("Turn by turn"), Cards(cards, size="wide")]
+
+
+def coalition_card(source: Source, place: int, offer: Offer) -> Card:
+    """A coalition, and how what it asks for is shared."""
+    told = source.told(source.reasons.asked(offer))
+    table = offer_table(source, offer, f"What is offered for what {names_of(source, offer.members)} win", "offered")
+    vickrey = " + ".join(number(source.vickrey(j)) for j in offer.members)
+    sums = f"Their Vickrey prices come to {vickrey} = {number(sum(map(source.vickrey, offer.members)))}."
+    shared = source.told(source.reasons.sharing(place))
+    return Card(f"Coalition {place}", [Words(f"{told}."), table, Words(f"{sums} {shared}")])
+
+
+def coalitions(source: Source) -> list[Block]:
+    """The coalitions that raise prices."""
+    offers = source.reasons.coalitions
+    if not offers:
+        return [Words("No coalition asks for more than the Vickrey prices, so each winner pays its own.")]
+    cards = [coalition_card(source, place, offer) for place, offer in enumerate(offers, 1)]
+    return [Heading("The coalitions that raise prices"), Cards(cards, size="wide")]
+
+
+def core_table(source: Source, gross: Mapping[core.Group, Amount]) -> Table:
+    """What each group of winners has to pay, and pays."""
+    heads = columns("Winners", "Have to pay at least #", "Pay #", "More than that #")
+    rows: list[list[Content]] = []
+    for members, least in gross.items():
+        paid = sum((source.pays(j) for j in members), Fraction(0))
+        rows.append(
+            [
+                names_of(source, members),
+                number(least),
+                price_cell(paid),
+                price_cell(paid - least, "" if paid > least else "strong"),
+            ]
+        )
+    return Table("What each group of winners has to pay", heads, rows)
+
+
+def core_picture(source: Source) -> Picture:
+    """What the winners could pay that nobody blocks."""
+    winners = source.winners
+    demands = core.bounds(given(source.book), given(source.certificate).choice, winners)
+    names = [source.names.bidder(j) for j in winners]
+    low, pays = [source.vickrey(j) for j in winners], [source.pays(j) for j in winners]
+    bid = [source.won(j)[1] for j in winners]
+    gross = {members: least + sum(source.reserve(j) for j in members) for members, least in demands.items()}
+    title = f"What {listed(names)} could pay that nobody blocks"
+    paid = f"paid are {listed(map(price, pays))}, of bids of {listed(map(number, bid))}"
+    about = f"Vickrey prices {listed(map(number, low))}; {paid}."
+
+    def draw() -> str:
+        if len(winners) == 2:
+            return core.two("core", title, about, names, low, bid, gross[tuple(winners)], pays)
+        first, second, third = winners
+        pairs = [gross[first, second], gross[first, third], gross[second, third]]
+        return core.three("core", title, about, names, low, bid, pairs, pays)
+
+    return Picture(title, about, draw, core_table(source, gross), findings.of_core(source))
+
+
+def core_blocks(source: Source) -> list[Block]:
+    """The core of two or three winners."""
+    total = price(sum((source.pays(j) for j in source.winners), Fraction(0)))
+    if len(source.winners) == 2:
+        key = [
+            ("greenish", "pale", "nobody blocks: the core"),
+            ("reddish", "pale", "somebody blocks"),
+            ("red", "line", f"the least sum that nobody blocks, {total}"),
+            ("orange", "triangle", "Vickrey prices"),
+            ("blue", "dot", "what is paid"),
+        ]
+        told = (
+            "Each place of the picture is a price for each of the two winners. Paid is, of the prices of least sum that"
+            " nobody blocks, the nearest to the Vickrey prices."
+        )
+    else:
+        key = [
+            ("greenish", "pale", "nobody blocks"),
+            ("reddish", "pale", "somebody blocks"),
+            ("orange", "triangle", "the Vickrey prices, each raised by the same amount"),
+            ("blue", "dot", "what is paid"),
+        ]
+        last = source.names.bidder(source.winners[2])
+        told = (
+            f"The least sum that nobody blocks is {total}. A place of the picture is what two winners pay of it;"
+            f" {last} pays the rest."
+        )
+    return [Heading("The core"), Words(told), Key(key), Cards([Card("", [core_picture(source)])], size="wide")]
+
+
+def section(source: Source) -> Section | None:
+    """Why these prices, where there are any."""
+    if not source.has_prices or not source.winners:
+        return None
+    blocks: list[Block] = [
+        Points([source.told(source.reasons.sentence(j)) for j in source.winners]),
+        Words(LEGEND),
+        *turns(source),
+        *coalitions(source),
+    ]
+    if len(source.winners) in (2, 3) and core.is_known(given(source.book)):
+        blocks += core_blocks(source)
+    told = (
+        "What the others would bring more without a winner is its Vickrey price, lots that stay unsold counted at their"
+        " reserve. All amounts here include reserves."
+    )
+    blocks += [
+        Heading("Vickrey prices"),
+        Words(told),
+        Cards([winner_card(source, j) for j in source.winners], size="wide"),
+    ]
+    return Section("why", "Why these prices", blocks, findings.of_prices(source))

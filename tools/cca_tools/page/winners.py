@@ -1,0 +1,306 @@
+"""What each bidder could win with, what it won, and what it pays."""
+
+from __future__ import annotations
+
+from collections.abc import Iterator, Sequence
+from fractions import Fraction
+
+from cca_tools.page import charts, findings
+from cca_tools.page.charts import Band, Paid
+from cca_tools.page.ink import WINNERS
+from cca_tools.page.document import (
+    Block,
+    Card,
+    Cards,
+    Cell,
+    Column,
+    Content,
+    Figures,
+    Key,
+    Picture,
+    Points,
+    Section,
+    Table,
+    Tone,
+    Words,
+    columns,
+)
+from cca_tools.page.source import Source, given
+from cca_tools.page.words import count, listed, number, per_cent, price, price_cell
+from cca_tools.rules.auction import Auction
+from cca_tools.rules.stops import LIMIT
+from cca_tools.rules.ties import DECIDES, differences, how_many, ties_of
+from cca_tools.rules.types import Amount, BidderNumber, Package
+
+MOST_TIES = 5  # other choices of the same net value that are told one by one
+
+
+def total(source: Source) -> Fraction:
+    """What all winners pay."""
+    return sum((source.pays(j) for j in source.winners), Fraction(0))
+
+
+def bid_total(source: Source) -> Amount:
+    """What all winners bid."""
+    return sum(source.won(j)[1] for j in source.winners)
+
+
+def unsold(source: Source) -> Package:
+    """The lots that nobody wins."""
+    return given(source.book).left(given(source.certificate).choice)
+
+
+def unsold_reserve(source: Source) -> Amount:
+    """The reserves of the lots that nobody wins."""
+    return given(source.book).reserve(unsold(source))
+
+
+def winner_rows(source: Source) -> Iterator[list[Content]]:
+    """A row for each winner."""
+    for j in source.winners:
+        package, bid = source.won(j)
+        pays, clock = source.pays(j), source.clock_price(j)
+        yield [
+            source.names.bidder(j),
+            source.names.cell(package),
+            *([] if clock is None else [number(clock)]),
+            number(bid),
+            number(source.vickrey(j)),
+            price_cell(pays, "good"),
+            per_cent(pays, bid),
+        ]
+
+
+def winners_table(source: Source) -> Table:
+    """Who won what, and what it pays."""
+    clock = ["Final clock price #"] if source.auction else []
+    heads = columns("Winner", "Won", *clock, "Bid #", "Vickrey price #", "Pays #", "Of its bid #")
+    return Table("Winners and prices, reserves included", heads, list(winner_rows(source)))
+
+
+def net_table(source: Source) -> Table:
+    """The bids and prices net of reserve."""
+    heads = columns("Winner", "Reserve #", "Bid, net #", "Vickrey, net #", "Pays, net #")
+    rows = list[list[Content]]()
+    for j in source.winners:
+        reserve, bid = source.reserve(j), source.won(j)[1]
+        rows.append(
+            [
+                source.names.bidder(j),
+                number(reserve),
+                number(bid - reserve),
+                number(source.vickrey(j) - reserve),
+                price_cell(source.pays(j) - reserve),
+            ]
+        )
+    sums: list[Content] = [
+        number(sum(source.reserve(j) for j in source.winners)),
+        number(given(source.certificate).value),
+        number(sum(given(source.certificate).vickrey(j) for j in source.winners)),
+        price_cell(sum((source.pays(j) - source.reserve(j) for j in source.winners), Fraction(0))),
+    ]
+    return Table("The same net of reserve", heads, [*rows, ["together", *sums]])
+
+
+def paid_picture(source: Source) -> Picture:
+    """What each winner bid and pays, as a picture."""
+    names = [source.names.bidder(j) for j in source.winners]
+    title = findings.of_payments(source)
+    about = "; ".join(
+        f"{source.names.bidder(j)} bid {number(source.won(j)[1])} and pays {price(source.pays(j))}"
+        for j in source.winners
+    )
+
+    def draw() -> str:
+        rows = [
+            Paid(name, source.reserve(j), source.vickrey(j), source.pays(j), source.won(j)[1], source.clock_price(j))
+            for name, j in zip(names, source.winners)
+        ]
+        return charts.paid("paid", title, about, rows)
+
+    return Picture(title, about, draw, winners_table(source))
+
+
+def letters_of(names: Sequence[str]) -> list[str]:
+    """A letter for each winner: the first one of its name where these differ, else A, B, C .."""
+    first = [name[:1].upper() for name in names]
+    is_told = len(set(first)) == len(first) and all(letter.isalpha() and len(letter) == 1 for letter in first)
+    return first if is_told else [chr(ord("A") + at) for at in range(len(names))]
+
+
+def bands_of(source: Source) -> Iterator[Band]:
+    """Of each category whose its lots are."""
+    for c, name in enumerate(source.names.categories):
+        sold = [(place, source.won(j)[0][c]) for place, j in enumerate(source.winners, 1)]
+        yield Band(name, [part for part in [*sold, (0, unsold(source)[c])] if part[1]])
+
+
+def bands_key(names: Sequence[str], letters: Sequence[str], has_unsold: bool) -> Key:
+    """What the colours, patterns and letters of the lots mean."""
+    shapes = [f"w{place % WINNERS + 1}" for place in range(len(names))]
+    marks = [(shape, f"lot {shape}", f"{letter}: {name}") for shape, letter, name in zip(shapes, letters, names)]
+    return Key(marks + [("soft", "hatched", "\N{EN DASH}: unsold")] * has_unsold)
+
+
+def bands_card(source: Source) -> Card:
+    """Whose each lot is, as a strip for each category."""
+    names = [source.names.bidder(j) for j in source.winners]
+    letters, every = letters_of(names), list(bands_of(source))
+    title = findings.of_lots(source)
+    whose = ["unsold", *names]
+    about = "; ".join(
+        f"{band.name}: {listed(f'{whose[winner]} {lots:,}' for winner, lots in band.parts)}" for band in every
+    )
+    picture = Picture(
+        title, about, lambda: charts.bands("lots", title, about, every, names, letters), lots_table(source)
+    )
+    return Card("", [bands_key(names, letters, any(unsold(source))), picture])
+
+
+def lots_table(source: Source) -> Table:
+    """Who won how many lots of each category, and what is left at its reserve."""
+    heads = columns("Category", "Supply #", "Sold to", "Unsold #", "At reserve #")
+    rows = []
+    for c, name in enumerate(source.names.categories):
+        sold = [f"{source.names.bidder(j)} {source.won(j)[0][c]:,}" for j in source.winners if source.won(j)[0][c]]
+        left = unsold(source)[c]
+        rows.append(
+            [
+                name,
+                number(given(source.book).supply[c]),
+                ", ".join(sold) or "nobody",
+                number(left),
+                number(left * given(source.book).reserves[c]),
+            ]
+        )
+    return Table(
+        "Where the lots went",
+        heads,
+        rows,
+        note=(
+            f"Unsold lots stay with the seller, here at {number(unsold_reserve(source))} in reserves."
+            if any(unsold(source))
+            else "All lots are sold."
+        ),
+    )
+
+
+def origins(auction: Auction, j: BidderNumber) -> dict[Package, str]:
+    """For each package of a bidder where its greatest amount comes from; of equal ones the last, and a list comes after
+    the rounds."""
+    named = [(package, amount, f"round {number_}") for number_, package, amount in auction.clock_bids(j)]
+    named += [(package, amount, "list") for package, amount in auction.submitted(j)]
+    return {package: words for package, _, words in sorted(named, key=lambda it: it[1])}
+
+
+def bids_table(source: Source, j: BidderNumber) -> Table:
+    """The bids of a bidder."""
+    heads = columns("No.", "Package", "Amount #", "Net #")
+    whence = origins(source.auction, j) if source.auction else {}
+    if whence:
+        heads.append(Column("From"))
+    won = given(source.certificate).choice[j - 1] if source.has_prices else 0
+    book, rows = given(source.book), list[list[Content]]()
+    for place, ((package, amount), net) in enumerate(zip(book.bids[j - 1], book.net[j - 1]), 1):
+        tone: Tone = "good" if place == won else ""
+        row: list[Content] = [
+            Cell(f"{place}, won" if tone else f"{place}", tone=tone),
+            source.names.cell(package, tone),
+            Cell(number(amount), tone=tone),
+            number(net),
+        ]
+        rows.append([*row, whence[package]] if whence else row)
+    return Table(f"Bids of {source.names.bidder(j)}", heads, rows)
+
+
+def won_words(source: Source, j: BidderNumber) -> str:
+    """How many bids a bidder has, and which one wins."""
+    bids = count(len(given(source.book).bids[j - 1]), "bid")
+    if not source.has_prices:
+        return bids
+    number_ = given(source.certificate).choice[j - 1]
+    return f"{bids}, wins with number {number_}" if number_ else f"{bids}, wins nothing"
+
+
+def book_cards(source: Source) -> Iterator[Card]:
+    """A card for each bidder."""
+    book = given(source.book)
+    for j in range(1, book.bidders + 1):
+        blocks: list[Block] = [bids_table(source, j)] if book.bids[j - 1] else [Words("No bid.")]
+        yield Card(source.names.bidder(j), blocks, won_words(source, j))
+
+
+def figures(source: Source) -> Figures:
+    """The numbers that are seen first."""
+    lots, unit = sum(given(source.book).supply), f", {source.long.amounts()}" if source.long.amounts() else ""
+    pairs = [
+        ("winners", f"{len(source.winners)} of {given(source.book).bidders}"),
+        ("lots sold", f"{number(lots - sum(unsold(source)))} of {number(lots)}"),
+        (f"revenue{unit}", price(total(source))),
+        ("bid by winners", number(bid_total(source))),
+        ("revenue, of what they bid", per_cent(total(source), bid_total(source))),
+        ("net value", number(given(source.certificate).value)),
+    ]
+    return Figures(pairs)
+
+
+def paid_key(source: Source) -> Key:
+    """What the marks of bids and prices mean."""
+    marks = [
+        ("bluish", "pale", "what it pays"),
+        ("soft", "frame", "what it bid"),
+        ("orange", "triangle", "its Vickrey price"),
+        ("soft", "dotted", "the reserve of its package"),
+    ]
+    return Key(marks + [("green", "upright", "its package at the final clock prices")] * (source.auction is not None))
+
+
+def tied(source: Source) -> list[Block]:
+    """The other choices of the same net value, where there are any."""
+    book_ = given(source.book)
+    ties = ties_of(book_, MOST_TIES, given(source.certificate).table)
+    if not ties:
+        return []
+    told = f"There is a tie: {how_many(ties)} the same net value. {DECIDES}"
+    each = [f"{differences(book_, ties, other, source.names.package)}." for other in ties.others]
+    return [Words(told, "strong"), Points(each)]
+
+
+def result(source: Source) -> list[Block]:
+    """The blocks that come first: who won what and what it pays."""
+    if source.has_prices and source.winners:
+        return [
+            figures(source),
+            *tied(source),
+            Cards([bands_card(source)], size="full"),
+            Cards([Card("", [paid_key(source), paid_picture(source)])], size="wide"),
+            Cards([Card("", [net_table(source)])], size="wide"),
+        ]
+    if source.has_prices:
+        return [Words("Nobody wins: there is no bid."), Cards([Card("", [lots_table(source)])])]
+    return [Words(missing(source), "bad" if source.fault else "")]
+
+
+def missing(source: Source) -> str:
+    """Why there are no winners and no prices."""
+    if source.fault:
+        return f"The certificate fails a test, so it shows no winners and no prices. {source.fault.text()}."
+    if source.stop and source.stop.status == LIMIT:
+        return f"The auction was stopped by a limit: `{source.stop.line}`. It has no book, no winners and no prices."
+    if source.book is None:
+        stage = "the clock runs" if given(source.auction).stage == "clock" else "lists are taken"
+        return f"The auction isn't over: {stage}. So there are no winners and no prices yet."
+    return "No certificate was given, so no winners and no prices are shown."
+
+
+def book(source: Source) -> Section | None:
+    """The book of bids, where there is one."""
+    if source.book is None:
+        return None
+    told = (
+        "What counts as bid: of each bidder each package that it asked for in the clock or submitted, with its greatest"
+        " amount. At most one bid of each bidder wins."
+        if source.auction
+        else "At most one bid of each bidder wins."
+    )
+    return Section("book", "The book of bids", [Words(told), Cards(list(book_cards(source)))])

@@ -1,0 +1,181 @@
+"""Names for people: what a title, a currency, categories and bidders are called where people read of an auction.
+
+An award has short names alone, and no other key. So these stand in a file of TOML of their own; no rule reads it:
+
+    title = "Northland award of 700 MHz and 3.6 GHz"
+    currency = "EUR"
+    unit = 1000                      # an amount of 1 in the files is 1,000 EUR
+
+    [category.p700]
+    name = "700 MHz paired"
+    mhz = 10                         # of a lot
+
+    [bidder.aurora]
+    name = "Aurora Telecom plc"
+
+Each key may be left out. A name may have any letters, but no character that can't be seen or that changes the direction
+of what is around it.
+"""
+
+from __future__ import annotations
+
+import dataclasses
+import unicodedata
+from collections.abc import Collection, Iterable, Mapping
+from typing import NoReturn
+
+from cca_tools.rules.award import Award
+from cca_tools.rules.log import Line
+from cca_tools.rules.printable import clipped
+from cca_tools.rules.stops import load, refused
+from cca_tools.rules.toml import read_toml
+
+LONGEST = 80
+MOST_UNIT = 10**9
+MOST_MHZ = 10_000
+UNITS = {1: "", 1_000: "thousand ", 1_000_000: "million ", 1_000_000_000: "billion "}
+# Characters that no name has: control, format (among them those of direction), private and unassigned ones, halves of
+# characters, and the separators of lines.
+HIDDEN = ("Cc", "Cf", "Co", "Cn", "Cs", "Zl", "Zp")
+
+
+@dataclasses.dataclass(frozen=True)
+class LongNames:
+    """The names of an award's categories and bidders, by their short ones, and what else people want to read.
+
+    `unit` is how many of the currency an amount of 1 is; `mhz` has the width of a lot.
+    """
+
+    title: str = ""
+    currency: str = ""
+    unit: int = 1
+    categories: Mapping[str, str] = dataclasses.field(default_factory=dict)
+    mhz: Mapping[str, int | float] = dataclasses.field(default_factory=dict)
+    bidders: Mapping[str, str] = dataclasses.field(default_factory=dict)
+
+    def category(self, name: str) -> str:
+        """What a category is called."""
+        return self.categories.get(name, name)
+
+    def bidder(self, name: str) -> str:
+        """What a bidder is called."""
+        return self.bidders.get(name, name)
+
+    def award(self, award: Award) -> Award:
+        """The award with long names in place of the short ones, to be shown and for no program."""
+        return Award(
+            award.version,
+            award.tick,
+            [dataclasses.replace(it, name=self.category(it.name)) for it in award.categories],
+            [dataclasses.replace(it, name=self.bidder(it.name)) for it in award.bidders],
+            award.steps,
+            award.caps,
+        )
+
+    def lines(self, lines: Iterable[Line]) -> list[Line]:
+        """The lines of a log with long names in place of the short ones."""
+        return [dataclasses.replace(line, name=self.bidder(line.name)) for line in lines]
+
+    def lots(self) -> list[str]:
+        """How wide the lots are, a sentence for each category that has a width."""
+        return [f"A lot of {self.category(name)} is {mhz:g} MHz wide." for name, mhz in self.mhz.items()]
+
+    def amounts(self) -> str:
+        """In what amounts are, in words: `thousand EUR`. Nothing where no currency is named."""
+        if not self.currency:
+            return ""
+        return f"{UNITS[self.unit]}{self.currency}" if self.unit in UNITS else f"{self.unit:,} {self.currency}"
+
+
+NO_NAMES = LongNames()
+
+
+def fault(why: str) -> NoReturn:
+    """Stops since the file isn't as it has to be."""
+    raise refused("names", why=why)
+
+
+def text_of(value: object, key: str) -> str:
+    """A text of the file."""
+    if not isinstance(value, str) or not value.strip() or len(value) > LONGEST:
+        fault(f"`{key}` has to be a text of 1 to {LONGEST} characters")
+    for place, letter in enumerate(value, 1):
+        if letter == "`" or unicodedata.category(letter) in HIDDEN:
+            fault(f"`{key}` has a character that no name may have: U+{ord(letter):04X}, its character {place}")
+    return value
+
+
+def unit_of(value: object) -> int:
+    """How many of the currency an amount of 1 is."""
+    if type(value) is not int or not 1 <= value <= MOST_UNIT:
+        fault(f"`unit` has to be a whole number from 1 to {MOST_UNIT}")
+    return value
+
+
+def mhz_of(value: object, key: str) -> int | float:
+    """The width of a lot."""
+    if not isinstance(value, (int, float)) or isinstance(value, bool) or not 0 < value <= MOST_MHZ:
+        fault(f"`{key}` has to be a number above 0 and at most {MOST_MHZ}")
+    return value
+
+
+def need_keys(table: Mapping[str, object], known: Collection[str], where: str) -> None:
+    """Stops at the first key that isn't known."""
+    for key in table:
+        if key not in known:
+            fault(f"`{clipped(key)}` is no key {where}; there are {', '.join(known)}")
+
+
+def table_of(value: object, where: str) -> Mapping[str, object]:
+    """A table of the file."""
+    if not isinstance(value, dict):
+        fault(f"`{clipped(where)}` has to be a table, begun by [{clipped(where)}]")
+    return value
+
+
+def entries(top: Mapping[str, object], kind: str, names: Collection[str]) -> Mapping[str, Mapping[str, object]]:
+    """The tables of a kind, each by its short name, in the order of the award."""
+    tables = table_of(top.get(kind, {}), kind)
+    for name in tables:
+        if name not in names:
+            fault(f"the award has no {kind} `{clipped(name)}`; it has {', '.join(names) or 'none'}")
+    return {name: table_of(tables[name], f"{kind}.{name}") for name in names if name in tables}
+
+
+def texts(tables: Mapping[str, Mapping[str, object]], kind: str, names: Collection[str]) -> dict[str, str]:
+    """The long names of tables. Nobody reads one name for two of them, or the short name of another one."""
+    found = {name: text_of(table["name"], f"{kind}.{name}.name") for name, table in tables.items() if "name" in table}
+    shown = [found.get(name, name) for name in names]
+    for text in shown:
+        if shown.count(text) > 1:
+            fault(f"two of the tables [{kind}.NAME] have the same name, `{clipped(text)}`")
+    return found
+
+
+def names_of(data: bytes, award: Award) -> LongNames:
+    """The names that bytes state, of this award."""
+    try:
+        top = read_toml(data)
+    except ValueError as error:
+        fault(f"the names are no TOML: {error}")
+    need_keys(top, ("title", "currency", "unit", "category", "bidder"), "of the names")
+    categories = entries(top, "category", [category.name for category in award.categories])
+    bidders = entries(top, "bidder", award.names)
+    for kind, tables, known in (("category", categories, ("name", "mhz")), ("bidder", bidders, ("name",))):
+        for name, table in tables.items():
+            need_keys(table, known, f"of [{kind}.{name}]")
+    if "unit" in top and "currency" not in top:
+        fault("`unit` is there without `currency`")
+    return LongNames(
+        title=text_of(top["title"], "title") if "title" in top else "",
+        currency=text_of(top["currency"], "currency") if "currency" in top else "",
+        unit=unit_of(top.get("unit", 1)),
+        categories=texts(categories, "category", [category.name for category in award.categories]),
+        mhz={name: mhz_of(it["mhz"], f"category.{name}.mhz") for name, it in categories.items() if "mhz" in it},
+        bidders=texts(bidders, "bidder", award.names),
+    )
+
+
+def read_names(file: str | None, award: Award) -> LongNames:
+    """The names of a file, or none where no file is named."""
+    return names_of(load(file, "names"), award) if file else NO_NAMES

@@ -1,0 +1,207 @@
+"""The page of a study: what was tried, what came out in each case, and what differs between cases."""
+
+from __future__ import annotations
+
+from collections.abc import Iterator, Sequence
+from dataclasses import dataclass
+
+from cca_tools.page.document import Block, Card, Cards, Content, Figures, Key, Page, Picture, Section, Table, Words
+from cca_tools.page.document import columns as heads
+from cca_tools.studies import pictures
+from cca_tools.studies.measures import MEASURES, RULES, Measure, Pair, Results, Spread, of_best, pairs_of, per_cent
+from cca_tools.studies.plan import FIELDS, Plan
+from cca_tools.studies.pictures import Bar
+
+MEANS = {
+    "values": "the files of values",
+    "version": "the award's version: 2 has the final cap",
+    "increment": "the award's steps of prices, in percent of them",
+    "share": "what bidders name of their values in the sealed round, in percent",
+    "bidders": "how many bidders there are, the first of the award",
+    "reserve": "the award's reserves, in percent of them",
+}
+SPREAD_NOTE = (
+    "A line goes from the value below which 5 % of the auctions are to that of 95 %, a box from 25 % to 75 % with the"
+    " median in it; a point is the mean, which is also printed to the right."
+)
+
+
+def tried(plan: Plan, limits: int) -> Iterator[Block]:
+    """What the plan says."""
+    yield Figures([("auctions", f"{plan.auctions:,}"), ("cases", str(len(plan.cases))), ("first seed", str(plan.seed))])
+    rows: list[list[Content]] = [
+        [name, ", ".join(dict.fromkeys(str(getattr(case, name)) for case in plan.cases)), MEANS[name]]
+        for name in FIELDS
+    ]
+    yield Table("", heads("Field", "Values", "What it is"), rows)
+    yield Words(
+        "An auction of the same number has the same values of bidders in all cases. Bidders are straightforward in the"
+        " clock, and list their values, or the share of them, within their caps."
+    )
+    if limits:
+        yield Words(f"{limits} auctions were stopped by a limit, and are left out below.", tone="bad")
+
+
+def case_rows(results: Results) -> list[list[Content]]:
+    """The mean of each measure in each case."""
+    plan = results.plan
+    return [
+        [plan.label(case), *(results.spread(case, measure).words() for measure in MEASURES.values())]
+        for case in plan.cases
+        if results.rows[case]
+    ]
+
+
+def spread_table(title: str, bars: Sequence[Bar]) -> Table:
+    """The numbers of bars."""
+    rows: list[list[Content]] = [
+        [name, spread.words(), *(f"{spread.quantiles[at]:.2f}" for at in (0, 2, 4))] for name, spread, _ in bars
+    ]
+    columns = heads("", "Mean, standard error #", "5 % #", "Median #", "95 % #")
+    return Table(title, columns, rows)
+
+
+@dataclass(frozen=True)
+class Drawing:
+    """Groups of bars, as a picture of the page, with the table that says the same, or as a file of their own."""
+
+    key: str
+    title: str
+    groups: Sequence[tuple[str, Sequence[Bar]]]
+    what: str
+    is_difference: bool
+    caption: str = ""
+
+    @property
+    def flat(self) -> list[Bar]:
+        """All bars, each with the name of its group."""
+        return [(f"{name}: {it[0]}" if name else it[0], *it[1:]) for name, of_one in self.groups for it in of_one]
+
+    @property
+    def about(self) -> str:
+        """What is shown, in words."""
+        means = "; ".join(f"{label} {spread.mean:.2f}" for label, spread, _ in self.flat)
+        return f"{self.title}: means in {self.what}. {means}."
+
+    def text(self, is_file: bool = False) -> str:
+        """The picture as SVG."""
+        words = (self.key, self.title, self.about, self.groups, self.what)
+        return pictures.bars(*words, self.is_difference, is_file)
+
+    def picture(self) -> Picture:
+        """The picture with its table."""
+        return Picture(self.title, self.about, self.text, spread_table("", self.flat), self.caption)
+
+
+def distribution(results: Results) -> Drawing:
+    """How revenue is spread by each rule in each case."""
+    groups = [
+        (
+            results.plan.label(case),
+            [(rule, results.spread(case, measure), pictures.COLOURS[rule]) for rule, measure in RULES.items()],
+        )
+        for case in results.plan.cases
+        if results.rows[case]
+    ]
+    title = "Revenue of the winning bids by each rule"
+    return Drawing("rules", title, groups, "% of what the best allocation is worth", False)
+
+
+def measures_of(names: Sequence[str]) -> dict[str, Measure]:
+    """What is compared between two cases."""
+    own = {f"profit of {name}": of_best(f"{name}_profit") for name in names}
+    return {"efficiency": per_cent("efficiency"), "revenue": RULES["core"], "profit of all": of_best("profit"), **own}
+
+
+def pair_title(pair: Pair) -> str:
+    """What a pair compares."""
+    return f"{pair.field} {getattr(pair.second, pair.field)} against {getattr(pair.first, pair.field)}"
+
+
+def others(results: Results, pair: Pair) -> str:
+    """What both cases of a pair have alike of what varies."""
+    return ", ".join(f"{name} {getattr(pair.first, name)}" for name in results.plan.varied if name != pair.field)
+
+
+def difference_bars(results: Results, pair: Pair) -> list[Bar]:
+    """The differences of a pair; bidders that are in both cases alone."""
+    names = [bidder.name for bidder in results.plan.base().bidders][: min(pair.first.bidders, pair.second.bidders)]
+    spreads: list[tuple[str, Spread]] = [
+        (name, results.difference(pair, measure)) for name, measure in measures_of(names).items()
+    ]
+    return [(name, spread, pictures.colour_of(spread)) for name, spread in spreads]
+
+
+def differences(results: Results) -> Iterator[tuple[Pair, Drawing]]:
+    """What differs in each pair of cases."""
+    for number, pair in enumerate(pairs_of(results), 1):
+        bars = difference_bars(results, pair)
+        words = (f"pair{number}", pair_title(pair), [("", bars)], "% of the best value", True)
+        yield pair, Drawing(*words, "The differences, in % of what the best allocation is worth")
+
+
+def drawings(results: Results) -> Iterator[Drawing]:
+    """All pictures of a study."""
+    if any(results.rows.values()):
+        yield distribution(results)
+    for _, drawing in differences(results):
+        yield drawing
+
+
+def stopped(results: Results) -> int:
+    """How many auctions a limit stopped."""
+    return len(results.plan.cases) * results.plan.auctions - sum(map(len, results.rows.values()))
+
+
+def sections_of(results: Results) -> Iterator[Section]:
+    """The parts of the page."""
+    yield Section("plan", "What was tried", list(tried(results.plan, stopped(results))))
+    if not any(results.rows.values()):
+        return
+    table = Table("", heads("Case", *(f"{name} #" for name in MEASURES)), case_rows(results))
+    marks = [("blue", "box", "core"), ("orange", "box", "Vickrey"), ("green", "box", "pay as bid, for the same bids")]
+    yield Section(
+        "cases",
+        "What came out",
+        [
+            Words(
+                "Means over the auctions, each with its standard error. `best` is what the best allocation is worth."
+            ),
+            table,
+            Key(marks),
+            Cards([Card("", [distribution(results).picture()])], size="wide"),
+            Words(SPREAD_NOTE),
+        ],
+    )
+    if found := list(differences(results)):
+        cards = [Card(it.title, [it.picture()], others(results, pair)) for pair, it in found]
+        yield Section(
+            "differences",
+            "What differs, auction by auction",
+            [
+                Words(
+                    "The second case less the first for auctions of the same number, so that the draws cancel. Green is"
+                    " more and orange less, by over two standard errors of the mean."
+                ),
+                Cards(cards, size="wide"),
+            ],
+        )
+
+
+def page_of(results: Results, title: str) -> Page:
+    """The page of a study."""
+    under = "Auctions of bidders with drawn values, priced by the program. `table.csv` has a row for each."
+    return Page(f"Study: {title}", under, list(sections_of(results)))
+
+
+def summary(results: Results) -> Iterator[str]:
+    """The results in a few lines."""
+    for case in results.plan.cases:
+        if results.rows[case]:
+            yield results.plan.label(case)
+            yield from (f"  {name}: {results.spread(case, it).words()}" for name, it in MEASURES.items())
+    for pair in pairs_of(results):
+        yield f"{', '.join(filter(None, [pair_title(pair), others(results, pair)]))}, in % of the best value"
+        yield from (f"  {name}: {spread.words(3)}" for name, spread, _ in difference_bars(results, pair))
+    if left := stopped(results):
+        yield f"stopped by a limit: {left}"

@@ -1,0 +1,53 @@
+"""Small auctions by going through all allocations: the best one, and the least sum of the core. Nothing of cca_tools
+stands in it."""
+import itertools
+from fractions import Fraction
+
+
+def best(supply, reserves, bids, members):
+    """The greatest net value of an allocation in which only these bidders win."""
+    none = ((0,) * len(supply), 0)
+    ways = [[none, *bids[j].items()] if j in members else [none] for j in range(len(bids))]
+    return max(
+        sum(amount - sum(n * r for n, r in zip(package, reserves)) for package, amount in choice)
+        for choice in itertools.product(*ways)
+        if all(sum(counts) <= most for counts, most in zip(zip(*(package for package, _ in choice)), supply))
+    )
+
+
+def solved(rows):
+    """The point at which each of these equations holds, as many as unknowns; None where there isn't just one."""
+    rows, size = [list(map(Fraction, row)) for row in rows], len(rows)
+    for at in range(size):
+        found = next((n for n in range(at, size) if rows[n][at]), None)
+        if found is None:
+            return None
+        rows[at], rows[found] = rows[found], rows[at]
+        rows[at] = [cell / rows[at][at] for cell in rows[at]]
+        for n in range(size):
+            if n != at:
+                rows[n] = [cell - rows[n][at] * own for cell, own in zip(rows[n], rows[at])]
+    return [row[-1] for row in rows]
+
+
+def core_sum(supply, reserves, bids, won):
+    """The least sum, net, that winners with these net amounts (by their places from 0) pay in the core.
+
+    It is reached at a corner, so all corners are gone through.
+    """
+    winners, every = sorted(won), set(range(len(bids)))
+    if not winners:
+        return Fraction(0)
+    limits = []
+    for size in range(1, len(winners) + 1):
+        for out in itertools.combinations(winners, size):
+            least = best(supply, reserves, bids, every - set(out)) - sum(won[j] for j in winners if j not in out)
+            limits.append([*(int(j in out) for j in winners), least])
+    limits += [[*(-int(j == k) for j in winners), -won[k]] for k in winners]
+    corners = (solved(rows) for rows in itertools.combinations(limits, len(winners)))
+    sums = [sum(point) for point in corners if point is not None and all(holds(point, limit) for limit in limits)]
+    return min(sums)
+
+
+def holds(point, limit):
+    return sum(a * b for a, b in zip(point, limit)) >= limit[-1]

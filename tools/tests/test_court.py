@@ -1,0 +1,245 @@
+"""The court's own files, tools/audit and tools/check: beside the rules and the program on drawn cases, and alone."""
+import ast
+import collections
+import itertools
+import os
+import pathlib
+import random
+import shutil
+import subprocess
+import sys
+import tempfile
+import unittest
+import unittest.mock
+from program import PROGRAM
+from samples import EXAMPLES, TOOLS, lines, sample
+from voices import AUDIT, CHECK, NO_VERDICT, is_alike, rules_answer
+
+sys.path.append(os.path.join(TOOLS, "..", "bench"))
+from court_cases import answers, cases  # noqa: E402
+
+NUMBER, SEED = 500, 1
+AWARD = sample("sample.award")
+
+# Awards that TOML 1.1 has and TOML 1.0 doesn't.
+NEWER = [
+    AWARD.replace(b'name = "lot"', b'name = "\\x6cot"'),
+    AWARD.replace(b"version = 1", b'version = 1 # no fault\nx = "\\e"'),
+    AWARD.replace(b"version = 1", b"version = 1\nx = 07:32"),
+    AWARD.replace(b"version = 1", b"version = 1\nx = {a = 07:32}"),
+    AWARD.replace(b"[[step]]\nexcess = 1\npermille = 200\n", b"").replace(
+        b"version = 1", b"version = 1\nstep = [{excess = 1, permille = 200,}]"
+    ),
+    AWARD.replace(b"[[step]]\nexcess = 1\npermille = 200\n", b"").replace(
+        b"version = 1", b"version = 1\nstep = [{excess = 1,\n permille = 200}]"
+    ),
+    AWARD.replace(b"[[step]]\nexcess = 1\npermille = 200\n", b"").replace(
+        b"version = 1", b"version = 1\nstep = [{ # the only one }\nexcess = 1, permille = 200}]"
+    ),
+]
+# Awards that no TOML has, and such as keep a rule of TOML that Python doesn't ask for.
+REFUSED = [
+    (AWARD.replace(b"tick = 1", b"tick = "), "0 0"),
+    (AWARD + b"x = [1, 2", "0 0"),
+    (AWARD.replace(b"version = 1", b"version = 1\nx = {a = 1} y"), "0 0"),
+    (AWARD.replace(b"version = 1", b"version = 1\nx = " + b"[" * 80 + b"]" * 80), "18 0"),
+    (AWARD.replace(b"version = 1", b"version = 1\nx = " + b"[" * 81 + b"]" * 81), "0 0"),
+    (AWARD.replace(b"version = 1", b"version = 1\n" + b".".join([b"x"] * 80) + b" = 1"), "18 0"),
+    (AWARD.replace(b"version = 1", b"version = 1\n" + b" . ".join([b"x"] * 81) + b" = 1"), "0 0"),
+    (AWARD.replace(b"version = 1", b"version = 1 # " + b"[" * 90 + b'\nx = "' + b"[" * 90 + b'"'), "18 0"),
+    (AWARD.replace(b"version = 1", b"version = 1\nx = 1e400"), "0 0"),
+    (AWARD.replace(b"version = 1", b"version = 1\nx = inf"), "18 0"),
+    (AWARD.replace(b"version = 1", b"version = 1\nx = [{y = 9223372036854775808}]"), "0 0"),
+    (AWARD.replace(b"version = 1", b"version = 1\nx = [{y = 9223372036854775807}]"), "18 0"),
+    (AWARD + b"# \xff", "0 0"),
+]
+
+
+def run(name, *words, **more):
+    """How a tool ends as a program."""
+    return subprocess.run([sys.executable, os.path.join(TOOLS, name), *words], capture_output=True, **more)
+
+
+class BesideTheOthers(unittest.TestCase):
+    def test_drawn_cases(self):
+        """The court's files, the rules and the program answer alike, and each kind of answer comes."""
+        said = collections.Counter()
+        with tempfile.TemporaryDirectory() as folder:
+            for command, texts in itertools.islice(cases(random.Random(SEED)), NUMBER):
+                found = answers(folder, command, texts, PROGRAM and os.path.abspath(PROGRAM))
+                with self.subTest(command=command, texts=texts):
+                    self.assertTrue(is_alike(*found), found)
+                said[found[1][0].split("\n")[0].rstrip("0123456789 ")] += 1
+        for answer in (
+            "yes",
+            *(f"no {letter}" for letter in "CP"),
+            *(f"cca: refused {kind}" for kind in ("award", "log", "book", "weights", "slots", "cert")),
+        ):
+            self.assertGreater(said[answer], 5, answer)
+
+
+class Awards(unittest.TestCase):
+    def answer(self, award):
+        with tempfile.TemporaryDirectory() as folder:
+            names = [os.path.join(folder, kind) for kind in ("award", "log", "cert")]
+            for name, text in zip(names, (award, b"", b"")):
+                pathlib.Path(name).write_bytes(text)
+            return AUDIT.answer(names), rules_answer("audit", names)
+
+    def test_no_verdict(self):
+        for award in NEWER:
+            with self.subTest(award=award):
+                (text, status), read = self.answer(award)
+                self.assertEqual((text[:11], status), ("no verdict:", NO_VERDICT))
+                self.assertNotEqual(read, ("cca: refused award 0 0", 3))
+
+    def test_refused(self):
+        for award, numbers in REFUSED:
+            with self.subTest(award=award):
+                self.assertEqual(self.answer(award), ((f"cca: refused award {numbers}", 3),) * 2)
+
+
+class Files(unittest.TestCase):
+    def test_one_file_of_the_standard_library(self):
+        for name in ("audit", "check"):
+            text = (pathlib.Path(TOOLS) / name).read_text()
+            self.assertLessEqual(text.count("\n"), 500)
+            for node in ast.walk(ast.parse(text)):
+                modules = [one.name for one in node.names] if isinstance(node, ast.Import) else []
+                modules += [node.module] if isinstance(node, ast.ImportFrom) else []
+                self.assertLessEqual({module.split(".")[0] for module in modules}, set(sys.stdlib_module_names))
+
+    def test_alone_in_a_folder(self):
+        """Each answers where there is nothing of the repository but itself."""
+        with tempfile.TemporaryDirectory() as folder:
+            for name in ("audit", "check", "check-places"):
+                shutil.copy(os.path.join(TOOLS, name), folder)
+            given = [os.path.join(EXAMPLES, f"spectrum.{kind}") for kind in ("award", "log", "cert")]
+            ended = subprocess.run(
+                [os.path.join(folder, "audit"), *given], capture_output=True, env={"PATH": os.environ["PATH"]}
+            )
+            self.assertEqual((ended.stdout[:4], ended.returncode, ended.stderr), (b"yes\n", 0, b""))
+            ended = subprocess.run([os.path.join(folder, "check-places"), "a", "b"], capture_output=True)
+            self.assertEqual((ended.stdout, ended.returncode), (b"cca: read fault slots\n", 4))
+
+    def test_version(self):
+        with tempfile.TemporaryDirectory() as folder:
+            os.mkdir(os.path.join(folder, "tools"))
+            for name in ("audit", "check"):
+                path = shutil.copy(os.path.join(TOOLS, name), os.path.join(folder, "tools"))
+                self.assertEqual(subprocess.run([path, "--version"], capture_output=True).stdout, b"unknown\n")
+                pathlib.Path(folder, "VERSION").write_text("1.2\n")
+                self.assertEqual(subprocess.run([path, "--version"], capture_output=True).stdout, b"1.2\n")
+                os.remove(os.path.join(folder, "VERSION"))
+
+    def test_help(self):
+        for name in ("audit", "check", "check-places"):
+            for word in ("-h", "--help"):
+                ended = run(name, word)
+                self.assertEqual((ended.returncode, ended.stderr), (0, b""))
+                self.assertIn(f"tools/{name} ".encode(), ended.stdout)
+                self.assertIn(b"70 this program failed", ended.stdout)
+        self.assertIn(b"9 no verdict", run("audit", "--help").stdout)
+
+    def test_words(self):
+        rows = [
+            ("audit", ()),
+            ("audit", ("a", "b")),
+            ("audit", ("a", "b", "c", "d")),
+            ("audit", ("a", "b", "--help")),
+            ("audit", ("a", "b", "a")),
+            ("audit", ("a", "", "c")),
+            ("audit", ("a", "b", "-x")),
+            ("audit", ("--help", "-h")),
+            ("check", ("a",)),
+            ("check", ("a", "b", "c", "d")),
+            ("check", ("a", "b", "-h")),
+            ("check", ("a", "a")),
+            ("check-places", ("a", "b", "c")),
+            ("check-places", ("a", "--version")),
+            ("check-places", ("-", "-")),
+        ]
+        for name, words in rows:
+            with self.subTest(name=name, words=words):
+                ended = run(name, *words)
+                self.assertEqual((ended.stdout, ended.returncode), (b"cca: words\n", 2))
+                self.assertTrue(ended.stderr.startswith(b"usage: tools/"))
+                for word in words:
+                    self.assertIn(ascii(word).encode(), ended.stderr)
+
+    def test_no_control_character(self):
+        """A control character of a word or of a crash doesn't reach the terminal."""
+        self.assertNotIn(b"\x1b", run("audit", "a\x1b[2J").stderr)
+        with tempfile.TemporaryDirectory() as folder:
+            path = os.path.join(folder, "audit")
+            text = (
+                pathlib.Path(TOOLS, "audit")
+                .read_text()
+                .replace("        return audit(*words), 0\n", '        raise ValueError("\\x1b[2J")\n')
+            )
+            pathlib.Path(path).write_text(text)
+            ended = subprocess.run([sys.executable, path, "a", "b", "c"], capture_output=True)
+            self.assertEqual((ended.stdout, ended.returncode, b"\x1b" in ended.stderr), (b"", 70, False))
+            self.assertIn(b"ValueError: ?[2J", ended.stderr)
+
+    def test_word_that_is_no_text(self):
+        for name in ("audit", "check", "check-places"):
+            ended = run(name, b"\xff", "b", "c")
+            self.assertEqual((ended.stdout, ended.returncode, ended.stderr), (b"", 8, b""))
+
+    def test_standard_input_and_output(self):
+        award, log, cert = (os.path.join(EXAMPLES, f"spectrum.{kind}") for kind in ("award", "log", "cert"))
+        ended = run("audit", award, "-", cert, input=sample("spectrum.log"))
+        self.assertEqual((ended.stdout[:4], ended.returncode), (b"yes\n", 0))
+        with open("/dev/full", "wb") as full:
+            self.assertEqual(
+                subprocess.run([os.path.join(TOOLS, "audit"), award, log, cert], stdout=full).returncode, 5
+            )
+            self.assertEqual(subprocess.run([os.path.join(TOOLS, "check"), "a", "b"], stdout=full).returncode, 5)
+
+    def test_out_of_memory(self):
+        with unittest.mock.patch.object(AUDIT, "audit", side_effect=MemoryError):
+            self.assertEqual(AUDIT.answer(["a", "b", "c"]), ("cca: memory", 6))
+        with unittest.mock.patch.object(CHECK, "Book", side_effect=MemoryError):
+            self.assertEqual(
+                CHECK.answer([os.path.join(EXAMPLES, "tie.book"), "b"], CHECK.check, 2), ("cca: memory", 6)
+            )
+
+    def test_a_full_draft_list(self):
+        """Beyond 300 drafts a draft of another package isn't admitted, and one that takes the place of another is."""
+        award = (
+            AWARD.replace(b"supply = 3", b"supply = 17").replace(b"eligibility = 3", b"eligibility = 999")
+            + b'[[category]]\nname = "other"\nsupply = 17\npoints = 1\nreserve = 10\n'
+        )
+        packages = [f"{a} {b}" for a in range(18) for b in range(18)][1:303]
+        drafts = [f"draft,east,{package},{10 * sum(map(int, package.split()))}" for package in packages]
+        more = [
+            drafts[0],
+            drafts[301],
+            "drop,east,0 1,",
+            drafts[301],
+            "drop,east,9 9,",
+            drafts[300],
+            "submit,east,,",
+            "close,,,",
+        ]
+        text = lines(" / ".join(["close,,,", *drafts, *more]))
+        rules = rules_bids(award, text)
+        terms = AUDIT.Award(award)
+        rounds, sealed = AUDIT.rounds_of(terms, AUDIT.read_log(text, terms))
+        self.assertEqual(AUDIT.Bidder(terms, 0, rounds, sealed).bids(), rules)
+        self.assertEqual(len(rules), 300)
+
+
+def rules_bids(award, log):
+    """The bids of the first bidder, by the rules of cca_tools."""
+    from cca_tools.rules.auction import replay
+    from cca_tools.rules.award import read_award
+    from cca_tools.rules.log import read_log
+
+    terms = read_award(award)
+    return replay(terms, read_log(log, terms)).need_book().bids[0]
+
+
+if __name__ == "__main__":
+    unittest.main()

@@ -1,0 +1,208 @@
+"""Bids of tables and of JSON as books, and prices as tables."""
+import json
+import subprocess
+import sys
+import unittest
+from decimal import Decimal
+from fractions import Fraction
+
+from program import with_program
+from samples import TOOLS, sample
+
+import cca_tools
+from cca_tools.data.bids import Sold, csv_text, json_text, read_bids
+from cca_tools.data.numbers import amount_of, decimal, fraction_of
+from cca_tools.data.prices import prices_of
+from cca_tools.rules.book import book_text
+from cca_tools.rules.stops import Stop
+
+TWO = Sold((2, 6), (Decimal(10), Decimal("2.5")))
+
+
+def run(name, *words, **how):
+    """What a tool prints as a program, its status, and what it says on standard error."""
+    made = subprocess.run([sys.executable, f"{TOOLS}/{name}", *words], capture_output=True, text=True, **how)
+    return made.stdout, made.returncode, made.stderr
+
+
+class Bids(unittest.TestCase):
+    def made(self, text, sold=TWO, mark="."):
+        found = read_bids(text.encode(), sold, mark)
+        return book_text(found.book).decode().splitlines()[3:-1], found
+
+    def fault(self, text, sold=TWO, mark="."):
+        with self.assertRaises(Stop) as caught:
+            read_bids(text.encode(), sold, mark)
+        self.assertEqual(caught.exception.status, 3)
+        return caught.exception.why
+
+    def test_a_table_with_all_that_is_changed(self):
+        table = (
+            "Bidder;L800;L2600;Amount\nNorth Tel;1;4;48,000.50\nNorth Tel;0;4;8000\nNorth Tel;1;4;47000\n"
+            "south;2;1;€ 50 000\nsouth;0;0;3\nsouth;1;0;9.99\n"
+        )
+        lines, made = self.made(table)
+        self.assertEqual(
+            lines, ["bidder north_tel", "bid 0 4 800000", "bid 1 4 4800050", "bidder south", "bid 2 1 5000000"]
+        )
+        self.assertEqual((made.scale, made.book.reserves), (100, (1000, 250)))
+        self.assertEqual(
+            made.changes,
+            [
+                "`North Tel` is called north_tel",
+                "multiplied all amounts and reserves by 100, so that they are whole; `tools/prices --unit 100` prints"
+                " prices in the file's unit",
+                "left out row 4: row 2 has 48000.50 for 1 4 of the same bidder",
+                "left out row 6, a bid for a package of nothing",
+                "left out row 7: 9.99 is below the reserve of 1 0, 10",
+                "sorted the bids of north_tel by their packages",
+            ],
+        )
+
+    def test_forms_of_a_table(self):
+        whole = Sold((2, 6), (Decimal(0), Decimal(0)))
+        right = ["bidder a", "bid 1 4 1234"]
+        for text in (
+            "a,1,4,1234",
+            "bidder,package,amount\na,1 4,1234\n",
+            "amount\tlots\tname\n1'234\t(1, 4)\ta\n",
+            '\ufeffbidder,x,y,bid\r\na,1,4,"1,234"\r\n\r\n',
+        ):
+            lines, made = self.made(text, whole)
+            self.assertEqual((lines, made.changes), (right, []), text)
+        self.assertEqual(self.made("a;1;4;1.234,5", whole, ",")[0], ["bidder a", "bid 1 4 12345"])
+
+    def test_categories_by_the_names_of_an_award(self):
+        sold = Sold((2, 6), (Decimal(0), Decimal(0)), ("low", "high"))
+        lines, made = self.made("bidder,high,low,amount,city\na,4,1,7,Ulm\n", sold)
+        self.assertEqual(lines, ["bidder a", "bid 1 4 7"])
+        self.assertEqual(made.changes, ["left out the columns city, which aren't categories of the award"])
+
+    def test_names(self):
+        names = ["A-1", "A 1", "1st", "Ümlaut", "x" * 30]
+        _, made = self.made("".join(f"{name},1,0,50\n" for name in names))
+        self.assertEqual(made.book.names, ["a_1", "a_1_2", "b_1st", "mlaut", "x" * 20])
+
+    def test_faults_name_the_row(self):
+        for text, why in {
+            "a,1,7,50": "row 1 asks for 7 lots of category 2, and 6 are sold",
+            "a,1,0,50\na,1,0": "row 2 has 3 cells, and the first row has 4",
+            "bidder,x,y,amount\na,1,0,many": "row 2 has `many` as the amount, which is a number",
+            "a,1,0,12,5": "row 1 has a package of 3 counts, and 2 categories are sold",
+            "a,x,0,5": "row 1 has `x` as a count, which is a whole number",
+            "bidder,x,y,price\na,1,0,5": "the head has no column `amount`, and has bidder, x, y, price",
+            "": "the table has no rows",
+            "a;1;0;1.234,56": "row 1 has `1.234,56` as the amount, which is a number; is its decimal mark `,`? Then say"
+            " --decimal ,",
+        }.items():
+            self.assertEqual(self.fault(text), why)
+        for amount in ("4398046511105", "9" * 5000):
+            why = "row 1 has an amount above the greatest one, 4398046511104"
+            self.assertEqual(self.fault(f"a,1,0,{amount}"), why)
+        self.assertIn("10 decimals, and at most 9", self.fault("a,1,0,10.0000000001"))
+        above = "the book would have the line `bid 1 0 43980465111040`: `43980465111040` is read as the amount"
+        self.assertEqual(self.fault("a,1,0,4398046511104")[: len(above)], above)
+        self.assertIn("row 1 isn't CSV", self.fault("a,1,0," + "9" * 200_000))
+
+    def test_json_there_and_back(self):
+        text = json.dumps({"supply": [2, 6], "reserve": [10, 2.5], "bids": [bid("b", [1, 4], 48000.5)]})
+        lines, made = self.made(text, None)
+        self.assertEqual((lines, made.scale), (["bidder b", "bid 1 4 480005"], 10))
+        again = read_bids(json_text(made.book).encode())
+        self.assertEqual((book_text(again.book), again.changes), (book_text(made.book), []))
+        table = read_bids(csv_text(made.book).encode(), Sold((2, 6), (Decimal(100), Decimal(25))))
+        self.assertEqual(book_text(table.book), book_text(made.book))
+        one = '{"bids": [{"bidder": "a", "package": %s, "amount": %s}]}'
+        for bids, why in {
+            '{"bids": 3}': "`bids` is a list of objects with `bidder`, `package` and `amount`",
+            '{"bids": [{"bidder": "a"}]}': "bid 1 is an object with `bidder`, `package` and `amount`",
+            one % ("[1.5, 0]", "3"): "`package of bid 1` is a list of whole numbers",
+            one % ("[1, 0]", "true"): "`amount of bid 1` is a list of numbers",
+            one % ("[1, 0]", "1e999999"): "bid 1 has an amount above the greatest one, 4398046511104",
+            one % ("[1, 0]", "NaN"): "`amount of bid 1` has a number that is below 0 or isn't finite",
+        }.items():
+            self.assertEqual(self.fault(bids), why)
+
+    def test_the_command(self):
+        printed, status, said = run("book", "-", "--supply", "2 6", "--reserve", "10 2.5", input="N,1,4,50\n")
+        self.assertEqual((printed, status), ("book 1\nsupply 2 6\nreserve 100 25\nbidder n\nbid 1 4 500\nend\n", 0))
+        self.assertEqual(len(said.splitlines()), 2)
+        self.assertEqual(run("book", "-", input="a,1,0,5")[1], 2)
+        printed, status, said = run("book", "-", "--supply", "2 6", input="a,9,0,5")
+        self.assertEqual((printed, status), ("", 3))
+        self.assertIn("Row 1 asks for 9 lots of category 1, and 2 are sold.", said)
+
+
+def bid(name, package, amount):
+    return {"bidder": name, "package": package, "amount": amount}
+
+
+class Numbers(unittest.TestCase):
+    def test_amounts(self):
+        for text, amount in {"12": 12, "1,234.50": "1234.5", "1 234": 1234, "EUR 5": 5, "12'000": 12000}.items():
+            self.assertEqual(amount_of(text), Decimal(amount))
+        for text in ("", "-3", "1,23", "1.2.3", "1e3", "٣", "nan"):
+            self.assertIsNone(amount_of(text), text)
+
+    def test_fractions(self):
+        self.assertEqual(fraction_of("20+1/2"), Fraction(41, 2))
+        self.assertEqual(
+            [decimal(Fraction(it)) for it in ("41/2", "244/3", "-1/8", "7")], ["20.5", "81.333333", "-0.125", "7"]
+        )
+
+
+class Prices(unittest.TestCase):
+    LINES = ["winner b 1 0 bid 28 vickrey 14 pays 20+1/2", "net 20", "revenue 20+1/2"]
+
+    def test_what_the_program_prints(self):
+        found = prices_of(["a", "b"], (3, 1), self.LINES)
+        lost, won = found.rows
+        self.assertEqual((lost.package, lost.bid, lost.pays), (None, 0, 0))
+        self.assertEqual((won.package, won.bid, won.vickrey, won.pays), ((1, 0), 28, 14, Fraction(41, 2)))
+        self.assertEqual((won.bid_net, won.vickrey_net, won.pays_net), (25, 11, Fraction(35, 2)))
+        self.assertEqual((found.net, found.revenue, found.raised, found.winners), (20, Fraction(41, 2), True, (won,)))
+
+    @with_program
+    def test_python(self):
+        found = cca_tools.price(cca_tools.read_book(sample("day-cramton.book")))
+        self.assertEqual([(it.bidder, it.pays) for it in found.winners], [("b1", 17), ("b2", 15)])
+        self.assertEqual((found.net, found.revenue, len(found.rows)), (48, 32, 5))
+
+    @with_program
+    def test_a_frame(self):
+        try:
+            import pandas  # noqa: F401
+        except ImportError:
+            self.skipTest("the package python3-pandas isn't installed")
+        frame = cca_tools.price(cca_tools.read_book(sample("day-cramton.book"))).frame()
+        self.assertEqual(list(frame.columns), ["bidder", "package", "bid", "vickrey", "price", "exact"])
+        self.assertEqual((frame.price.sum(), frame.exact[0]), (32.0, Fraction(17)))
+
+    @with_program
+    def test_the_command(self):
+        book = f"{TOOLS}/../examples/day-cramton.book"
+        printed, status, said = run("prices", book, "--unit", "2")
+        head, *rows = [line.split(",") for line in printed.splitlines()]
+        self.assertEqual((status, said, len(rows), len(head)), (0, "", 5, 13))
+        self.assertEqual(rows[0][1:], "b1,1 0,0,14,7,17/2,8.5,14,7,17/2,8.5,".split(","))
+        self.assertEqual(rows[4][1:], "b5,,0,0,0,0,0,0,0,0,0,".split(","))
+        printed, status, _ = run("prices", "--json", book)
+        first, *_, last = map(json.loads, printed.splitlines())
+        self.assertEqual((first["package"], first["price"], first["price_decimal"]), ([1, 0], "17", 17.0))
+        self.assertEqual((last["package"], last["bidder"]), (None, "b5"))
+
+    @with_program
+    def test_a_book_beyond_a_limit_doesn_t_stop_the_others(self):
+        seven = "book 1\nsupply 7\nreserve 0\n" + "".join(f"bidder b{n}\nbid 1 5\n" for n in range(7)) + "end\n"
+        printed, status, _ = run("prices", "-", f"{TOOLS}/../examples/tie.book", input=seven)
+        rows = [line.split(",") for line in printed.splitlines()[1:]]
+        self.assertEqual((status, {row[-1] for row in rows[:7]}, rows[7][6]), (0, {"limit winners 7"}, "0"))
+
+    def test_without_a_program(self):
+        made = run("prices", f"{TOOLS}/../examples/tie.book", env={"PATH": "/usr/bin:/bin", "CCA_PROGRAM": "/nowhere"})
+        self.assertEqual(made[:2], ("", 70))
+        self.assertIn("CCA_PROGRAM", made[2])
+
+
+if __name__ == "__main__":
+    unittest.main()

@@ -1,0 +1,243 @@
+"""The titles of reports, each tested against the numbers of 500 drawn auctions.
+
+An auction is drawn as its award and log. Its winners and Vickrey prices are the right ones; what coalitions ask for
+above these is drawn too, since a title has to be true whatever that is. What a title claims is read out of its words,
+and compared with numbers that are worked out here.
+"""
+import dataclasses
+import re
+import unittest
+from fractions import Fraction
+
+from drawn import Drawing
+from cca_tools.page import findings, rounds, winners
+from cca_tools.page.source import Source
+from cca_tools.page.words import VULGAR, Names
+from cca_tools.rules.certificate import Certificate, Row, winners_of
+from cca_tools.rules.winners import winning_choice
+
+MANY = 500
+WORDS = "no one two three four five six seven eight nine ten eleven twelve".split()
+LETTERS = {letter: part for part, letter in VULGAR.items()}
+COUNT = "|".join(WORDS) + r"|\d+"
+AMOUNT = r"[\d,]*(?:[^\W\d_a-z ]|\+\d+/\d+)?"
+
+
+def counted(word):
+    """A number that stands as a word or as digits."""
+    return WORDS.index(word.lower()) if word.lower() in WORDS else int(word.replace(",", ""))
+
+
+def amount(text):
+    """An amount as people write it."""
+    whole, _, rest = text.replace(",", "").partition("+")
+    if whole[-1:] in LETTERS:
+        return int(whole[:-1] or 0) + LETTERS[whole[-1]]
+    return int(whole) + Fraction(rest or 0)
+
+
+def bids_less(book, j):
+    """The book without the bids of a bidder."""
+    return dataclasses.replace(book, bids=[[] if k == j else bids for k, bids in enumerate(book.bids, 1)])
+
+
+def drawn_certificate(draw, book):
+    """The winners and what each pays: its Vickrey price, and shares of up to three rows of drawn winners."""
+    choice, value = winning_choice(book)
+    won = winners_of(choice)
+    without = {j: (winning_choice(bids_less(book, j))[0], []) for j in won}
+    rows = [Row([j], 1, 0, without[j][0]) for j in won]
+    for _ in range(draw.choice((0, 0, 1, 1, 2, 3))):
+        if len(won) > 1:
+            members = sorted(draw.sample(won, draw.randint(2, len(won))))
+            row = Row(members, 1, draw.choice((0, 1, 2, 200)), without[members[0]][0])
+            rows += [row] if all(members != other.members for other in rows) else []
+    den, made = draw.choice((1, 1, 2, 3, 7)), Certificate(book, 1, value, choice, [], without, [], rows, [])
+    above = [sum(row.second for row in rows if j in row.members) for j in range(1, book.bidders + 1)]
+    pay = [den * made.vickrey(j) + above[j - 1] if choice[j - 1] else 0 for j in range(1, book.bidders + 1)]
+    return dataclasses.replace(made, den=den, pay=pay)
+
+
+def drawn_source(number):
+    """The facts of a drawn auction; some have few bids, and some none."""
+    drawing = Drawing(number)
+    drawing.clock()
+    drawing.lists()
+    drawing.take("close")
+    auction, award = drawing.auction, drawing.award
+    book = auction.book()
+    book = dataclasses.replace(book, bids=[bids if drawing.draw.random() < 0.9 else [] for bids in book.bids])
+    names = Names(award.names, [category.name for category in award.categories])
+    return Source([], names, award, auction, book=book, certificate=drawn_certificate(drawing.draw, book))
+
+
+class Findings(unittest.TestCase):
+    @classmethod
+    def setUpClass(cls):
+        cls.sources = [drawn_source(number) for number in range(MANY)]
+
+    def each(self):
+        """Each source; a fault names the auction that is drawn from its number."""
+        for self.number, source in enumerate(self.sources):
+            yield source
+
+    def _formatMessage(self, msg, standard_message):
+        return f"auction {self.number}: {super()._formatMessage(msg, standard_message)}"
+
+    def above(self, source):
+        """How far each winner pays above its Vickrey price, by the numbers of the certificate."""
+        it = source.certificate
+        return {source.book.names[j - 1]: Fraction(it.pay[j - 1], it.den) - it.vickrey(j) for j in it.winners}
+
+    def test_prices(self):
+        forms = set()
+        for source in self.each():
+            title, above = findings.of_prices(source), self.above(source)
+            raised = {name: more for name, more in above.items() if more}
+            if not above:
+                self.assertEqual(title, "Nobody wins")
+                continue
+            forms.add(re.sub(rf"{AMOUNT}|east|west|north|south", "", title))
+            head, _, tail = title.rpartition("; ") if raised else (title, "", "")
+            self.check_head(head, len(above) - len(raised), len(above))
+            if raised:
+                self.check_raised(tail, raised, source)
+        self.assertGreater(len(forms), 12)
+
+    def check_head(self, head, at, whole):
+        """What a title says of those that pay their Vickrey prices."""
+        if not head:
+            self.assertEqual(at, 0)
+        elif found := re.fullmatch(rf"({COUNT}) of ({COUNT}) winners pays? (?:its|their) Vickrey price", head, re.I):
+            self.assertEqual((counted(found[1]), counted(found[2])), (at, whole))
+        else:
+            said = {"The only winner pays its": 1, "Both winners pay their": 2}
+            found = re.fullmatch(rf"(?:All ({COUNT}) winners pay their|(.*)) Vickrey prices?", head)
+            many = counted(found[1]) if found[1] else said[found[2]]
+            self.assertEqual((many, at), (whole, whole))
+
+    def check_raised(self, tail, raised, source):
+        """What a title says of those that pay more."""
+        found = re.fullmatch(
+            rf"(?:(a) coalition raises|({COUNT}) coalitions raise) (.*?)(?:, above (?:its|their) Vickrey prices?)?",
+            tail,
+            re.I,
+        )
+        rows = [row for row in source.certificate.rows if len(row.members) > 1 and row.second]
+        self.assertEqual(1 if found[1] else counted(found[2]), len(rows))
+        if every := re.fullmatch(rf"(?:all|the other) ({COUNT}) by ({AMOUNT})(?: (together|each))?", found[3]):
+            whole = sum(raised.values())
+            expected = whole if every[3] == "together" else whole / len(raised)
+            self.assertEqual((counted(every[1]), amount(every[2])), (len(raised), expected))
+            return
+        said, names = {}, []
+        for part in re.split(r", | and ", found[3]):
+            name, _, by = part.partition(" by ")
+            names.append(name)
+            if by:
+                is_each = by.endswith(" each")
+                said.update({it: amount(by.removesuffix(" each")) for it in (names if is_each else [name])})
+        self.assertEqual(said, raised)
+
+    def test_payments(self):
+        for source in self.each():
+            if source.winners:
+                title = findings.of_payments(source)
+                form = rf"(?:The winner pays|Winners pay) (.*) % of what (?:it|they) bid: ({AMOUNT}) of (.*)"
+                found = re.fullmatch(form, title)
+                it = source.certificate
+                reserves = sum(source.book.reserve(source.book.winning(it.choice, j)[0]) for j in it.winners)
+                bid = it.value + reserves
+                pays = Fraction(sum(it.pay), it.den) + reserves
+                self.assertEqual((amount(found[2]), amount(found[3])), (pays, bid))
+                self.assertLessEqual(abs(Fraction(found[1].replace(",", "")) - 100 * pays / bid), Fraction(1, 20))
+
+    def test_lots(self):
+        for source in self.each():
+            title, supply = findings.of_lots(source), source.book.supply
+            won = [source.book.winning(source.certificate.choice, j)[0] for j in source.winners]
+            left = [have - sum(package[c] for package in won) for c, have in enumerate(supply)]
+            if not any(map(sum, won)):
+                self.assertRegex(title, rf"^None of {sum(supply)} lots is sold$")
+                continue
+            found = re.fullmatch(
+                rf"(?:(\d+) of|All) (\d+) lots (?:is|are) sold, to (?:({COUNT}) winners|(\w+))"
+                r"(?:; (.*) stays? unsold)?",
+                title,
+            )
+            self.assertEqual(int(found[2]), sum(supply))
+            self.assertEqual(int(found[1] or found[2]), sum(supply) - sum(left))
+            if found[3]:
+                self.assertEqual(counted(found[3]), len(won))
+            else:
+                self.assertEqual([source.book.names[j - 1] for j in source.winners], [found[4]])
+            said = dict(part.split(" of ")[::-1] for part in re.split(r", | and ", found[5] or "") if part)
+            self.assertEqual(said, {f"c{c}": str(lots) for c, lots in enumerate(left, 1) if lots})
+
+    def test_bands_have_a_cell_for_each_lot(self):
+        for source in self.each():
+            won = [source.book.winning(source.certificate.choice, j)[0] for j in source.winners]
+            for c, band in enumerate(winners.bands_of(source)):
+                self.assertEqual(band.supply, source.book.supply[c])
+                for place, package in enumerate(won, 1):
+                    self.assertEqual(dict(band.parts).get(place, 0), package[c])
+
+    def test_categories(self):
+        for source in self.each():
+            closed = source.auction.rounds
+            for c, supply in enumerate(source.book.supply):
+                title, prices = findings.of_category(closed, c, False), [it.prices[c] for it in closed]
+                found = re.fullmatch(
+                    rf"The price (?:stayed at|rose by ([\d.,]+) % to) ([\d,]+); demand was (?:(never) above the supply"
+                    rf"|above the supply in ({COUNT}) of ({COUNT}) rounds?)",
+                    title,
+                )
+                above = sum(sum(package[c] for package in it.packages) > supply for it in closed)
+                self.assertEqual(amount(found[2]), prices[-1])
+                rose = Fraction((found[1] or "0").replace(",", ""))
+                self.assertLessEqual(abs(rose - Fraction(100 * (prices[-1] - prices[0]), prices[0])), Fraction(1, 20))
+                self.assertEqual((found[1] is None), prices[0] == prices[-1])
+                self.assertEqual(0 if found[3] else counted(found[4]), above)
+                if not found[3]:
+                    self.assertEqual(counted(found[5]), len(closed))
+
+    def test_the_clock(self):
+        for source in self.each():
+            closed = source.auction.rounds
+            found = re.fullmatch(
+                rf"The clock took ({COUNT}) rounds?, and"
+                rf" (no price rose|prices rose in (both|({COUNT}) of two) categories)",
+                findings.of_clock(closed, False),
+            )
+            rose = sum(closed[0].prices[c] != closed[-1].prices[c] for c in range(2))
+            self.assertEqual(counted(found[1]), len(closed))
+            self.assertEqual(0 if found[2].startswith("no") else 2 if found[3] == "both" else counted(found[4]), rose)
+
+    def test_activity(self):
+        for source in self.each():
+            closed, award = source.auction.rounds, source.award
+            every = [rounds.activity_of(source, closed, j) for j in range(1, len(award.names) + 1)]
+            title = findings.of_activity([it.points for it in every], [it.eligibility for it in every], False).lower()
+            weights = [category.points for category in award.categories]
+            sums = [sum(count * weight for one in it.packages for count, weight in zip(one, weights)) for it in closed]
+            losers = sum(closed[-1].eligibility[j] < closed[0].eligibility[j] for j in range(len(award.names)))
+            who = rf"(?:(no) bidder|all ({COUNT}) bidders|({COUNT}) of ({COUNT}) bidders)"
+            found = re.search(f"{who} lost eligibility$", title)
+            said = 0 if found[1] else counted(found[2] or found[3])
+            self.assertEqual(said, losers)
+            if len(closed) > 1:
+                went = "fell" if sums[-1] < sums[0] else "rose"
+                same = f"as many points are asked for in round {len(closed)} as in round 1, {sums[0]};"
+                moved = f"points asked for {went} from {sums[0]} to {sums[-1]} in {WORDS[len(closed)]} rounds;"
+                self.assertTrue(title.startswith(same if sums[0] == sums[-1] else moved), title)
+
+    def test_the_core(self):
+        for source in self.each():
+            above = sum(self.above(source).values())
+            title = findings.of_core(source) if source.winners else ""
+            found = re.search(rf" pay ({AMOUNT}) more than their Vickrey prices", title)
+            self.assertEqual(amount(found[1]) if found else 0, above)
+
+
+if __name__ == "__main__":
+    unittest.main()
