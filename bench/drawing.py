@@ -5,11 +5,25 @@ import os, sys
 HERE = os.path.dirname(os.path.realpath(__file__))
 PICTURES = os.path.join(HERE, "..", "docs", "pictures")
 sys.path.insert(0, os.path.join(HERE, "..", "tools"))
-from page.ink import BLUE, GREEN, GREENISH, INK, ORANGE, ORANGISH, RED, REDDISH, RULE, SOFT, as_file, new_figure  # noqa: E402,F401
+from cca_tools.page.ink import as_file  # noqa: E402
+from cca_tools.page.svg import Drawing, width_of  # noqa: E402
 
 
-def keep(figure, name, title, about):
-    figure.tight_layout(rect=(0, 0.07 if figure.legends else 0, 1, 1))
+def keep(drawing, size, title, about):
+    """Keeps a drawing of this width and height under the name of its key."""
     os.makedirs(PICTURES, exist_ok=True)
-    with open(os.path.join(PICTURES, name + ".svg"), "w") as file:
-        file.write(as_file(figure, name, title, about))
+    with open(os.path.join(PICTURES, drawing.key + ".svg"), "w") as file:
+        file.write(as_file(drawing.key, title, about, size, drawing.inner()))
+
+
+def draw_key(drawing, x, y, marks):
+    """A row of marks with their words: each is a colour, an edge or None, whether it is hatched, and the words."""
+    for fill, edge, is_hatched, words in marks:
+        if edge:
+            drawing.rect(x, y - 10, 14, 12, fill, edge)
+            if is_hatched:
+                drawing.rect(x, y - 10, 14, 12, drawing.hatch(edge))
+        else:
+            drawing.line(x, y - 4, x + 14, y - 4, fill, 2)
+        drawing.text(x + 20, y, words)
+        x += 44 + width_of(words)

@@ -228,7 +228,8 @@ def syncs():
     code, _, lines = traced(("price", "book", "new"), "-e", calls)
     assert code == 0, lines
     kinds = [line.split(b"(")[0].split()[-1] for line in lines if b"(" in line]
-    assert kinds[0] == b"write" and kinds[1] in (b"fsync", b"fdatasync") and kinds[2] == b"write", lines
+    # (the file, and then its folder)
+    assert kinds == [b"write", b"fsync", b"fsync", b"write"], lines
     code, _, lines = traced(("price", "book", "/dev/null"), "-e", calls)
     assert code == 0 and not any(b"sync(" in line for line in lines), lines
     code, printed, lines = traced(("price", "book", "other"), "-e", calls, "-e", "inject=fsync,fdatasync:error=EIO")

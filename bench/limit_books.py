@@ -6,6 +6,9 @@ OUT = os.path.join(HERE, "out")
 CCA = os.environ.get("CCA_PROGRAM") or os.path.join(HERE, "..", "crates", "cca", "out", "cca.built")
 BIDDERS, SUPPLY, RESERVE = 16, (6, 8, 8, 13, 1), (1000, 1500, 100, 10, 400)
 KINDS = ("small", "random", "halves")
+# Kinds whose bids nearly all matter, so that tables take longest: worths that grow with the package. `dense` has synergies and the
+# smallest packages, which fit most places; `additive` has none, and random packages.
+DENSE_KINDS = ("dense", "additive")
 
 
 def build_cca():
@@ -55,14 +58,27 @@ def price(book, cert, *flags, program=CCA):
 def packages_of(kind, rng):
     # each package has a lot of the first category, so at most six bidders win
     every = [p for p in itertools.product(*(range(s + 1) for s in SUPPLY)) if p[0] > 0]
-    if kind == "small":
+    if kind in ("small", "dense"):
         return sorted(sorted(every, key=lambda p: (sum(p), p))[:600])
     if kind == "halves":
         every = [p for p in every if p.count(0) >= 2 or all(2 * n <= s for n, s in zip(p, SUPPLY))]
     return sorted(rng.sample(every, 600))
 
 
+def dense_bids_of(kind, rng):
+    """The bids of a bidder with its own taste for each category: its worths add up, or grow by 2 to 8 percent with each further lot."""
+    taste = [rng.randrange(3600, 4401) for _ in SUPPLY]
+    synergy = rng.randrange(20, 80) if kind == "dense" else 0
+    bids = []
+    for p in packages_of(kind, rng):
+        worth = sum(n * r * t for n, r, t in zip(p, RESERVE, taste)) // 1000
+        bids.append((p, worth * (1000 + synergy * (sum(p) - 1)) // 1000 + rng.randrange(1000 if synergy else 1)))
+    return bids
+
+
 def bids_of(kind, rng):
+    if kind in DENSE_KINDS:
+        return dense_bids_of(kind, rng)
     bids = []
     for p in packages_of(kind, rng):
         cost = sum(n * r for n, r in zip(p, RESERVE))
@@ -73,7 +89,8 @@ def bids_of(kind, rng):
 def priced_book(kind):
     """The name of a book of 16 bidders with 600 bids each over 15,876 states and with at most six winners, and its bids.
 
-    The packages are the 600 smallest, random ones, or random ones of at most half the supply or of few categories.
+    The packages are the 600 smallest, random ones, or random ones of at most half the supply or of few categories. Worths are drawn,
+    or grow with the package in the dense kinds.
     """
     rng = random.Random(kind)
     book = [bids_of(kind, rng) for _ in range(BIDDERS)]

@@ -30,8 +30,25 @@
       const box = it.getBoundingClientRect()
       if (box.left < frame.left - 1.5 || box.right > frame.right + 1.5 || box.top < frame.top - 1.5 || box.bottom > frame.bottom + 1.5) say(`cut in a picture: "${short(it.textContent)}"`)
     }
-    const small = [...svg.querySelectorAll("text")].map(it => it.getBoundingClientRect().height).filter(height => height < 8)
-    if (small.length) say(`letters of ${Math.min(...small).toFixed(1)} in a picture: "${short(svg.querySelector("title")?.textContent ?? "")}"`)
+    const sizes = [...svg.querySelectorAll("text")].map(it => parseFloat(getComputedStyle(it).fontSize) * it.getScreenCTM().a)
+    if (sizes.some(size => size < 10.95)) say(`letters of ${Math.min(...sizes).toFixed(1)} in a picture: "${short(svg.querySelector("title")?.textContent ?? "")}"`)
+    crossed(svg)
+  }
+
+  // texts of a picture that a line goes through, but for those with an edge in the colour of their ground
+  function crossed(svg) {
+    const lines = [...svg.querySelectorAll("path, line")].filter(it => !it.closest("defs") && getComputedStyle(it).stroke !== "none" && (it.tagName === "line" || getComputedStyle(it).fill === "none"))
+    for (const text of svg.querySelectorAll("text")) {
+      if (getComputedStyle(text).stroke !== "none") continue
+      const box = text.getBoundingClientRect(), low = box.top + box.height / 4, high = box.bottom - box.height / 4
+      const isIn = ({ x, y }) => x > box.left + 1 && x < box.right - 1 && y > low && y < high
+      for (const line of lines) {
+        const other = line.getBoundingClientRect(), edge = parseFloat(getComputedStyle(line).strokeWidth) / 2
+        if (other.right + edge < box.left || other.left - edge > box.right || other.bottom + edge < low || other.top - edge > high) continue
+        const length = line.getTotalLength(), places = [...Array(401).keys()].map(i => line.getPointAtLength(length * i / 400).matrixTransform(line.getScreenCTM()))
+        if (places.filter(isIn).length > 1) { say(`a line crosses "${short(text.textContent)}"`); break }
+      }
+    }
   }
 
   // texts that lie over each other: parts sorted from above, each compared with those that begin before it ends

@@ -3,12 +3,11 @@ import os, sys
 from drawn_auctions import log_of, terms_of, text_of
 
 sys.path.insert(0, os.path.join(os.path.dirname(os.path.realpath(__file__)), "..", "tools"))
-from rules.auction import Auction, replay
-from rules.award import read_award
-from rules.book import book_text
-from rules.log import read_log
-from rules.sealed import cap_of
-from rules.stops import Stop, load
+from cca_tools.rules.auction import Auction, replay
+from cca_tools.rules.award import read_award
+from cca_tools.rules.book import book_text
+from cca_tools.rules.log import read_log
+from cca_tools.rules.stops import Stop, load
 
 
 class Desk:
@@ -30,7 +29,7 @@ class Desk:
         auction, award = self.auction, self.auction.award
         if auction.final is None or j > len(award.bidders):
             return []
-        cap = cap_of(auction, j, auction.drafts(j), package)
+        cap = auction.caps(j).cap(dict(auction.drafts(j)), package)
         caps = [each.by_round for each in (cap, cap.final) if each] if cap else []
         return [award.reserve_of(package), auction.highest_in_clock(j).get(package, 0), *caps, *caps]
 

@@ -81,11 +81,12 @@ def awarded(folder, award, log):
     return [award, log, cert]
 
 
-def made(folder):
-    paths = folder / "made.award", folder / "made.log"
+def made(folder, number="7"):
+    """The auction that the program makes of a number."""
+    paths = folder / f"made{number}.award", folder / f"made{number}.log"
     for path in paths:
         path.unlink(missing_ok=True)
-    subprocess.run([CCA, "make", "7", *paths], check=True, capture_output=True)
+    subprocess.run([CCA, "make", number, *paths], check=True, capture_output=True)
     return awarded(folder, *paths)
 
 
@@ -138,6 +139,9 @@ SHOWN = {
 }
 
 
+DRAWN = [f"drawn{number}" for number in range(1, 11)]
+
+
 def files_of(name, folder):
-    """The words of the report of this name. What is made of it stands in the folder."""
-    return SHOWN[name](folder)
+    """The words of the report of this name, or of the auction that the program makes of its number. What is made of it is in the folder."""
+    return made(folder, name.removeprefix("drawn")) if name in DRAWN else SHOWN[name](folder)

@@ -1,0 +1,25 @@
+"""The court's own files and the rules of cca_tools, which have to answer alike, called in this process. A run that takes too long is an error."""
+import os, signal, sys
+
+sys.path.insert(0, os.path.join(os.path.dirname(os.path.realpath(__file__)), "..", "tools", "tests"))
+from voices import audit, check, check_places  # noqa: E402
+from cca_tools.rules.stops import Stop  # noqa: E402
+
+SECONDS = 60  # of processor time
+TOOLS = {"audit": audit, "check": check, "check-places": check_places}
+
+
+def late(*_):
+    raise TimeoutError(f"a tool took more than {SECONDS} seconds")
+
+
+def answer(name, words):
+    """What a tool prints of these words, without the last line feed, and its status."""
+    signal.signal(signal.SIGVTALRM, late)
+    signal.setitimer(signal.ITIMER_VIRTUAL, SECONDS)
+    try:
+        return TOOLS[name](list(words)), 0
+    except Stop as stop:
+        return stop.line, stop.status
+    finally:
+        signal.setitimer(signal.ITIMER_VIRTUAL, 0)
