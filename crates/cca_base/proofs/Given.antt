@@ -244,6 +244,13 @@ read_more bytes file buffer room n le so_far stands =
     ap (λ (l : List ℕ). bytes ++ l) stands.bytes ∙ ap (λ (l : List ℕ). l ++ take n (drop (length bytes) file)) so_far
     ∙ sym (take-add (length bytes) n file) ∙ ap (λ (k : ℕ). take k file) (sym long)
 
+-- what files with these bytes hold is no more than the limit
+pub not_more : (name : List ℕ) (a b : Folder) (bytes : List ℕ) (limit : ℕ) → GaveOf (record { name = name; bytes = bytes } ∷ []) a b
+    → length bytes ≤ limit → GaveMore name a b limit → ⊥
+not_more name a b bytes limit of short more =
+    let over : limit < length bytes = more (λ other. Some bytes) (of.agree (λ other. Some bytes) (refl, tt)) in
+    omega (arith, over, short)
+
 -- The loads in between gave these bytes of a name from its first byte on, one load after the other, and nothing else.
 pub record GaveFront (name : List ℕ) (old new : Folder) (bytes : List ℕ) : Type 0 where
   pub kept : KeepsFiles old new
@@ -317,16 +324,26 @@ module _ (name : List ℕ) (a b c : Folder) (bytes buffer : List ℕ) (room n : 
       is_file (files name) (λ f. limit < length f) s.0 s.1 (omega (arith, s.3.within, within, over))
 
   -- one more load, whatever it gave, and whether it was kept or not
-  pub front_next : GaveSome name a c
-  front_next = record {
-    bytes = bytes ++ take n buffer;
-    gave = record {
-      agree = λ files hold.
-          let is : files name ≡ Some (bytes ++ (take n buffer ++ [])) = hold.0 ∙ ap (λ (l : List ℕ). Some (bytes ++ l)) (sym (append-nil (take n buffer))) in
-          joined files (bytes ++ (take n buffer ++ [])) is (front.enough files (take n buffer ++ []) is)
-          (stands_behind bytes (take n buffer) [] room (λ more has. absurd (omega (arith, more))));
-    };
+  front_of : GaveOf (record { name = name; bytes = bytes ++ take n buffer } ∷ []) a c
+  front_of = record {
+    agree = λ files hold.
+        let is : files name ≡ Some (bytes ++ (take n buffer ++ [])) = hold.0 ∙ ap (λ (l : List ℕ). Some (bytes ++ l)) (sym (append-nil (take n buffer))) in
+        joined files (bytes ++ (take n buffer ++ [])) is (front.enough files (take n buffer ++ []) is)
+        (stands_behind bytes (take n buffer) [] room (λ more has. absurd (omega (arith, more))));
   }
+
+  pub front_next : GaveSome name a c
+  front_next = record { bytes = bytes ++ take n buffer; gave = front_of }
+
+  -- a load that gave no more than the limit leaves
+  pub front_within : (limit : ℕ) → length bytes ≤ limit → n ≤ limit - length bytes → GaveMore name a c limit → ⊥
+  front_within limit within few more =
+      not_more name a c (bytes ++ take n buffer) limit front_of
+      (omega (arith, within, few, length-append bytes (take n buffer), length-take n buffer)) more
+
+-- before the first load nothing was given, which is no more than any limit
+pub none_within : (name : List ℕ) (a : Folder) (limit : ℕ) → GaveMore name a a limit → ⊥
+none_within name a limit more = not_more name a a [] limit (record { agree = λ files hold. agrees_still files a }) (omega arith) more
 
 -- bytes that hold what the loads of a prefix gave are its own
 pub front_some : (name : List ℕ) (a b : Folder) (bytes : List ℕ) → GaveFront name a b bytes → GaveSome name a b

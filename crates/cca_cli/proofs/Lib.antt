@@ -1,5 +1,5 @@
 mod Names
 mod Stopped
-mod FewWords
+mod Parted
 mod Numbers
 pub mod ReadStops

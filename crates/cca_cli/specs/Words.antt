@@ -1,18 +1,31 @@
 -- What a command of the program says.
-use Rattle.std.specs.Prelude.{ℕ, List, Contains, IsTrue}
+use Rattle.std.specs.Prelude.{ℕ, Bool, false, List, [], ◌∷◌, Contains, IsTrue, length, take, if◌then◌else◌}
 use Rattle.std.specs.List.{AllByRecursion}
 use Rattle.cca_base.specs.Files.{Folder}
+use Rattle.cca_cli.specs.declared.kind.Flags.{Flags}
+use Rattle.cca_cli.specs.declared.kind.Flags.TheVariants as flags
+use Rattle.cca_cli.specs.declared.kind.Kind.{Kind}
+use Rattle.cca_cli.specs.declared.price_form.PriceForm.{PriceForm}
 use Rattle.cca_cli.specs.declared.words.Command.{Command}
-use Rattle.cca_cli.specs.declared.words.Command.TheVariants.{Win, Two, Three, OnePriced, TwoPriced, Make}
-use Rattle.cca_cli.specs.Command.{CommandValue, win, two_files, three_files, one_priced, two_priced, make, files_of}
+use Rattle.cca_cli.specs.Command.{CommandValue, files_of, form_with, plain, row}
+
+-- what the flags leave of a form
+abbrev pub form_kept : Flags → PriceForm → PriceForm
+form_kept flags.None form = plain
+form_kept flags.Rounds form = form_with form.rounds false
+form_kept flags.Form form = form
+
+-- A command of a kind. What the kind has no use for is left out: names after those of its files, what its flags don't ask for, a number.
+abbrev pub command_with : Kind → List (List ℕ) → PriceForm → ℕ → CommandValue
+command_with kind names form number = record {
+  kind = kind;
+  names = take (length (row kind).files) names;
+  form = form_kept (row kind).flags form;
+  number = if (row kind).number then number else 0;
+}
 
 abbrev pub command_value : Command → CommandValue
-command_value (Win book) = win book.now
-command_value (Two kind first second) = two_files kind first.now second.now
-command_value (Three kind first second third) = three_files kind first.now second.now third.now
-command_value (OnePriced kind first cert form) = one_priced kind first.now cert.now form
-command_value (TwoPriced kind first second cert form) = two_priced kind first.now second.now cert.now form
-command_value (Make number terms log) = make number terms.now log.now
+command_value c = command_with c.kind (c.first.now ∷ c.second.now ∷ c.third.now ∷ []) c.form c.number
 
 -- the names of its files are among the words
 abbrev pub AreAmong : List (List ℕ) → CommandValue → Type 0

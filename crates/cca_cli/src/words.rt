@@ -1,78 +1,43 @@
 // The plain form of the words.
-ghost use Rattle.std.specs.Prelude.{◌≡◌, map, string_bytes, option_map, Some, None, IfSome, codes, true, if◌then◌else◌};
-ghost use Rattle.std.specs.Str.{bytes_eq};
-ghost use Rattle.cca_cli.specs.Command.{are_file_words, command_of, flags_of, is_among, is_file_word, make_words, number_said, one_priced_words, output_as, rounds_asked, said_by, three_words, two_priced_words, two_words, win_words};
+ghost use Rattle.std.specs.Prelude.{◌≡◌, ◌≢◌, map, string_bytes, option_map, ℕ, List, [], IfSome, true, length, get_or, if◌then◌else◌};
+ghost use Rattle.cca_cli.specs.Command.{are_file_words, command_of, is_among, is_file_word, number_said, output_as, row, said_after, said_by, said_numbered, said_with};
 ghost use Rattle.cca_cli.specs.Words.{AreAmong, command_value};
+ghost use Rattle.cca_cli.specs.declared.status.FileKind.{FileKind};
 
-use crate::price_form::asked_form;
-use crate::shape::{OnePriced, Shape, ThreeFiles, TwoFiles, TwoPriced, shape_of};
-use crate::{FileKind, PriceForm};
+use crate::kind::kind_of;
+use crate::price_form::form_of;
+use crate::{FileKind, Kind, PriceForm, Use};
 use wide_num::read_natural;
 
 // The greatest number from which an auction is made.
 const MOST_NUMBER: u128 = u32::MAX as u128;
 
-/// A command in its plain form, with the names of its files, by the shape of its words.
+/// A command in its plain form. What its kind has no use for says nothing.
 #[derive(Clone, Copy, Debug)]
-pub enum Command<'a> {
-    /// The winners of a book are printed.
-    Win {
-        book: &'a str,
-    },
-    /// What two files give.
-    Two {
-        kind: TwoFiles,
-        first: &'a str,
-        second: &'a str,
-    },
-    /// What three files give, or two and one that is appended to.
-    Three {
-        kind: ThreeFiles,
-        first: &'a str,
-        second: &'a str,
-        third: &'a str,
-    },
-    /// What a file states is priced, printed in the form that is asked for, and the certificate appended.
-    OnePriced {
-        kind: OnePriced,
-        first: &'a str,
-        cert: &'a str,
-        form: PriceForm,
-    },
-    /// The same of what two files state.
-    TwoPriced {
-        kind: TwoPriced,
-        first: &'a str,
-        second: &'a str,
-        cert: &'a str,
-        form: PriceForm,
-    },
-    /// An auction is made from a number; its award and its log are appended, and a summary is printed.
-    Make {
-        number: u32,
-        award: &'a str,
-        log: &'a str,
-    },
+pub struct Command<'a> {
+    pub kind: Kind,
+    /// The names of its files, in the order of its row.
+    pub first: &'a str,
+    pub second: &'a str,
+    pub third: &'a str,
+    /// The form in which it prints prices.
+    pub form: PriceForm,
+    /// The number before its files.
+    pub number: u32,
 }
 
 impl<'a> Command<'a> {
     /// The name of the file of this kind that the command appends to.
     pub fn output(self, kind: FileKind) -> Option<&'a str>
-        ensures { option_map (λ name. name.now) result ≡ output_as (command_value self.entry) kind }
+        ensures name { option_map (λ name. name.now) result ≡ output_as (command_value self.entry) kind }
+        ensures no_out { IfSome result (λ _. kind ≢ FileKind.Out) }
     {
-        match (self, kind) {
-            (Command::OnePriced { cert, .. }, FileKind::Cert) => Some(cert),
-            (Command::TwoPriced { cert, .. }, FileKind::Cert) => Some(cert),
-            (
-                Command::Three {
-                    kind: ThreeFiles::Auction,
-                    third,
-                    ..
-                },
-                FileKind::Book,
-            ) => Some(third),
-            (Command::Make { award, .. }, FileKind::Award) => Some(award),
-            (Command::Make { log, .. }, FileKind::Log) => Some(log),
+        match (self.kind, kind) {
+            (Kind::Price | Kind::Place, FileKind::Cert) => Some(self.second),
+            (Kind::Weigh | Kind::Award, FileKind::Cert) => Some(self.third),
+            (Kind::Auction, FileKind::Book) => Some(self.third),
+            (Kind::Make, FileKind::Award) => Some(self.first),
+            (Kind::Make, FileKind::Log) => Some(self.second),
             _ => None,
         }
     }
@@ -108,135 +73,6 @@ fn can_be_files(words: &[String]) -> bool
     }
 }
 
-fn win_command(words: &[String]) -> Option<Command<'_>>
-    ensures among { IfSome result (λ c. AreAmong (map string_bytes words.now) (command_value c)) }
-    ensures command { option_map command_value result ≡ win_words (map string_bytes words.now) }
-{
-    let [book] = words else {
-        return None;
-    };
-    if !can_be_files(words) {
-        return None;
-    }
-    Some(Command::Win {
-        book: book.as_str(),
-    })
-}
-
-// The words of a command that has two files.
-fn two_command(kind: TwoFiles, words: &[String]) -> Option<Command<'_>>
-    ensures among { IfSome result (λ c. AreAmong (map string_bytes words.now) (command_value c)) }
-    ensures command { option_map command_value result ≡ two_words kind (map string_bytes words.now) }
-{
-    let [first, second] = words else {
-        return None;
-    };
-    if !can_be_files(words) {
-        return None;
-    }
-    Some(Command::Two {
-        kind,
-        first: first.as_str(),
-        second: second.as_str(),
-    })
-}
-
-// The words of a command that has three files.
-fn three_command(kind: ThreeFiles, words: &[String]) -> Option<Command<'_>>
-    ensures among { IfSome result (λ c. AreAmong (map string_bytes words.now) (command_value c)) }
-    ensures command { option_map command_value result ≡ three_words kind (map string_bytes words.now) }
-{
-    let [first, second, third] = words else {
-        return None;
-    };
-    if !can_be_files(words) {
-        return None;
-    }
-    Some(Command::Three {
-        kind,
-        first: first.as_str(),
-        second: second.as_str(),
-        third: third.as_str(),
-    })
-}
-
-// Whether the words after the files ask for the lines of the turns; None where they say something else.
-fn asked_rounds(flags: &[String]) -> Option<bool>
-    ensures { result ≡ rounds_asked (map string_bytes flags.now) }
-{
-    match flags {
-        [] => Some(false),
-        [flag] => rounds_flag(flag.as_str()),
-        _ => None,
-    }
-}
-
-fn rounds_flag(flag: &str) -> Option<bool>
-    ensures { result ≡ (if bytes_eq flag.now (codes "--rounds") then Some true else None) }
-{
-    if flag != "--rounds" {
-        return None;
-    }
-    Some(true)
-}
-
-// The form that the flags of a command ask for.
-fn form_of(kind: OnePriced, flags: &[String]) -> Option<PriceForm>
-    ensures { result ≡ flags_of kind (map string_bytes flags.now) }
-{
-    match kind {
-        OnePriced::Price => asked_form(flags),
-        OnePriced::Place => {
-            let rounds = asked_rounds(flags)?;
-            Some(PriceForm {
-                rounds,
-                json: false,
-            })
-        }
-    }
-}
-
-// The words of a command that prices what one file states.
-fn one_priced_command(kind: OnePriced, words: &[String]) -> Option<Command<'_>>
-    ensures among { IfSome result (λ c. AreAmong (map string_bytes words.now) (command_value c)) }
-    ensures command { option_map command_value result ≡ one_priced_words kind (map string_bytes words.now) }
-{
-    let [first, cert, flags @ ..] = words else {
-        return None;
-    };
-    if !can_be_files(&words[..2]) {
-        return None;
-    }
-    let form = form_of(kind, flags)?;
-    Some(Command::OnePriced {
-        kind,
-        first: first.as_str(),
-        cert: cert.as_str(),
-        form,
-    })
-}
-
-// The words of a command that prices what two files state.
-fn two_priced_command(kind: TwoPriced, words: &[String]) -> Option<Command<'_>>
-    ensures among { IfSome result (λ c. AreAmong (map string_bytes words.now) (command_value c)) }
-    ensures command { option_map command_value result ≡ two_priced_words kind (map string_bytes words.now) }
-{
-    let [first, second, cert, flags @ ..] = words else {
-        return None;
-    };
-    if !can_be_files(&words[..3]) {
-        return None;
-    }
-    let form = asked_form(flags)?;
-    Some(Command::TwoPriced {
-        kind,
-        first: first.as_str(),
-        second: second.as_str(),
-        cert: cert.as_str(),
-        form,
-    })
-}
-
 // The number that a word says.
 fn number_of(word: &str) -> Option<u32>
     ensures { result ≡ number_said word.now }
@@ -248,36 +84,77 @@ fn number_of(word: &str) -> Option<u32>
     Some(number as u32)
 }
 
-fn make_command(words: &[String]) -> Option<Command<'_>>
-    ensures among { IfSome result (λ c. AreAmong (map string_bytes words.now) (command_value c)) }
-    ensures command { option_map command_value result ≡ make_words (map string_bytes words.now) }
+// The name at this place; none is empty.
+fn name_at(names: &[String], at: usize) -> &str
+    ensures { result.now ≡ get_or (map string_bytes names.now) at [] }
 {
-    let [number, award, log] = words else {
-        return None;
-    };
-    if !can_be_files(&words[1..]) {
+    match names.get(at) {
+        Some(name) => name.as_str(),
+        None => "",
+    }
+}
+
+// The command of a kind and a number, where these can be names of its files and these are flags of it.
+fn said_after<'a>(
+    kind: Kind,
+    number: u32,
+    names: &'a [String],
+    flags: &[String],
+) -> Option<Command<'a>>
+    requires names { length names.now ≡ length (row kind).files }
+    requires number { (if (row kind).number then number else 0) ≡ number }
+    ensures among { IfSome result (λ c. AreAmong (map string_bytes names.now) (command_value c)) }
+    ensures command { option_map command_value result ≡ said_after kind number (map string_bytes names.now) (map string_bytes flags.now) }
+{
+    if !can_be_files(names) {
         return None;
     }
-    let number = number_of(number.as_str())?;
-    Some(Command::Make {
+    let form = form_of(kind.row().flags, flags)?;
+    Some(Command {
+        kind,
+        first: name_at(names, 0),
+        second: name_at(names, 1),
+        third: name_at(names, 2),
+        form,
         number,
-        award: award.as_str(),
-        log: log.as_str(),
     })
 }
 
-// The command that words of a shape say.
-fn command_by(shape: Shape, words: &[String]) -> Option<Command<'_>>
+// The command of a kind and a number that words say: its files, and then flags.
+fn said_with(kind: Kind, number: u32, words: &[String]) -> Option<Command<'_>>
+    requires { (if (row kind).number then number else 0) ≡ number }
     ensures among { IfSome result (λ c. AreAmong (map string_bytes words.now) (command_value c)) }
-    ensures command { option_map command_value result ≡ said_by shape (map string_bytes words.now) }
+    ensures command { option_map command_value result ≡ said_with kind number (map string_bytes words.now) }
 {
-    match shape {
-        Shape::Win => win_command(words),
-        Shape::TwoFiles(kind) => two_command(kind, words),
-        Shape::ThreeFiles(kind) => three_command(kind, words),
-        Shape::OnePriced(kind) => one_priced_command(kind, words),
-        Shape::TwoPriced(kind) => two_priced_command(kind, words),
-        Shape::Make => make_command(words),
+    let count = kind.row().files.len();
+    if words.len() < count {
+        return None;
+    }
+    said_after(kind, number, &words[..count], &words[count..])
+}
+
+// The same after a number.
+fn said_numbered(kind: Kind, words: &[String]) -> Option<Command<'_>>
+    requires { (row kind).number ≡ true }
+    ensures among { IfSome result (λ c. AreAmong (map string_bytes words.now) (command_value c)) }
+    ensures command { option_map command_value result ≡ said_numbered kind (map string_bytes words.now) }
+{
+    let [number, rest @ ..] = words else {
+        return None;
+    };
+    let number = number_of(number.as_str())?;
+    said_with(kind, number, rest)
+}
+
+// The command of a kind that the words after its name say.
+fn said_by(kind: Kind, words: &[String]) -> Option<Command<'_>>
+    ensures among { IfSome result (λ c. AreAmong (map string_bytes words.now) (command_value c)) }
+    ensures command { option_map command_value result ≡ said_by kind (map string_bytes words.now) }
+{
+    if kind.row().number {
+        said_numbered(kind, words)
+    } else {
+        said_with(kind, 0, words)
     }
 }
 
@@ -289,8 +166,8 @@ pub fn read_command(words: &[String]) -> Option<Command<'_>>
     let [name, rest @ ..] = words else {
         return None;
     };
-    match shape_of(name.as_str()) {
-        Some(shape) => command_by(shape, rest),
+    match kind_of(name.as_str()) {
+        Some(kind) => said_by(kind, rest),
         None => None,
     }
 }

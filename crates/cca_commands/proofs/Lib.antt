@@ -1,6 +1,7 @@
 mod CertWork
 pub mod Counts
 mod Feeding
+mod Known
 mod LastInput
 pub mod Loads
 mod Placed

@@ -46,11 +46,9 @@ use Rattle.slot_places.specs.Board as board
 use Rattle.slot_places.specs.Slots.{SlotList}
 use Rattle.core_laws.specs.Winners.{winners_in}
 use Rattle.cca_cli.specs.Answers.{AwardAnswers, BookAnswers, CertAnswers, EditsAnswers, LogAnswers, PlaceCertAnswers, SlotsAnswers, WeightsAnswers}
-use Rattle.cca_cli.specs.Command.{CommandValue, win, two_files, three_files, one_priced, two_priced, make, command_of, contents_of}
-use Rattle.cca_cli.specs.declared.shape.OnePriced.TheVariants as one
-use Rattle.cca_cli.specs.declared.shape.ThreeFiles.TheVariants.{WeighCheck, Auction, Audit}
-use Rattle.cca_cli.specs.declared.shape.TwoFiles.TheVariants.{Check, PlaceCheck, Review}
-use Rattle.cca_cli.specs.declared.shape.TwoPriced.TheVariants as two
+use Rattle.cca_cli.specs.Command.{CommandValue, command_of, contents_of}
+use Rattle.cca_cli.specs.declared.kind.Kind.{Kind}
+use Rattle.cca_cli.specs.declared.kind.Kind.TheVariants as commands
 use Rattle.cca_cli.specs.Outcome.{InputGives, Outcome, done, stopped, stopped_after}
 use Rattle.cca_cli.specs.declared.file_text.FileText.{FileText}
 use Rattle.cca_cli.specs.declared.price_form.PriceForm.{PriceForm}
@@ -257,29 +255,33 @@ PlaceCertGives slots content follows outcome = InputGives Cert CERT_BYTES (Place
 abbrev pub EditsGive : BookValue → Option (List ℕ) → (List Edit → Outcome → Type 0) → Outcome → Type 0
 EditsGive book content follows outcome = InputGives Edits EDITS_BYTES (EditsAnswers book) content follows outcome
 
--- What a command gives, by the bytes of its inputs of each kind.
-abbrev pub CommandGives : CommandValue → (FileKind → Option (List ℕ)) → Outcome → Type 0
-CommandGives (win book) contents outcome = BookGives (contents file_kind.Book) WinGives outcome
-CommandGives (one_priced one.Price book cert form) contents outcome = BookGives (contents file_kind.Book) (λ b. PriceGives b (ones b) form) outcome
-CommandGives (one_priced one.Place slots cert form) contents outcome = SlotsGive (contents Slots) (λ s. PlaceGives s form.rounds) outcome
-CommandGives (two_priced two.Weigh book weights cert form) contents outcome =
-    BookGives (contents file_kind.Book) (λ b. WeightsGive b (contents Weights) (λ w. PriceGives b w form)) outcome
-CommandGives (two_priced two.Award terms log cert form) contents outcome =
-    AwardGives (contents Award) (λ t. LogGives t (contents Log) (λ events. BookOfLogGives t events (λ b. PriceGives b (ones b) form))) outcome
-CommandGives (two_files Check book cert) contents outcome =
+-- What a command of a kind gives, by the form, the number and the bytes of its inputs of each kind.
+abbrev pub KindGives : Kind → PriceForm → ℕ → (FileKind → Option (List ℕ)) → Outcome → Type 0
+KindGives commands.Win form number contents outcome = BookGives (contents file_kind.Book) WinGives outcome
+KindGives commands.Price form number contents outcome = BookGives (contents file_kind.Book) (λ b. PriceGives b (ones b) form) outcome
+KindGives commands.Check form number contents outcome =
     BookGives (contents file_kind.Book) (λ b. CertGives b (contents Cert) (VerdictGives b (ones b))) outcome
-CommandGives (two_files PlaceCheck slots cert) contents outcome =
-    SlotsGive (contents Slots) (λ s. PlaceCertGives s (contents Cert) (PlaceVerdictGives s)) outcome
-CommandGives (two_files Review book edits) contents outcome =
-    BookGives (contents file_kind.Book) (λ b. EditsGive b (contents Edits) (ReviewGives b)) outcome
-CommandGives (three_files WeighCheck book weights cert) contents outcome =
+KindGives commands.Weigh form number contents outcome =
+    BookGives (contents file_kind.Book) (λ b. WeightsGive b (contents Weights) (λ w. PriceGives b w form)) outcome
+KindGives commands.WeighCheck form number contents outcome =
     BookGives (contents file_kind.Book) (λ b. WeightsGive b (contents Weights) (λ w. CertGives b (contents Cert) (VerdictGives b w))) outcome
-CommandGives (three_files Auction terms log book) contents outcome =
+KindGives commands.Auction form number contents outcome =
     AwardGives (contents Award) (λ t. LogGives t (contents Log) (AuctionGives t)) outcome
-CommandGives (three_files Audit terms log cert) contents outcome =
+KindGives commands.Award form number contents outcome =
+    AwardGives (contents Award) (λ t. LogGives t (contents Log) (λ events. BookOfLogGives t events (λ b. PriceGives b (ones b) form))) outcome
+KindGives commands.Audit form number contents outcome =
     AwardGives (contents Award)
     (λ t. LogGives t (contents Log) (λ events. BookOfLogGives t events (λ b. CertGives b (contents Cert) (VerdictGives b (ones b))))) outcome
-CommandGives (make number terms log) contents outcome = MakeGives number outcome
+KindGives commands.Make form number contents outcome = MakeGives number outcome
+KindGives commands.Place form number contents outcome = SlotsGive (contents Slots) (λ s. PlaceGives s form.rounds) outcome
+KindGives commands.PlaceCheck form number contents outcome =
+    SlotsGive (contents Slots) (λ s. PlaceCertGives s (contents Cert) (PlaceVerdictGives s)) outcome
+KindGives commands.Review form number contents outcome =
+    BookGives (contents file_kind.Book) (λ b. EditsGive b (contents Edits) (ReviewGives b)) outcome
+
+-- what a command gives, by the bytes of its inputs
+abbrev pub CommandGives : CommandValue → (FileKind → Option (List ℕ)) → Outcome → Type 0
+CommandGives command contents outcome = KindGives command.kind command.form command.number contents outcome
 
 -- what a command gives by the files
 abbrev pub FilesGive : CommandValue → (List ℕ → Option (List ℕ)) → Outcome → Type 0

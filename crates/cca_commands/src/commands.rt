@@ -2,9 +2,8 @@
 ghost use Rattle.std.specs.Prelude.{◌≡◌, ◌⊎◌, ℕ, List, [], ◌∷◌, Err, IsTrue};
 ghost use Rattle.auction_model.specs.Prices.{AreWeights};
 ghost use Rattle.cert_soundness.specs.Tests.{bidders_of};
-ghost use Rattle.cca_cli.specs.Command.{win, weigh, weigh_check, auction, award, audit, check, place_check, price, review, one_priced, three_files, two_files, two_priced};
+ghost use Rattle.cca_cli.specs.Command.{win, weigh, weigh_check, auction, award, audit, check, place, place_check, price, review};
 ghost use Rattle.cca_cli.specs.Words.{KnowsFiles, command_value};
-ghost use Rattle.cca_cli.specs.declared.shape.OnePriced.TheVariants.{Place};
 ghost use Rattle.cca_cli.specs.declared.status.FileKind.TheVariants.{Book, Cert, Edits, Log, Weights};
 ghost use Rattle.cca_cli.specs.declared.status.Status.{Status};
 ghost use Rattle.limits.specs.declared.TheConstants.{LOG_BYTES, WEIGHTS_BYTES};
@@ -29,8 +28,8 @@ use award_file::Award;
 use bid_book::BidBook;
 use cca_base::Files;
 use cca_cli::{
-    AwardInput, BookInput, Command, EditsInput, LogInput, OnePriced, PlaceCertInput, PriceForm,
-    SlotsInput, ThreeFiles, TwoFiles, TwoPriced, WeightsInput, read_input,
+    AwardInput, BookInput, Command, EditsInput, Kind, LogInput, PlaceCertInput, PriceForm,
+    SlotsInput, WeightsInput, read_input,
 };
 use log_file::packages_of_log;
 use slot_places::Slots;
@@ -281,14 +280,14 @@ fn place_work<F: Files>(
     alloc: Global,
     files: &mut F,
     slots: &str,
-    form: PriceForm,
+    rounds: bool,
 ) -> Result<Work, Stop>
     requires { IsTrue ((F.folder files.old).knows slots.now) }
     ensures { (cert : List ℕ)
-        → Works (one_priced Place slots.now cert form) (F.folder files.old) (F.folder files.new) result }
+        → Works (place slots.now cert rounds) (F.folder files.old) (F.folder files.new) result }
 {
     let slots = read_input(alloc, files, slots, &SlotsInput)?;
-    placed(alloc, &slots, form.rounds)
+    placed(alloc, &slots, rounds)
 }
 
 // What the certificate of a placement gives whose slots are at hand.
@@ -344,111 +343,31 @@ fn review_work<F: Files>(
     edited(alloc, files, edits, book)
 }
 
-fn two_work<F: Files>(
-    alloc: Global,
-    files: &mut F,
-    kind: TwoFiles,
-    first: &str,
-    second: &str,
-) -> Result<Work, Stop>
-    requires first { IsTrue ((F.folder files.old).knows first.now) }
-    requires second { IsTrue ((F.folder files.old).knows second.now) }
-    ensures { Works (two_files kind first.now second.now) (F.folder files.old) (F.folder files.new) result }
-{
-    match kind {
-        TwoFiles::Check => check_work(alloc, files, first, second),
-        TwoFiles::PlaceCheck => place_check_work(alloc, files, first, second),
-        TwoFiles::Review => review_work(alloc, files, first, second),
-    }
-}
-
-fn three_work<F: Files>(
-    alloc: Global,
-    files: &mut F,
-    kind: ThreeFiles,
-    first: &str,
-    second: &str,
-    third: &str,
-) -> Result<Work, Stop>
-    requires first { IsTrue ((F.folder files.old).knows first.now) }
-    requires second { IsTrue ((F.folder files.old).knows second.now) }
-    requires third { IsTrue ((F.folder files.old).knows third.now) }
-    ensures { Works (three_files kind first.now second.now third.now) (F.folder files.old) (F.folder files.new) result }
-{
-    match kind {
-        ThreeFiles::WeighCheck => weigh_check_work(alloc, files, first, second, third),
-        ThreeFiles::Auction => auction_work(alloc, files, first, second),
-        ThreeFiles::Audit => audit_work(alloc, files, first, second, third),
-    }
-}
-
-fn one_priced_work<F: Files>(
-    alloc: Global,
-    files: &mut F,
-    kind: OnePriced,
-    first: &str,
-    form: PriceForm,
-) -> Result<Work, Stop>
-    requires { IsTrue ((F.folder files.old).knows first.now) }
-    ensures { (cert : List ℕ)
-        → Works (one_priced kind first.now cert form) (F.folder files.old) (F.folder files.new) result }
-{
-    match kind {
-        OnePriced::Price => price_work(alloc, files, first, form),
-        OnePriced::Place => place_work(alloc, files, first, form),
-    }
-}
-
-fn two_priced_work<F: Files>(
-    alloc: Global,
-    files: &mut F,
-    kind: TwoPriced,
-    first: &str,
-    second: &str,
-    form: PriceForm,
-) -> Result<Work, Stop>
-    requires first { IsTrue ((F.folder files.old).knows first.now) }
-    requires second { IsTrue ((F.folder files.old).knows second.now) }
-    ensures { (cert : List ℕ)
-        → Works (two_priced kind first.now second.now cert form) (F.folder files.old) (F.folder files.new) result }
-{
-    match kind {
-        TwoPriced::Weigh => weigh_work(alloc, files, first, second, form),
-        TwoPriced::Award => award_work(alloc, files, first, second, form),
-    }
-}
-
 /// What the command prints and appends, or the stop on the way to it.
 pub fn work_out<F: Files>(alloc: Global, files: &mut F, command: Command<'_>) -> Result<Work, Stop>
     requires { KnowsFiles (F.folder files.old) (command_value command) }
     ensures { Works (command_value command.entry) (F.folder files.old) (F.folder files.new) result }
 {
-    match command {
-        Command::Win { book } => win_work(alloc, files, book),
-        Command::Two {
-            kind,
-            first,
-            second,
-        } => two_work(alloc, files, kind, first, second),
-        Command::Three {
-            kind,
-            first,
-            second,
-            third,
-        } => three_work(alloc, files, kind, first, second, third),
-        Command::OnePriced {
-            kind,
-            first,
-            form,
-            ..
-        } => one_priced_work(alloc, files, kind, first, form),
-        Command::TwoPriced {
-            kind,
-            first,
-            second,
-            form,
-            ..
-        } => two_priced_work(alloc, files, kind, first, second, form),
-        Command::Make { number, .. } => made(alloc, number),
+    let Command {
+        kind,
+        first,
+        second,
+        third,
+        form,
+        number,
+    } = command;
+    match kind {
+        Kind::Win => win_work(alloc, files, first),
+        Kind::Price => price_work(alloc, files, first, form),
+        Kind::Check => check_work(alloc, files, first, second),
+        Kind::Weigh => weigh_work(alloc, files, first, second, form),
+        Kind::WeighCheck => weigh_check_work(alloc, files, first, second, third),
+        Kind::Auction => auction_work(alloc, files, first, second),
+        Kind::Award => award_work(alloc, files, first, second, form),
+        Kind::Audit => audit_work(alloc, files, first, second, third),
+        Kind::Make => made(alloc, number),
+        Kind::Place => place_work(alloc, files, first, form.rounds),
+        Kind::PlaceCheck => place_check_work(alloc, files, first, second),
+        Kind::Review => review_work(alloc, files, first, second),
     }
 }

@@ -1,17 +1,20 @@
 -- How appends end.
-use Rattle.std.proofs.Common.{IsTrue, List, Some, [], ap, append_assoc, arith, get_or, length, refl, subst, sym, ℕ, ◌++◌, ◌<◌, ◌∙◌, ◌∷◌, ◌≡◌, ◌≤◌}
-use Rattle.std.specs.Prelude.{Err, Ok, Result, drop, take, ◌-◌}
+use Rattle.std.proofs.Common.{IsTrue, List, Some, [], ap, append_assoc, arith, get_or, length, refl, subst, sym, ℕ, ◌++◌, ◌<◌, ◌∙◌, ◌∷◌, ◌≡◌, ◌≢◌, ◌≤◌}
+use Rattle.std.specs.Prelude.{All, Contains, Err, IfSome, IsSome, None, Ok, Option, Result, drop, option_map, take, ◌-◌}
 use Rattle.std.specs.List.{AllByRecursion}
 use Rattle.cca_base.specs.Faults.{Rose}
+use Rattle.std.proofs.lemmas.Bool.{true≢false}
 use Rattle.std.proofs.lemmas.List.{take_all}
+use Rattle.std.proofs.lemmas.List.Elements.{All-contains}
 use Rattle.cca_base.specs.Files.{Adds, Folder, KeepsFiles}
 use Rattle.cca_base.specs.Sink.{HasRoom}
 use Rattle.cca_base.proofs.Given.{keeps_still}
 use Rattle.cca_run.proofs.Moved.{all-on}
-use Rattle.cca_cli.specs.Command.{CommandValue, files_of, output_as}
-use Rattle.cca_cli.specs.Words.{KnowsFiles}
+use Rattle.cca_cli.specs.Command.{CommandValue, FileUse, files_of, output_as}
+use Rattle.cca_cli.specs.Words.{AreAmong, KnowsFiles}
 use Rattle.cca_cli.specs.declared.file_text.FileText.{FileText}
 use Rattle.cca_cli.specs.declared.status.FileKind.{FileKind}
+use Rattle.cca_cli.specs.declared.status.FileKind.TheVariants.{Out}
 use Rattle.cca_run.specs.Run.{AppendsAll}
 use Rattle.cca_run.specs.Ends.{AppendEnds, FailsAt, OnlyAppends}
 use Rattle.cca_commands.proofs.Counts.{rose-from}
@@ -23,13 +26,29 @@ keeps folder = keeps_still folder
 pub known-on : (command : CommandValue) (old new : Folder) → new.knows ≡ old.knows → KnowsFiles old command → KnowsFiles new command
 known-on command old new same all = subst (λ (k : List ℕ → _). AllByRecursion (λ f. IsTrue (k f.name)) (files_of command)) (sym same) all
 
+-- names that are among known words are known
+pub known-among : (words : List (List ℕ)) (command : CommandValue) (folder : Folder) → All (λ w. IsTrue (folder.knows w)) words → AreAmong words command
+    → KnowsFiles folder command
+known-among words command folder known among = by (files_of command) among
+  where
+    by : (files : List FileUse) → AllByRecursion (λ f. Contains words f.name) files → AllByRecursion (λ f. IsTrue (folder.knows f.name)) files
+    by [] rest = tt
+    by (f ∷ files) rest = (All-contains (λ w. IsTrue (folder.knows w)) words f.name known rest.0, by files rest.1)
+
+-- what holds where there is a name holds where there is one in another form
+pub at-some : {A : Type 0} (f : A → List ℕ) (name : Option A) (other : Option (List ℕ)) (P : Type 0) → IsSome other → option_map f name ≡ other
+    → IfSome name (λ _. P) → P
+at-some f None other P some is holds = absurd (true≢false (sym (subst IsSome (sym is) some)))
+at-some f (Some x) other P some is holds = holds
+
 -- of one text a prefix was appended
 pub part-one : (command : CommandValue) (text : FileText) (name : List ℕ) (old new : Folder) (n : ℕ) → output_as command text.kind ≡ Some name
-    → Rose (old.append_faults name) (new.append_faults name) → n < length text.text → Adds name old new text.text n
+    → text.kind ≢ Out → Rose (old.append_faults name) (new.append_faults name) → n < length text.text → Adds name old new text.text n
     → (HasRoom (old.room name) (length text.text) → ⊥) → FailsAt command (text ∷ []) old new text.kind
-part-one command text name old new n output rose less adds full = record {
+part-one command text name old new n output no_out rose less adds full = record {
   name = name;
   output = output;
+  no_out = no_out;
   rose = rose;
   part = record {
     before = [];
@@ -61,6 +80,7 @@ fails-first command text rest old new kind f =
     record {
       name = f.name;
       output = f.output;
+      no_out = f.no_out;
       rose = f.rose;
       part = record {
         before = p.before;
@@ -87,6 +107,7 @@ fails-later command text rest old mid new kind one counts f =
     record {
       name = f.name;
       output = f.output;
+      no_out = f.no_out;
       rose = rose-from (old.append_faults f.name) (mid.append_faults f.name) (new.append_faults f.name) (counts.appends.not_less f.name) f.rose;
       part = record {
         before = text ∷ p.before;

@@ -20,7 +20,6 @@ use Rattle.cca_run.specs.Run.{AppendsAll, FailsToWrite, IsWriteFault, Prints}
 use Rattle.cca_commands.specs.Works.{OnlyReads}
 use Rattle.cca_run.specs.Ends.{FailsAt, FinishEnds, OnlyAppends, RunEnds}
 use Rattle.cca_run.proofs.Moved.{all-on, upto-on}
-use Rattle.cca_run.proofs.Named.{never-out}
 
 -- an append failed, and its line was printed or its front
 pub append-failed : (command : CommandValue) (old new : Folder) (before now : Output) (printed line : List ℕ) (appended : List FileText) (kind : FileKind)
@@ -42,9 +41,6 @@ append-failed command old new before now printed line appended kind result fails
     not-done (inl w) e = let x : WriteFault kind ≡ Done = sym w.0 ∙ e in cc
     not-done (inr w) e = let x : WriteFault Out ≡ Done = sym w.0 ∙ e in cc
 
-    not-out : kind ≡ Out → ⊥
-    not-out e = never-out command fails.name (subst (λ (k : FileKind). output_as command k ≡ Some fails.name) e fails.output)
-
     ended : Prints before now line (WriteFault kind) result → (result ≡ Done) ⊎ ((other : FileKind) × (result ≡ WriteFault other))
     ended (inl w) = inr (kind, w.0)
     ended (inr w) = inr (Out, w.0)
@@ -62,7 +58,7 @@ append-failed command old new before now printed line appended kind result fails
     front : Prints before now line (WriteFault kind) result → result ≡ WriteFault Out → (text : List ℕ) × (n : ℕ) × (n < length text) × Puts before now text n
         × (((text ≡ printed) × AppendsAll command appended old new) ⊎ ((other : FileKind) × FailsAt command appended old new other
         × (text ≡ status_line (WriteFault other)))) × (HasRoom before.room (length text) → ⊥)
-    front (inl w) e = let x : WriteFault kind ≡ WriteFault Out = sym w.0 ∙ e in let same : kind ≡ Out = cc in absurd (not-out same)
+    front (inl w) e = let x : WriteFault kind ≡ WriteFault Out = sym w.0 ∙ e in let same : kind ≡ Out = cc in absurd (fails.no_out same)
     front (inr w) e = let cut = w.2 in (line, cut.0, cut.1, cut.2, inr (kind, fails, is), w.3)
 
 -- the work was computed, and the command ended
@@ -113,7 +109,7 @@ module _ (command : CommandValue) (old mid new : Folder) (before now : Output) (
       by Edits w (inl x) = let no : Edits ≡ Out = x.0 in absurd cc
       by Edits w (inr f) = fails-to Edits f
       by Out w (inl x) = x.1
-      by Out w (inr f) = absurd (never-out command f.name f.output)
+      by Out w (inr f) = absurd (f.no_out refl)
 
   -- the files and the output are as a run with this status leaves them
   pub run-ends : RunEnds (Some command) old new before now result

@@ -4,11 +4,8 @@ use Rattle.std.specs.Prelude.{Contains, find, filter}
 use Rattle.std.specs.Option.{option_map}
 use Rattle.std.specs.List.{AllByRecursion}
 use Rattle.std.proofs.lemmas.Bool.{cases_Bool}
-use Rattle.cca_cli.specs.Command.{CommandValue, FileUse, appended_files, input_as, inputs_of, is_kind, make, one_priced, output_as, outputs_of}
-use Rattle.cca_cli.specs.Command.{read_files, three_files, two_files, two_priced, win}
-use Rattle.cca_cli.specs.declared.shape.ThreeFiles.TheVariants.{Auction, Audit, WeighCheck}
+use Rattle.cca_cli.specs.Command.{CommandValue, FileUse, appended_files, input_as, inputs_of, is_kind, output_as, outputs_of, read_files}
 use Rattle.cca_cli.specs.declared.status.FileKind.{FileKind}
-use Rattle.cca_cli.specs.declared.status.FileKind.TheVariants.{Out}
 
 -- the name of the file that is found is among the names
 found : (q : FileUse → Bool) (files : List FileUse) (name : List ℕ) → option_map (λ f. f.name) (find q files) ≡ Some name
@@ -44,14 +41,3 @@ output-among command kind name is = found (λ f. is_kind kind f.kind) (appended_
 -- the input of a kind is among the inputs
 pub input-among : (command : CommandValue) (kind : FileKind) (name : List ℕ) → input_as command kind ≡ Some name → Contains (inputs_of command) name
 input-among command kind name is = found (λ f. is_kind kind f.kind) (read_files command) name is
-
--- no command appends to the output
-pub never-out : (command : CommandValue) (name : List ℕ) → output_as command Out ≡ Some name → ⊥
-never-out (win book) name is = cc
-never-out (two_files kind first second) name is = cc
-never-out (three_files WeighCheck first second third) name is = cc
-never-out (three_files Auction first second third) name is = cc
-never-out (three_files Audit first second third) name is = cc
-never-out (one_priced kind first cert form) name is = cc
-never-out (two_priced kind first second cert form) name is = cc
-never-out (make number terms log) name is = cc

@@ -41,21 +41,19 @@ use Rattle.book_price.proofs.Ones.{ones-weigh}
 use Rattle.cca_run.proofs.Ones.{not_few_and_many}
 use Rattle.cca_cli.specs.Answers.{AwardAnswers, BookAnswers, CertAnswers, EditsAnswers, LogAnswers, WeightsAnswers, book_answer, cert_answer}
 use Rattle.cca_cli.specs.Answers.{edits_answer, weights_answer}
-use Rattle.cca_cli.specs.Command.{CommandValue, command_of, contents_of, make, one_priced, place_check, three_files, two_files, two_priced, win}
-use Rattle.cca_cli.specs.declared.shape.OnePriced.TheVariants as one
-use Rattle.cca_cli.specs.declared.shape.ThreeFiles.TheVariants.{Auction, Audit, WeighCheck}
-use Rattle.cca_cli.specs.declared.shape.TwoFiles.TheVariants.{Check, PlaceCheck, Review}
-use Rattle.cca_cli.specs.declared.shape.TwoPriced.TheVariants as two
+use Rattle.cca_cli.specs.Command.{CommandValue, command_of, contents_of}
+use Rattle.cca_cli.specs.declared.kind.Kind.{Kind}
+use Rattle.cca_cli.specs.declared.kind.Kind.TheVariants as commands
 use Rattle.cca_cli.specs.Outcome.{Answer, Outcome, done, stopped, value}
 use Rattle.cca_cli.specs.declared.price_form.PriceForm.{PriceForm}
 use Rattle.cca_cli.specs.declared.status.CertKind.TheVariants as certs
 use Rattle.cca_cli.specs.declared.status.FileKind.{FileKind}
-use Rattle.cca_cli.specs.declared.status.FileKind.TheVariants.{Award, Cert, Edits, Log, Weights}
+use Rattle.cca_cli.specs.declared.status.FileKind.TheVariants.{Award, Cert, Edits, Log, Slots, Weights}
 use Rattle.cca_cli.specs.declared.status.FileKind.TheVariants as file_kind
 use Rattle.limits.specs.declared.TheConstants.{AWARD_BYTES, BOOK_BYTES, CERT_BYTES, EDITS_BYTES, LOG_BYTES, WEIGHTS_BYTES}
-use Rattle.cca_commands.specs.Gives.{ArePriceLines, AreRounds, AuctionGives, BookOfLogGives, CertGives, CommandGives, EditsGive, EndGives, Gives}
-use Rattle.cca_commands.specs.Gives.{HasTooMany, IsPricing, IsPrinted, IsYesText, LogGives, PriceGives, RepliesGive, ReviewGives, VerdictGives}
-use Rattle.cca_commands.specs.Gives.{WeightsGive, WinGives, WordsGive, book_file, cert_file, ones}
+use Rattle.cca_commands.specs.Gives.{ArePriceLines, AreRounds, AuctionGives, BookOfLogGives, CertGives, EditsGive, EndGives, Gives}
+use Rattle.cca_commands.specs.Gives.{HasTooMany, IsPricing, IsPrinted, IsYesText, KindGives, LogGives, PlaceCertGives, PlaceGives, PlaceVerdictGives, PriceGives}
+use Rattle.cca_commands.specs.Gives.{RepliesGive, ReviewGives, SlotsGive, VerdictGives, WeightsGive, WinGives, WordsGive, book_file, cert_file, ones}
 use Rattle.cca_cli.specs.declared.status.Status.TheVariants.{Limit, No}
 use Rattle.limits.specs.declared.LimitKind.TheVariants.{Winners}
 
@@ -110,10 +108,11 @@ module _ (one_book : (bytes : List ℕ) (x y : Said Book Excess) → Says IsBook
     → pos 1 ≤ℤ p.den → pos 1 ≤ℤ q.den → SamePoint (market_of book) p q → ((j : ℕ) → 0 < j → j ≤ (market_of book).bidders → v j ≡ w j)
     → IsMarket (market_of book) → IsPricingRun (market_of book) weights z runs → IsPricingRun (market_of book) weights z others
     → IsOutcomeJson book z v p (Some runs) t → IsOutcomeJson book z w q (Some others) u → t ≡ u)
-    (one_placed : (slots cert : List ℕ) (form : PriceForm) (contents : FileKind → Option (List ℕ)) (o p : Outcome)
-    → CommandGives (one_priced one.Place slots cert form) contents o → CommandGives (one_priced one.Place slots cert form) contents p → Same o p)
-    (one_tested : (slots cert : List ℕ) (contents : FileKind → Option (List ℕ)) (o p : Outcome) → CommandGives (place_check slots cert) contents o
-    → CommandGives (place_check slots cert) contents p → Same o p)
+    (one_placed : (rounds : Bool) (contents : FileKind → Option (List ℕ)) (o p : Outcome) → SlotsGive (contents Slots) (λ s. PlaceGives s rounds) o
+    → SlotsGive (contents Slots) (λ s. PlaceGives s rounds) p → Same o p)
+    (one_tested : (contents : FileKind → Option (List ℕ)) (o p : Outcome)
+    → SlotsGive (contents Slots) (λ s. PlaceCertGives s (contents Cert) (PlaceVerdictGives s)) o
+    → SlotsGive (contents Slots) (λ s. PlaceCertGives s (contents Cert) (PlaceVerdictGives s)) p → Same o p)
     (one_edits : (categories : ℕ) (bytes : List ℕ) (x y : Said (List NamedEdit) Excess) → EditsSay categories bytes x → EditsSay categories bytes y → x ≡ y)
     (one_review : (book : Book) (edits : List Edit) (t u : List ℕ) → IsBookWithinLimits book → AllByRecursion
     (λ e. length (edit_lots e) ≡ length book.supply) edits → IsReviewText book edits t → IsReviewText book edits u → t ≡ u) where
@@ -237,38 +236,38 @@ module _ (one_book : (bytes : List ℕ) (x y : Said Book Excess) → Says IsBook
       equal o p (stopped (No certs.Book y.0 y.1)) (x.3 ∙ ap (λ (t : ℕ). stopped (No certs.Book t x.1)) is.0
       ∙ ap (λ (q : ℕ). stopped (No certs.Book y.0 q)) is.1) y.3
 
-  one-of : (command : CommandValue) (contents : FileKind → Option (List ℕ)) (o p : Outcome) → CommandGives command contents o
-      → CommandGives command contents p → Same o p
-  one-of (win name) contents o p x y = one-input file_kind.Book BOOK_BYTES BookAnswers WinGives one_book-answer (contents file_kind.Book) o p
+  one-of : (kind : Kind) (form : PriceForm) (number : ℕ) (contents : FileKind → Option (List ℕ)) (o p : Outcome)
+      → KindGives kind form number contents o → KindGives kind form number contents p → Same o p
+  one-of commands.Win form number contents o p x y = one-input file_kind.Book BOOK_BYTES BookAnswers WinGives one_book-answer (contents file_kind.Book) o p
       (λ book bytes says x y.
       let m = lawful bytes book says in
       let same = one_winning (market_of book) x.0 y.0 m x.1 y.1 in
       both o p (done (win_text book x.0) []) (done (win_text book y.0) []) x.2 y.2
       (printed-same (win_text book x.0) (win_text book y.0) [] [] (ap (win_text book) same))) x y
-  one-of (one_priced one.Price name cert form) contents o p x y = one-input file_kind.Book BOOK_BYTES BookAnswers (λ book. PriceGives book
+  one-of commands.Price form number contents o p x y = one-input file_kind.Book BOOK_BYTES BookAnswers (λ book. PriceGives book
       (ones book) form) one_book-answer (contents file_kind.Book) o p
       (λ book bytes says x y. one-priced book (ones book) (ones-weigh (bidders_of book)) form o p (lawful bytes book says) x y) x y
-  one-of (two_files Check name cert) contents o p x y = one-input file_kind.Book BOOK_BYTES BookAnswers (λ book. CertGives book (contents Cert)
+  one-of commands.Check form number contents o p x y = one-input file_kind.Book BOOK_BYTES BookAnswers (λ book. CertGives book (contents Cert)
       (VerdictGives book (ones book))) one_book-answer (contents file_kind.Book) o p
       (λ book bytes says x y. one-input Cert CERT_BYTES (CertAnswers book) (VerdictGives book (ones book)) (one_cert-answer book) (contents Cert) o p
       (λ c of says_it a b. one-judged book (ones book) c o p (lawful bytes book says) a b) x y) x y
-  one-of (two_priced two.Weigh name weights cert form) contents o p x y =
+  one-of commands.Weigh form number contents o p x y =
       one-input file_kind.Book BOOK_BYTES BookAnswers (λ b. WeightsGive b (contents Weights) (λ w. PriceGives b w form)) one_book-answer (contents file_kind.Book) o p
       (λ book bytes says x y. one-input Weights WEIGHTS_BYTES (WeightsAnswers book) (λ w. PriceGives book w form) (one_weights-answer book
       (limits-of bytes book says).form) (contents Weights) o p
       (λ w of says_it a b. one-priced book w (weights-of book of w says_it) form o p (lawful bytes book says) a b) x y) x y
-  one-of (three_files WeighCheck name weights cert) contents o p x y =
+  one-of commands.WeighCheck form number contents o p x y =
       one-input file_kind.Book BOOK_BYTES BookAnswers (λ b. WeightsGive b (contents Weights) (λ w. CertGives b (contents Cert) (VerdictGives b w))) one_book-answer
       (contents file_kind.Book) o p
       (λ book bytes says x y. one-input Weights WEIGHTS_BYTES (WeightsAnswers book) (λ w. CertGives book (contents Cert) (VerdictGives book w))
       (one_weights-answer book (limits-of bytes book says).form) (contents Weights) o p
       (λ w of says_it a b. one-input Cert CERT_BYTES (CertAnswers book) (VerdictGives book w) (one_cert-answer book) (contents Cert) o p
       (λ c with_it says_cert g h. one-judged book w c o p (lawful bytes book says) g h) a b) x y) x y
-  one-of (three_files Auction terms log book) contents o p x y = one-input Award AWARD_BYTES AwardAnswers (λ terms. LogGives terms (contents Log)
+  one-of commands.Auction form number contents o p x y = one-input Award AWARD_BYTES AwardAnswers (λ terms. LogGives terms (contents Log)
       (AuctionGives terms)) one_award-answer (contents Award) o p
       (λ terms bytes says x y. one-input Log LOG_BYTES (LogAnswers terms) (AuctionGives terms) (one_log_answer terms) (contents Log) o p
       (λ events of says_it a b. one-end _ _ _ o p a b) x y) x y
-  one-of (two_priced two.Award terms log cert form) contents o p x y =
+  one-of commands.Award form number contents o p x y =
       one-input Award AWARD_BYTES AwardAnswers (λ t. LogGives t (contents Log) (λ events. BookOfLogGives t events (λ b. PriceGives b (ones b) form)))
       one_award-answer (contents Award) o p
       (λ t bytes says x y. one-input Log LOG_BYTES (LogAnswers t) (λ events. BookOfLogGives t events (λ b. PriceGives b (ones b) form)) (one_log_answer t)
@@ -276,7 +275,7 @@ module _ (one_book : (bytes : List ℕ) (x y : Said Book Excess) → Says IsBook
       (λ events of says_it a b. one-ended (length events) (end_of t (reverse events)) (λ b. PriceGives b (ones b) form) o p
       (λ book is. one-priced book (ones book) (ones-weigh (bidders_of book)) form o p (lawful_log t (log_records of) events book says.1 says_it is)) a b) x y)
       x y
-  one-of (three_files Audit terms log cert) contents o p x y =
+  one-of commands.Audit form number contents o p x y =
       one-input Award AWARD_BYTES AwardAnswers (λ t. LogGives t (contents Log) (λ events. BookOfLogGives t events
       (λ b. CertGives b (contents Cert) (VerdictGives b (ones b))))) one_award-answer (contents Award) o p
       (λ t bytes says x y. one-input Log LOG_BYTES (LogAnswers t) (λ events. BookOfLogGives t events
@@ -284,10 +283,10 @@ module _ (one_book : (bytes : List ℕ) (x y : Said Book Excess) → Says IsBook
       (λ events of says_it a b. one-ended (length events) (end_of t (reverse events)) (λ b. CertGives b (contents Cert) (VerdictGives b (ones b))) o p
       (λ book is x y. one-input Cert CERT_BYTES (CertAnswers book) (VerdictGives book (ones book)) (one_cert-answer book) (contents Cert) o p
       (λ c with_it says_cert g h. one-judged book (ones book) c o p (lawful_log t (log_records of) events book says.1 says_it is) g h) x y) a b) x y) x y
-  one-of (make number terms log) contents o p x y = equal o p _ x y
-  one-of (one_priced one.Place slots cert form) contents o p x y = one_placed slots cert form contents o p x y
-  one-of (two_files PlaceCheck slots cert) contents o p x y = one_tested slots cert contents o p x y
-  one-of (two_files Review name edits) contents o p x y = one-input file_kind.Book BOOK_BYTES BookAnswers (λ b. EditsGive b (contents Edits)
+  one-of commands.Make form number contents o p x y = equal o p _ x y
+  one-of commands.Place form number contents o p x y = one_placed form.rounds contents o p x y
+  one-of commands.PlaceCheck form number contents o p x y = one_tested contents o p x y
+  one-of commands.Review form number contents o p x y = one-input file_kind.Book BOOK_BYTES BookAnswers (λ b. EditsGive b (contents Edits)
       (ReviewGives b)) one_book-answer (contents file_kind.Book) o p
       (λ book bytes says x y. one-input Edits EDITS_BYTES (EditsAnswers book) (ReviewGives book) (one_edits-answer book) (contents Edits) o p
       (λ changes of says_it a b. both o p (done a.0 []) (done b.0 []) a.2 b.2 (printed-same a.0 b.0 [] []
@@ -295,7 +294,7 @@ module _ (one_book : (bytes : List ℕ) (x y : Said Book Excess) → Says IsBook
 
   one-words : (command : Option CommandValue) (file : List ℕ → Option (List ℕ)) (o p : Outcome) → WordsGive command file o → WordsGive command file p → Same o p
   one-words None file o p x y = equal o p _ x y
-  one-words (Some command) file o p x y = one-of command (contents_of command file) o p x y
+  one-words (Some command) file o p x y = one-of command.kind command.form command.number (contents_of command file) o p x y
 
   -- what the words and the files give has one status and one printed text
   pub one-outcome : (words : List (List ℕ)) (file : List ℕ → Option (List ℕ)) (o p : Outcome) → Gives words file o → Gives words file p → Same o p

@@ -23,15 +23,12 @@ use Rattle.slot_places.specs.SlotForm.{IsSlotText, slot_lines}
 use Rattle.slot_places.specs.Slots.{SlotList}
 use Rattle.slot_places.proofs.Within.{kept_slots}
 use Rattle.cca_cli.specs.Answers.{PlaceCertAnswers, SlotsAnswers, place_cert_answer, slots_answer}
-use Rattle.cca_cli.specs.Command.{one_priced, place_check}
-use Rattle.cca_cli.specs.declared.price_form.PriceForm.{PriceForm}
-use Rattle.cca_cli.specs.declared.shape.OnePriced.TheVariants.{Place}
 use Rattle.cca_cli.specs.Outcome.{Answer, Outcome, done, stopped, value}
 use Rattle.cca_cli.specs.declared.status.CertKind.TheVariants as certs
 use Rattle.cca_cli.specs.declared.status.FileKind.{FileKind}
 use Rattle.cca_cli.specs.declared.status.FileKind.TheVariants.{Cert, Slots}
 use Rattle.cca_cli.specs.declared.status.Status.TheVariants.{No}
-use Rattle.cca_commands.specs.Gives.{AreRounds, CommandGives, IsPlaceYes, IsPlacing, PlaceCertGives, PlaceGives, PlaceVerdictGives, cert_file}
+use Rattle.cca_commands.specs.Gives.{AreRounds, IsPlaceYes, IsPlacing, PlaceCertGives, PlaceGives, PlaceVerdictGives, SlotsGive, cert_file}
 use Rattle.cca_run.proofs.Same.{Same, both, equal, one-input, printed-same}
 
 -- slots that bytes state are few bidders
@@ -132,16 +129,17 @@ module _ (one_slots : (bytes : List ℕ) (x y : Said SlotList Excess) → Says I
       ∙ ap (λ (q : ℕ). stopped (No certs.Placement y.0 q)) is.1) y.3
 
   -- the placement that is computed
-  pub one-place : (slots cert : List ℕ) (form : PriceForm) (contents : FileKind → Option (List ℕ)) (o p : Outcome)
-      → CommandGives (one_priced Place slots cert form) contents o → CommandGives (one_priced Place slots cert form) contents p → Same o p
-  one-place slots cert form contents o p x y =
-      one-input Slots SLOTS_BYTES SlotsAnswers (λ s. PlaceGives s form.rounds) one_slots-answer (contents Slots) o p
-      (λ s bytes says x y. one-placing s form.rounds o p (few-placed bytes s says) x y) x y
+  pub one-place : (rounds : Bool) (contents : FileKind → Option (List ℕ)) (o p : Outcome) → SlotsGive (contents Slots) (λ s. PlaceGives s rounds) o
+      → SlotsGive (contents Slots) (λ s. PlaceGives s rounds) p → Same o p
+  one-place rounds contents o p x y =
+      one-input Slots SLOTS_BYTES SlotsAnswers (λ s. PlaceGives s rounds) one_slots-answer (contents Slots) o p
+      (λ s bytes says x y. one-placing s rounds o p (few-placed bytes s says) x y) x y
 
   -- and one that is tested
-  pub one-place_check : (slots cert : List ℕ) (contents : FileKind → Option (List ℕ)) (o p : Outcome) → CommandGives (place_check slots cert) contents o
-      → CommandGives (place_check slots cert) contents p → Same o p
-  one-place_check slots cert contents o p x y = one-input Slots SLOTS_BYTES SlotsAnswers (λ s. PlaceCertGives s (contents Cert) (PlaceVerdictGives s))
+  pub one-place_check : (contents : FileKind → Option (List ℕ)) (o p : Outcome)
+      → SlotsGive (contents Slots) (λ s. PlaceCertGives s (contents Cert) (PlaceVerdictGives s)) o
+      → SlotsGive (contents Slots) (λ s. PlaceCertGives s (contents Cert) (PlaceVerdictGives s)) p → Same o p
+  one-place_check contents o p x y = one-input Slots SLOTS_BYTES SlotsAnswers (λ s. PlaceCertGives s (contents Cert) (PlaceVerdictGives s))
       one_slots-answer (contents Slots) o p
       (λ s bytes says x y. one-input Cert CERT_BYTES (PlaceCertAnswers (length s.bidders)) (PlaceVerdictGives s) (one_cert-answer s) (contents Cert) o p
       (λ c of says_it a b. one-judged s c o p (few-placed bytes s says) a b) x y) x y

@@ -1,20 +1,16 @@
 -- The words of a command name files, no two the same.
-use Rattle.std.proofs.Common.{◌≡◌, ◌≢◌, ℕ, Bool, true, false, Option, Some, None, List, [], ◌∷◌, map, refl, subst, inl, inr}
-use Rattle.std.specs.Prelude.{◌&&◌, ◌||◌, not, filter, option_and_then, if◌then◌else◌}
+use Rattle.std.proofs.Common.{◌≡◌, ◌≢◌, ℕ, Bool, true, false, Option, Some, None, List, [], ◌∷◌, length, map, take, drop, refl, sym, ap, subst, inl, inr}
+use Rattle.std.specs.Prelude.{◌&&◌, ◌||◌, not, nat_lt, filter, option_and_then, if◌then◌else◌}
 use Rattle.std.specs.Option.{option_map}
 use Rattle.std.specs.Str.{bytes_eq}
 use Rattle.std.proofs.lemmas.Bool.{cases_Bool}
 use Rattle.std.proofs.lemmas.Slice.Eq.{bytes_eq-Decides}
-use Rattle.cca_cli.specs.Command.{CommandValue, FileUse, are_file_words, award, command_of, files_of, flags_of, form_asked, inputs_of, is_among}
-use Rattle.cca_cli.specs.Command.{is_file_word, is_read, make, make_words, number_said, one_priced, one_priced_words, said_by, shape_named}
-use Rattle.cca_cli.specs.Command.{three_files, three_words, two_files, two_priced, two_priced_words, two_words, win, win_words}
+use Rattle.cca_cli.specs.Command.{CommandValue, FileUse, are_file_words, asked, award, command_of, files_named, files_of, inputs_of, is_among}
+use Rattle.cca_cli.specs.Command.{is_file_word, is_read, kind_named, number_said, row, said_after, said_by, said_numbered, said_with}
+use Rattle.cca_cli.specs.declared.kind.Kind.{Kind}
+use Rattle.cca_cli.specs.declared.kind.Use.{Use}
 use Rattle.cca_cli.specs.declared.price_form.PriceForm.{PriceForm}
-use Rattle.cca_cli.specs.declared.shape.OnePriced.{OnePriced}
-use Rattle.cca_cli.specs.declared.shape.Shape.{Shape}
-use Rattle.cca_cli.specs.declared.shape.Shape.TheVariants as shape
-use Rattle.cca_cli.specs.declared.shape.ThreeFiles.{ThreeFiles}
-use Rattle.cca_cli.specs.declared.shape.TwoFiles.{TwoFiles}
-use Rattle.cca_cli.specs.declared.shape.TwoPriced.{TwoPriced}
+use Rattle.cca_cli.specs.declared.status.FileKind.{FileKind}
 use Rattle.cca_run.specs.Run.{inputs}
 
 -- both hold
@@ -35,11 +31,6 @@ not-true false is = refl
 abbrev pub AreApart : CommandValue → Type 0
 AreApart c = are_file_words (map (λ f. f.name) (files_of c)) ≡ true
 
--- words that say one command
-one-apart : (b : Bool) (d c : CommandValue) → (b ≡ true → AreApart d) → (if b then Some d else None) ≡ Some c → AreApart c
-one-apart true d c apart is = let same : d ≡ c = cc in subst AreApart same (apart refl)
-one-apart false d c apart is = absurd cc
-
 -- words that say a command with something that they ask for
 asked-apart : {A : Type 0} (b : Bool) (say : A → CommandValue) (asked : Option A) (c : CommandValue) → ((x : A) → b ≡ true → AreApart (say x))
     → (if b then option_map say asked else None) ≡ Some c → AreApart c
@@ -47,62 +38,53 @@ asked-apart true say None c apart is = absurd cc
 asked-apart true say (Some x) c apart is = let same : say x ≡ c = cc in subst AreApart same (apart x refl)
 asked-apart false say asked c apart is = absurd cc
 
-win-apart : (rest : List (List ℕ)) (c : CommandValue) → win_words rest ≡ Some c → AreApart c
-win-apart [] c is = absurd cc
-win-apart (f ∷ []) c is = one-apart (are_file_words (f ∷ [])) (win f) c (λ h. h) is
-win-apart (f ∷ g ∷ rest) c is = absurd cc
+-- that many words are the names of as many files
+all-named : (files : List (FileKind × Use)) (words : List (List ℕ))
+    → map (λ f. f.name) (files_named files (take (length files) words)) ≡ take (length files) words
+all-named [] words = refl
+all-named (file ∷ files) [] = refl
+all-named (file ∷ files) (w ∷ words) = ap (λ (l : List (List ℕ)). w ∷ l) (all-named files words)
 
-two-apart : (kind : TwoFiles) (rest : List (List ℕ)) (c : CommandValue) → two_words kind rest ≡ Some c → AreApart c
-two-apart kind [] c is = absurd cc
-two-apart kind (f ∷ []) c is = absurd cc
-two-apart kind (f ∷ g ∷ []) c is = one-apart (are_file_words (f ∷ g ∷ [])) (two_files kind f g) c (λ e. e) is
-two-apart kind (f ∷ g ∷ h ∷ rest) c is = absurd cc
+-- words that say a command of a kind, with its number
+with-apart : (kind : Kind) (number : ℕ) (words : List (List ℕ)) (c : CommandValue) → said_with kind number words ≡ Some c → AreApart c
+with-apart kind number words c is = by (nat_lt (length words) (length (row kind).files)) is
+  where
+    names : List (List ℕ)
+    names = take (length (row kind).files) words
 
-three-apart : (kind : ThreeFiles) (rest : List (List ℕ)) (c : CommandValue) → three_words kind rest ≡ Some c → AreApart c
-three-apart kind [] c is = absurd cc
-three-apart kind (f ∷ []) c is = absurd cc
-three-apart kind (f ∷ g ∷ []) c is = absurd cc
-three-apart kind (f ∷ g ∷ h ∷ []) c is = one-apart (are_file_words (f ∷ g ∷ h ∷ [])) (three_files kind f g h) c (λ e. e) is
-three-apart kind (f ∷ g ∷ h ∷ i ∷ rest) c is = absurd cc
+    flags : List (List ℕ)
+    flags = drop (length (row kind).files) words
 
-one_priced-apart : (kind : OnePriced) (rest : List (List ℕ)) (c : CommandValue) → one_priced_words kind rest ≡ Some c → AreApart c
-one_priced-apart kind [] c is = absurd cc
-one_priced-apart kind (f ∷ []) c is = absurd cc
-one_priced-apart kind (f ∷ g ∷ flags) c is =
-    asked-apart (are_file_words (f ∷ g ∷ [])) (one_priced kind f g) (flags_of kind flags) c (λ x e. e) is
+    by : (short : Bool) → option_and_then (λ (parts : List (List ℕ) × List (List ℕ)). said_after kind number parts.0 parts.1) (if short then None else Some (names, flags)) ≡ Some c → AreApart c
+    by true says = absurd cc
+    by false says =
+        asked-apart (are_file_words names) (λ form. record { kind = kind; names = names; form = form; number = number }) (asked (row kind).flags flags) c
+        (λ form e. subst (λ (l : List (List ℕ)). are_file_words l ≡ true) (sym (all-named (row kind).files words)) e) says
 
-two_priced-apart : (kind : TwoPriced) (rest : List (List ℕ)) (c : CommandValue) → two_priced_words kind rest ≡ Some c → AreApart c
-two_priced-apart kind [] c is = absurd cc
-two_priced-apart kind (f ∷ []) c is = absurd cc
-two_priced-apart kind (f ∷ g ∷ []) c is = absurd cc
-two_priced-apart kind (f ∷ g ∷ h ∷ flags) c is =
-    asked-apart (are_file_words (f ∷ g ∷ h ∷ [])) (two_priced kind f g h) (form_asked flags) c (λ x e. e) is
+numbered-apart : (kind : Kind) (words : List (List ℕ)) (c : CommandValue) → said_numbered kind words ≡ Some c → AreApart c
+numbered-apart kind [] c is = absurd cc
+numbered-apart kind (n ∷ words) c is = by (number_said n) is
+  where
+    by : (number : Option ℕ) → option_and_then (λ m. said_with kind m words) number ≡ Some c → AreApart c
+    by None says = absurd cc
+    by (Some number) says = with-apart kind number words c says
 
-make-apart : (rest : List (List ℕ)) (c : CommandValue) → make_words rest ≡ Some c → AreApart c
-make-apart [] c is = absurd cc
-make-apart (n ∷ []) c is = absurd cc
-make-apart (n ∷ f ∷ []) c is = absurd cc
-make-apart (n ∷ f ∷ g ∷ []) c is =
-    asked-apart (are_file_words (f ∷ g ∷ [])) (λ number. make number f g) (number_said n) c (λ x e. e) is
-make-apart (n ∷ f ∷ g ∷ h ∷ rest) c is = absurd cc
-
--- words of each shape
-said-apart : (s : Shape) (rest : List (List ℕ)) (c : CommandValue) → said_by s rest ≡ Some c → AreApart c
-said-apart shape.Win rest c is = win-apart rest c is
-said-apart (shape.TwoFiles kind) rest c is = two-apart kind rest c is
-said-apart (shape.ThreeFiles kind) rest c is = three-apart kind rest c is
-said-apart (shape.OnePriced kind) rest c is = one_priced-apart kind rest c is
-said-apart (shape.TwoPriced kind) rest c is = two_priced-apart kind rest c is
-said-apart shape.Make rest c is = make-apart rest c is
+-- words that say a command of a kind
+said-apart : (kind : Kind) (rest : List (List ℕ)) (c : CommandValue) → said_by kind rest ≡ Some c → AreApart c
+said-apart kind rest c is = by (row kind).number is
+  where
+    by : (numbered : Bool) → (if numbered then said_numbered kind rest else said_with kind 0 rest) ≡ Some c → AreApart c
+    by true says = numbered-apart kind rest c says
+    by false says = with-apart kind 0 rest c says
 
 -- the files that the words of a command name
 pub apart-in : (words : List (List ℕ)) (c : CommandValue) → command_of words ≡ Some c → AreApart c
 apart-in [] c is = absurd cc
-apart-in (w ∷ rest) c is = by (shape_named w) is
+apart-in (w ∷ rest) c is = by (kind_named w) is
   where
-    by : (named : Option Shape) → option_and_then (λ s. said_by s rest) named ≡ Some c → AreApart c
+    by : (named : Option Kind) → option_and_then (λ kind. said_by kind rest) named ≡ Some c → AreApart c
     by None says = absurd cc
-    by (Some s) says = said-apart s rest c says
+    by (Some kind) says = said-apart kind rest c says
 
 -- names that aren't the same
 differ : (x y : List ℕ) → bytes_eq x y ≡ false → x ≢ y

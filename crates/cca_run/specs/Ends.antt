@@ -1,5 +1,5 @@
 -- How a run ends that has a command, and one whose words say none.
-use Rattle.std.specs.Prelude.{◌≡◌, ◌⊎◌, ◌<◌, ◌≤◌, ◌++◌, ℕ, Bool, true, false, IsTrue, Option, Some, None, Result, Ok, Err, List, length}
+use Rattle.std.specs.Prelude.{◌≡◌, ◌≢◌, ◌⊎◌, ◌<◌, ◌≤◌, ◌++◌, ℕ, Bool, true, false, IsTrue, Option, Some, None, Result, Ok, Err, List, length}
 use Rattle.cca_base.specs.Faults.{Rose}
 use Rattle.cca_base.specs.Files.{Agrees, Folder, KeepsFiles}
 use Rattle.cca_base.specs.Sink.{HasRoom, Output, Puts}
@@ -23,6 +23,7 @@ use Rattle.cca_commands.specs.declared.work.Work.{Work}
 pub record FailsAt (command : CommandValue) (appended : List FileText) (old new : Folder) (kind : FileKind) : Type 0 where
   pub name : List ℕ
   pub output : output_as command kind ≡ Some name
+  pub no_out : kind ≢ Out
   pub rose : Rose (old.append_faults name) (new.append_faults name)
   pub part : AppendsUpTo command kind appended old new
 

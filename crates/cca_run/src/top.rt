@@ -70,22 +70,6 @@ fn end_command<F: Files, O: Sink>(
     }
 }
 
-// Runs a command.
-fn run_command<F: Files, O: Sink>(
-    alloc: Global,
-    files: &mut F,
-    out: &mut O,
-    command: Command<'_>,
-) -> Status
-    requires { KnowsFiles (F.folder files.old) (command_value command) }
-    ensures ends { RunEnds (Some (command_value command.entry)) (F.folder files.old) (F.folder files.new)
-        (O.output out.old) (O.output out.new) result }
-    ensures faults { (O.output out.old).faults ≤ (O.output out.new).faults }
-{
-    let worked = work_out(alloc, files, command);
-    end_command(files, out, command, &worked)
-}
-
 // Tells that the words are of no plain form.
 fn tell_words<F: Files, O: Sink>(files: &F, out: &mut O) -> Status
     ensures ends { RunEnds None (F.folder files.now) (F.folder files.now) (O.output out.old) (O.output out.new) result }
@@ -105,7 +89,10 @@ fn ran<F: Files, O: Sink>(alloc: Global, words: &[String], files: &mut F, out: &
     complete_log_is_awarded();
     awarded_cert_passes();
     match read_command(words) {
-        Some(command) => run_command(alloc, files, out, command),
+        Some(command) => {
+            let worked = work_out(alloc, files, command);
+            end_command(files, out, command, &worked)
+        }
         None => tell_words(files, out),
     }
 }

@@ -10,6 +10,7 @@ mod WinLines
 mod JsonLists
 mod PlainTexts
 mod Reserves
+mod EditReplies
 mod ReviewLines
 mod ReviewTexts
 mod StateLines

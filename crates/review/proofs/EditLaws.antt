@@ -38,13 +38,13 @@ module _ (book : Book) (j : ℕ) (bids : List BookBid) (some : 0 < j) where
   -- so the lines of a book that one bidder doesn't count in are those of the book in which it has other bids
   pub sides-with : (old new : SideLines) → AreSideLines book old → j ≤ length book.bidders → new.right ≡ old.right → new.left ≡ old.left
       → old.right_from ≤ new.right_from → j ≤ new.right_from → new.right_from ≤ length book.bidders → new.left_to ≤ old.left_to → new.left_to < j
-      → new.rooms ≡ old.rooms → AreSideLines (with_bids book j bids) new
+      → new.buffers ≡ old.buffers → AreSideLines (with_bids book j bids) new
   sides-with old new are known right left up own last down low room = record {
     from = omega (arith, last, bidders-same book j bids some);
     to = omega (arith, down, are.to, bidders-same book j bids some);
     after = rw right (right-with (lines_of old.right.items) old.right_from new.right_from up own are.after);
     before = rw left (left-with (lines_of old.left.items) old.left_to new.left_to down low known are.before);
-    rooms = rw room are.rooms;
+    buffers = rw room are.buffers;
   }
 
 -- the first of the greatest has the greatest value

@@ -5,7 +5,7 @@ use Rattle.auction_model.specs.Greatest.{IsWinning}
 use Rattle.auction_model.specs.Market.{value_of}
 use Rattle.auction_model.specs.Package.{cost_of, is_within, less}
 use Rattle.auction_model.specs.Place.{left_at, place_of, states_of}
-use Rattle.value_table.specs.LineRooms.{HasRoom}
+use Rattle.value_table.specs.LineBuffers.{HasRoom}
 use Rattle.value_table.specs.SideLines.{IsLeftLine, IsRightLine}
 use Rattle.review.specs.ReviewValue.{AreLeftLines, AreRightLines, lines_of}
 use Rattle.review.specs.declared.lines.SideLines.{SideLines}
@@ -16,7 +16,7 @@ pub record AreSideLines (book : Book) (lines : SideLines) : Type 0 where
   pub to : lines.left_to ≤ length book.bidders
   pub after : AreRightLines book lines.right_from (lines_of lines.right.items)
   pub before : AreLeftLines book lines.left_to (lines_of lines.left.items)
-  pub rooms : HasRoom (states_of book.supply) lines.rooms
+  pub buffers : HasRoom (states_of book.supply) lines.buffers
 
 -- the choice is the winning one
 pub record IsReviewed (book : Book) (lines : SideLines) (choice : List ℕ) : Type 0 where

@@ -3,14 +3,14 @@ ghost use Rattle.std.specs.Prelude.{◌≡◌, ◌+◌, ◌-◌, ◌≤◌, ◌<
 ghost use Rattle.auction_model.specs.Book.{Book, BookBid};
 ghost use Rattle.auction_model.specs.Place.{states_of};
 ghost use Rattle.bid_book.specs.Changes.{with_bids};
-ghost use Rattle.value_table.specs.LineRooms.{HasRoom};
+ghost use Rattle.value_table.specs.LineBuffers.{HasRoom};
 ghost use Rattle.review.specs.ReviewValue.{AreLeftLines, AreRightLines, lines_of};
 ghost use Rattle.review.specs.Reviewed.{AreSideLines};
 
 use bid_book::BidBook;
 use std::alloc::{AllocError, Global};
 use std::mem;
-use value_table::{LineRooms, narrow_left_line, narrow_right_line};
+use value_table::{LineBuffers, narrow_left_line, narrow_right_line};
 
 /// The lines of both sides of a book. An edit makes some of them stale, and these are computed again only where they are needed.
 #[derive(Drop)]
@@ -23,8 +23,8 @@ pub struct SideLines {
     pub left: Vec<Vec<i128>>,
     /// The lines of the left side are those of the book up to this one.
     pub left_to: usize,
-    /// Room in which a line is computed.
-    pub rooms: LineRooms,
+    /// Buffers in which a line is computed.
+    pub buffers: LineBuffers,
 }
 
 impl SideLines {
@@ -36,13 +36,13 @@ impl SideLines {
         let states = book.supply().states();
         let right = zero_lines(alloc, bidders + 1, states)?;
         let left = zero_lines(alloc, bidders + 1, states)?;
-        let rooms = LineRooms::new(alloc, states)?;
+        let buffers = LineBuffers::new(alloc, states)?;
         Ok(SideLines {
             right,
             right_from: bidders,
             left,
             left_to: 0,
-            rooms,
+            buffers,
         })
     }
 
@@ -59,7 +59,7 @@ impl SideLines {
                 alloc,
                 book,
                 &mut self.right,
-                &mut self.rooms,
+                &mut self.buffers,
                 k,
                 self.right_from,
             );
@@ -79,7 +79,7 @@ impl SideLines {
                 alloc,
                 book,
                 &mut self.left,
-                &mut self.rooms,
+                &mut self.buffers,
                 self.left_to,
                 k,
             );
@@ -123,19 +123,19 @@ fn renew_right(
     alloc: Global,
     book: &BidBook,
     lines: &mut Vec<Vec<i128>>,
-    rooms: &mut LineRooms,
+    buffers: &mut LineBuffers,
     bottom: usize,
     top: usize,
 )
     requires top { (bottom ≤ top) × (top ≤ length book.now.bidders) }
     requires lines { AreRightLines book.now top (lines_of lines.old.items) }
-    requires rooms { HasRoom (states_of book.now.supply) rooms.old }
+    requires buffers { HasRoom (states_of book.now.supply) buffers.old }
     ensures lines { AreRightLines book.now bottom (lines_of lines.new.items) }
-    ensures rooms { HasRoom (states_of book.now.supply) rooms.new }
+    ensures buffers { HasRoom (states_of book.now.supply) buffers.new }
 {
     book.kept();
     for k in (bottom..top).rev() {
-        renew_right_line(alloc, book, lines, rooms, k);
+        renew_right_line(alloc, book, lines, buffers, k);
     }
 }
 
@@ -144,18 +144,18 @@ fn renew_right_line(
     alloc: Global,
     book: &BidBook,
     lines: &mut Vec<Vec<i128>>,
-    rooms: &mut LineRooms,
+    buffers: &mut LineBuffers,
     k: usize,
 )
     requires bidder { k < length book.now.bidders }
     requires lines { AreRightLines book.now (k + 1) (lines_of lines.old.items) }
-    requires rooms { HasRoom (states_of book.now.supply) rooms.old }
+    requires buffers { HasRoom (states_of book.now.supply) buffers.old }
     ensures lines { AreRightLines book.now k (lines_of lines.new.items) }
-    ensures rooms { HasRoom (states_of book.now.supply) rooms.new }
+    ensures buffers { HasRoom (states_of book.now.supply) buffers.new }
 {
     book.kept();
     let mut line = mem::replace(&mut lines[k], Vec::new(alloc));
-    narrow_right_line(book, k as u16 + 1, &lines[k + 1], &mut line, rooms);
+    narrow_right_line(book, k as u16 + 1, &lines[k + 1], &mut line, buffers);
     lines[k] = line;
 }
 
@@ -165,19 +165,19 @@ fn renew_left(
     alloc: Global,
     book: &BidBook,
     lines: &mut Vec<Vec<i128>>,
-    rooms: &mut LineRooms,
+    buffers: &mut LineBuffers,
     bottom: usize,
     top: usize,
 )
     requires top { (bottom ≤ top) × (top ≤ length book.now.bidders) }
     requires lines { AreLeftLines book.now bottom (lines_of lines.old.items) }
-    requires rooms { HasRoom (states_of book.now.supply) rooms.old }
+    requires buffers { HasRoom (states_of book.now.supply) buffers.old }
     ensures lines { AreLeftLines book.now top (lines_of lines.new.items) }
-    ensures rooms { HasRoom (states_of book.now.supply) rooms.new }
+    ensures buffers { HasRoom (states_of book.now.supply) buffers.new }
 {
     book.kept();
     for k in bottom..top {
-        renew_left_line(alloc, book, lines, rooms, k + 1);
+        renew_left_line(alloc, book, lines, buffers, k + 1);
     }
 }
 
@@ -186,17 +186,17 @@ fn renew_left_line(
     alloc: Global,
     book: &BidBook,
     lines: &mut Vec<Vec<i128>>,
-    rooms: &mut LineRooms,
+    buffers: &mut LineBuffers,
     k: usize,
 )
     requires bidder { (0 < k) × (k ≤ length book.now.bidders) }
     requires lines { AreLeftLines book.now (k - 1) (lines_of lines.old.items) }
-    requires rooms { HasRoom (states_of book.now.supply) rooms.old }
+    requires buffers { HasRoom (states_of book.now.supply) buffers.old }
     ensures lines { AreLeftLines book.now k (lines_of lines.new.items) }
-    ensures rooms { HasRoom (states_of book.now.supply) rooms.new }
+    ensures buffers { HasRoom (states_of book.now.supply) buffers.new }
 {
     book.kept();
     let mut line = mem::replace(&mut lines[k], Vec::new(alloc));
-    narrow_left_line(book, k as u16, &lines[k - 1], &mut line, rooms);
+    narrow_left_line(book, k as u16, &lines[k - 1], &mut line, buffers);
     lines[k] = line;
 }

@@ -8,15 +8,15 @@ use Rattle.auction_model.specs.Lowered.{greatest_size, of_bidder}
 use Rattle.auction_model.proofs.PlainLaws.{greatest-at_most, sum_to-at_most}
 use Rattle.bid_book.specs.Kept.{IsBidBook}
 use Rattle.value_table.proofs.Plain.{net-small}
-use Rattle.value_table.specs.declared.lowering.Lowering.{Lowering}
+use Rattle.value_table.specs.declared.lowered_bids.LoweredBids.{LoweredBids}
 use Rattle.value_table.specs.Counted.{seat, net_at, counted_bids, IsNarrow}
 
 -- no more bids count than the bidder has
-pub counted-fewer : (l : Lowering) (j : ℕ) → (counted_bids l).bids j ≤ length (bids_of l.book.now (seat l j))
+pub counted-fewer : (l : LoweredBids) (j : ℕ) → (counted_bids l).bids j ≤ length (bids_of l.book.now (seat l j))
 counted-fewer l j = cond_both (j == l.skip) 0 (length (bids_of l.book.now (seat l j))) (λ n. n ≤ length (bids_of l.book.now (seat l j))) (λ _. omega arith)
     (λ _. omega arith)
 
-module _ (l : Lowering) where
+module _ (l : LoweredBids) where
   -- with a denominator up to 2^13 and surpluses up to 2^56, no sum leaves 62 bits
   pub narrow-spread : IsBidBook l.book.now → unsigned_abs l.den ≤ 2 ^ 13 → ((k : ℕ) → unsigned_abs (get_or l.surplus.now k (pos 0)) ≤ 2 ^ 56) → IsNarrow l
   narrow-spread kept den surplus =

@@ -8,17 +8,17 @@ use Rattle.auction_model.specs.Lowered.{of_bidder}
 use Rattle.auction_model.proofs.DominatedLaws.{lowered-in_order}
 use Rattle.bid_book.specs.Better.{IsBetter}
 use Rattle.bid_book.specs.Kept.{IsBidBook}
-use Rattle.value_table.specs.declared.lowering.Lowering.{Lowering}
+use Rattle.value_table.specs.declared.lowered_bids.LoweredBids.{LoweredBids}
 use Rattle.value_table.specs.Counted.{seat, net_at, counted, IsNeedless}
 
-counted-in_order : (l : Lowering) (j i h : ℕ) → 0 < h → h < i → pos 0 ≤ℤ l.den → pos 0 ≤ℤ net_at l j i → net_at l j i ≤ℤ net_at l j h
+counted-in_order : (l : LoweredBids) (j i h : ℕ) → 0 < h → h < i → pos 0 ≤ℤ l.den → pos 0 ≤ℤ net_at l j i → net_at l j i ≤ℤ net_at l j h
     → counted l j i ≤ℤ counted l j h
 counted-in_order l j zero h some low den own le = absurd (omega (arith, low))
 counted-in_order l j (suc i) zero some low den own le = absurd (omega (arith, some))
 counted-in_order l j (suc i) (suc h) some low den own le = lowered-in_order l.den (net_at l j (suc i)) (net_at l j (suc h)) _ den own le
 
 -- a bid is needless where an earlier one asks for no more and is worth at least as much
-pub needless-better : (l : Lowering) (j i h : ℕ) → IsBidBook l.book.now → i ≤ length (bids_of l.book.now (seat l j)) → 0 < h → pos 0 ≤ℤ l.den
+pub needless-better : (l : LoweredBids) (j i h : ℕ) → IsBidBook l.book.now → i ≤ length (bids_of l.book.now (seat l j)) → 0 < h → pos 0 ≤ℤ l.den
     → IsBetter l.book.now (seat l j) i h → IsNeedless l j i
 needless-better l j i h kept known some den better = record {
   other = h;
@@ -28,11 +28,11 @@ needless-better l j i h kept known some den better = record {
 }
 
 -- a bid is needless where it counts no more than having none
-pub needless-idle : (l : Lowering) (j i : ℕ) → 0 < i → counted l j i ≤ℤ counted l j 0 → IsNeedless l j i
+pub needless-idle : (l : LoweredBids) (j i : ℕ) → 0 < i → counted l j i ≤ℤ counted l j 0 → IsNeedless l j i
 needless-idle l j i some le = record { other = 0; earlier = some; smaller = refl; worth = le }
 
 -- having none never counts less than 0
-pub idle-sign : (l : Lowering) (j : ℕ) → pos 0 ≤ℤ counted l j 0
+pub idle-sign : (l : LoweredBids) (j : ℕ) → pos 0 ≤ℤ counted l j 0
 idle-sign l j = sign (of_bidder l.surplus.now j)
   where
     sign : (s : ℤ) → pos 0 ≤ℤ int_max (pos 0) (neg_ℤ s)

@@ -15,7 +15,7 @@ use Rattle.value_table.proofs.CornerLaws.{line-grows}
 use Rattle.value_table.proofs.Plain.{size-from}
 use Rattle.value_table.proofs.Sizes.{line-sign}
 use Rattle.value_table.specs.Counted.{counted_bids, counted, IsCountedLine, IsLineWithin}
-use Rattle.value_table.specs.declared.lowering.Lowering.{Lowering}
+use Rattle.value_table.specs.declared.lowered_bids.LoweredBids.{LoweredBids}
 
 -- what is read of such a line
 pub read-short : (xs : List ℕ) (s : ℕ) → get_or (map (λ n. pos n) xs) s (pos 0) ≡ pos (get_or xs s 0)
@@ -76,7 +76,7 @@ line-top m counts supply k line e s low =
     line-grows m counts supply k line e s top low last within
 
 -- a line whose last number is small, below a bidder that counts no more, has room for its sums
-pub short-within : (l : Lowering) (j most : ℕ) (line : List ℤ) → j ≤ length l.book.now.bidders → IsCountedLine l j line
+pub short-within : (l : LoweredBids) (j most : ℕ) (line : List ℤ) → j ≤ length l.book.now.bidders → IsCountedLine l j line
     → get_or line (length line - 1) (pos 0) ≤ℤ pos most → ((i : ℕ) → i ≤ (counted_bids l).bids j → unsigned_abs (counted l j i) ≤ most)
     → IsLineWithin l most j line
 short-within l j most line inside e top worths =

@@ -12,10 +12,10 @@ use Rattle.auction_model.proofs.BookMarket.{none-known, none-taken}
 use Rattle.value_table.proofs.Needless.{idle-sign}
 use Rattle.auction_model.specs.Lowered.{lowered, of_bidder}
 use Rattle.auction_model.proofs.BoundLaws.{AreCapped, cap-in_sum, caps_of, line-sizes, lowered-capped, parts-capped}
-use Rattle.value_table.specs.declared.lowering.Lowering.{Lowering}
+use Rattle.value_table.specs.declared.lowered_bids.LoweredBids.{LoweredBids}
 use Rattle.value_table.specs.Counted.{net_at, counted_bids, counted, IsCountedLine, IsWithin, IsLineWithin}
 
-module _ (l : Lowering) where
+module _ (l : LoweredBids) where
   -- where all sums are below a number in size, so is each number of a line
   pub line-within : (most : ℕ) → IsWithin l most → (k : ℕ) (line : List ℤ) → IsCountedLine l k line → (s : ℕ) → unsigned_abs (get_or line s (pos 0)) ≤ most
   line-within most within k line e s =
@@ -86,7 +86,7 @@ none-least worth k zero least = omega (arith, ints)
 none-least worth k (suc n) least = omega (arith, ints, least (suc k), none-least worth (suc k) n least)
 
 -- so no number of a line is below 0
-pub line-sign : (l : Lowering) (k : ℕ) (line : List ℤ) → k ≤ length l.book.now.bidders → IsCountedLine l k line → (s : ℕ) → pos 0 ≤ℤ get_or line s (pos 0)
+pub line-sign : (l : LoweredBids) (k : ℕ) (line : List ℤ) → k ≤ length l.book.now.bidders → IsCountedLine l k line → (s : ℕ) → pos 0 ≤ℤ get_or line s (pos 0)
 line-sign l k line inside e s =
     let m = counted_bids l in
     let n = length l.book.now.bidders - k in

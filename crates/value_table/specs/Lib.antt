@@ -1,7 +1,7 @@
 pub mod BookTable
 pub mod Counted
 pub mod Growing
-pub mod LineRooms
+pub mod LineBuffers
 pub mod Raising
 pub mod Rows
 pub mod SideLines

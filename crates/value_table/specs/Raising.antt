@@ -1,6 +1,7 @@
--- What is asked where one more bid is counted in a line.
+-- What is asked where one more bid is counted in a line, and what is done.
 use Rattle.std.specs.Prelude.{◌≡◌, ℕ, ◌≤◌, ◌<◌, ◌^◌, IfSome, List, Option, length, map, slice_index_or, ℤ, pos, unsigned_abs}
 use Rattle.auction_model.specs.Place.{states_of, widths_of}
+use Rattle.auction_model.specs.Steps.{raised}
 use Rattle.choices.specs.Coarse.{AreCoarse}
 use Rattle.limits.specs.declared.TheConstants.{MOST_STATES}
 
@@ -18,6 +19,12 @@ pub record CanRaiseLots {A : Type 0} (number : A → ℤ) (most : ℕ) (supply s
   pub categories : length lots ≤ length supply
   pub states : states_of supply ≤ MOST_STATES
   pub lines : CanRaise number most (states_of supply) own rest amount
+
+-- a bid of some lots and a worth is counted at each place of a line where it fits
+abbrev pub IsRaisedBy : {A : Type 0} → (A → ℤ) → List ℕ → List ℕ → List A → A → List A → List A → Type 0
+IsRaisedBy number supply lots below worth old new = (s : ℕ) → s < length old
+    → slice_index_or (map number new) s (pos 0)
+    ≡ raised supply (map number below) lots (number worth) s (slice_index_or (map number old) s (pos 0))
 
 -- a line and the line below it is in units of 2^shift too
 pub record AreInUnits {A : Type 0} (number : A → ℤ) (shift : ℕ) (own rest : List A) (low high : List ℕ) : Type 0 where

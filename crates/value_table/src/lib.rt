@@ -1,11 +1,11 @@
 //! Exact tables of a book, and the winning choice.
 #![tactic(auto)]
 
-mod amount;
 mod book_chooser;
+mod buffers;
+mod cell;
 mod lines;
-mod lowering;
-mod rooms;
+mod lowered_bids;
 mod rows;
 mod runs;
 mod shape;
@@ -22,7 +22,7 @@ mod units;
 mod widths;
 
 pub use book_chooser::BookChooser;
-pub use rooms::LineRooms;
+pub use buffers::LineBuffers;
 pub use side_lines::{narrow_left_line, narrow_right_line, right_number};
 pub use sides::Sides;
 pub use table::{ValueTable, plain_table, win};

@@ -4,7 +4,7 @@ ghost use Rattle.std.specs.Prelude.{◌≡◌, ℕ, ◌+◌, ◌-◌, ◌*◌, �
 ghost use Rattle.limits.specs.declared.TheConstants.{MOST_STATES};
 ghost use Rattle.value_table.specs.Rows.{AreRowsRaised, HasRows};
 
-use crate::amount::Amount;
+use crate::cell::Cell;
 use crate::shape::Rows;
 use std::simd::prelude::*;
 

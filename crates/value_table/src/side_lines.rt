@@ -4,14 +4,14 @@ ghost use Rattle.auction_model.specs.Book.{bids_of, menu_of, net_of};
 ghost use Rattle.auction_model.specs.Place.{left_at, states_of};
 ghost use Rattle.auction_model.specs.Steps.{IsFirstNumber};
 ghost use Rattle.auction_model.specs.Table.{IsLine};
-ghost use Rattle.value_table.specs.LineRooms.{HasRoom};
+ghost use Rattle.value_table.specs.LineBuffers.{HasRoom};
 ghost use Rattle.value_table.specs.SideLines.{IsLeftLine, IsRightLine};
 ghost use Rattle.value_table.specs.SideValues.{IsRightEntry};
 ghost use Rattle.value_table.specs.Turned.{in_order, worths_in_order};
 
+use crate::buffers::LineBuffers;
 use crate::lines::put_line;
-use crate::lowering::Lowering;
-use crate::rooms::LineRooms;
+use crate::lowered_bids::LoweredBids;
 use crate::short::is_short;
 use crate::tracing::first_number;
 use bid_book::BidBook;
@@ -25,17 +25,25 @@ pub fn narrow_right_line(
     k: u16,
     after: &[i128],
     line: &mut [i128],
-    rooms: &mut LineRooms,
+    buffers: &mut LineBuffers,
 )
     requires bidder { (0 < k) × (k ≤ length book.now.bidders) }
     requires after { IsRightLine book.now k after.now }
     requires places { length line.old ≡ states_of book.now.supply }
-    requires rooms { HasRoom (states_of book.now.supply) rooms.old }
+    requires buffers { HasRoom (states_of book.now.supply) buffers.old }
     ensures line { IsRightLine book.now (k - 1) line.new }
-    ensures rooms { HasRoom (states_of book.now.supply) rooms.new }
+    ensures buffers { HasRoom (states_of book.now.supply) buffers.new }
 {
     let zeros = [0i128; MOST_BIDDERS];
-    side_line(book, false, &zeros[..book.bidders()], k, after, line, rooms);
+    side_line(
+        book,
+        false,
+        &zeros[..book.bidders()],
+        k,
+        after,
+        line,
+        buffers,
+    );
 }
 
 /// Makes `line` the line of the bidders up to `k` from that of the bidders up to `k - 1`, in the same way. Each number is the greatest
@@ -45,19 +53,19 @@ pub fn narrow_left_line(
     k: u16,
     before: &[i128],
     line: &mut [i128],
-    rooms: &mut LineRooms,
+    buffers: &mut LineBuffers,
 )
     requires bidder { (0 < k) × (k ≤ length book.now.bidders) }
     requires before { IsLeftLine book.now (k - 1) before.now }
     requires places { length line.old ≡ states_of book.now.supply }
-    requires rooms { HasRoom (states_of book.now.supply) rooms.old }
+    requires buffers { HasRoom (states_of book.now.supply) buffers.old }
     ensures line { IsLeftLine book.now k line.new }
-    ensures rooms { HasRoom (states_of book.now.supply) rooms.new }
+    ensures buffers { HasRoom (states_of book.now.supply) buffers.new }
 {
     let zeros = [0i128; MOST_BIDDERS];
     let bidders = book.bidders();
     let turned = bidders as u16 - k + 1;
-    side_line(book, true, &zeros[..bidders], turned, before, line, rooms);
+    side_line(book, true, &zeros[..bidders], turned, before, line, buffers);
 }
 
 /// The first number of bidder `k`, by the order of ties, with which it and the bidders after it reach the entry of a place: the entry
@@ -83,7 +91,7 @@ fn side_line(
     j: u16,
     below: &[i128],
     line: &mut [i128],
-    rooms: &mut LineRooms,
+    buffers: &mut LineBuffers,
 )
     requires bidder { (0 < j) × (j ≤ length book.now.bidders) }
     requires count { length surplus.now ≡ length book.now.bidders }
@@ -91,40 +99,40 @@ fn side_line(
     requires below { IsLine (in_order turned (menu_of book.now))
         (worths_in_order turned (length book.now.bidders) (net_of book.now)) book.now.supply j below.now }
     requires places { length line.old ≡ states_of book.now.supply }
-    requires rooms { HasRoom (states_of book.now.supply) rooms.old }
+    requires buffers { HasRoom (states_of book.now.supply) buffers.old }
     ensures line { IsLine (in_order turned (menu_of book.now))
         (worths_in_order turned (length book.now.bidders) (net_of book.now)) book.now.supply (j - 1) line.new }
-    ensures rooms { HasRoom (states_of book.now.supply) rooms.new }
+    ensures buffers { HasRoom (states_of book.now.supply) buffers.new }
 {
     book.kept();
-    let lowering = Lowering {
+    let lowered = LoweredBids {
         book,
         turned,
         skip: 0,
         den: 1,
         surplus,
     };
-    if is_short(&lowering, j, below) {
+    if is_short(&lowered, j, below) {
         put_line(
-            &lowering,
+            &lowered,
             j,
             below,
             line,
-            &mut rooms.short_below,
-            &mut rooms.short_line,
-            &mut rooms.low,
-            &mut rooms.high,
+            &mut buffers.short_below,
+            &mut buffers.short_line,
+            &mut buffers.low,
+            &mut buffers.high,
         );
     } else {
         put_line(
-            &lowering,
+            &lowered,
             j,
             below,
             line,
-            &mut rooms.below,
-            &mut rooms.line,
-            &mut rooms.low,
-            &mut rooms.high,
+            &mut buffers.below,
+            &mut buffers.line,
+            &mut buffers.low,
+            &mut buffers.high,
         );
     }
 }
@@ -148,12 +156,12 @@ fn plain_number(
     ensures first { IsFirstNumber (menu_of book.now) (net_of book.now) book.now.supply k place entry after.now result }
 {
     book.kept();
-    let lowering = Lowering {
+    let lowered = LoweredBids {
         book,
         turned: false,
         skip: 0,
         den: 1,
         surplus,
     };
-    first_number(&lowering, k, place, entry, after)
+    first_number(&lowered, k, place, entry, after)
 }

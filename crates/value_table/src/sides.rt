@@ -9,7 +9,7 @@ ghost use Rattle.choices.specs.Lines.{width_of};
 ghost use Rattle.value_table.specs.SideValues.{AreSidesOf, IsLeftEntry, IsRightEntry, IsTurnedTable, IsGreatestPair, AreFullLines};
 ghost use Rattle.value_table.specs.TableValue.{IsTableOf, IsPlainWithout};
 
-use crate::lowering::Lowering;
+use crate::lowered_bids::LoweredBids;
 use crate::table::{ValueTable, plain_table, zeros};
 use crate::turn_lines::all_lines;
 use bid_book::BidBook;
@@ -113,14 +113,14 @@ fn reversed_lines(alloc: Global, book: &BidBook) -> Result<Grid, AllocError>
     ensures exact { IfOk result (λ g. IsTurnedTable book.now g) }
 {
     let surplus = zeros(alloc, book.bidders())?;
-    let lowering = Lowering {
+    let lowered = LoweredBids {
         book,
         turned: true,
         skip: 0,
         den: 1,
         surplus: &surplus,
     };
-    let lines = all_lines(alloc, &lowering)?;
+    let lines = all_lines(alloc, &lowered)?;
     Ok(lines)
 }
 

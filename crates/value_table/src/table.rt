@@ -7,12 +7,12 @@ ghost use Rattle.auction_model.specs.Book.{market_of, net_of};
 ghost use Rattle.auction_model.specs.Lowered.{lowered};
 ghost use Rattle.auction_model.specs.Table.{IsEntry, entry_at};
 ghost use Rattle.limits.specs.declared.TheConstants.{MOST_BIDDERS};
-ghost use Rattle.value_table.specs.Counted.{counted_bids, counted, IsLowering};
+ghost use Rattle.value_table.specs.Counted.{counted_bids, counted, AreLoweredBids};
 ghost use Rattle.value_table.specs.BookTable.{menu_without, IsInRange};
 ghost use Rattle.value_table.specs.TableValue.{IsTableOf, IsPlain, IsPlainWithout};
 
 use crate::lines::last_entry;
-use crate::lowering::Lowering;
+use crate::lowered_bids::LoweredBids;
 use crate::tracing::trace_lines;
 use crate::turn_lines::{TurnLines, all_lines, lines_without};
 use bid_book::BidBook;
@@ -54,8 +54,8 @@ impl ValueTable {
         ensures made { IfOk result (λ t. (t.skip ≡ skip) × (t.den ≡ den) × (t.surplus ≡ surplus.now)) }
         ensures exact { IfOk result (λ t. IsTableOf book.now t) }
     {
-        let lowering = Lowering::new(book, skip, den, surplus);
-        let grid = all_lines(alloc, &lowering)?;
+        let lowered = LoweredBids::new(book, skip, den, surplus);
+        let grid = all_lines(alloc, &lowered)?;
         let surplus = Vec::from_slice(alloc, surplus)?;
         Ok(ValueTable {
             skip,
@@ -76,8 +76,8 @@ impl ValueTable {
     {
         book.kept();
         let surplus = Vec::from_slice(alloc, &self.surplus)?;
-        let lowering = Lowering::new(book, j, 1, &surplus);
-        let grid = lines_without(alloc, &lowering, &self.grid)?;
+        let lowered = LoweredBids::new(book, j, 1, &surplus);
+        let grid = lines_without(alloc, &lowered, &self.grid)?;
         Ok(ValueTable {
             skip: j,
             den: 1,
@@ -87,11 +87,11 @@ impl ValueTable {
     }
 
     /// What the bids count in this table.
-    fn lowering<'a>(&'a self, book: &'a BidBook) -> Lowering<'a>
+    fn lowered_bids<'a>(&'a self, book: &'a BidBook) -> LoweredBids<'a>
         requires { IsTableOf book.now self.now }
-        ensures { IsLowering book.now self.now.skip self.now.den self.now.surplus result }
+        ensures { AreLoweredBids book.now self.now.skip self.now.den self.now.surplus result }
     {
-        Lowering::new(book, self.skip, self.den, &self.surplus)
+        LoweredBids::new(book, self.skip, self.den, &self.surplus)
     }
 
     /// The lines.
@@ -118,8 +118,8 @@ impl ValueTable {
             (lowered self.now.den (net_of book.now) self.now.surplus) 0 book.now.supply result }
         ensures size { unsigned_abs result ≤ 2 ^ 120 }
     {
-        let lowering = self.lowering(book);
-        last_entry(&lowering, &self.grid)
+        let lowered = self.lowered_bids(book);
+        last_entry(&lowered, &self.grid)
     }
 
     /// The first choice of the greatest sum. The book is the one that the table was built from.
@@ -129,8 +129,8 @@ impl ValueTable {
             (λ c. IsFirstGreatest (fits_after (menu_without book.now self.now.skip) 0 book.now.supply)
             (sum_after (lowered self.now.den (net_of book.now) self.now.surplus) 0) c) }
     {
-        let lowering = self.lowering(book);
-        let numbers = trace_lines(alloc, &lowering, &self.grid)?;
+        let lowered = self.lowered_bids(book);
+        let numbers = trace_lines(alloc, &lowered, &self.grid)?;
         Ok(Choice::new(numbers))
     }
 }
@@ -163,8 +163,8 @@ pub fn win(alloc: Global, book: &BidBook) -> Result<Choice, AllocError>
 {
     book.kept();
     let surplus = zeros(alloc, book.bidders())?;
-    let lowering = Lowering::new(book, 0, 1, &surplus);
-    let lines = TurnLines::build(alloc, &lowering)?;
-    let numbers = lines.trace(alloc, &lowering)?;
+    let lowered = LoweredBids::new(book, 0, 1, &surplus);
+    let lines = TurnLines::build(alloc, &lowered)?;
+    let numbers = lines.trace(alloc, &lowered)?;
     Ok(Choice::new(numbers))
 }

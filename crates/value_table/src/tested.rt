@@ -1,75 +1,68 @@
 // Counting one bid in a line. Where the line and the line below it are in 16 bits too, a block of the last few categories of the bid
 // is tested in these first, with a mask of the places where it fits. Each function returns how many blocks these tests left out.
-ghost use Rattle.std.specs.Prelude.{◌≡◌, ℕ, ◌*◌, ◌^◌, ◌<◌, IsTrue, length, slice_index_or, pos, ◌≤ℤ◌, map};
+ghost use Rattle.std.specs.Prelude.{◌≡◌, ◌*◌, ◌^◌, ◌<◌, IsTrue, length, pos, ◌≤ℤ◌, map};
 ghost use Rattle.choices.specs.Coarse.{HasMask};
 ghost use Rattle.auction_model.specs.Package.{is_within};
 ghost use Rattle.auction_model.specs.Place.{states_of};
-ghost use Rattle.auction_model.specs.Steps.{raised};
 ghost use Rattle.value_table.specs.Growing.{Grows, HasCorners};
-ghost use Rattle.value_table.specs.Raising.{AreInUnits, CanRaise, CanRaiseLots, MayBeInUnits};
+ghost use Rattle.value_table.specs.Raising.{AreInUnits, CanRaise, CanRaiseLots, IsRaisedBy, MayBeInUnits};
 
-use crate::amount::Amount;
+use crate::cell::Cell;
 use crate::runs::{is_reached, raise_block};
 use choices::coarse::{CoarseBid, MASK_ROOM, is_covered, put_deep_mask};
 use lots::{Package, Supply, used_categories};
 
 /// Counts one more bid in a block, where no mask for just these categories shows that it changes nothing there.
-fn raise_unless_covered<A: Amount>(
+fn raise_unless_covered<C: Cell>(
     coarse: &CoarseBid,
     supply: &[u16],
     widths: &[usize],
     counts: &[u16],
     first: usize,
-    line: &mut [A],
-    below: &[A],
+    line: &mut [C],
+    below: &[C],
     low: &mut [u16],
     high: &[u16],
-    worth: A,
+    worth: C,
 ) -> u32
-    requires lots { CanRaiseLots A.number A.most supply.now widths.now counts.now line.old below.now worth }
+    requires lots { CanRaiseLots C.number C.most supply.now widths.now counts.now line.old below.now worth }
     requires some { 0 < length counts.now }
-    requires corners { HasCorners supply.now counts.now first (map A.number line.old) (map A.number below.now) }
-    requires units { AreInUnits A.number coarse.now.shift line.old below.now low.old high.now }
-    requires worth { A.number worth ≤ℤ pos (coarse.now.worth * 2 ^ coarse.now.shift) }
+    requires corners { HasCorners supply.now counts.now first (map C.number line.old) (map C.number below.now) }
+    requires units { AreInUnits C.number coarse.now.shift line.old below.now low.old high.now }
+    requires worth { C.number worth ≤ℤ pos (coarse.now.worth * 2 ^ coarse.now.shift) }
     requires mask { HasMask coarse.now.level supply.now counts.now coarse.now.mask.now }
-    ensures line { (s : ℕ) → s < length line.old
-        → slice_index_or (map A.number line.new) s (pos 0)
-        ≡ raised supply.now (map A.number below.now) counts.now (A.number worth) s
-        (slice_index_or (map A.number line.old) s (pos 0)) }
-    ensures units { AreInUnits A.number coarse.now.shift line.new below.now low.new high.now }
+    ensures line { IsRaisedBy C.number supply.now counts.now below.now worth line.old line.new }
+    ensures units { AreInUnits C.number coarse.now.shift line.new below.now low.new high.now }
 {
     if counts.len() == coarse.level && is_covered(coarse, first, low, high) {
         return 1;
     }
     raise_block(supply, widths, counts, first, line, below, worth);
-    A::put_low(low, line, coarse.shift);
+    C::put_low(low, line, coarse.shift);
     0
 }
 
 /// Counts one more bid in the places of some categories, of which the blocks for which there is a mask are tested in 16 bits.
-fn raise_coarse<A: Amount>(
+fn raise_coarse<C: Cell>(
     coarse: &CoarseBid,
     supply: &[u16],
     widths: &[usize],
     counts: &[u16],
     first: usize,
-    line: &mut [A],
-    below: &[A],
+    line: &mut [C],
+    below: &[C],
     low: &mut [u16],
     high: &[u16],
-    worth: A,
+    worth: C,
 ) -> u32
-    requires lots { CanRaiseLots A.number A.most supply.now widths.now counts.now line.old below.now worth }
+    requires lots { CanRaiseLots C.number C.most supply.now widths.now counts.now line.old below.now worth }
     requires some { 0 < length counts.now }
-    requires corners { HasCorners supply.now counts.now first (map A.number line.old) (map A.number below.now) }
-    requires units { AreInUnits A.number coarse.now.shift line.old below.now low.old high.now }
-    requires worth { A.number worth ≤ℤ pos (coarse.now.worth * 2 ^ coarse.now.shift) }
+    requires corners { HasCorners supply.now counts.now first (map C.number line.old) (map C.number below.now) }
+    requires units { AreInUnits C.number coarse.now.shift line.old below.now low.old high.now }
+    requires worth { C.number worth ≤ℤ pos (coarse.now.worth * 2 ^ coarse.now.shift) }
     requires mask { HasMask coarse.now.level supply.now counts.now coarse.now.mask.now }
-    ensures line { (s : ℕ) → s < length line.old
-        → slice_index_or (map A.number line.new) s (pos 0)
-        ≡ raised supply.now (map A.number below.now) counts.now (A.number worth) s
-        (slice_index_or (map A.number line.old) s (pos 0)) }
-    ensures units { AreInUnits A.number coarse.now.shift line.new below.now low.new high.now }
+    ensures line { IsRaisedBy C.number supply.now counts.now below.now worth line.old line.new }
+    ensures units { AreInUnits C.number coarse.now.shift line.new below.now low.new high.now }
 {
     if is_reached(first, line, below, worth) {
         return 0;
@@ -104,35 +97,32 @@ fn raise_coarse<A: Amount>(
 }
 
 /// Counts one more bid in lines that are in units of `2^shift` too.
-fn raise_in_units<A: Amount>(
+fn raise_in_units<C: Cell>(
     shift: u32,
     supply: &[u16],
     widths: &[usize],
     counts: &[u16],
     first: usize,
-    line: &mut [A],
-    below: &[A],
+    line: &mut [C],
+    below: &[C],
     low: &mut [u16],
     high: &[u16],
-    worth: A,
+    worth: C,
 ) -> u32
-    requires lots { CanRaiseLots A.number A.most supply.now widths.now counts.now line.old below.now worth }
+    requires lots { CanRaiseLots C.number C.most supply.now widths.now counts.now line.old below.now worth }
     requires some { 0 < length counts.now }
-    requires corners { HasCorners supply.now counts.now first (map A.number line.old) (map A.number below.now) }
-    requires units { AreInUnits A.number shift line.old below.now low.old high.now }
-    ensures line { (s : ℕ) → s < length line.old
-        → slice_index_or (map A.number line.new) s (pos 0)
-        ≡ raised supply.now (map A.number below.now) counts.now (A.number worth) s
-        (slice_index_or (map A.number line.old) s (pos 0)) }
-    ensures units { AreInUnits A.number shift line.new below.now low.new high.now }
+    requires corners { HasCorners supply.now counts.now first (map C.number line.old) (map C.number below.now) }
+    requires units { AreInUnits C.number shift line.old below.now low.old high.now }
+    ensures line { IsRaisedBy C.number supply.now counts.now below.now worth line.old line.new }
+    ensures units { AreInUnits C.number shift line.new below.now low.new high.now }
 {
     if is_reached(first, line, below, worth) {
         return 0;
     }
-    let units = A::worth_units(worth, shift);
+    let units = C::worth_units(worth, shift);
     if units == 0 {
         raise_block(supply, widths, counts, first, line, below, worth);
-        A::put_low(low, line, shift);
+        C::put_low(low, line, shift);
         return 0;
     }
     let mut mask = [0u16; MASK_ROOM];
@@ -149,27 +139,24 @@ fn raise_in_units<A: Amount>(
 }
 
 /// Counts one more bid, in units where there is a shift.
-fn raise_lots<A: Amount>(
+fn raise_lots<C: Cell>(
     shift: Option<u32>,
     supply: &[u16],
     widths: &[usize],
     counts: &[u16],
     first: usize,
-    line: &mut [A],
-    below: &[A],
+    line: &mut [C],
+    below: &[C],
     low: &mut [u16],
     high: &[u16],
-    worth: A,
+    worth: C,
 ) -> u32
-    requires lots { CanRaiseLots A.number A.most supply.now widths.now counts.now line.old below.now worth }
+    requires lots { CanRaiseLots C.number C.most supply.now widths.now counts.now line.old below.now worth }
     requires some { 0 < length counts.now }
-    requires corners { HasCorners supply.now counts.now first (map A.number line.old) (map A.number below.now) }
-    requires units { MayBeInUnits A.number shift line.old below.now low.old high.now }
-    ensures line { (s : ℕ) → s < length line.old
-        → slice_index_or (map A.number line.new) s (pos 0)
-        ≡ raised supply.now (map A.number below.now) counts.now (A.number worth) s
-        (slice_index_or (map A.number line.old) s (pos 0)) }
-    ensures units { MayBeInUnits A.number shift line.new below.now low.new high.now }
+    requires corners { HasCorners supply.now counts.now first (map C.number line.old) (map C.number below.now) }
+    requires units { MayBeInUnits C.number shift line.old below.now low.old high.now }
+    ensures line { IsRaisedBy C.number supply.now counts.now below.now worth line.old line.new }
+    ensures units { MayBeInUnits C.number shift line.new below.now low.new high.now }
 {
     match shift {
         Some(shift) => raise_in_units(
@@ -184,27 +171,24 @@ fn raise_lots<A: Amount>(
 
 /// Counts one more bid that fits in each entry of the line. Neither line falls where more is left. Where there is a shift both stand
 /// in units of `2^shift` too.
-pub fn add_bid<A: Amount>(
+pub fn add_bid<C: Cell>(
     supply: &Supply,
-    line: &mut [A],
-    below: &[A],
+    line: &mut [C],
+    below: &[C],
     lots: &Package,
-    worth: A,
+    worth: C,
     shift: Option<u32>,
     low: &mut [u16],
     high: &[u16],
 ) -> u32
-    requires lines { CanRaise A.number A.most (states_of supply.now) line.old below.now worth }
+    requires lines { CanRaise C.number C.most (states_of supply.now) line.old below.now worth }
     requires categories { length lots.now ≡ length supply.now }
     requires fits { IsTrue (is_within lots.now supply.now) }
-    requires below_grows { Grows supply.now (map A.number below.now) }
-    requires line_grows { Grows supply.now (map A.number line.old) }
-    requires units { MayBeInUnits A.number shift line.old below.now low.old high.now }
-    ensures line { (s : ℕ) → s < length line.old
-        → slice_index_or (map A.number line.new) s (pos 0)
-        ≡ raised supply.now (map A.number below.now) lots.now (A.number worth) s
-        (slice_index_or (map A.number line.old) s (pos 0)) }
-    ensures units { MayBeInUnits A.number shift line.new below.now low.new high.now }
+    requires below_grows { Grows supply.now (map C.number below.now) }
+    requires line_grows { Grows supply.now (map C.number line.old) }
+    requires units { MayBeInUnits C.number shift line.old below.now low.old high.now }
+    ensures line { IsRaisedBy C.number supply.now lots.now below.now worth line.old line.new }
+    ensures units { MayBeInUnits C.number shift line.new below.now low.new high.now }
 {
     let radices = supply.counts();
     let counts = lots.counts();

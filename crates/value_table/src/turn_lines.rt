@@ -9,9 +9,9 @@ ghost use Rattle.limits.specs.declared.TheConstants.{MOST_STATES};
 ghost use Rattle.value_table.specs.Counted.{counted_bids, counted, AreCountedLines, IsCountedLine, IsCountedTable, IsWholeTable};
 ghost use Rattle.value_table.specs.TurnLines.{lines_in};
 
-use crate::amount::{Amount, number_at};
+use crate::cell::{Cell, number_at};
 use crate::lines::{grid_of, lines_down};
-use crate::lowering::Lowering;
+use crate::lowered_bids::LoweredBids;
 use crate::short::short_lines_down;
 use crate::tracing::{line_at, trace_slices};
 use crate::widths::{narrow_into, widen_into};
@@ -28,66 +28,66 @@ pub enum TurnLines {
 
 impl TurnLines {
     /// The lines of the exact table, from the last to the first.
-    pub fn build(alloc: Global, lowering: &Lowering) -> Result<TurnLines, AllocError>
-        ensures { IfOk result (λ t. IsCountedTable lowering.now (lines_in t)) }
+    pub fn build(alloc: Global, lowered: &LoweredBids) -> Result<TurnLines, AllocError>
+        ensures { IfOk result (λ t. IsCountedTable lowered.now (lines_in t)) }
     {
-        lowering.book.kept();
-        let zeros = vec![in alloc; 0u32; lowering.book.supply().states()]?;
+        lowered.book.kept();
+        let zeros = vec![in alloc; 0u32; lowered.book.supply().states()]?;
         lines_from(
             alloc,
-            lowering,
-            lowering.book.bidders(),
+            lowered,
+            lowered.book.bidders(),
             LineNumbers::Short(&zeros),
         )
     }
 
     /// The first of the greatest choices.
-    pub fn trace(&self, alloc: Global, lowering: &Lowering) -> Result<Numbers, AllocError>
-        requires { IsCountedTable lowering.now (lines_in self.now) }
+    pub fn trace(&self, alloc: Global, lowered: &LoweredBids) -> Result<Numbers, AllocError>
+        requires { IsCountedTable lowered.now (lines_in self.now) }
         ensures { IfOk result
-            (λ v. IsFirstGreatest (fits_after (counted_bids lowering.now) 0 lowering.now.book.now.supply)
-            (sum_after (counted lowering.now) 0) v) }
+            (λ v. IsFirstGreatest (fits_after (counted_bids lowered.now) 0 lowered.now.book.now.supply)
+            (sum_after (counted lowered.now) 0) v) }
     {
         match self {
-            TurnLines::Short(lines) => trace_slices(alloc, lowering, lines),
-            TurnLines::Narrow(lines) => trace_slices(alloc, lowering, lines),
-            TurnLines::Wide(lines) => trace_slices(alloc, lowering, lines),
+            TurnLines::Short(lines) => trace_slices(alloc, lowered, lines),
+            TurnLines::Narrow(lines) => trace_slices(alloc, lowered, lines),
+            TurnLines::Wide(lines) => trace_slices(alloc, lowered, lines),
         }
     }
 
     /// The entry of line 0 at the place of the whole supply.
-    pub fn most(&self, lowering: &Lowering) -> i128
-        requires { IsCountedTable lowering.now (lines_in self.now) }
-        ensures most { IsEntry (counted_bids lowering.now) (counted lowering.now) 0 lowering.now.book.now.supply result }
+    pub fn most(&self, lowered: &LoweredBids) -> i128
+        requires { IsCountedTable lowered.now (lines_in self.now) }
+        ensures most { IsEntry (counted_bids lowered.now) (counted lowered.now) 0 lowered.now.book.now.supply result }
         ensures size { unsigned_abs result ≤ 2 ^ 120 }
     {
         match self {
-            TurnLines::Short(lines) => first_entry(lowering, lines),
-            TurnLines::Narrow(lines) => first_entry(lowering, lines),
-            TurnLines::Wide(lines) => first_entry(lowering, lines),
+            TurnLines::Short(lines) => first_entry(lowered, lines),
+            TurnLines::Narrow(lines) => first_entry(lowered, lines),
+            TurnLines::Wide(lines) => first_entry(lowered, lines),
         }
     }
 
     /// The same lines as a grid.
-    pub fn grid(&self, alloc: Global, lowering: &Lowering) -> Result<Grid, AllocError>
-        requires { IsCountedTable lowering.now (lines_in self.now) }
+    pub fn grid(&self, alloc: Global, lowered: &LoweredBids) -> Result<Grid, AllocError>
+        requires { IsCountedTable lowered.now (lines_in self.now) }
         ensures { IfOk result (λ g. g ≡ lines_in self.now) }
     {
         match self {
-            TurnLines::Short(lines) => grid_of(alloc, lowering, lines),
-            TurnLines::Narrow(lines) => grid_of(alloc, lowering, lines),
-            TurnLines::Wide(lines) => grid_of(alloc, lowering, lines),
+            TurnLines::Short(lines) => grid_of(alloc, lowered, lines),
+            TurnLines::Narrow(lines) => grid_of(alloc, lowered, lines),
+            TurnLines::Wide(lines) => grid_of(alloc, lowered, lines),
         }
     }
     /// The first `count` lines, all but the last, as a grid.
-    fn front(&self, alloc: Global, lowering: &Lowering, count: usize) -> Result<Grid, AllocError>
-        requires { AreCountedLines lowering.now (suc count) 0 (lines_in self.now) }
-        ensures { IfOk result (λ g. AreCountedLines lowering.now count 0 g) }
+    fn front(&self, alloc: Global, lowered: &LoweredBids, count: usize) -> Result<Grid, AllocError>
+        requires { AreCountedLines lowered.now (suc count) 0 (lines_in self.now) }
+        ensures { IfOk result (λ g. AreCountedLines lowered.now count 0 g) }
     {
         match self {
-            TurnLines::Short(lines) => front_of(alloc, lowering, count, lines),
-            TurnLines::Narrow(lines) => front_of(alloc, lowering, count, lines),
-            TurnLines::Wide(lines) => front_of(alloc, lowering, count, lines),
+            TurnLines::Short(lines) => front_of(alloc, lowered, count, lines),
+            TurnLines::Narrow(lines) => front_of(alloc, lowered, count, lines),
+            TurnLines::Wide(lines) => front_of(alloc, lowered, count, lines),
         }
     }
 }
@@ -96,29 +96,29 @@ impl TurnLines {
 /// kept in these and no line needs more, else 64 where no sum is larger, and else 128.
 pub fn lines_from(
     alloc: Global,
-    lowering: &Lowering,
+    lowered: &LoweredBids,
     top: usize,
     first: LineNumbers,
 ) -> Result<TurnLines, AllocError>
-    requires top { top ≤ length lowering.now.book.now.bidders }
-    requires first { IsCountedLine lowering.now top (numbers_of first) }
-    ensures { IfOk result (λ t. AreCountedLines lowering.now (suc top) 0 (lines_in t)) }
+    requires top { top ≤ length lowered.now.book.now.bidders }
+    requires first { IsCountedLine lowered.now top (numbers_of first) }
+    ensures { IfOk result (λ t. AreCountedLines lowered.now (suc top) 0 (lines_in t)) }
 {
-    lowering.book.kept();
+    lowered.book.kept();
     if let LineNumbers::Short(numbers) = first {
         let short = Vec::from_slice(alloc, numbers)?;
-        if let Some(lines) = short_lines_down(alloc, lowering, top, short)? {
+        if let Some(lines) = short_lines_down(alloc, lowered, top, short)? {
             return Ok(TurnLines::Short(lines));
         }
     }
     let wide = wide_line(alloc, &first)?;
-    if lowering.is_narrow() {
+    if lowered.is_narrow() {
         let mut narrow = vec![in alloc; 0i64; wide.len()]?;
         narrow_into(&mut narrow, &wide);
-        let lines = lines_down(alloc, lowering, top, narrow)?;
+        let lines = lines_down(alloc, lowered, top, narrow)?;
         return Ok(TurnLines::Narrow(lines));
     }
-    let lines = lines_down(alloc, lowering, top, wide)?;
+    let lines = lines_down(alloc, lowered, top, wide)?;
     Ok(TurnLines::Wide(lines))
 }
 
@@ -138,49 +138,49 @@ fn wide_line(alloc: Global, line: &LineNumbers) -> Result<Vec<i128>, AllocError>
 }
 
 /// The grid of the first `count` lines, all but the last.
-fn front_of<A: Amount>(
+fn front_of<C: Cell>(
     alloc: Global,
-    lowering: &Lowering,
+    lowered: &LoweredBids,
     count: usize,
-    lines: &[Vec<A>],
+    lines: &[Vec<C>],
 ) -> Result<Grid, AllocError>
-    requires { AreCountedLines lowering.now (suc count) 0 (map (λ l. map A.number l.items) lines.now) }
-    ensures { IfOk result (λ g. AreCountedLines lowering.now count 0 g) }
+    requires { AreCountedLines lowered.now (suc count) 0 (map (λ l. map C.number l.items) lines.now) }
+    ensures { IfOk result (λ g. AreCountedLines lowered.now count 0 g) }
 {
-    let grid = grid_of(alloc, lowering, &lines[..count])?;
+    let grid = grid_of(alloc, lowered, &lines[..count])?;
     Ok(grid)
 }
 
 /// The entry of the first line at the place of the whole supply.
-fn first_entry<A: Amount>(lowering: &Lowering, lines: &[Vec<A>]) -> i128
-    requires { IsCountedTable lowering.now (map (λ l. map A.number l.items) lines.now) }
-    ensures most { IsEntry (counted_bids lowering.now) (counted lowering.now) 0 lowering.now.book.now.supply result }
+fn first_entry<C: Cell>(lowered: &LoweredBids, lines: &[Vec<C>]) -> i128
+    requires { IsCountedTable lowered.now (map (λ l. map C.number l.items) lines.now) }
+    ensures most { IsEntry (counted_bids lowered.now) (counted lowered.now) 0 lowered.now.book.now.supply result }
     ensures size { unsigned_abs result ≤ 2 ^ 120 }
 {
-    number_at(line_at(lines, 0), lowering.book.supply().states() - 1)
+    number_at(line_at(lines, 0), lowered.book.supply().states() - 1)
 }
 
 /// The exact table.
-pub fn all_lines(alloc: Global, lowering: &Lowering) -> Result<Grid, AllocError>
-    ensures { IfOk result (λ g. IsCountedTable lowering.now g) }
+pub fn all_lines(alloc: Global, lowered: &LoweredBids) -> Result<Grid, AllocError>
+    ensures { IfOk result (λ g. IsCountedTable lowered.now g) }
 {
-    let lines = TurnLines::build(alloc, lowering)?;
-    let grid = lines.grid(alloc, lowering)?;
+    let lines = TurnLines::build(alloc, lowered)?;
+    let grid = lines.grid(alloc, lowered)?;
     Ok(grid)
 }
 
 /// The exact table without bidder `skip`, from that of all bids for the same worths. A bidder that isn't there counts
 /// nothing, so the lines from `skip` on are those of all bids, and the one before has the numbers of the first of them:
 /// they are shared.
-pub fn lines_without(alloc: Global, lowering: &Lowering, whole: &Grid) -> Result<Grid, AllocError>
-    requires bidder { (0 < lowering.now.skip) × (lowering.now.skip ≤ length lowering.now.book.now.bidders) }
-    requires idle { counted lowering.now lowering.now.skip 0 ≡ pos 0 }
-    requires whole { IsWholeTable lowering.now whole.now }
-    ensures { IfOk result (λ g. IsCountedTable lowering.now g) }
+pub fn lines_without(alloc: Global, lowered: &LoweredBids, whole: &Grid) -> Result<Grid, AllocError>
+    requires bidder { (0 < lowered.now.skip) × (lowered.now.skip ≤ length lowered.now.book.now.bidders) }
+    requires idle { counted lowered.now lowered.now.skip 0 ≡ pos 0 }
+    requires whole { IsWholeTable lowered.now whole.now }
+    ensures { IfOk result (λ g. IsCountedTable lowered.now g) }
 {
-    let skip = lowering.skip as usize;
-    let lines = lines_from(alloc, lowering, skip - 1, whole.line(skip))?;
-    let mut grid = lines.front(alloc, lowering, skip - 1)?;
+    let skip = lowered.skip as usize;
+    let lines = lines_from(alloc, lowered, skip - 1, whole.line(skip))?;
+    let mut grid = lines.front(alloc, lowered, skip - 1)?;
     grid.push_shared(whole, skip)?;
     for k in skip..whole.lines() {
         grid.push_shared(whole, k)?;

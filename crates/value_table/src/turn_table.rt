@@ -7,10 +7,10 @@ ghost use Rattle.auction_model.specs.Market.{sum_after};
 ghost use Rattle.auction_model.specs.Menu.{fits_after};
 ghost use Rattle.auction_model.specs.Table.{IsEntry};
 ghost use Rattle.value_table.specs.BookTable.{menu_without, IsInRange};
-ghost use Rattle.value_table.specs.Counted.{IsLowering};
+ghost use Rattle.value_table.specs.Counted.{AreLoweredBids};
 ghost use Rattle.value_table.specs.TableValue.{IsTableOf};
 
-use crate::lowering::Lowering;
+use crate::lowered_bids::LoweredBids;
 use crate::turn_lines::TurnLines;
 use bid_book::BidBook;
 use choices::{Choice, Grid};
@@ -48,8 +48,8 @@ impl TurnTable {
         ensures made { IfOk result (λ t. (t.skip ≡ 0) × (t.den ≡ den) × (t.surplus ≡ surplus.now)) }
         ensures exact { IfOk result (λ t. IsTableOf book.now t) }
     {
-        let lowering = Lowering::new(book, 0, den, surplus);
-        let lines = TurnLines::build(alloc, &lowering)?;
+        let lowered = LoweredBids::new(book, 0, den, surplus);
+        let lines = TurnLines::build(alloc, &lowered)?;
         let surplus = Vec::from_slice(alloc, surplus)?;
         Ok(TurnTable {
             den,
@@ -59,11 +59,11 @@ impl TurnTable {
     }
 
     /// What the bids count in this table.
-    fn lowering<'a>(&'a self, book: &'a BidBook) -> Lowering<'a>
+    fn lowered_bids<'a>(&'a self, book: &'a BidBook) -> LoweredBids<'a>
         requires { IsTableOf book.now self.now }
-        ensures { IsLowering book.now self.now.skip self.now.den self.now.surplus result }
+        ensures { AreLoweredBids book.now self.now.skip self.now.den self.now.surplus result }
     {
-        Lowering::new(book, 0, self.den, &self.surplus)
+        LoweredBids::new(book, 0, self.den, &self.surplus)
     }
 
     /// The greatest sum: the entry of line 0 at the place of the whole supply.
@@ -73,8 +73,8 @@ impl TurnTable {
             (lowered self.now.den (net_of book.now) self.now.surplus) 0 book.now.supply result }
         ensures size { unsigned_abs result ≤ 2 ^ 120 }
     {
-        let lowering = self.lowering(book);
-        self.lines.most(&lowering)
+        let lowered = self.lowered_bids(book);
+        self.lines.most(&lowered)
     }
 
     /// The first choice of the greatest sum. The book is the one that the table was built from.
@@ -84,8 +84,8 @@ impl TurnTable {
             (λ c. IsFirstGreatest (fits_after (menu_without book.now self.now.skip) 0 book.now.supply)
             (sum_after (lowered self.now.den (net_of book.now) self.now.surplus) 0) c) }
     {
-        let lowering = self.lowering(book);
-        let numbers = self.lines.trace(alloc, &lowering)?;
+        let lowered = self.lowered_bids(book);
+        let numbers = self.lines.trace(alloc, &lowered)?;
         Ok(Choice::new(numbers))
     }
 
@@ -94,8 +94,8 @@ impl TurnTable {
         requires { IsTableOf book.now self.now }
         ensures { IfOk result (λ g. g ≡ self.now.lines) }
     {
-        let lowering = self.lowering(book);
-        let grid = self.lines.grid(alloc, &lowering)?;
+        let lowered = self.lowered_bids(book);
+        let grid = self.lines.grid(alloc, &lowered)?;
         Ok(grid)
     }
 }

@@ -3,8 +3,8 @@
 ghost use Rattle.std.specs.Prelude.{◌≡◌, ◌≤◌, ◌<◌, length, IfSome, Some};
 ghost use Rattle.value_table.specs.Raising.{MayBeInUnits};
 
-use crate::amount::{Amount, number_at};
-use crate::lowering::Lowering;
+use crate::cell::{Cell, number_at};
+use crate::lowered_bids::LoweredBids;
 use choices::coarse::shift_for;
 
 /// From that many places on a line is tested in 16 bits.
@@ -31,12 +31,12 @@ pub fn shift_after(shift: Option<u32>, bids: u32, covered: u32) -> Option<u32>
 }
 
 /// How many bids of bidder `j` aren't needless.
-fn needed_bids(lowering: &Lowering, j: u16) -> u16
-    requires { (0 < j) × (j ≤ length lowering.now.book.now.bidders) }
+fn needed_bids(lowered: &LoweredBids, j: u16) -> u16
+    requires { (0 < j) × (j ≤ length lowered.now.book.now.bidders) }
 {
     let mut count: u16 = 0;
-    for i in 0..lowering.bids(j) {
-        if !lowering.is_needless(j, i + 1) {
+    for i in 0..lowered.bids(j) {
+        if !lowered.is_needless(j, i + 1) {
             count = count.saturating_add(1);
         }
     }
@@ -44,52 +44,52 @@ fn needed_bids(lowering: &Lowering, j: u16) -> u16
 }
 
 /// The most that bidder `j` counts.
-fn most_worth(lowering: &Lowering, j: u16) -> i128
-    requires { (0 < j) × (j ≤ length lowering.now.book.now.bidders) }
+fn most_worth(lowered: &LoweredBids, j: u16) -> i128
+    requires { (0 < j) × (j ≤ length lowered.now.book.now.bidders) }
 {
-    let mut most = lowering.idle(j);
-    for i in 0..lowering.bids(j) {
-        most = most.max(lowering.worth(j, i + 1));
+    let mut most = lowered.idle(j);
+    for i in 0..lowered.bids(j) {
+        most = most.max(lowered.worth(j, i + 1));
     }
     most
 }
 
 /// A shift with which the numbers of line `j - 1` have at most 15 bits, where there is one. Nothing but time rests on it.
-fn line_shift<A: Amount>(lowering: &Lowering, j: u16, below: &[A]) -> u32
-    requires bidder { (0 < j) × (j ≤ length lowering.now.book.now.bidders) }
+fn line_shift<C: Cell>(lowered: &LoweredBids, j: u16, below: &[C]) -> u32
+    requires bidder { (0 < j) × (j ≤ length lowered.now.book.now.bidders) }
     requires some { 0 < length below.now }
     ensures { result < 64 }
 {
     let last = number_at(below, below.len() - 1).unsigned_abs();
-    let most = last.saturating_add(most_worth(lowering, j).unsigned_abs());
+    let most = last.saturating_add(most_worth(lowered, j).unsigned_abs());
     shift_for(most.min(u64::MAX as u128) as u64)
 }
 
 /// Puts line `j - 1`, which counts no bid of bidder `j` yet, and line `j` below it in 16 bits, where they are long, many bids count
 /// in them and there is room for them, and gives the shift of their units.
-pub fn put_units<A: Amount>(
-    lowering: &Lowering,
+pub fn put_units<C: Cell>(
+    lowered: &LoweredBids,
     j: u16,
-    line: &[A],
-    below: &[A],
+    line: &[C],
+    below: &[C],
     low: &mut [u16],
     high: &mut [u16],
 ) -> Option<u32>
-    requires bidder { (0 < j) × (j ≤ length lowering.now.book.now.bidders) }
+    requires bidder { (0 < j) × (j ≤ length lowered.now.book.now.bidders) }
     requires places { length line.now ≡ length below.now }
-    ensures { MayBeInUnits A.number result line.now below.now low.new high.new }
+    ensures { MayBeInUnits C.number result line.now below.now low.new high.new }
 {
     let places = line.len();
     if places < LONG_LINE || low.len() != places || high.len() != places {
         return None;
     }
-    if needed_bids(lowering, j) < MANY_BIDS {
+    if needed_bids(lowered, j) < MANY_BIDS {
         return None;
     }
-    let shift = line_shift(lowering, j, below);
-    if !A::put_high(high, below, shift) {
+    let shift = line_shift(lowered, j, below);
+    if !C::put_high(high, below, shift) {
         return None;
     }
-    A::put_low(low, line, shift);
+    C::put_low(low, line, shift);
     Some(shift)
 }

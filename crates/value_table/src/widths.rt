@@ -1,26 +1,26 @@
 // Lines in numbers of another width.
 ghost use Rattle.std.specs.Prelude.{◌≡◌, ℕ, ◌≤◌, ◌≤ℤ◌, length, map, slice_index_or, pos, unsigned_abs};
 
-use crate::amount::Amount;
+use crate::cell::Cell;
 
 /// Writes the numbers in the width of a list, which all of them fit.
-pub fn narrow_into<A: Amount>(numbers: &mut [A], line: &[i128])
+pub fn narrow_into<C: Cell>(numbers: &mut [C], line: &[i128])
     requires places { length numbers.old ≡ length line.now }
-    requires sizes { (s : ℕ) → unsigned_abs (slice_index_or line.now s (pos 0)) ≤ A.most }
+    requires sizes { (s : ℕ) → unsigned_abs (slice_index_or line.now s (pos 0)) ≤ C.most }
     requires signs { (s : ℕ) → pos 0 ≤ℤ slice_index_or line.now s (pos 0) }
-    ensures { map A.number numbers.new ≡ line.now }
+    ensures { map C.number numbers.new ≡ line.now }
 {
     for i in 0..line.len() {
-        numbers[i] = A::narrowed(line[i]);
+        numbers[i] = C::narrowed(line[i]);
     }
 }
 
 /// Writes the numbers in 128 bits each.
-pub fn widen_into<A: Amount>(numbers: &mut [i128], line: &[A])
+pub fn widen_into<C: Cell>(numbers: &mut [i128], line: &[C])
     requires { length numbers.old ≡ length line.now }
-    ensures { numbers.new ≡ map A.number line.now }
+    ensures { numbers.new ≡ map C.number line.now }
 {
     for i in 0..line.len() {
-        numbers[i] = A::wide(line[i]);
+        numbers[i] = C::wide(line[i]);
     }
 }

@@ -1,5 +1,5 @@
 // The text of a review.
-ghost use Rattle.std.specs.Prelude.{◌≡◌, ◌++◌, List, ℕ, IfOk, OnOk, length};
+ghost use Rattle.std.specs.Prelude.{◌≡◌, ◌++◌, List, ℕ, IfOk, OnErr, OnOk, length};
 ghost use Rattle.std.specs.List.{AllByRecursion};
 ghost use Rattle.review.specs.Edits.{edit_lots, edit_reply};
 ghost use Rattle.outcome.specs.ReviewText.{IsReplyLine, IsReviewText, behind};
@@ -52,9 +52,23 @@ fn add_edit(
         × (text.new ≡ text.old ++ line)) }
     ensures book { OnOk result (review.new.book ≡ behind review.old.book edit.now) }
 {
-    match review.edit(alloc, edit) {
+    match take_edit(alloc, review, edit)? {
         EditReply::Ok => add_state(text, n, review),
-        EditReply::Memory => Err(AllocError),
         refusal => add_refusal(text, n, refusal),
+    }
+}
+
+/// Takes an edit, and gives the reply to it. Memory is asked for only where no condition refuses the edit, so out of memory never hides a
+/// refusal; the review is as it was then.
+fn take_edit(alloc: Global, review: &mut Review, edit: &Edit) -> Result<EditReply, AllocError>
+    requires { length (edit_lots edit.now) ≡ length review.old.book.supply }
+    ensures reply { IfOk result (λ reply. reply ≡ edit_reply review.old.book edit.now) }
+    ensures book { OnOk result (review.new.book ≡ behind review.old.book edit.now) }
+    ensures memory { OnErr result (edit_reply review.old.book edit.now ≡ EditReply.Ok) }
+    ensures unchanged { OnErr result (review.new ≡ review.old) }
+{
+    match review.edit(alloc, edit) {
+        EditReply::Memory => Err(AllocError),
+        reply => Ok(reply),
     }
 }

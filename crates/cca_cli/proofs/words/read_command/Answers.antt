@@ -5,5 +5,5 @@ use Rattle.cca_cli.proofs.Names.{among-behind}
 use Rattle.cca_cli.proofs.words.read_command.Goals as goal
 
 pub returns-in-Some-clause-among : goal.returns-in-Some-clause-among
-returns-in-Some-clause-among c = IfSome_then c.command_by.result c.command_by.ensures.among (λ k among. among-behind string_bytes c.args.words.now
+returns-in-Some-clause-among c = IfSome_then c.said_by.result c.said_by.ensures.among (λ k among. among-behind string_bytes c.args.words.now
     (command_value k) among)

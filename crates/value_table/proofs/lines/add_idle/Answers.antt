@@ -13,7 +13,7 @@ narrowed-requires-clause-size g c =
 pub narrowed-requires-clause-sign : goal.narrowed-requires-clause-sign
 narrowed-requires-clause-sign g c =
     let idle_fits : SFits w128 c.idle-idle.result = search rules in
-    rw (to_z-of_z w128 c.idle-idle.result idle_fits, c.idle-idle.ensures.worth) (idle-sign c.args.lowering.now c.args.j)
+    rw (to_z-of_z w128 c.idle-idle.result idle_fits, c.idle-idle.ensures.worth) (idle-sign c.args.lowered.now c.args.j)
 
 pub add_to_each-requires-clause-amount : goal.add_to_each-requires-clause-amount
 add_to_each-requires-clause-amount g c =

@@ -12,8 +12,8 @@ use Rattle.value_table.proofs.lines.count_bids.Goals as goal
 
 pub loop-i-init : goal.loop-i-init
 loop-i-init g c =
-    let l = c.args.lowering.now in
-    let number = g.A.Amount.number in
+    let l = c.args.lowered.now in
+    let number = g.C.Cell.number in
     let below = c.args.below.now in
     let line = c.args.line.now in
     let places : length (map number line) ≡ length (map number below) = length-map line number ∙ c.requires.places ∙ sym (length-map below number) in
@@ -27,7 +27,7 @@ loop-i-init g c =
 
 pub narrowed-worth-requires-clause-size : goal.narrowed-worth-requires-clause-size
 narrowed-worth-requires-clause-size g c =
-    let l = c.args.lowering.now in
+    let l = c.args.lowered.now in
     let known : c.loop-i.i - 1 + 1 ≤ (counted_bids l).bids c.args.j = omega (arith, c.loop-i-test.true, c.bids-i.ensures.bids) in
     let wide : SFits w128 c.worth.result = search rules in
     rw (to_z-of_z w128 c.worth.result wide, c.worth.ensures.worth) (c.requires.range.worths (c.loop-i.i - 1 + 1) known)
@@ -39,8 +39,8 @@ narrowed-worth-requires-clause-sign g c =
 
 pub loop-i-preserved : goal.loop-i-preserved
 loop-i-preserved g c =
-    let l = c.args.lowering.now in
-    let number = g.A.Amount.number in
+    let l = c.args.lowered.now in
+    let number = g.C.Cell.number in
     let i = c.loop-i.i in
     let up : i - 1 + 1 ≡ i = omega (arith, c.loop-i-test.true) in
     let wide : SFits w128 c.worth.result = search rules in
@@ -62,37 +62,37 @@ loop-i-preserved g c =
 
 pub returns : goal.returns
 returns g c =
-    let l = c.args.lowering.now in
-    let line = map g.A.Amount.number c.loop-i.line in
+    let l = c.args.lowered.now in
+    let line = map g.C.Cell.number c.loop-i.line in
     let all : c.loop-i.i ≡ 0 = omega arith in
     bidder-all (counted_bids l) (counted l) l.book.now.supply c.args.j c.requires.bidder.0 line c.requires.bidder.1
     (bidder_from-all (counted_bids l) (counted l) l.book.now.supply c.args.j c.requires.bidder.0 line (rw all at c.loop-i.invariant.line))
 
 pub loop-i-preserved-then-is_needless : goal.loop-i-preserved-then-is_needless
 loop-i-preserved-then-is_needless g c =
-    let l = c.args.lowering.now in
+    let l = c.args.lowered.now in
     let i = c.loop-i.i in
     let up : i - 1 + 1 ≡ i = omega (arith, c.loop-i-test.true) in
     let beaten : IsNeedless l c.args.j i = rw up at (c.is_needless.ensures.needless c.if-is_needless.true) in
     record {
       line = bidder_from-beaten (counted_bids l) (counted l) l.book.now.supply c.args.j c.requires.bidder.0 i (omega (arith, c.loop-i-test.true))
-          (map g.A.Amount.number c.loop-i.line) beaten c.loop-i.invariant.line;
+          (map g.C.Cell.number c.loop-i.line) beaten c.loop-i.invariant.line;
       units = c.loop-i.invariant.units;
     }
 
 pub add_bid-more-requires-clause-below_grows : goal.add_bid-more-requires-clause-below_grows
 add_bid-more-requires-clause-below_grows g c =
-    let l = c.args.lowering.now in
+    let l = c.args.lowered.now in
     rw c.supply.ensures.supply
-    (line-grows (counted_bids l) (counted l) l.book.now.supply c.args.j (map g.A.Amount.number c.args.below.now) c.requires.below)
+    (line-grows (counted_bids l) (counted l) l.book.now.supply c.args.j (map g.C.Cell.number c.args.below.now) c.requires.below)
 
 pub add_bid-more-requires-clause-line_grows : goal.add_bid-more-requires-clause-line_grows
 add_bid-more-requires-clause-line_grows g c = rw c.supply.ensures.supply c.loop-i.invariant.line.grows
 
 pub add_bid-more-requires-clause-lines : goal.add_bid-more-requires-clause-lines
 add_bid-more-requires-clause-lines g c =
-    let l = c.args.lowering.now in
-    let number = g.A.Amount.number in
+    let l = c.args.lowered.now in
+    let number = g.C.Cell.number in
     let known : c.loop-i.i - 1 + 1 ≤ (counted_bids l).bids c.args.j = omega (arith, c.loop-i-test.true, c.bids-i.ensures.bids) in
     let wide : SFits w128 c.worth.result = search rules in
     record {

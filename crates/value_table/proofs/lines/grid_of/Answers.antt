@@ -11,8 +11,8 @@ loop-i-init g c = rw c.new-grid.ensures (record { made = refl; done = refl })
 
 pub push_line-requires-clause-few : goal.push_line-requires-clause-few
 push_line-requires-clause-few g c =
-    let l = c.args.lowering.now in
-    let number = g.A.Amount.number in
+    let l = c.args.lowered.now in
+    let number = g.C.Cell.number in
     let lines = c.args.lines.now in
     let all = map (entries number) lines in
     let inside : c.loop-i.i < length all = omega (arith, length-map lines (entries number)) in
@@ -22,9 +22,9 @@ push_line-requires-clause-few g c =
 
 pub push_line-requires-clause-width : goal.push_line-requires-clause-width
 push_line-requires-clause-width g c = λ some.
-    let l = c.args.lowering.now in
+    let l = c.args.lowered.now in
     let lines = c.args.lines.now in
-    let number = g.A.Amount.number in
+    let number = g.C.Cell.number in
     let all = map (entries number) lines in
     let inside : c.loop-i.i < length all = omega (arith, length-map lines (entries number)) in
     let width = lines-width (counted_bids l) (counted l) l.book.now.supply (length lines) 0 c.loop-i.i all c.requires inside in
@@ -33,15 +33,15 @@ push_line-requires-clause-width g c = λ some.
 
 pub loop-i-preserved : goal.loop-i-preserved
 loop-i-preserved g c =
-    let l = c.args.lowering.now in
+    let l = c.args.lowered.now in
     let m = counted_bids l in
     let counts = counted l in
     let supply = l.book.now.supply in
     let lines = c.args.lines.now in
-    let all = map (entries g.A.Amount.number) lines in
+    let all = map (entries g.C.Cell.number) lines in
     let i = c.loop-i.i in
     let line = get_or all i [] in
-    let inside : i < length all = omega (arith, length-map lines (entries g.A.Amount.number)) in
+    let inside : i < length all = omega (arith, length-map lines (entries g.C.Cell.number)) in
     let up : suc i ≡ i + 1 = omega arith in
     let made : c.push_line.new.grid ≡ c.loop-i.grid ++ line ∷ [] = c.in_ok-push_line.ensures
     ∙ ap (λ (z : List ℤ). c.loop-i.grid ++ z ∷ []) c.line_at.ensures in
@@ -57,5 +57,5 @@ loop-i-preserved g c =
 pub returns : goal.returns
 returns g c =
     let lines = c.args.lines.now in
-    let all = map (entries g.A.Amount.number) lines in
-    c.loop-i.invariant.made ∙ take_all c.loop-i.i all (omega (arith, length-map lines (entries g.A.Amount.number)))
+    let all = map (entries g.C.Cell.number) lines in
+    c.loop-i.invariant.made ∙ take_all c.loop-i.i all (omega (arith, length-map lines (entries g.C.Cell.number)))

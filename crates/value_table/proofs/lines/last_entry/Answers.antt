@@ -14,14 +14,14 @@ overflow_sub-states c = omega (arith, c.states.ensures.states, states-positive c
 
 pub entry-requires-clause-place : goal.entry-requires-clause-place
 entry-requires-clause-place c =
-    let supply = c.args.lowering.now.book.now.supply in
+    let supply = c.args.lowered.now.book.now.supply in
     let line = c.requires.exact 0 (omega arith) in
     let states : c.states.result ≡ states_of supply = c.states.ensures.states ∙ ap states_of c.supply.ensures.supply in
     omega (arith, states, line.places, states-positive supply)
 
 pub returns-clause-most : goal.returns-clause-most
 returns-clause-most c =
-    let l = c.args.lowering.now in
+    let l = c.args.lowered.now in
     let supply = l.book.now.supply in
     let last = c.states.result - 1 in
     let z = c.entry.result in
@@ -35,7 +35,7 @@ returns-clause-most c =
 
 pub returns-clause-size : goal.returns-clause-size
 returns-clause-size c =
-    let l = c.args.lowering.now in
+    let l = c.args.lowered.now in
     let z = c.entry.result in
     let z_fits : SFits w128 z = search rules in
     rw (to_z-of_z w128 z z_fits, c.entry.ensures)

@@ -7,23 +7,23 @@ use Rattle.value_table.proofs.lines.lines_down.Goals as goal
 
 pub next_line-requires-clause-range : goal.next_line-requires-clause-range
 next_line-requires-clause-range g c =
-    let l = c.args.lowering.now in
+    let l = c.args.lowered.now in
     let up : c.loop-k.k - 1 + 1 ≡ c.loop-k.k = omega arith in
-    let first = counted-first l g.A.Amount.number c.loop-k.lines.items (suc c.args.top) c.loop-k.k c.index.result.now c.deref.result.now (omega arith)
+    let first = counted-first l g.C.Cell.number c.loop-k.lines.items (suc c.args.top) c.loop-k.k c.index.result.now c.deref.result.now (omega arith)
     c.loop-k.invariant c.index.ensures c.deref.ensures.value in
-    rw up (line-room l g.A.Amount.most c.requires.range c.loop-k.k (map g.A.Amount.number c.deref.result.now) (omega (arith, c.loop-k-test.true))
+    rw up (line-room l g.C.Cell.most c.requires.range c.loop-k.k (map g.C.Cell.number c.deref.result.now) (omega (arith, c.loop-k-test.true))
     (omega (arith, c.requires.top)) first)
 
 pub next_line-requires-clause-below : goal.next_line-requires-clause-below
 next_line-requires-clause-below g c =
     let up : c.loop-k.k - 1 + 1 ≡ c.loop-k.k = omega arith in
-    rw up (counted-first c.args.lowering.now g.A.Amount.number c.loop-k.lines.items (suc c.args.top) c.loop-k.k c.index.result.now c.deref.result.now
+    rw up (counted-first c.args.lowered.now g.C.Cell.number c.loop-k.lines.items (suc c.args.top) c.loop-k.k c.index.result.now c.deref.result.now
     (omega arith) c.loop-k.invariant c.index.ensures c.deref.ensures.value)
 
 pub loop-k-preserved : goal.loop-k-preserved
 loop-k-preserved g c =
-    let entries_of = entries g.A.Amount.number in
-    let l = c.args.lowering.now in
+    let entries_of = entries g.C.Cell.number in
+    let l = c.args.lowered.now in
     let line = c.in_ok-line.line in
     let lines = c.loop-k.lines.items in
     let made : c.insert.new.self.items ≡ line ∷ lines = search rules in

@@ -5,4 +5,4 @@ pub narrow_into-requires-clause-sizes : goal.narrow_into-requires-clause-sizes
 narrow_into-requires-clause-sizes g c = c.requires.range.numbers
 
 pub narrow_into-requires-clause-signs : goal.narrow_into-requires-clause-signs
-narrow_into-requires-clause-signs g c = line-sign c.args.lowering.now c.args.j c.args.below.now c.requires.bidder.1 c.requires.below
+narrow_into-requires-clause-signs g c = line-sign c.args.lowered.now c.args.j c.args.below.now c.requires.bidder.1 c.requires.below

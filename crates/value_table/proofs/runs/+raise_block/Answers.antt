@@ -10,7 +10,7 @@ bounds-widths-0 g t c = rw c.requires.lots.widths (omega (arith, widths-count c.
 
 pub is_reached-requires-clause-first : goal.is_reached-requires-clause-first
 is_reached-requires-clause-first g t c =
-    first-inside g.A.Amount.number g.A.Amount.most c.args.supply.now c.args.widths.now c.args.counts.now c.args.line.now c.args.below.now c.args.worth
+    first-inside g.C.Cell.number g.C.Cell.most c.args.supply.now c.args.widths.now c.args.counts.now c.args.line.now c.args.below.now c.args.worth
     c.requires.some c.requires.lots c.args.first c.requires.corners
 
 pub is_reached-requires-clause-lines : goal.is_reached-requires-clause-lines
@@ -18,12 +18,12 @@ is_reached-requires-clause-lines g t c = rw c.requires.lots.lines.line c.require
 
 pub returns-then-is_reached : goal.returns-then-is_reached
 returns-then-is_reached g t c =
-    reached-none g.A.Amount.number g.A.Amount.most c.args.supply.now c.args.widths.now c.args.counts.now c.args.line.now c.args.below.now c.args.worth
+    reached-none g.C.Cell.number g.C.Cell.most c.args.supply.now c.args.widths.now c.args.counts.now c.args.line.now c.args.below.now c.args.worth
     c.requires.some c.requires.lots c.args.first c.requires.corners (c.is_reached.ensures.0 c.if-is_reached.true)
 
 pub loop-block-init : goal.loop-block-init
 loop-block-init g t c =
-    raised-first g.A.Amount.number g.A.Amount.most c.args.supply.now c.args.widths.now c.args.counts.now c.args.line.now c.args.below.now c.args.worth
+    raised-first g.C.Cell.number g.C.Cell.most c.args.supply.now c.args.widths.now c.args.counts.now c.args.line.now c.args.below.now c.args.worth
     c.requires.some c.requires.lots
 
 pub overflow_mul-rest : goal.overflow_mul-rest
@@ -77,22 +77,22 @@ pub raise_block-requires : goal.raise_block-requires
 raise_block-requires g t c =
     let q = c.loop-block.block in
     let line = c.loop-block.line in
-    let asks = block-asks g.A.Amount.number g.A.Amount.most c.args.supply.now c.args.widths.now c.args.counts.now c.args.line.now c.args.below.now
+    let asks = block-asks g.C.Cell.number g.C.Cell.most c.args.supply.now c.args.widths.now c.args.counts.now c.args.line.now c.args.below.now
     c.args.worth c.requires.some c.requires.lots q line c.loop-block-test.true c.loop-block.auto.line in
-    let corners = block-corners g.A.Amount.number g.A.Amount.most c.args.supply.now c.args.widths.now c.args.counts.now c.args.line.now c.args.below.now
+    let corners = block-corners g.C.Cell.number g.C.Cell.most c.args.supply.now c.args.widths.now c.args.counts.now c.args.line.now c.args.below.now
     c.args.worth c.requires.some c.requires.lots c.args.first q line c.loop-block.auto.block c.loop-block-test.true c.loop-block.invariant.rest
     c.requires.corners in
     λ lifetimes h. (search rules, (search rules, (asks, (search rules, corners))))
 
 pub loop-block-preserved : goal.loop-block-preserved
 loop-block-preserved g t c =
-    raised-more g.A.Amount.number g.A.Amount.most c.args.supply.now c.args.widths.now c.args.counts.now c.args.line.now c.args.below.now c.args.worth
+    raised-more g.C.Cell.number g.C.Cell.most c.args.supply.now c.args.widths.now c.args.counts.now c.args.line.now c.args.below.now c.args.worth
     c.requires.some c.requires.lots c.loop-block.block c.loop-block.line c.raise_block.new.line c.loop-block.auto.block c.loop-block-test.true
     c.loop-block.auto.line c.raise_block.auto.line c.raise_block.ensures c.loop-block.invariant
 
 pub returns : goal.returns
 returns g t c =
-    raised-whole g.A.Amount.number g.A.Amount.most c.args.supply.now c.args.widths.now c.args.counts.now c.args.line.now c.args.below.now c.args.worth
+    raised-whole g.C.Cell.number g.C.Cell.most c.args.supply.now c.args.widths.now c.args.counts.now c.args.line.now c.args.below.now c.args.worth
     c.requires.some c.requires.lots c.loop-block.block c.loop-block.line c.loop-block-test.false c.loop-block.invariant
 
 pub slice_bounds-raise_block-end-in-loop-block-3 : goal.slice_bounds-raise_block-end-in-loop-block-3

@@ -7,5 +7,5 @@ decreases-raise_block g l = length l.counts.now
 
 abbrev pub invariant-loop-block : goal.invariant-loop-block
 invariant-loop-block g l =
-    let number = g.A.Amount.number in
+    let number = g.C.Cell.number in
     IsRaisedTo number l.supply l.counts (map number l.below) (number l.worth) l.initial.line l.line (l.block * l.width)

@@ -7,6 +7,6 @@ is_at_least-requires-clause-below g c =
     let at = length c.args.line.now - 1 - c.args.first in
     let own = c.index-below-line.result in
     let inside : at < length c.args.below.now = omega (arith, c.requires.first, c.requires.lines.places) in
-    let is : get_or (map g.A.Amount.number c.args.below.now) at (pos 0) ≡ g.A.Amount.number own = get_or-map g.A.Amount.number c.args.below.now at own
-    (pos 0) inside ∙ ap g.A.Amount.number (sym c.index-below-line.is) in
+    let is : get_or (map g.C.Cell.number c.args.below.now) at (pos 0) ≡ g.C.Cell.number own = get_or-map g.C.Cell.number c.args.below.now at own
+    (pos 0) inside ∙ ap g.C.Cell.number (sym c.index-below-line.is) in
     rw is at (c.requires.lines.sizes at)

@@ -22,12 +22,12 @@ bounds-widths-0 g c = rw c.requires.lots.widths (omega (arith, widths-count c.ar
 
 pub raise_run-requires-clause-sizes : goal.raise_run-requires-clause-sizes
 raise_run-requires-clause-sizes g c =
-    small-numbers g.A.Amount.number c.args.below.now 0 (length c.args.line.now - get_or c.args.counts.now 0 0 * get_or c.args.widths.now 0 0) g.A.Amount.most
+    small-numbers g.C.Cell.number c.args.below.now 0 (length c.args.line.now - get_or c.args.counts.now 0 0 * get_or c.args.widths.now 0 0) g.C.Cell.most
     c.requires.lots.lines.sizes
 
 pub returns-then-from-all : goal.returns-then-from-all
 returns-then-from-all g c =
-    let number = g.A.Amount.number in
+    let number = g.C.Cell.number in
     let supply = c.args.supply.now in
     let line = c.args.line.now in
     let made = c.raise_run.new.line in
@@ -54,7 +54,7 @@ returns-then-from-all g c =
 
 pub returns-else-from-all : goal.returns-else-from-all
 returns-else-from-all g c =
-    let number = g.A.Amount.number in
+    let number = g.C.Cell.number in
     let width : get_or c.args.widths.now 0 0 ≡ states_of (drop 1 c.args.supply.now) = ap (λ (l : List ℕ). get_or l 0 0) c.requires.lots.widths
     ∙ width-first c.args.supply.now (omega arith) in
     λ s h.

@@ -46,7 +46,7 @@ raise_rows-requires-clause-sizes g c =
     let widths = c.args.widths.now in
     let counts = c.args.counts.now in
     let start = get_or counts 0 0 * get_or widths 0 0 + get_or counts 1 0 * get_or widths 1 0 in
-    small-numbers g.A.Amount.number c.args.below.now 0 (length c.args.line.now - start) g.A.Amount.most c.requires.lots.lines.sizes
+    small-numbers g.C.Cell.number c.args.below.now 0 (length c.args.line.now - start) g.C.Cell.most c.requires.lots.lines.sizes
 
 pub returns : goal.returns
 returns g c =
@@ -54,7 +54,7 @@ returns g c =
     let start = get_or c.args.counts.now 0 0 * get_or c.args.widths.now 0 0 + get_or c.args.counts.now 1 0 * get_or c.args.widths.now 1 0 in
     let k = length line - start in
     two-back c.args.supply.now c.args.widths.now c.args.counts.now c.requires.lots.widths c.requires.two c.requires.lots.categories c.requires.fits
-    g.A.Amount.number (g.A.Amount.number c.args.worth) line c.args.below.now c.raise_rows.new.line k c.requires.lots.lines.line (omega arith)
+    g.C.Cell.number (g.C.Cell.number c.args.worth) line c.args.below.now c.raise_rows.new.line k c.requires.lots.lines.line (omega arith)
     (c.raise_rows.auto.line ∙ length-take-le k (drop start line) (omega (arith, length-drop start line)))
     c.raise_rows.ensures.raised c.raise_rows.ensures.kept
 

@@ -7,27 +7,27 @@ use Rattle.value_table.proofs.short.short_lines_down.Goals as goal
 pub is_short-requires-clause-below : goal.is_short-requires-clause-below
 is_short-requires-clause-below c =
     let up : c.loop-k.k - 1 + 1 ≡ c.loop-k.k = omega arith in
-    rw up (counted-first c.args.lowering.now (λ n. pos n) c.loop-k.lines.items (suc c.args.top) c.loop-k.k c.index.result.now c.deref.result.now
+    rw up (counted-first c.args.lowered.now (λ n. pos n) c.loop-k.lines.items (suc c.args.top) c.loop-k.k c.index.result.now c.deref.result.now
     (omega arith) c.loop-k.invariant c.index.ensures c.deref.ensures.value)
 
 pub next_line-requires-clause-below : goal.next_line-requires-clause-below
 next_line-requires-clause-below c =
     let up : c.loop-k.k - 1 + 1 ≡ c.loop-k.k = omega arith in
-    rw up (counted-first c.args.lowering.now (λ n. pos n) c.loop-k.lines.items (suc c.args.top) c.loop-k.k c.index-in-loop-k.result.now
+    rw up (counted-first c.args.lowered.now (λ n. pos n) c.loop-k.lines.items (suc c.args.top) c.loop-k.k c.index-in-loop-k.result.now
     c.deref-in-loop-k.result.now (omega arith) c.loop-k.invariant c.index-in-loop-k.ensures c.deref-in-loop-k.ensures.value)
 
 pub next_line-requires-clause-range : goal.next_line-requires-clause-range
 next_line-requires-clause-range c =
     let same : c.deref.result.now ≡ c.deref-in-loop-k.result.now = c.deref.ensures.value ∙ ap (λ (v : Vec ℕ Global). v.items)
-    (counted-same c.args.lowering.now (λ n. pos n) c.loop-k.lines.items (suc c.args.top) c.loop-k.k c.index.result.now c.index-in-loop-k.result.now
+    (counted-same c.args.lowered.now (λ n. pos n) c.loop-k.lines.items (suc c.args.top) c.loop-k.k c.index.result.now c.index-in-loop-k.result.now
     (omega arith) c.loop-k.invariant c.index.ensures c.index-in-loop-k.ensures) ∙ sym c.deref-in-loop-k.ensures.value in
-    subst (λ (xs : List ℕ). IsLineWithin c.args.lowering.now (2 ^ 31 - 1) (c.loop-k.k - 1 + 1) (map (λ n. pos n) xs)) same
+    subst (λ (xs : List ℕ). IsLineWithin c.args.lowered.now (2 ^ 31 - 1) (c.loop-k.k - 1 + 1) (map (λ n. pos n) xs)) same
     (c.is_short.ensures c.if-not-is_short.false)
 
 pub loop-k-preserved : goal.loop-k-preserved
 loop-k-preserved c =
     let entries_of = entries (λ n. pos n) in
-    let l = c.args.lowering.now in
+    let l = c.args.lowered.now in
     let line = c.in_ok-line.line in
     let lines = c.loop-k.lines.items in
     let made : c.insert.new.self.items ≡ line ∷ lines = search rules in

@@ -4,4 +4,4 @@ use Rattle.value_table.proofs.TableLines.{entries}
 use Rattle.value_table.proofs.short.short_lines_down.Given as goal
 
 abbrev pub invariant-loop-k : goal.invariant-loop-k
-invariant-loop-k l = AreCountedLines l.lowering (suc l.top) l.k (map (entries (λ n. pos n)) l.lines.items)
+invariant-loop-k l = AreCountedLines l.lowered (suc l.top) l.k (map (entries (λ n. pos n)) l.lines.items)

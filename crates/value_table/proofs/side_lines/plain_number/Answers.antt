@@ -12,8 +12,8 @@ use mir.Val.{SFits}
 use mir.Syntax.{w128}
 use Rattle.value_table.proofs.side_lines.plain_number.Goals as goal
 
-pub invariant_of-lowering : goal.invariant_of-lowering
-invariant_of-lowering c = record {
+pub invariant_of-lowered : goal.invariant_of-lowered
+invariant_of-lowered c = record {
   bidders = c.requires.count;
   range = zeros-range c.args.book.now false c.args.surplus.now c.kept.ensures c.requires.zeros;
 }

@@ -1,7 +1,7 @@
 use Rattle.std.proofs.Common.{◌-◌, ◌^◌, length, pos, refl}
 use Rattle.std.proofs.lemmas.List.{map-id}
 use Rattle.auction_model.specs.Book.{menu_of, net_of}
-use Rattle.value_table.specs.declared.lowering.Lowering.{Lowering}
+use Rattle.value_table.specs.declared.lowered_bids.LoweredBids.{LoweredBids}
 use Rattle.value_table.specs.Turned.{in_order, worths_in_order}
 use Rattle.value_table.proofs.LineLaws.{line-lowered, zeros-range}
 use Rattle.value_table.proofs.NarrowLaws.{plain-narrow}
@@ -9,8 +9,8 @@ use Rattle.value_table.proofs.SideLaws.{line-plain}
 use Rattle.value_table.proofs.Sizes.{line-room}
 use Rattle.value_table.proofs.side_lines.side_line.Goals as goal
 
-pub invariant_of-lowering : goal.invariant_of-lowering
-invariant_of-lowering c = record {
+pub invariant_of-lowered : goal.invariant_of-lowered
+invariant_of-lowered c = record {
   bidders = c.requires.count;
   range = zeros-range c.args.book.now c.args.turned c.args.surplus.now c.kept.ensures c.requires.zeros;
 }
@@ -38,7 +38,7 @@ put_line-requires-else-is_short-clause-range c =
     let turned = c.args.turned in
     let own = line-lowered (in_order turned (menu_of book)) (worths_in_order turned (length book.bidders) (net_of book)) c.args.surplus.now
     (λ j. refl) c.requires.zeros book.supply c.args.j c.args.below.now c.requires.below in
-    let l : Lowering = record {
+    let l : LoweredBids = record {
       book = c.args.book;
       turned = turned;
       skip = 0;

@@ -4,8 +4,8 @@ use Rattle.value_table.specs.Turned.{in_order, worths_in_order}
 use Rattle.value_table.proofs.SideLaws.{table-plain, turned-range}
 use Rattle.value_table.proofs.sides.reversed_lines.Goals as goal
 
-pub invariant_of-lowering : goal.invariant_of-lowering
-invariant_of-lowering c =
+pub invariant_of-lowered : goal.invariant_of-lowered
+invariant_of-lowered c =
     rw c.deref.ensures.value (record {
       bidders = c.in_ok-surplus.ensures.count ∙ c.bidders.ensures.bidders;
       range = turned-range c.args.book.now c.in_ok-surplus.surplus.items c.bidders.ensures.kept c.in_ok-surplus.ensures.zeros;

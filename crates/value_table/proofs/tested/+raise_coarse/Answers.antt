@@ -15,7 +15,7 @@ bounds-widths-0 g t c = rw c.requires.lots.widths (omega (arith, widths-count c.
 
 pub is_reached-requires-clause-first : goal.is_reached-requires-clause-first
 is_reached-requires-clause-first g t c =
-    first-inside g.A.Amount.number g.A.Amount.most c.args.supply.now c.args.widths.now c.args.counts.now c.args.line.now c.args.below.now c.args.worth
+    first-inside g.C.Cell.number g.C.Cell.most c.args.supply.now c.args.widths.now c.args.counts.now c.args.line.now c.args.below.now c.args.worth
     c.requires.some c.requires.lots c.args.first c.requires.corners
 
 pub is_reached-requires-clause-lines : goal.is_reached-requires-clause-lines
@@ -23,12 +23,12 @@ is_reached-requires-clause-lines g t c = rw c.requires.lots.lines.line c.require
 
 pub returns-then-is_reached-clause-line : goal.returns-then-is_reached-clause-line
 returns-then-is_reached-clause-line g t c =
-    reached-none g.A.Amount.number g.A.Amount.most c.args.supply.now c.args.widths.now c.args.counts.now c.args.line.now c.args.below.now c.args.worth
+    reached-none g.C.Cell.number g.C.Cell.most c.args.supply.now c.args.widths.now c.args.counts.now c.args.line.now c.args.below.now c.args.worth
     c.requires.some c.requires.lots c.args.first c.requires.corners (c.is_reached.ensures.0 c.if-is_reached.true)
 
 pub loop-block-init : goal.loop-block-init
 loop-block-init g t c = record {
-  raised = raised-first g.A.Amount.number g.A.Amount.most c.args.supply.now c.args.widths.now c.args.counts.now c.args.line.now c.args.below.now c.args.worth
+  raised = raised-first g.C.Cell.number g.C.Cell.most c.args.supply.now c.args.widths.now c.args.counts.now c.args.line.now c.args.below.now c.args.worth
       c.requires.some c.requires.lots;
   units = c.requires.units;
 }
@@ -82,7 +82,7 @@ offset_bounds-below-from g t c =
 
 pub raise_coarse-more-requires : goal.raise_coarse-more-requires
 raise_coarse-more-requires g t c =
-    let number = g.A.Amount.number in
+    let number = g.C.Cell.number in
     let coarse = c.args.coarse.now in
     let supply = c.args.supply.now in
     let counts = c.args.counts.now in
@@ -91,9 +91,9 @@ raise_coarse-more-requires g t c =
     let S = get_or c.args.widths.now 0 0 in
     let from = (q - get_or counts 0 0) * S in
     let some : 0 < length supply = omega (arith, c.requires.some, c.requires.lots.categories) in
-    let asks = block-asks number g.A.Amount.most supply c.args.widths.now counts c.args.line.now c.args.below.now
+    let asks = block-asks number g.C.Cell.most supply c.args.widths.now counts c.args.line.now c.args.below.now
     c.args.worth c.requires.some c.requires.lots q line c.loop-block-test.true c.loop-block.auto.line in
-    let corners = block-corners number g.A.Amount.most supply c.args.widths.now counts c.args.line.now c.args.below.now
+    let corners = block-corners number g.C.Cell.most supply c.args.widths.now counts c.args.line.now c.args.below.now
     c.args.worth c.requires.some c.requires.lots c.args.first q line c.loop-block.auto.block c.loop-block-test.true c.loop-block.invariant.raised.rest
     c.requires.corners in
     let units = units-part number coarse.shift line c.args.below.now c.loop-block.low c.args.high.now (q * S) from (q * S + S - q * S) (from + S - from)
@@ -114,7 +114,7 @@ raise_coarse-more-requires g t c =
 
 pub loop-block-preserved : goal.loop-block-preserved
 loop-block-preserved g t c =
-    let number = g.A.Amount.number in
+    let number = g.C.Cell.number in
     let supply = c.args.supply.now in
     let counts = c.args.counts.now in
     let q = c.loop-block.block in
@@ -133,7 +133,7 @@ loop-block-preserved g t c =
     ) in
     let count : length made ≡ k = c.raise_coarse-more.auto.line ∙ mid_len (q * S) (q * S + S) line room in
     record {
-      raised = raised-more number g.A.Amount.most supply c.args.widths.now counts c.args.line.now c.args.below.now c.args.worth c.requires.some c.requires.lots
+      raised = raised-more number g.C.Cell.most supply c.args.widths.now counts c.args.line.now c.args.below.now c.args.worth c.requires.some c.requires.lots
           q line made c.loop-block.auto.block c.loop-block-test.true c.loop-block.auto.line c.raise_coarse-more.auto.line c.raise_coarse-more.ensures.line
           c.loop-block.invariant.raised;
       units = units-put number c.args.coarse.now.shift line made c.args.below.now (take (from + S - from) (drop from c.args.below.now)) c.loop-block.low
@@ -143,7 +143,7 @@ loop-block-preserved g t c =
 
 pub returns-clause-line : goal.returns-clause-line
 returns-clause-line g t c =
-    raised-whole g.A.Amount.number g.A.Amount.most c.args.supply.now c.args.widths.now c.args.counts.now c.args.line.now c.args.below.now c.args.worth
+    raised-whole g.C.Cell.number g.C.Cell.most c.args.supply.now c.args.widths.now c.args.counts.now c.args.line.now c.args.below.now c.args.worth
     c.requires.some c.requires.lots c.loop-block.block c.loop-block.line c.loop-block-test.false c.loop-block.invariant.raised
 
 pub slice_bounds-raise_coarse-end-in-loop-block-3 : goal.slice_bounds-raise_coarse-end-in-loop-block-3

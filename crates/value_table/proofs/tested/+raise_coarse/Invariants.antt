@@ -8,7 +8,7 @@ decreases-raise_coarse g l = length l.counts.now
 
 abbrev pub invariant-loop-block : goal.invariant-loop-block
 invariant-loop-block g l =
-    let number = g.A.Amount.number in
+    let number = g.C.Cell.number in
     record {
       raised : IsRaisedTo number l.supply l.counts (map number l.below) (number l.worth) l.initial.line l.line (l.block * l.width);
       units : AreInUnits number l.coarse.shift l.line l.below l.low l.high;

@@ -8,7 +8,7 @@ use Rattle.value_table.proofs.tested.add_bid.Goals as goal
 
 pub returns-clause-line : goal.returns-clause-line
 returns-clause-line g c =
-    let number = g.A.Amount.number in
+    let number = g.C.Cell.number in
     let counts = c.counts-counts.result.now in
     let used = c.used_categories-used.result in
     let below = map number c.args.below.now in

@@ -10,17 +10,17 @@ is_covered-requires-clause-first g c =
     omega (
       arith,
       c.requires.units.places,
-      first-inside g.A.Amount.number g.A.Amount.most c.args.supply.now c.args.widths.now c.args.counts.now c.args.line.now c.args.below.now c.args.worth
+      first-inside g.C.Cell.number g.C.Cell.most c.args.supply.now c.args.widths.now c.args.counts.now c.args.line.now c.args.below.now c.args.worth
           c.requires.some c.requires.lots c.args.first c.requires.corners,
     )
 
 pub is_covered-requires-clause-short : goal.is_covered-requires-clause-short
 is_covered-requires-clause-short g c = λ s h.
-    c.requires.units.coarse.ceiling.short s (omega (arith, h, c.requires.units.places_below, length-map c.args.below.now g.A.Amount.number))
+    c.requires.units.coarse.ceiling.short s (omega (arith, h, c.requires.units.places_below, length-map c.args.below.now g.C.Cell.number))
 
 pub returns-then-is_covered-clause-line : goal.returns-then-is_covered-clause-line
 returns-then-is_covered-clause-line g c = λ s h.
-    let number = g.A.Amount.number in
+    let number = g.C.Cell.number in
     let coarse = c.args.coarse.now in
     let supply = c.args.supply.now in
     let counts = c.args.counts.now in
@@ -35,5 +35,5 @@ returns-then-is_covered-clause-line g c = λ s h.
 
 pub returns-clause-units : goal.returns-clause-units
 returns-clause-units g c =
-    units-anew g.A.Amount.number c.args.coarse.now.shift c.args.line.now c.raise_block.new.line c.args.below.now c.args.low.now c.put_low.new.low
+    units-anew g.C.Cell.number c.args.coarse.now.shift c.args.line.now c.raise_block.new.line c.args.below.now c.args.low.now c.put_low.new.low
     c.args.high.now c.requires.units c.put_low.ensures.floor c.put_low.ensures.places

@@ -4,12 +4,12 @@ use Rattle.std.proofs.lemmas.List.{map-id}
 use Rattle.auction_model.specs.Place.{left_at, states_of}
 use Rattle.auction_model.specs.Table.{IsEntry, entry_at}
 use Rattle.value_table.specs.Counted.{counted_bids, counted, IsCountedLine, IsCountedTable}
-use Rattle.value_table.specs.declared.lowering.Lowering.{Lowering}
+use Rattle.value_table.specs.declared.lowered_bids.LoweredBids.{LoweredBids}
 use mir.Val.{SFits}
 use mir.Syntax.{w128}
 use Rattle.value_table.proofs.tracing.grid_step.Goals as goal
 
-module _ (l : Lowering) (lines : List (List ℤ)) (table : IsCountedTable l lines) (j : ℕ) (inside : j ≤ length l.book.now.bidders) where
+module _ (l : LoweredBids) (lines : List (List ℤ)) (table : IsCountedTable l lines) (j : ℕ) (inside : j ≤ length l.book.now.bidders) where
   -- the line of the bidders after j
   line-after : IsCountedLine l j (get_or lines j [])
   line-after = table.exact j inside
@@ -31,11 +31,11 @@ next_step-requires-clause-here c =
     let here = c.entry-here.result in
     let here_fits : SFits w128 here = search rules in
     rw (to_z-of_z w128 here here_fits)
-    (entry-before c.args.lowering.now c.args.lines.now c.requires.table c.args.j c.requires.bidder.1 c.args.place here c.requires.place c.entry-here.ensures)
+    (entry-before c.args.lowered.now c.args.lines.now c.requires.table c.args.j c.requires.bidder.1 c.args.place here c.requires.place c.entry-here.ensures)
 
 pub next_step-requires-clause-below : goal.next_step-requires-clause-below
 next_step-requires-clause-below c =
-    let l = c.args.lowering.now in
+    let l = c.args.lowered.now in
     subst (IsCountedLine l c.args.j) (sym c.in-Short.ensures) (line-after l c.args.lines.now c.requires.table c.args.j c.requires.bidder.1)
 
 pub next_step-requires-in-Wide-clause-here : goal.next_step-requires-in-Wide-clause-here
@@ -43,10 +43,10 @@ next_step-requires-in-Wide-clause-here c =
     let here = c.entry-here.result in
     let here_fits : SFits w128 here = search rules in
     rw (to_z-of_z w128 here here_fits)
-    (entry-before c.args.lowering.now c.args.lines.now c.requires.table c.args.j c.requires.bidder.1 c.args.place here c.requires.place c.entry-here.ensures)
+    (entry-before c.args.lowered.now c.args.lines.now c.requires.table c.args.j c.requires.bidder.1 c.args.place here c.requires.place c.entry-here.ensures)
 
 pub next_step-requires-in-Wide-clause-below : goal.next_step-requires-in-Wide-clause-below
 next_step-requires-in-Wide-clause-below c =
-    let l = c.args.lowering.now in
+    let l = c.args.lowered.now in
     subst (IsCountedLine l c.args.j) (sym (map-id c.in-Wide.below.now ∙ c.in-Wide.ensures))
     (line-after l c.args.lines.now c.requires.table c.args.j c.requires.bidder.1)

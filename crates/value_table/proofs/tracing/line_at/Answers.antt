@@ -5,7 +5,7 @@ use Rattle.value_table.proofs.tracing.line_at.Goals as goal
 
 pub returns : goal.returns
 returns g c =
-    let number = g.A.Amount.number in
+    let number = g.C.Cell.number in
     let lines = c.args.lines.now in
     let own = c.index-lines-line.result in
     ap (map number) c.deref.ensures.value ∙ sym (get_or-map (entries number) lines c.args.line own [] c.requires

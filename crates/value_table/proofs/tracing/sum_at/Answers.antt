@@ -12,17 +12,17 @@ use Rattle.value_table.proofs.tracing.sum_at.Goals as goal
 pub overflow_add-result : goal.overflow_add-result
 overflow_add-result g c =
     let b = c.number_at.result in
-    let small : unsigned_abs b ≤ 2 ^ 120 = rw c.number_at.ensures (line-small c.args.lowering.now c.args.j
-    (map g.A.Amount.number c.args.below.now) c.requires.below c.in-Some.rest) in
+    let small : unsigned_abs b ≤ 2 ^ 120 = rw c.number_at.ensures (line-small c.args.lowered.now c.args.j
+    (map g.C.Cell.number c.args.below.now) c.requires.below c.in-Some.rest) in
     let below_fits : SFits w128 b = fits_signed_from_abs w128 b (omega (arith, small)) in
     let worth_fits : SFits w128 c.worth.result = search rules in
     rw (to_z-of_z w128 b below_fits, to_z-of_z w128 c.worth.result worth_fits) (search rules)
 
 pub returns-in-Some-clause-sum : goal.returns-in-Some-clause-sum
 returns-in-Some-clause-sum g c =
-    let l = c.args.lowering.now in
+    let l = c.args.lowered.now in
     let supply = l.book.now.supply in
-    let line = map g.A.Amount.number c.args.below.now in
+    let line = map g.C.Cell.number c.args.below.now in
     let b = c.number_at.result in
     let small : unsigned_abs b ≤ 2 ^ 120 = rw c.number_at.ensures (line-small l c.args.j line c.requires.below c.in-Some.rest) in
     let below_fits : SFits w128 b = fits_signed_from_abs w128 b (omega (arith, small)) in

@@ -13,7 +13,7 @@ overflow_sub-place c = omega (arith, c.states-place.ensures.states, states-posit
 
 pub loop-k-init : goal.loop-k-init
 loop-k-init c =
-    let supply = c.args.lowering.now.book.now.supply in
+    let supply = c.args.lowered.now.book.now.supply in
     let states : c.states-place.result ≡ states_of supply = c.states-place.ensures.states ∙ ap states_of c.supply.ensures.supply in
     record {
       place = omega (arith, states, states-positive supply);
@@ -31,7 +31,7 @@ loop-k-preserved c =
 
 pub returns : goal.returns
 returns c =
-    let l = c.args.lowering.now in
+    let l = c.args.lowered.now in
     let m = counted_bids l in
     let all : c.loop-k.k ≡ m.bidders = omega (arith, c.bidders-k-end.ensures.bidders) in
     let last : IsFirstGreatest (fits_after m c.loop-k.k (left_at l.book.now.supply c.loop-k.place)) (sum_after (counted l) c.loop-k.k) [] =

@@ -18,7 +18,7 @@ overflow_sub-place g c = omega (arith, c.states-place.ensures.states, states-pos
 
 pub loop-k-init : goal.loop-k-init
 loop-k-init g c =
-    let supply = c.args.lowering.now.book.now.supply in
+    let supply = c.args.lowered.now.book.now.supply in
     let states : c.states-place.result ≡ states_of supply = c.states-place.ensures.states ∙ ap states_of c.supply.ensures.supply in
     record {
       place = omega (arith, states, states-positive supply);
@@ -28,30 +28,30 @@ loop-k-init g c =
 pub line_at-requires : goal.line_at-requires
 line_at-requires g c =
     let lines = c.args.lines.now in
-    omega (arith, c.bidders-k-end.ensures.bidders, c.requires.lines, length-map lines (entries g.A.Amount.number))
+    omega (arith, c.bidders-k-end.ensures.bidders, c.requires.lines, length-map lines (entries g.C.Cell.number))
 
 pub line_at-below-requires : goal.line_at-below-requires
 line_at-below-requires g c =
     let lines = c.args.lines.now in
-    omega (arith, c.bidders-k-end.ensures.bidders, c.requires.lines, length-map lines (entries g.A.Amount.number))
+    omega (arith, c.bidders-k-end.ensures.bidders, c.requires.lines, length-map lines (entries g.C.Cell.number))
 
 pub number_at-here-requires : goal.number_at-here-requires
 number_at-here-requires g c =
-    let number = g.A.Amount.number in
+    let number = g.C.Cell.number in
     let line = c.requires.exact c.loop-k.k (omega (arith, c.bidders-k-end.ensures.bidders)) in
     let own = c.line_at.result.now in
     let long : length (map number own) ≡ length own = length-map own number in
-    let places : length (map number own) ≡ states_of c.args.lowering.now.book.now.supply = ap (λ (l : List ℤ). length l) c.line_at.ensures ∙ line.places in
+    let places : length (map number own) ≡ states_of c.args.lowered.now.book.now.supply = ap (λ (l : List ℤ). length l) c.line_at.ensures ∙ line.places in
     omega (arith, long, places, c.loop-k.invariant.place)
 
 pub next_step-step-requires-clause-here : goal.next_step-step-requires-clause-here
 next_step-step-requires-clause-here g c =
-    let l = c.args.lowering.now in
+    let l = c.args.lowered.now in
     let here = c.number_at-here.result in
     let here_fits : SFits w128 here = search rules in
     let down : c.loop-k.k + 1 - 1 ≡ c.loop-k.k = omega arith in
     let line = c.requires.exact c.loop-k.k (omega (arith, c.bidders-k-end.ensures.bidders)) in
-    let is : here ≡ get_or (get_or (map (entries g.A.Amount.number) c.args.lines.now) c.loop-k.k []) c.loop-k.place (pos 0) =
+    let is : here ≡ get_or (get_or (map (entries g.C.Cell.number) c.args.lines.now) c.loop-k.k []) c.loop-k.place (pos 0) =
     c.number_at-here.ensures ∙ ap (λ (l : List ℤ). get_or l c.loop-k.place (pos 0)) c.line_at.ensures in
     rw (down, to_z-of_z w128 here here_fits, is) (line.exact c.loop-k.place c.loop-k.invariant.place)
 
@@ -70,7 +70,7 @@ loop-k-preserved g c =
 
 pub returns : goal.returns
 returns g c =
-    let l = c.args.lowering.now in
+    let l = c.args.lowered.now in
     let m = counted_bids l in
     let all : c.loop-k.k ≡ m.bidders = omega (arith, c.bidders-k-end.ensures.bidders) in
     let last : IsFirstGreatest (fits_after m c.loop-k.k (left_at l.book.now.supply c.loop-k.place)) (sum_after (counted l) c.loop-k.k) [] =

@@ -9,8 +9,8 @@ use Rattle.value_table.proofs.tracing.trace_slices.Given as goal
 -- a first greatest choice of the bidders that are left makes one of all
 abbrev pub invariant-loop-k : goal.invariant-loop-k
 invariant-loop-k g l = record {
-  place : l.place < states_of l.lowering.book.now.supply;
-  rest : (r : List ℕ) → IsFirstGreatest (fits_after (counted_bids l.lowering) l.k (left_at l.lowering.book.now.supply l.place))
-      (sum_after (counted l.lowering) l.k) r → IsFirstGreatest (fits_after (counted_bids l.lowering) 0 l.lowering.book.now.supply)
-      (sum_after (counted l.lowering) 0) (l.numbers ++ r);
+  place : l.place < states_of l.lowered.book.now.supply;
+  rest : (r : List ℕ) → IsFirstGreatest (fits_after (counted_bids l.lowered) l.k (left_at l.lowered.book.now.supply l.place))
+      (sum_after (counted l.lowered) l.k) r → IsFirstGreatest (fits_after (counted_bids l.lowered) 0 l.lowered.book.now.supply)
+      (sum_after (counted l.lowered) 0) (l.numbers ++ r);
 }

@@ -3,4 +3,4 @@ use Rattle.value_table.specs.Counted.{IsCountedTable}
 use Rattle.value_table.proofs.turn_lines.all_lines.Goals as goal
 
 pub returns : goal.returns
-returns c = subst (IsCountedTable c.args.lowering.now) (sym c.in_ok-grid.ensures) c.in_ok-lines.ensures
+returns c = subst (IsCountedTable c.args.lowered.now) (sym c.in_ok-grid.ensures) c.in_ok-lines.ensures

@@ -15,12 +15,12 @@ pub overflow_sub-states : goal.overflow_sub-states
 overflow_sub-states g c = omega (arith, c.states.ensures.states, states-positive c.supply.result.now)
 
 pub line_at-requires : goal.line_at-requires
-line_at-requires g c = omega (arith, c.requires.lines, length-map c.args.lines.now (entries g.A.Amount.number))
+line_at-requires g c = omega (arith, c.requires.lines, length-map c.args.lines.now (entries g.C.Cell.number))
 
 pub number_at-requires : goal.number_at-requires
 number_at-requires g c =
-    let supply = c.args.lowering.now.book.now.supply in
-    let number = g.A.Amount.number in
+    let supply = c.args.lowered.now.book.now.supply in
+    let number = g.C.Cell.number in
     let line = c.requires.exact 0 (omega arith) in
     let states : c.states.result ≡ states_of supply = c.states.ensures.states ∙ ap states_of c.supply.ensures.supply in
     let width : length (map number c.line_at.result.now) ≡ states_of supply = ap (λ (l : List ℤ). length l) c.line_at.ensures ∙ line.places in
@@ -28,14 +28,14 @@ number_at-requires g c =
 
 pub returns-clause-most : goal.returns-clause-most
 returns-clause-most g c =
-    let l = c.args.lowering.now in
+    let l = c.args.lowered.now in
     let supply = l.book.now.supply in
     let last = c.states.result - 1 in
     let z = c.number_at.result in
     let z_fits : SFits w128 z = search rules in
     let states : c.states.result ≡ states_of supply = c.states.ensures.states ∙ ap states_of c.supply.ensures.supply in
     let line = c.requires.exact 0 (omega arith) in
-    let is : z ≡ get_or (get_or (map (entries g.A.Amount.number) c.args.lines.now) 0 []) last (pos 0) =
+    let is : z ≡ get_or (get_or (map (entries g.C.Cell.number) c.args.lines.now) 0 []) last (pos 0) =
     c.number_at.ensures ∙ ap (λ (x : List ℤ). get_or x last (pos 0)) c.line_at.ensures in
     let e : IsEntry (counted_bids l) (counted l) 0 (left_at supply last) z = rw is (line.exact last (omega (arith, states, states-positive supply))) in
     let whole : left_at supply last ≡ supply = ap (λ n. left_at supply (n - 1)) states ∙ left_at-whole supply in
@@ -43,9 +43,9 @@ returns-clause-most g c =
 
 pub returns-clause-size : goal.returns-clause-size
 returns-clause-size g c =
-    let l = c.args.lowering.now in
+    let l = c.args.lowered.now in
     let z = c.number_at.result in
     let z_fits : SFits w128 z = search rules in
-    let number = g.A.Amount.number in
+    let number = g.C.Cell.number in
     let own : IsCountedLine l 0 (map number c.line_at.result.now) = rw c.line_at.ensures (c.requires.exact 0 (omega arith)) in
     rw (to_z-of_z w128 z z_fits, c.number_at.ensures) (line-small l 0 (map number c.line_at.result.now) own (c.states.result - 1))

@@ -5,16 +5,16 @@ use Rattle.value_table.proofs.turn_lines.lines_from.Goals as goal
 
 pub short_lines_down-requires-clause-first : goal.short_lines_down-requires-clause-first
 short_lines_down-requires-clause-first c =
-    subst (λ (ns : List ℕ). IsCountedLine c.args.lowering.now c.args.top (map (λ n. pos n) ns)) (sym c.in_ok-short.ensures.items) (search rules)
+    subst (λ (ns : List ℕ). IsCountedLine c.args.lowered.now c.args.top (map (λ n. pos n) ns)) (sym c.in_ok-short.ensures.items) (search rules)
 
 pub narrow_into-requires-clause-sizes : goal.narrow_into-requires-clause-sizes
 narrow_into-requires-clause-sizes c = λ s.
-    let l = c.args.lowering.now in
+    let l = c.args.lowered.now in
     let own = subst (IsCountedLine l c.args.top) (sym (c.deref.ensures.value ∙ c.in_ok-wide.ensures)) c.requires.first in
     line-within l (2 ^ 61) (c.is_narrow.ensures c.if-is_narrow.true) c.args.top c.deref.result.now own s
 
 pub narrow_into-requires-clause-signs : goal.narrow_into-requires-clause-signs
 narrow_into-requires-clause-signs c = λ s.
-    let l = c.args.lowering.now in
+    let l = c.args.lowered.now in
     let own = subst (IsCountedLine l c.args.top) (sym (c.deref.ensures.value ∙ c.in_ok-wide.ensures)) c.requires.first in
     line-sign l c.args.top c.deref.result.now c.requires.top own s

@@ -11,13 +11,13 @@ use Rattle.value_table.proofs.turn_lines.lines_without.Goals as goal
 
 pub lines_from-requires-clause-first : goal.lines_from-requires-clause-first
 lines_from-requires-clause-first c =
-    let l = c.args.lowering.now in
+    let l = c.args.lowered.now in
     subst (IsCountedLine l (l.skip - 1)) (sym c.line.ensures)
     (line-left_out l c.args.whole.now c.requires.bidder.0 c.requires.bidder.1 c.requires.idle c.requires.whole)
 
 pub loop-k-init : goal.loop-k-init
 loop-k-init c =
-    let l = c.args.lowering.now in
+    let l = c.args.lowered.now in
     let j = l.skip in
     let m = counted_bids l in
     let line = get_or c.args.whole.now j [] in
@@ -30,7 +30,7 @@ loop-k-init c =
 
 pub loop-k-preserved : goal.loop-k-preserved
 loop-k-preserved c =
-    let l = c.args.lowering.now in
+    let l = c.args.lowered.now in
     let j = l.skip in
     let k = c.loop-k.k in
     let m = counted_bids l in
@@ -49,7 +49,7 @@ loop-k-preserved c =
 
 pub returns : goal.returns
 returns c =
-    let l = c.args.lowering.now in
+    let l = c.args.lowered.now in
     let m = counted_bids l in
     let end : c.loop-k.k ≡ suc m.bidders = omega (arith, c.requires.whole.lines, c.lines-k-end.ensures, c.requires.bidder.0, c.requires.bidder.1) in
     let was : AreLinesTo m (counted l) l.book.now.supply c.loop-k.k 0 c.loop-k.grid = c.loop-k.invariant in

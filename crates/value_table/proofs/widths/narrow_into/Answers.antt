@@ -20,7 +20,7 @@ narrowed-requires-clause-sign g c =
 
 pub loop-i-preserved : goal.loop-i-preserved
 loop-i-preserved g c =
-    let number = g.A.Amount.number in
+    let number = g.C.Cell.number in
     let numbers = c.loop-i.numbers in
     let at = c.loop-i.i in
     let made = c.narrowed.result in
@@ -32,6 +32,6 @@ loop-i-preserved g c =
 
 pub returns : goal.returns
 returns g c =
-    let number = g.A.Amount.number in
+    let number = g.C.Cell.number in
     let same = length-map c.loop-i.numbers number in
     copied-all (map number c.loop-i.numbers) c.args.line.now c.loop-i.i (omega (arith, same)) (omega arith) c.loop-i.invariant

@@ -2,4 +2,4 @@ use Rattle.std.proofs.Common.{◌≡◌, ℕ, ◌<◌, get_or, map, pos}
 use Rattle.value_table.proofs.widths.narrow_into.Given as goal
 
 abbrev pub invariant-loop-i : goal.invariant-loop-i
-invariant-loop-i g l = (s : ℕ) → s < l.i → get_or (map g.A.Amount.number l.numbers) s (pos 0) ≡ get_or l.line s (pos 0)
+invariant-loop-i g l = (s : ℕ) → s < l.i → get_or (map g.C.Cell.number l.numbers) s (pos 0) ≡ get_or l.line s (pos 0)

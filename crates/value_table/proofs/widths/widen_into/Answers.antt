@@ -8,7 +8,7 @@ use Rattle.value_table.proofs.widths.widen_into.Goals as goal
 
 pub loop-i-preserved : goal.loop-i-preserved
 loop-i-preserved g c =
-    let number = g.A.Amount.number in
+    let number = g.C.Cell.number in
     let line = c.args.line.now in
     let at = c.loop-i.i in
     let fits : SFits w128 c.wide.result = search rules in
@@ -19,7 +19,7 @@ loop-i-preserved g c =
 
 pub returns : goal.returns
 returns g c =
-    let number = g.A.Amount.number in
+    let number = g.C.Cell.number in
     let line = c.args.line.now in
     let same = length-map line number in
     copied-all c.loop-i.numbers (map number line) c.loop-i.i (omega (arith, same)) (omega (arith, same)) c.loop-i.invariant

@@ -1,5 +1,5 @@
 use Rattle.std.proofs.Common.{◌≡◌, ◌+◌, ℕ, length, replicate, sym, ap, subst, ◌∙◌, arith}
-use Rattle.value_table.specs.LineRooms.{HasRoom}
+use Rattle.value_table.specs.LineBuffers.{HasRoom}
 use Rattle.auction_model.specs.Place.{states_of}
 use Rattle.review.specs.ReviewValue.{AreRightLines, lines_of}
 use Rattle.review.proofs.LineSets.{zero_line, zero-left, zero-right}
@@ -21,5 +21,5 @@ returns c =
       after = subst (λ (k : ℕ). AreRightLines book k (lines_of c.in_ok-right.right.items)) (sym n)
           (zero-right book (lines_of c.in_ok-right.right.items) states right all);
       before = zero-left book (lines_of c.in_ok-left.left.items) states left all;
-      rooms = subst (λ (n : ℕ). HasRoom n c.in_ok-rooms.rooms) all c.in_ok-rooms.ensures;
+      buffers = subst (λ (n : ℕ). HasRoom n c.in_ok-buffers.buffers) all c.in_ok-buffers.ensures;
     }

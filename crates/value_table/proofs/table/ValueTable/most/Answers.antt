@@ -2,17 +2,17 @@ use Rattle.std.proofs.Common.{sym, subst, rules}
 use Rattle.std.proofs.lemmas.Int.{to_z-of_z}
 use Rattle.value_table.specs.Counted.{IsCountedTable}
 use Rattle.value_table.specs.TableValue.{TableValue}
-use Rattle.value_table.proofs.LoweringLaws.{entry-from, table-of}
+use Rattle.value_table.proofs.LoweredLaws.{entry-from, table-of}
 use mir.Val.{SFits}
 use mir.Syntax.{w128}
 use Rattle.value_table.proofs.table.ValueTable.most.Goals as goal
 
 pub last_entry-requires : goal.last_entry-requires
 last_entry-requires c =
-    let l = c.lowering-lowering.result in
+    let l = c.lowered_bids-lowered.result in
     let t = c.args.self.now in
     subst (λ (v : TableValue). IsCountedTable l v.lines) (sym c.self.view_is)
-    (table-of c.args.book.now t.skip t.den t.surplus l c.lowering-lowering.ensures t.lines c.requires.exact)
+    (table-of c.args.book.now t.skip t.den t.surplus l c.lowered_bids-lowered.ensures t.lines c.requires.exact)
 
 pub returns-clause-most : goal.returns-clause-most
 returns-clause-most c =
@@ -20,4 +20,4 @@ returns-clause-most c =
     let z = c.last_entry.result in
     let z_fits : SFits w128 z = search rules in
     rw (to_z-of_z w128 z z_fits)
-    (entry-from c.args.book.now t.skip t.den t.surplus c.lowering-lowering.result c.lowering-lowering.ensures z c.last_entry.ensures.most)
+    (entry-from c.args.book.now t.skip t.den t.surplus c.lowered_bids-lowered.result c.lowered_bids-lowered.ensures z c.last_entry.ensures.most)

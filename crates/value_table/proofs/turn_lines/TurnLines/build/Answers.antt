@@ -11,7 +11,7 @@ use Rattle.value_table.proofs.turn_lines.TurnLines.build.Goals as goal
 
 pub lines_from-requires-clause-first : goal.lines_from-requires-clause-first
 lines_from-requires-clause-first c =
-    let l = c.args.lowering.now in
+    let l = c.args.lowered.now in
     let supply = l.book.now.supply in
     let n = c.states.result in
     let zeros : c.deref.result.now ≡ replicate n 0 = c.deref.ensures.value ∙ c.in_ok-zeros.ensures.items_if_clones_equal (λ y h. h) in
@@ -21,6 +21,6 @@ lines_from-requires-clause-first c =
 
 pub returns : goal.returns
 returns c =
-    let l = c.args.lowering.now in
+    let l = c.args.lowered.now in
     IfOk-weaker c.lines_from.result _ _ (λ t lines. table-from_lines (counted_bids l) (counted l) l.book.now.supply (lines_in t)
     (rw c.bidders.ensures.bidders at lines)) c.lines_from.ensures

@@ -1,13 +1,13 @@
 use Rattle.std.proofs.Common.{rules}
 use Rattle.std.proofs.lemmas.Int.{to_z-of_z}
 use Rattle.value_table.specs.TurnLines.{lines_in}
-use Rattle.value_table.proofs.LoweringLaws.{table-from}
+use Rattle.value_table.proofs.LoweredLaws.{table-from}
 use mir.Val.{SFits}
 use mir.Syntax.{w128}
 use Rattle.value_table.proofs.turn_table.TurnTable.build.Goals as goal
 
-pub new-lowering-requires-clause-range : goal.new-lowering-requires-clause-range
-new-lowering-requires-clause-range c =
+pub new-lowered-requires-clause-range : goal.new-lowered-requires-clause-range
+new-lowered-requires-clause-range c =
     let den_fits : SFits w128 c.args.den = search rules in
     rw (to_z-of_z w128 c.args.den den_fits) c.requires.range
 
@@ -18,6 +18,6 @@ returns-clause-exact c =
     rw (same, c.in_ok-surplus.ensures.items) (record {
       bidders = c.requires.surplus;
       range = c.requires.range;
-      exact = table-from c.args.book.now 0 c.args.den c.args.surplus.now c.new-lowering.result (rw same at c.new-lowering.ensures)
+      exact = table-from c.args.book.now 0 c.args.den c.args.surplus.now c.new-lowered.result (rw same at c.new-lowered.ensures)
           (lines_in c.in_ok-lines.lines) c.in_ok-lines.ensures;
     })

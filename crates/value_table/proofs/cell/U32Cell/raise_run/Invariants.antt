@@ -1,0 +1,10 @@
+use Rattle.std.proofs.Common.{◌≡◌, ℕ, ◌<◌, ◌≤◌, get_or, map, pos, ◌+ℤ◌}
+use Rattle.std.specs.Int.{int_max}
+use Rattle.value_table.proofs.cell.U32Cell.raise_run.Given as goal
+
+abbrev pub invariant-loop-i : goal.invariant-loop-i
+invariant-loop-i l = record {
+  done : (s : ℕ) → s < l.i → get_or (map (λ n. pos n) l.line) s (pos 0)
+      ≡ int_max (get_or (map (λ n. pos n) l.initial.line) s (pos 0)) (pos l.worth +ℤ get_or (map (λ n. pos n) l.below) s (pos 0));
+  rest : (s : ℕ) → l.i ≤ s → get_or (map (λ n. pos n) l.line) s (pos 0) ≡ get_or (map (λ n. pos n) l.initial.line) s (pos 0);
+}

@@ -1,0 +1,12 @@
+-- Buffers in which a line of one side of a book is computed.
+use Rattle.std.specs.Prelude.{◌≡◌, ℕ, length}
+use Rattle.value_table.specs.declared.buffers.LineBuffers.{LineBuffers}
+
+-- each list has room for that many numbers
+pub record HasRoom (states : ℕ) (buffers : LineBuffers) : Type 0 where
+  pub short_below : length buffers.short_below.items ≡ states
+  pub short_line : length buffers.short_line.items ≡ states
+  pub below : length buffers.below.items ≡ states
+  pub line : length buffers.line.items ≡ states
+  pub low : length buffers.low.items ≡ states
+  pub high : length buffers.high.items ≡ states

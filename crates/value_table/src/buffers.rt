@@ -1,0 +1,41 @@
+// Buffers in which a line of one side of a book is computed.
+ghost use Rattle.std.specs.Prelude.{◌≤◌, IfOk};
+ghost use Rattle.limits.specs.declared.TheConstants.{MOST_STATES};
+ghost use Rattle.value_table.specs.LineBuffers.{HasRoom};
+
+use std::alloc::{AllocError, Global};
+
+/// Buffers in which a line is computed from the one after it, in 32 bits where both are so small and else in 64, and in which both may
+/// be put in 16 bits.
+#[derive(Drop)]
+pub struct LineBuffers {
+    pub short_below: Vec<u32>,
+    pub short_line: Vec<u32>,
+    pub below: Vec<i64>,
+    pub line: Vec<i64>,
+    pub low: Vec<u16>,
+    pub high: Vec<u16>,
+}
+
+impl LineBuffers {
+    /// Buffers for lines of that many numbers.
+    pub fn new(alloc: Global, states: usize) -> Result<LineBuffers, AllocError>
+        requires { states ≤ MOST_STATES }
+        ensures { IfOk result (λ buffers. HasRoom states buffers) }
+    {
+        let short_below = vec![in alloc; 0u32; states]?;
+        let short_line = vec![in alloc; 0u32; states]?;
+        let below = vec![in alloc; 0i64; states]?;
+        let line = vec![in alloc; 0i64; states]?;
+        let low = vec![in alloc; 0u16; states]?;
+        let high = vec![in alloc; 0u16; states]?;
+        Ok(LineBuffers {
+            short_below,
+            short_line,
+            below,
+            line,
+            low,
+            high,
+        })
+    }
+}
