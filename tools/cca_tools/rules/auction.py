@@ -28,7 +28,7 @@ ADMITTED = ("ok", "round", "sealed", "closed")
 
 
 class Facts(TypedDict, total=False):
-    """What was compared for a reply, for whoever says why."""
+    """What was compared for a reply, from which its reason is told."""
 
     stage: Stage
     count: int
@@ -80,6 +80,13 @@ class Desk:
         """The draft list, in the order of packages."""
         return sorted(self.drafts.items())
 
+    def copied(self) -> Desk:
+        """A desk that goes on apart from this one. Both know the same caps, which don't change any more."""
+        copy = Desk()
+        copy.drafts, copy.submitted = dict(self.drafts), dict(self.submitted)
+        copy.highest_in_clock, copy.caps, copy.tested = dict(self.highest_in_clock), self.caps, self.tested
+        return copy
+
 
 class Auction:
     """An auction as far as lines were taken: its stage, the closed rounds and the open one, and what each bidder has
@@ -95,6 +102,18 @@ class Auction:
         self.final: int | None = None  # the number of the last round, once the clock has ended
         self.limit_stop: Stop | None = None  # the first close that a limit refuses
         self.desks = [Desk() for _ in award.bidders]
+
+    def copied(self) -> Auction:
+        """An auction that goes on from here apart from this one; its cost is small beside that of taking all lines."""
+        copy = Auction(self.award)
+        copy.lines, copy.replies, copy.rounds = list(self.lines), list(self.replies), list(self.rounds)
+        copy.stage, copy.final, copy.limit_stop = self.stage, self.final, self.limit_stop
+        here = self.open_round
+        copy.open_round = here and dataclasses.replace(
+            here, eligibility=list(here.eligibility), packages=list(here.packages)
+        )
+        copy.desks = [desk.copied() for desk in self.desks]
+        return copy
 
     @property
     def running_round(self) -> Round:
@@ -131,7 +150,7 @@ class Auction:
         return self.answer_submit(line, desk)
 
     def package_fault(self, line: Line, eligibility: int) -> Reply | None:
-        """Why a bidder with so many points may not ask for a package, or None."""
+        """Why a bidder with this many points may not ask for a package, or None."""
         for category, (count, supply) in enumerate(zip(line.package, self.award.supply), 1):
             if count > supply:
                 return Reply("supply", (category,), {"count": count, "supply": supply})

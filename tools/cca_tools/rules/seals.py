@@ -63,11 +63,20 @@ def closed_prefixes(data: bytes, auction: Auction) -> list[bytes]:
     return found
 
 
+def key_sum(key: bytes) -> str:
+    """The sum of a key by the bytes of its file."""
+    return hashlib.sha256(key).hexdigest()
+
+
+def seal_of(key: bytes, prefix: bytes) -> str:
+    """The seal of a log up to and with a close, by the bytes of a key's file."""
+    return hmac.digest(key_of(key), prefix, "sha256").hex()
+
+
 def seals_of(key: bytes, log: bytes, auction: Auction) -> Seals:
     """The seals of a log by the bytes of a key's file."""
-    secret = key_of(key)
-    closes = [hmac.digest(secret, prefix, "sha256").hex() for prefix in closed_prefixes(log, auction)]
-    return Seals(hashlib.sha256(key).hexdigest(), tuple(closes))
+    closes = [seal_of(key, prefix) for prefix in closed_prefixes(log, auction)]
+    return Seals(key_sum(key), tuple(closes))
 
 
 def given_out(data: bytes) -> Seals:

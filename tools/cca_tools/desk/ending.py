@@ -1,0 +1,196 @@
+"""The end of an auction, step by step: award and audits, the report, the published set. Each step may be repeated.
+
+The steps call the program and the tools, and show the status of each run. A certificate, or a set, that is
+there is tested, and never written again. All files are beside the log.
+"""
+
+from __future__ import annotations
+
+import os
+import subprocess
+import sys
+import tempfile
+from collections.abc import Sequence
+from dataclasses import dataclass
+from pathlib import Path
+
+from cca_tools.desk.control import Desk, Moment
+from cca_tools.rules.publication import AWARD, CERT, LOG, SUMS, sum_of
+from cca_tools.rules.seals import seals_of
+from cca_tools.rules.stops import DONE
+from cca_tools.rules.ties import tie_sentences, ties_of
+
+TOOLS = Path(__file__).resolve().parents[2]
+SECONDS = 1800
+
+
+@dataclass(frozen=True)
+class Run:
+    """One run: what it was for, its status (None where it didn't end in its time), and what it printed."""
+
+    name: str
+    status: int | None
+    printed: str
+
+    @property
+    def status_words(self) -> str:
+        """The status in words."""
+        return f"did not end in {SECONDS // 60} minutes" if self.status is None else f"status {self.status}"
+
+
+@dataclass(frozen=True)
+class Outcome:
+    """What a step has led to: a sentence, whether all is right, its runs, and ties where the step looks for them."""
+
+    sentence: str
+    is_right: bool
+    runs: Sequence[Run]
+    ties: Sequence[str] = ()
+
+
+def run(name: str, words: Sequence[str | Path], program: Path) -> Run:
+    """Runs a command, and gives what it printed."""
+    try:
+        done = subprocess.run(
+            list(map(str, words)),
+            stdin=subprocess.DEVNULL,
+            stdout=subprocess.PIPE,
+            stderr=subprocess.STDOUT,
+            env={**os.environ, "CCA_PROGRAM": str(program)},
+            timeout=SECONDS,
+        )
+    except subprocess.TimeoutExpired:
+        return Run(name, None, "")
+    except OSError as fault:
+        return Run(name, 70, f"It can't be run: {fault.strerror}.")
+    return Run(name, done.returncode, done.stdout.decode("utf-8", "replace"))
+
+
+class Ending:
+    """The steps at the end of the auction of a desk."""
+
+    def __init__(self, desk: Desk, names_path: Path | None) -> None:
+        self.desk, self.names_path = desk, names_path
+        log = desk.log_path
+        self.cert, self.page, self.text, self.seals = (
+            log.with_name(f"{log.name}.{kind}") for kind in ("cert", "html", "txt", "seals")
+        )
+
+    @property
+    def files(self) -> list[Path]:
+        """The award, the log and the certificate."""
+        return [self.desk.award_path, self.desk.log_path, self.cert]
+
+    @property
+    def names(self) -> list[str]:
+        """The words that name the names for people."""
+        return ["--names", str(self.names_path)] if self.names_path else []
+
+    def award(self, moment: Moment) -> Outcome:
+        """Awards where no certificate is there, then audits by both programs, and looks for ties."""
+        runs = list[Run]()
+        if not self.cert.exists():
+            runs.append(self.make_cert())
+            if runs[0].status != DONE:
+                return Outcome("There is no award yet: the program made no certificate.", False, runs)
+        runs += [
+            run("cca audit", [self.desk.program, "audit", *self.files], self.desk.program),
+            run("tools/audit", [sys.executable, TOOLS / "audit", *self.files], self.desk.program),
+        ]
+        book = moment.auction.book()
+        return Outcome(*self.verdict(runs), runs, tie_sentences(book, ties_of(book)))
+
+    def verdict(self, runs: Sequence[Run]) -> tuple[str, bool]:
+        """What the two audits come to."""
+        first, second = runs[-2:]
+        if first.printed != second.printed or first.status != second.status:
+            return "The programs differ on the certificate. Publish nothing, and keep all files.", False
+        if first.status != DONE or not first.printed.startswith("yes\n"):
+            return f"Both programs refuse the certificate {self.cert}: move it away, and award again.", False
+        return "Both programs say yes, and print the same to the byte.", True
+
+    def make_cert(self) -> Run:
+        """Has the program write a certificate under another name; it gets its own once it is whole."""
+        fd, name = tempfile.mkstemp(prefix=f".{self.cert.name}.", dir=self.cert.parent)
+        os.close(fd)
+        os.unlink(name)
+        try:
+            made = run("cca award", [self.desk.program, "award", *self.files[:2], name], self.desk.program)
+            if made.status == DONE:
+                sync(Path(name))
+                os.link(name, self.cert)  # (it is never put over one that is there)
+                sync(self.cert.parent)
+            return made
+        except OSError as fault:
+            return Run("cca award", 70, f"The certificate can't be kept: {fault.strerror}.")
+        finally:
+            Path(name).unlink(missing_ok=True)
+
+    def report(self) -> Outcome:
+        """Makes the report anew, as a page and as a text."""
+        words: list[str | Path] = [sys.executable, TOOLS / "report", *self.names]
+        made = [
+            self.written(run("tools/report", [*words, *self.files], self.desk.program), self.page),
+            self.written(run("tools/report --text", [*words, "--text", *self.files], self.desk.program), self.text),
+        ]
+        if any(it.status != DONE for it in made):
+            return Outcome("The report isn't made.", False, made)
+        return Outcome(f"The report is in {self.page} and {self.text}.", True, made)
+
+    def written(self, made: Run, path: Path) -> Run:
+        """Writes what a run printed into a file, instead of an older one."""
+        if made.status != DONE:
+            return made
+        beside = path.with_name(f".{path.name}.new")
+        try:
+            beside.write_text(made.printed, encoding="utf-8")
+            os.replace(beside, path)
+        except OSError as fault:
+            return Run(made.name, 70, f"{path} can't be written: {fault.strerror}.")
+        return Run(made.name, made.status, f"{len(made.printed):,} characters in {path.name}")
+
+    def publish(self, moment: Moment) -> Outcome:
+        """Makes the published set in a new folder, with the key and the seals; a set that is there is tested."""
+        folder = self.folder()
+        if folder.exists():
+            return Outcome(f"The set is in {folder} already, and all its sums hold.", True, [])
+        seals = Run("seals", DONE, seals_of(self.desk.log.key, moment.data, moment.auction).text() + "\n")
+        kept = self.written(seals, self.seals)
+        if kept.status != DONE:
+            return Outcome("The set isn't made.", False, [kept])
+        key = self.desk.log_path.with_name(self.desk.log_path.name + ".key")
+        words: list[str | Path] = [sys.executable, TOOLS / "publish", *self.names, "--key", key, "--seals", self.seals]
+        made = run("tools/publish", [*words, *self.files, folder], self.desk.program)
+        if made.status != DONE:
+            return Outcome("The set isn't made.", False, [made])
+        return Outcome(f"The set is in {folder}.", True, [made])
+
+    def folder(self) -> Path:
+        """The folder of the set of these files, or the first name for one that isn't there."""
+        number = 1
+        while True:
+            name = f"{self.desk.log_path.name}.set{'' if number == 1 else f'-{number}'}"
+            folder = self.desk.log_path.with_name(name)
+            if not folder.exists() or self.is_set(folder):
+                return folder
+            number += 1
+
+    def is_set(self, folder: Path) -> bool:
+        """Whether a folder has the set of these files, and all its sums hold."""
+        try:
+            rows = [line.split("  ", 1) for line in (folder / SUMS).read_text().splitlines()]
+            sums = {name: total for total, name in rows}
+            own = dict(zip((AWARD, LOG, CERT), self.files))
+            whole = all(sum_of((folder / name).read_bytes()) == total for name, total in sums.items())
+            return whole and all(sums.get(name) == sum_of(path.read_bytes()) for name, path in own.items())
+        except (OSError, ValueError):
+            return False
+
+
+def sync(path: Path) -> None:
+    """Has the disk keep a file, or the names in a folder."""
+    fd = os.open(path, os.O_RDONLY)
+    try:
+        os.fsync(fd)
+    finally:
+        os.close(fd)

@@ -1,0 +1,107 @@
+"""Who may ask the desk what: other hosts, other origins, other users and other forms are refused, and each answer has
+the headers by which a browser holds to that.
+
+The address of a request is exact, which stops names that are bound to another machine's address. What changes something
+comes from a page of this very address and port, with the token of this start. Other users of the machine have no key,
+so no cookie; its path can't be guessed, since a browser sends cookies to every port of a host.
+"""
+
+from __future__ import annotations
+
+import hmac
+import re
+import secrets
+from dataclasses import dataclass, field
+
+from flask import Request, Response
+
+LETTERS = "abcdefghjkmnpqrstuvwxyz23456789"  # (without those that look like others)
+KEY_LETTERS, GROUP = 24, 4
+COOKIE = "desk"
+MOST_BYTES = 1 << 20
+FORM = "application/x-www-form-urlencoded"
+POLICY = "default-src 'none'; style-src 'self'; form-action 'self'; base-uri 'none'; frame-ancestors 'none'"
+HEADERS = {
+    "Content-Security-Policy": POLICY,
+    # (not no-referrer: a browser then sends `Origin: null` with the desk's own forms)
+    "Referrer-Policy": "same-origin",
+    "X-Content-Type-Options": "nosniff",
+    "X-Frame-Options": "DENY",
+    "Cache-Control": "no-store",
+    "Cross-Origin-Opener-Policy": "same-origin",
+    "Cross-Origin-Resource-Policy": "same-origin",
+}
+
+
+def new_key() -> str:
+    """A key that is typed once: 24 letters of 31, which are 118 bits."""
+    return "".join(secrets.choice(LETTERS) for _ in range(KEY_LETTERS))
+
+
+def in_groups(key: str) -> str:
+    """The key as the terminal shows it."""
+    return "-".join(key[at : at + GROUP] for at in range(0, len(key), GROUP))
+
+
+def same(given: str, wanted: str) -> bool:
+    """Whether two texts are the same, in a time that doesn't say where they differ."""
+    return hmac.compare_digest(given.encode("utf-8", "surrogateescape"), wanted.encode())
+
+
+@dataclass(frozen=True)
+class Guard:
+    """The secrets of one start, and the address at which the desk is."""
+
+    port: int
+    key: str = field(default_factory=new_key, repr=False)
+    session: str = field(default_factory=lambda: secrets.token_urlsafe(32), repr=False)
+    token: str = field(default_factory=lambda: secrets.token_urlsafe(32), repr=False)
+    inside: str = field(default_factory=lambda: f"/desk-{secrets.token_hex(16)}", repr=False)
+
+    @property
+    def host(self) -> str:
+        """The host of each request."""
+        return f"127.0.0.1:{self.port}"
+
+    @property
+    def origin(self) -> str:
+        """The origin of each form."""
+        return f"http://{self.host}"
+
+    def is_key(self, text: str) -> bool:
+        """Whether a text is the key, with or without its hyphens."""
+        return same(re.sub(r"[\s-]", "", text).lower(), self.key)
+
+    def fault(self, request: Request) -> int | None:
+        """The status with which a request is refused, or None."""
+        if request.headers.get("Host") != self.host:
+            return 421
+        if request.method not in ("GET", "POST"):
+            return 405
+        if request.headers.get("Sec-Fetch-Site", "none") not in ("none", "same-origin"):
+            return 403
+        if request.method == "POST" and (fault := self.post_fault(request)):
+            return fault
+        return self.inside_fault(request) if self.is_inside(request) else None
+
+    def post_fault(self, request: Request) -> int | None:
+        """The status with which a form is refused, or None."""
+        if request.headers.get("Origin") != self.origin:
+            return 403
+        return None if request.mimetype == FORM else 415
+
+    def is_inside(self, request: Request) -> bool:
+        """Whether a request is for a page of the desk; a wrong path of one is refused as without the cookie."""
+        return request.path.startswith("/desk-")
+
+    def inside_fault(self, request: Request) -> int | None:
+        """The status with which a request for a page of the desk is refused, or None."""
+        if not same(request.cookies.get(COOKIE, ""), self.session):
+            return 403
+        if request.method == "POST" and not same(request.form.get("token", ""), self.token):
+            return 403
+        return None
+
+    def let_in(self, response: Response) -> None:
+        """Gives a browser the cookie."""
+        response.set_cookie(COOKIE, self.session, path=f"{self.inside}/", httponly=True, samesite="Strict")

@@ -1,0 +1,609 @@
+"""The desk's log on the disk: what is written, refused, cut and mended, after kills and by two processes at once."""
+import contextlib
+import fcntl
+import hashlib
+import json
+import os
+import pathlib
+import random
+import resource
+import sys
+import tempfile
+import unittest
+import unittest.mock
+
+import desk_kills
+from desk_kills import FIRST, PINS, SECOND, THIRD, kept_beside, ok
+
+from cca_tools.desk import disk
+from cca_tools.desk.journal import Journal, replayed
+from cca_tools.desk.logfile import Base, Busy, Grown, LogFile, Refused, Unsure, warnings_of
+
+TRACES = desk_kills.can_trace()
+if not TRACES:
+    print(desk_kills.UNTRACED, file=sys.stderr)
+with_strace = unittest.skipUnless(TRACES, desk_kills.UNTRACED)
+
+
+def never(wanted):
+    """A check that nothing may come to."""
+    raise AssertionError("nothing may be checked, and so written")
+
+
+class Case(unittest.TestCase):
+    def setUp(self):
+        folder = tempfile.TemporaryDirectory()
+        self.addCleanup(folder.cleanup)
+        self.folder = pathlib.Path(folder.name)
+        self.path = self.folder / "a.log"
+
+    def beside(self, kind):
+        return self.folder / f"a.log.{kind}"
+
+    def open(self, copies=None, **pins):
+        return LogFile(self.path, {**PINS, **pins}, copies)
+
+    def write(self, log, *lines):
+        for line in lines:
+            log.append(log.base(log.read()), line, ok)
+
+    def entries(self):
+        return [json.loads(line) for line in self.beside("desk").read_bytes().splitlines()]
+
+    def refused(self, fault, words, run, *given):
+        """A call is refused in these words, and changes no file."""
+        before = self.files()
+        with self.assertRaisesRegex(fault, words):
+            run(*given)
+        self.assertEqual(self.files(), before)
+
+    def files(self):
+        return {file.name: file.read_bytes() for file in self.folder.iterdir() if file.is_file()}
+
+    def is_whole(self, log, wanted):
+        self.assertIsNone(log.stop())
+        self.assertEqual(log.read(), wanted)
+        self.assertEqual(replayed(Journal(self.beside("desk")).entries()), wanted)
+
+
+class Lines(Case):
+    def test_a_line(self):
+        """The log has it, and the journal its time, length, sum, text and replies."""
+        log, seen = self.open(), []
+        written = log.append(log.base(b""), FIRST, lambda wanted: seen.append(wanted) or ["1 ok"])
+        self.assertEqual((written.log, written.was_there, seen), (FIRST, False, [FIRST]))
+        self.is_whole(log, FIRST)
+        last = self.entries()[-1]
+        self.assertEqual((last["bytes"], last["sum"]), (len(FIRST), hashlib.sha256(FIRST).hexdigest()))
+        self.assertEqual((last["text"], last["replies"]), (FIRST.decode(), ["1 ok"]))
+        self.assertEqual(
+            [(what, length) for _, what, length in log.answered_at()], [("begun", 0), ("line", len(FIRST))]
+        )
+
+    def test_sent_twice(self):
+        """A double click: written once, also by another desk, also after other lines."""
+        log, other = self.open(), self.open()
+        base = log.base(b"")
+        log.append(base, FIRST, ok)
+        for desk in (log, other):
+            written = desk.append(base, FIRST, never)
+            self.assertEqual((written.was_there, written.log), (True, FIRST))
+        self.write(log, SECOND)
+        self.assertTrue(log.append(base, FIRST, never).was_there)
+        self.is_whole(log, FIRST + SECOND)
+        self.write(log, SECOND)  # (on a new page the same line is another one)
+        self.is_whole(log, FIRST + SECOND + SECOND)
+
+    def test_grown(self):
+        log = self.open()
+        base = log.base(b"")
+        self.write(log, FIRST)
+        self.refused(Grown, "has grown", log.append, base, SECOND, never)
+
+    def test_a_check_that_refuses(self):
+        log = self.open()
+
+        def check(wanted):
+            raise Refused("The words don't fit.")
+
+        self.refused(Refused, "The words", log.append, log.base(b""), FIRST, check)
+        self.write(log, SECOND)
+
+    def test_bases(self):
+        log = self.open()
+        base = log.base(b"")
+        self.assertEqual(Base.of(base.text()), base)
+        for text in ("", "x", base.text() + "0", base.text().upper() + "\n", base.text().replace(".0.", ".-1.")):
+            with self.assertRaisesRegex(Refused, "Load|load"):
+                Base.of(text)
+        for other in (Base(base.epoch, 1, base.sum), Base(base.epoch, 0, "0" * 64), Base("0" * 16, 0, base.sum)):
+            self.refused(Refused, "Nothing was written", log.append, other, FIRST, never)
+        self.refused(Refused, "line feed", log.append, base, FIRST[:-1], never)
+
+    def test_the_lock(self):
+        log = self.open()
+        self.write(log, FIRST)
+        with open(self.path, "rb") as file, unittest.mock.patch.object(disk, "WAIT", 0.05):
+            fcntl.flock(file, fcntl.LOCK_EX)
+            self.refused(Busy, "Another program holds", log.append, log.base(FIRST), SECOND, never)
+            self.assertIsNone(log.stop())
+            self.assertEqual(log.read(), FIRST)
+        self.write(log, SECOND)
+
+    def test_an_editor_renames_before_a_write(self):
+        """A new file with the answered lines and one more: it is the log, and its line is found."""
+        log = self.open()
+        self.write(log, FIRST)
+        base = log.base(FIRST)
+        (self.folder / "new").write_bytes(FIRST + THIRD)
+        os.rename(self.folder / "new", self.path)
+        self.refused(Grown, "has grown", log.append, base, SECOND, never)
+        self.assertEqual((log.note_found(), log.note_found()), (1, 0))
+        self.is_whole(log, FIRST + THIRD)
+
+    def test_an_editor_renames_within_a_write(self):
+        log = self.open()
+        self.write(log, FIRST)
+
+        def check(wanted):
+            (self.folder / "new").write_bytes(FIRST)
+            os.rename(self.folder / "new", self.path)
+            return ["ok"]
+
+        with self.assertRaisesRegex(Unsure, "Another|another file"):
+            log.append(log.base(FIRST), SECOND, check)
+        self.assertEqual(log.stop().mend, "restart")
+        self.refused(Refused, "Nothing was written", log.append, log.base(FIRST), SECOND, never)
+        log.mend("restart", "an editor")
+        self.write(log, SECOND)
+        self.is_whole(log, FIRST + SECOND)
+
+    def test_a_writer_without_the_lock(self):
+        log = self.open()
+
+        def check(wanted):
+            with open(self.path, "ab") as file:
+                file.write(THIRD)
+            return ["ok"]
+
+        with self.assertRaisesRegex(Unsure, "without asking for the lock"):
+            log.append(log.base(b""), FIRST, check)
+        log.mend("restart", "another program")
+        self.is_whole(log, THIRD + FIRST)
+
+
+class Starts(Case):
+    def test_files(self):
+        log = self.open()
+        self.assertEqual(set(self.files()), {"a.log", "a.log.desk", "a.log.key"})
+        for file in self.folder.iterdir():
+            self.assertEqual(file.stat().st_mode & 0o777, 0o600)
+        self.assertRegex(log.key, rb"\A[0-9a-f]{64}\n\Z")
+        first = self.entries()[0]
+        self.assertEqual((first["pins"], first["key"]), (PINS, hashlib.sha256(log.key).hexdigest()))
+        self.assertEqual(self.open().key, log.key)
+
+    def test_pins(self):
+        self.write(self.open(), FIRST)
+        self.refused(Refused, "The award isn't the one", lambda: self.open(award="c" * 64))
+        self.refused(Refused, "The program isn't the one", lambda: self.open(program="c" * 64))
+        self.is_whole(self.open(), FIRST)
+
+    def test_found(self):
+        """Lines of before the first start, and of another hand while it runs."""
+        self.path.write_bytes(FIRST + SECOND)
+        log = self.open()
+        self.assertEqual((log.note_found(), log.note_found()), (2, 0))
+        with open(self.path, "ab") as file:
+            file.write(THIRD)
+        self.assertEqual(log.note_found(), 1)
+        self.is_whole(log, FIRST + SECOND + THIRD)
+        self.assertEqual([what for _, what, _ in log.answered_at()], ["begun", "found", "found"])
+
+    def test_what_the_disk_may_not_have_is_written_again(self):
+        """A start writes the newest entry and the lines that were never answered once more, over themselves."""
+        self.write(self.open(), FIRST)
+        with open(self.path, "ab") as file:
+            file.write(SECOND)
+        entry = self.beside("desk").read_bytes().splitlines(True)[-1]
+        for torn in (b"", b"{"):
+            with open(self.beside("desk"), "ab") as file:
+                file.write(torn)
+            with unittest.mock.patch.object(os, "pwrite", wraps=os.pwrite) as pwrite:
+                self.is_whole(self.open(), FIRST + SECOND)
+            written = [call.args[1] for call in pwrite.call_args_list]
+            self.assertEqual(written, [entry + torn, SECOND] if not torn else [entry + torn])
+            entry = self.beside("desk").read_bytes().splitlines(True)[-1]
+
+    def test_no_locks(self):
+        with unittest.mock.patch.object(fcntl, "flock"):
+            with self.assertRaisesRegex(Refused, "Locks don't work"):
+                self.open()
+        with unittest.mock.patch.object(fcntl, "flock", side_effect=OSError(37, "No locks available")):
+            with self.assertRaisesRegex(Refused, "No locks available"):
+                self.open()
+
+    def test_links(self):
+        """Nothing is read or written through a link that is in the place of a file."""
+        self.write(self.open(), FIRST)
+        for name in ("a.log", "a.log.desk", "a.log.key"):
+            with self.subTest(name=name):
+                file, target = self.folder / name, self.folder / "elsewhere"
+                log = self.open()
+                os.rename(file, target)
+                os.symlink(target, file)
+                self.refused(Refused, "is a link", self.open)
+                self.assertEqual(log.stop().mend, "none")
+                self.refused(Refused, "is a link", log.append, Base("0" * 16, 0, "0" * 64), SECOND, never)
+                os.rename(target, file)
+        os.remove(self.path)
+        os.mkfifo(self.path)
+        with self.assertRaisesRegex(Refused, "no regular file"):
+            self.open()
+
+    def test_the_key(self):
+        log = self.open()
+        self.write(log, FIRST)
+        key = self.beside("key")
+        for left in (None, b"", log.key[:40], b"0" * 64 + b"\n"):
+            with self.subTest(left=left):
+                key.unlink()
+                if left is not None:
+                    key.write_bytes(left)
+                self.refused(Refused, "Put its copy back", self.open)
+                # the desk that runs has it, and writes it again
+                self.assertEqual(log.stop().mend, "restart")
+                self.refused(Refused, "Nothing was written", log.append, log.base(FIRST), SECOND, never)
+                log.mend("restart", "the key was lost")
+                self.assertEqual(key.read_bytes(), log.key)
+                self.is_whole(log, FIRST)
+        kept = kept_beside(self.path)
+        self.assertLessEqual({b"", log.key[:40], b"0" * 64 + b"\n"}, set(kept.values()))
+
+    def test_a_short_key_before_the_first_start(self):
+        self.beside("key").write_bytes(b"12\n")
+        with self.assertRaisesRegex(Refused, "is no key"):
+            self.open()
+
+    def test_another_file_in_the_place_of_the_journal(self):
+        self.beside("desk").write_bytes(b"something else\n")
+        with self.assertRaisesRegex(Refused, "no journal"):
+            self.open()
+        self.assertEqual(self.beside("desk").read_bytes(), b"something else\n")
+        self.beside("desk").write_bytes(b"")
+        self.is_whole(self.open(), b"")
+
+    def test_a_journal_that_was_changed(self):
+        log = self.open()
+        self.write(log, FIRST, SECOND)
+        text = self.beside("desk").read_bytes()
+        self.beside("desk").write_bytes(text.replace(b"east,1 0", b"east,2 0"))
+        self.refused(Refused, "journal was changed by hand: its entry 2", self.open)
+        self.beside("desk").write_bytes(text)
+        self.is_whole(self.open(), FIRST + SECOND)
+
+    def test_a_journal_that_is_lost(self):
+        log = self.open()
+        self.write(log, FIRST)
+        base = log.base(FIRST)
+        self.beside("desk").unlink()
+        self.assertEqual(log.stop().mend, "restart")
+        log.mend("restart", "the journal was lost")
+        self.assertEqual(log.note_found(), 1)
+        self.refused(Refused, "held again", log.append, base, SECOND, never)
+        self.is_whole(log, FIRST)
+
+    def test_a_log_that_is_lost(self):
+        """It is written from the journal, by the desk that runs and by a new one."""
+        log = self.open()
+        self.write(log, FIRST, SECOND)
+        log.cut(log.base(log.read()), len(FIRST), "a slip")
+        self.write(log, THIRD)
+        for start in (lambda: log.mend("restart", "lost"), self.open):
+            self.path.unlink()
+            self.assertEqual(log.stop().mend, "restart")
+            start()
+            self.is_whole(log, FIRST + THIRD)
+
+    def test_warnings(self):
+        self.open()
+        self.folder.chmod(0o700)
+        self.assertEqual(warnings_of(self.path), [])
+        self.folder.chmod(0o770)
+        self.path.chmod(0o644)
+        found = warnings_of(self.path, self.folder)
+        self.assertEqual(len(found), 3)
+        self.assertIn("Others may put files into", found[0])
+        self.assertIn("Others may read or change a.log.", found[2])
+
+
+class Mends(Case):
+    """Each stop with its mend."""
+
+    def mended(self, log, mend, wanted):
+        """The stop names this mend, nothing is written before it, and it works; the journal names what is kept."""
+        stop = log.stop()
+        self.assertTrue(stop.allows(mend), stop)
+        self.assertTrue(stop.why and stop.safe and stop.todo)
+        self.refused(Refused, "Nothing was written", log.append, log.base(b""), SECOND, never)
+        self.refused(Refused, "Nothing was written", log.cut, log.base(b""), 0, "why")
+        for other in {"take back", "end line", "cut again", "keep changed log", "restart", "none"} - {mend}:
+            if not stop.allows(other):
+                self.refused(Refused, "this fault", log.mend, other, "why")
+        before = kept_beside(self.path)
+        log.mend(mend, "the reason")
+        self.is_whole(log, wanted)
+        new = set(kept_beside(self.path)) - set(before)
+        last = [it for it in self.entries() if it.get("why") == "the reason"][-1]
+        self.assertEqual(new, set(last.get("kept", [])))
+        self.refused(Refused, "this fault", log.mend, mend, "again")
+        self.write(log, SECOND)
+        self.is_whole(log, wanted + SECOND)
+        return stop
+
+    def torn(self, tail):
+        log = self.open()
+        self.write(log, FIRST)
+        with open(self.path, "ab") as file:
+            file.write(tail)
+        self.assertEqual(log.note_found(), 0)
+        return log
+
+    def test_a_torn_line_is_taken_back(self):
+        stop = self.mended(self.torn(b"bid,we"), "take back", FIRST)
+        self.assertIn("`bid,we`", stop.why)
+        self.assertEqual(kept_beside(self.path), {"a.log.torn-1": b"bid,we"})
+
+    def test_a_torn_line_after_found_ones(self):
+        self.mended(self.torn(SECOND + b"clo"), "take back", FIRST + SECOND)
+
+    def test_a_torn_line_is_ended(self):
+        self.mended(self.torn(b"bid,west,0 2,"), "end line", FIRST + b"bid,west,0 2,\n")
+
+    def test_a_line_feed_that_is_gone(self):
+        log = self.open()
+        self.write(log, FIRST)
+        self.path.write_bytes(FIRST[:-1])
+        self.assertEqual(log.stop().mend, "end line")
+        self.mended(log, "end line", FIRST)
+
+    def test_a_changed_log(self):
+        log = self.open()
+        self.write(log, FIRST, SECOND, THIRD)
+        old, changed = log.base(FIRST), FIRST + SECOND.replace(b"1", b"2") + THIRD
+        self.path.write_bytes(changed)
+        stop = self.mended(log, "keep changed log", changed)
+        self.assertIn(f"from byte {len(FIRST) + 11} on, in line 2", stop.why)
+        self.assertIn([at for at, _, length in log.answered_at() if length == len(FIRST + SECOND)][0], stop.why)
+        self.assertEqual(set(kept_beside(self.path).values()), {changed, FIRST + SECOND + THIRD})
+        self.refused(Refused, "held again", log.append, old, SECOND, never)
+
+    def test_lines_taken_away_by_hand(self):
+        log = self.open()
+        self.write(log, FIRST, SECOND)
+        self.path.write_bytes(FIRST)
+        self.mended(log, "keep changed log", FIRST)
+
+    def test_a_change_that_is_put_back(self):
+        log = self.open()
+        self.write(log, FIRST)
+        self.path.write_bytes(SECOND)
+        self.assertIn("from byte 4 on, in line 1", log.stop().why)
+        self.path.write_bytes(FIRST)
+        self.is_whole(log, FIRST)
+
+    def test_a_changed_log_with_a_torn_line(self):
+        log = self.open()
+        self.write(log, FIRST)
+        self.path.write_bytes(SECOND + b"clo")
+        log.mend("keep changed log", "first")
+        self.mended(log, "take back", SECOND)
+
+    def test_a_cut_that_was_begun(self):
+        log = self.open()
+        self.write(log, FIRST, THIRD)
+        with unittest.mock.patch.object(disk, "shorten", side_effect=KeyboardInterrupt):
+            with self.assertRaises(KeyboardInterrupt):
+                log.cut(log.base(log.read()), len(FIRST), "doubled")
+        stop = self.mended(self.open(), "cut again", FIRST)
+        self.assertIn("a.log.cut-1 has a copy", stop.safe)
+        self.assertEqual(set(kept_beside(self.path).values()), {FIRST + THIRD})
+
+    def test_a_torn_line_of_the_journal(self):
+        """It is ignored, and stays; also where its line feed alone is missing."""
+        log = self.open()
+        self.write(log, FIRST)
+        before = self.beside("desk").read_bytes()
+        for entry in (before.splitlines()[-1], before.splitlines()[-1][:40], b"{"):
+            self.beside("desk").write_bytes(before + entry)
+            self.is_whole(log, FIRST)
+            self.write(log, SECOND)
+            self.is_whole(self.open(), FIRST + SECOND)
+            self.assertIn(entry, self.beside("desk").read_bytes()[len(before) :])
+            self.beside("desk").write_bytes(before)
+            self.path.write_bytes(FIRST)
+
+
+class Cuts(Case):
+    def test_a_cut(self):
+        log = self.open()
+        self.write(log, FIRST, THIRD)
+        page, base = log.base(FIRST), log.base(FIRST + THIRD)
+        self.write(log, THIRD)
+        self.refused(Grown, "Nothing was cut", log.cut, base, len(FIRST), "doubled")
+        base = log.base(log.read())
+        for length in (-1, 3, len(FIRST) - 1, base.length, base.length + 1):
+            self.refused(Refused, "no line to cut", log.cut, base, length, "doubled")
+        kept = log.cut(base, len(FIRST + THIRD), "doubled")
+        self.assertEqual((kept.name, kept.read_bytes()), ("a.log.cut-1", FIRST + THIRD + THIRD))
+        self.is_whole(log, FIRST + THIRD)
+        # a page of before the cut fits the log to the byte, and its epoch doesn't
+        for old in (page, base, Base(base.epoch, len(FIRST + THIRD), log.base(FIRST + THIRD).sum)):
+            self.refused(Refused, "held again", log.append, old, THIRD, never)
+        [noted] = [it for it in self.entries() if it["what"] == "cut"]
+        self.assertEqual(
+            (noted["why"], noted["kept"], noted["bytes"]), ("doubled", ["a.log.cut-1"], len(FIRST + THIRD))
+        )
+        self.assertEqual(log.cut(log.base(log.read()), 0, "all").name, "a.log.cut-2")
+        self.is_whole(log, b"")
+
+    def test_the_cut_lines_come_again(self):
+        """The log then is as it was before the cut, which was ended all the same."""
+        log = self.open()
+        self.write(log, FIRST, THIRD)
+        log.cut(log.base(log.read()), len(FIRST), "doubled")
+        with open(self.path, "ab") as file:
+            file.write(THIRD)
+        self.assertEqual(log.note_found(), 1)
+        self.is_whole(log, FIRST + THIRD)
+
+    def test_copies(self):
+        copies = self.folder / "copies"
+        self.refused(Refused, "is no folder", self.open, copies)
+        copies.mkdir()
+        log = self.open(copies)
+        self.write(log, FIRST)
+        log.copy_out()
+        self.assertEqual({it.name: it.read_bytes() for it in copies.iterdir()}, self.files())
+        self.write(log, SECOND)
+        log.copy_out()
+        self.assertEqual({it.name: it.read_bytes() for it in copies.iterdir()}, self.files())
+        # a changed log is never copied over a whole one
+        self.path.write_bytes(SECOND)
+        with self.assertRaisesRegex(Refused, "changed by hand"):
+            log.copy_out()
+        self.assertEqual((copies / "a.log").read_bytes(), FIRST + SECOND)
+        self.path.write_bytes(FIRST + SECOND)
+        self.beside("desk").rename(self.folder / "moved")
+        self.refused(Refused, "has a copy of it", self.open, copies)
+
+    def test_copies_of_another_auction(self):
+        copies = self.folder / "copies"
+        copies.mkdir()
+        self.open(copies).copy_out()
+        for name in self.files():
+            (self.folder / name).unlink()
+        LogFile(self.path, PINS)
+        self.refused(Refused, "another auction", self.open, copies)
+        self.refused(Refused, "folder of the log itself", self.open, self.folder)
+
+
+@contextlib.contextmanager
+def most_bytes(count):
+    """No file gets longer than this."""
+    before = resource.getrlimit(resource.RLIMIT_FSIZE)
+    resource.setrlimit(resource.RLIMIT_FSIZE, (count, before[1]))
+    try:
+        yield
+    finally:
+        resource.setrlimit(resource.RLIMIT_FSIZE, before)
+
+
+class FullDisk(Case):
+    def test_a_part_of_a_line(self):
+        """What the disk took is cut off again, and nothing was written."""
+        log = self.open()
+        self.write(log, FIRST)
+        for room in (0, 1, len(SECOND) - 1):
+            with most_bytes(len(FIRST) + room):
+                self.refused(Refused, "Nothing was written", log.append, log.base(FIRST), SECOND, ok)
+            self.is_whole(log, FIRST)
+        self.write(log, SECOND)
+
+    def test_the_journal(self):
+        log = self.open()
+        self.write(log, FIRST)
+        with most_bytes(self.beside("desk").stat().st_size + 20):
+            with self.assertRaisesRegex(Unsure, "The line is in the log, but the journal"):
+                log.append(log.base(FIRST), SECOND, ok)
+        self.assertEqual(log.stop().mend, "restart")
+        log.mend("restart", "there is room again")
+        self.assertEqual(log.note_found(), 1)
+        self.is_whole(log, FIRST + SECOND)
+
+    def test_a_copy_of_a_cut(self):
+        log = self.open()
+        self.write(log, FIRST, THIRD)
+        with most_bytes(len(FIRST)):
+            self.refused(Refused, "Nothing was written", log.cut, log.base(log.read()), len(FIRST), "doubled")
+        self.is_whole(log, FIRST + THIRD)
+
+
+@with_strace
+class Faults(Case):
+    """System calls that fail: of the log, the journal and the folder."""
+
+    def failing(self, scene, fault):
+        """The scene with a fault; what it said, and the calls after the one that failed."""
+        with desk_kills.staged(scene) as it:
+            ended = desk_kills.traced(it.act, fault)
+            yield it, ended
+            it.check()
+
+    def test_a_sync_that_fails_is_unsure_and_not_tried_again(self):
+        for scene, number in ((desk_kills.Write, 1), (desk_kills.Write, 2), (desk_kills.Cut, 3), (desk_kills.Cut, 4)):
+            with self.subTest(scene=scene.name, number=number):
+                for _, ended in self.failing(scene, f"fsync:error=EIO:when={number}"):
+                    self.assertRegex(ended.said, "^Unsure: The disk doesn't say that it keeps")
+                    names = [name for name, _ in ended.calls]
+                    self.assertEqual(names.count("fsync"), number)
+                    noted = [words for name, words in ended.calls if name == "write" and r"{\"at\"" in words]
+                    self.assertEqual(len(noted), 0 if (scene, number) == (desk_kills.Write, 1) else 1)
+
+    def test_a_copy_that_can_t_be_synced(self):
+        """Neither the copy nor its name in the folder: nothing is cut."""
+        for number in (1, 2):
+            for it, ended in self.failing(desk_kills.Cut, f"fsync:error=EIO:when={number}"):
+                self.assertRegex(ended.said, "^Refused: ")
+                self.assertEqual(it.outcome(), "not begun")
+
+    def test_a_first_start_that_can_t_be_synced(self):
+        count = [name for name, _ in desk_kills.calls_of(desk_kills.Start)].count("fsync")
+        self.assertEqual(count, 6)
+        for number in range(1, count + 1):
+            for _, ended in self.failing(desk_kills.Start, f"fsync:error=EIO:when={number}"):
+                self.assertRegex(ended.said, "^(Refused|Unsure): ")
+
+    def test_the_line_that_is_unsure_is_found_at_the_next_start(self):
+        for it, _ in self.failing(desk_kills.Write, "fsync:error=EIO:when=1"):
+            log = it.open()
+            self.assertEqual((log.note_found(), log.read()), (1, FIRST + SECOND))
+
+
+@with_strace
+class Kills(unittest.TestCase):
+    def killed(self, scene, calls):
+        seen = set()
+        for call, number in calls:
+            with self.subTest(scene=scene.name, call=call, number=number):
+                seen.add(desk_kills.kill(scene, call, number))
+        return seen
+
+    def test_a_write_at_each_call(self):
+        seen = self.killed(desk_kills.Write, desk_kills.numbered(desk_kills.calls_of(desk_kills.Write)))
+        self.assertEqual(seen, {"not there", "there, not answered", "answered"})
+
+    def test_a_cut_at_each_call(self):
+        seen = self.killed(desk_kills.Cut, desk_kills.numbered(desk_kills.calls_of(desk_kills.Cut)))
+        self.assertEqual(seen, {"not begun", "begun, not ended", "cut"})
+
+    def test_within_a_write(self):
+        """The disk took a part of the line, which isn't cut off any more."""
+        self.assertEqual(self.killed(desk_kills.ShortWrite, [("ftruncate", 1)]), {"torn"})
+
+    def test_drawn_calls_of_all_else(self):
+        draw = random.Random(7)
+        for scene in desk_kills.SCENES[3:]:
+            self.killed(scene, draw.sample(list(desk_kills.numbered(desk_kills.calls_of(scene))), 4))
+
+
+class Races(unittest.TestCase):
+    def test_two_processes(self):
+        racers = desk_kills.Racers()
+        self.addCleanup(racers.end)
+        for number in range(20):
+            desk_kills.race(racers, number % 2 == 0)
+
+
+if __name__ == "__main__":
+    unittest.main()
