@@ -77,7 +77,7 @@ class Browser:
         self.call("Emulation.setEmulatedMedia", media=name, features=[{"name": "prefers-color-scheme", "value": scheme}])
 
     def picture(self, path, most=12_000):
-        """The page from its top, as a picture of at most so many lines."""
+        """The page from its top, as a picture of at most this many lines."""
         box = self.call("Page.getLayoutMetrics")["cssContentSize"]
         clip = {"x": 0, "y": 0, "width": box["width"], "height": min(box["height"], most), "scale": 1}
         data = self.call("Page.captureScreenshot", format="png", clip=clip, captureBeyondViewport=True)["data"]

@@ -107,7 +107,7 @@ def slot_cases(rng):
 
 
 def auction_cases(rng):
-    """An auction with its certificate, altered; with lines of its log left out or twice; and with other versions of its award."""
+    """An auction with its certificate, altered; with lines of its log left out or twice, and with other versions of its award."""
     award_text, log, _ = drawn(rng)
     award_text, log = award_text.encode(), log.encode()
     award = read_award(award_text)

@@ -1,4 +1,4 @@
-"""Texts that are changed: by another number, or by a slip of form; and certificates that are written otherwise and still right."""
+"""Texts that are changed: by another number or a slip of form; and certificates that are written otherwise and still right."""
 import collections, re
 
 RANGE = 2 ** 120
@@ -44,7 +44,7 @@ def respelt(rng, text):
 
 
 def with_other_fields(rng, line):
-    """A line with a field that is missing, stands twice, or has changed its place."""
+    """A line with a field that is missing, is there twice, or has changed its place."""
     fields = line[:-1].split(" ")
     at, to = rng.randrange(len(fields)), rng.randrange(len(fields))
     kind = rng.choice(["without", "twice", "elsewhere"])

@@ -9,10 +9,10 @@ from cca_tools.page.ink import as_file  # noqa: E402
 from cca_tools.page.svg import Drawing, width_of  # noqa: E402
 
 
-def keep(drawing, size, title, about):
+def keep(drawing, size, title, about, folder=PICTURES):
     """Keeps a drawing of this width and height under the name of its key."""
-    os.makedirs(PICTURES, exist_ok=True)
-    with open(os.path.join(PICTURES, drawing.key + ".svg"), "w") as file:
+    os.makedirs(folder, exist_ok=True)
+    with open(os.path.join(folder, drawing.key + ".svg"), "w") as file:
         file.write(as_file(drawing.key, title, about, size, drawing.inner()))
 
 

@@ -11,7 +11,7 @@ WRONG = [
     '"a b"', "''", '"a\\n"', '"\\u0061"', "'a23456789012345678901'", "[1, 2, 3, 4]", "[0, true]", "[-1]", "[1000]", "[1001]",
     "9223372036854775807", "-9223372036854775808",
 ]
-# What may stand behind `x =`: TOML, or none.
+# What may come after `x =`: TOML, or none.
 FRAGMENTS = WRONG + [
     "9223372036854775808", "-9223372036854775809", "0x8000000000000000", "0x7fffffffffffffff", "0o777777777777777777777",
     "[9223372036854775808]", "{a = {b = 18446744073709551616}}", "01", "00", "+0", "1__0", "_1", "1_", "0x", "0xG", "0b2", "0o8",
@@ -122,14 +122,14 @@ def damaged(rng, text, signs):
 
 
 class Lines:
-    """Draws the lines of a log. `desk` takes them, and tells the stage and the amounts at which an answer may turn."""
+    """Draws the lines of a log. `desk` takes them, and says the stage and the amounts at which an answer may turn."""
 
     def __init__(self, rng, desk, supply, bidders):
         self.rng, self.desk, self.supply, self.bidders = rng, desk, supply, bidders
         self.asked, self.since_close, self.patience = {}, 0, rng.choice([0.1, 0.2, 0.5])
 
     def package(self, j):
-        """Often what the bidder asked for before, a lot less, or a lot of another category for it; else any, often nearly all."""
+        """Often what the bidder asked for before, a lot less, or a lot of another category for it, or else any, often nearly all."""
         before, kind = self.asked.get(j), self.rng.random()
         if before and kind < 0.7:
             less, more = (self.rng.randrange(len(before)) for _ in range(2))

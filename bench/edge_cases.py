@@ -96,7 +96,7 @@ def words_that_name_no_file():
 
 
 def fed(text, pieces):
-    """A named pipe that gets the text in so many pieces, and who writes it."""
+    """A named pipe that gets the text in this many pieces, and the process that writes it."""
     os.mkfifo("fifo")
 
     def write():
@@ -259,7 +259,7 @@ def signals():
 
 
 def closed_streams():
-    """A stream that is closed leaves its number free; no file of the command may stand in its place."""
+    """A stream that is closed leaves its number free; no file of the command may take it."""
     samples()
     ended(("price", "book", "whole"), 0)
     for streams in ((1,), (0, 1), (0, 1, 2)):

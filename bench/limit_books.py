@@ -12,7 +12,10 @@ DENSE_KINDS = ("dense", "additive")
 
 
 def build_cca():
+    """Has ./cca prove and build the program, where CCA_PROGRAM names none."""
     os.makedirs(OUT, exist_ok=True)
+    if os.environ.get("CCA_PROGRAM"):
+        return
     tie = os.path.join(HERE, "..", "examples", "tie.book")
     subprocess.run([os.path.join(HERE, "..", "cca"), "win", tie], check=True, capture_output=True)
 

@@ -3,10 +3,18 @@ import os, signal, sys
 
 sys.path.insert(0, os.path.join(os.path.dirname(os.path.realpath(__file__)), "..", "tools", "tests"))
 from voices import audit, check, check_places  # noqa: E402
+from cca_tools.commands import explain  # noqa: E402
 from cca_tools.rules.stops import Stop  # noqa: E402
 
 SECONDS = 60  # of processor time
-TOOLS = {"audit": audit, "check": check, "check-places": check_places}
+
+
+def explained(words):
+    """What tools/explain prints."""
+    return explain.explain(explain.parser().parse_args(words))
+
+
+TOOLS = {"audit": audit, "check": check, "check-places": check_places, "explain": explained}
 
 
 def late(*_):

@@ -6,7 +6,7 @@ SOLVERS = tuple(solver for solver in ("cbc", "glpsol") if shutil.which(solver))
 
 
 def terms_of(book, surplus, skip):
-    """What each bid counts where its bidder's surplus is taken off, without one bidder; and the idle worths, which are a constant."""
+    """What each bid counts where its bidder's surplus is taken off, without one bidder, and the idle worths, which are a constant."""
     terms, idle = [], 0.0
     for j, bids in enumerate(book):
         own = float(surplus.get(j, 0))
@@ -34,7 +34,7 @@ def write_program(terms):
 
 
 def optimum(solver, program, seconds):
-    """The CPU time in milliseconds, and the optimum, or None where the solver was cut off after so many seconds."""
+    """The CPU time in milliseconds, and the optimum, or None where the solver was cut off after this many seconds."""
     answer = os.path.join(OUT, "solver.answer")
     if os.path.exists(answer):
         os.remove(answer)
@@ -54,7 +54,7 @@ def optimum(solver, program, seconds):
 
 def beside(solver, book, wanted, seconds):
     """The CPU time for these winner determinations, each with its surpluses, the bidder that is left out and the greatest sum that cca
-    states; whether each was solved to its end; and whether all that were have that sum."""
+    states; whether each was solved to its end, and whether all that were have that sum."""
     spent, whole, same = 0.0, True, True
     for surplus, skip, most in wanted:
         terms, idle = terms_of(book, surplus, skip)
@@ -66,6 +66,6 @@ def beside(solver, book, wanted, seconds):
 
 
 def told(solver, ours, spent, whole, same):
-    """A line on a solver beside cca: how many times as long it took, at least so many where it was cut off."""
+    """A line on a solver beside cca: how many times as long it took, at least this many where it was cut off."""
     least = "" if whole else "at least "
     return f"  {solver:<7}{least}{spent:,.0f} ms, {least}{spent / ours:,.0f} times as long; same optima: {same}"

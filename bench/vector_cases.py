@@ -1537,7 +1537,7 @@ FULL = (
 
 
 def replies(v):
-    """Each reply, as `auction` prints it; the first reason that holds is told."""
+    """Each reply, as `auction` prints it; the first reason that holds is reported."""
 
     def add(name, why, award, log, answer):
         v.case(f"reply-{name}", why, "auction", (award, lines(log), "/dev/null"), answer)

@@ -7,7 +7,10 @@ import subprocess
 import unittest
 
 ROOT = pathlib.Path(__file__).resolve().parents[2]
-SCRIPTS = ["cca", "trial", "bench/building.py", "bench/release"]
+SCRIPTS = [
+    *("cca", "trial", "dev", "bench/building.py", "bench/release"),
+    *("bench/tasks.py", "bench/compare", "bench/times", "bench/draw", "bench/site"),
+]
 
 
 class Style(unittest.TestCase):
@@ -20,8 +23,7 @@ class Style(unittest.TestCase):
         self.assertEqual(done.returncode, 0, f"{name} {' '.join(words)}\n{done.stdout}{done.stderr}")
 
     def test_types(self) -> None:
-        for script in SCRIPTS:
-            self.run_tool("mypy", "--strict", "--no-error-summary", script)
+        self.run_tool("mypy", "--strict", "--no-error-summary", "--scripts-are-modules", *SCRIPTS)
 
     def test_formatting(self) -> None:
         self.run_tool("black", "--check", "--quiet", "--config", "tools/pyproject.toml", *SCRIPTS)

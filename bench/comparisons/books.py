@@ -1,13 +1,10 @@
-#!/usr/bin/env python3
 """Compares `cca` with a plain search and with the second program, tools/, on random small books, weights and placements.
-
-usage: bench/agree [BOOKS]
 
 `price`, `weigh` and `place` have to print the prices that bench/searches.py finds. The certificates that they write, certificates that are
 written otherwise, and books, weights, slots and certificates that are changed in a number, a byte, a line or a field, have to get the same
-line and the same status from `check`, `weigh-check` and `place-check` and from tools/check and tools/check-places. What tools/why tells of
+line and the same status from `check`, `weigh-check` and `place-check` and from tools/check and tools/check-places. What tools/why says of
 a certificate has to come to what is paid. Printed is how often each kind of text was compared and how often each answer came; the last
-line says how much differs, and the status is 1 where anything does. It needs python3.
+line says how much differs, and the status is 1 where anything does.
 """
 import collections, itertools, os, random, re, subprocess, sys
 from damage import broken, scaled, slipped, widened
@@ -123,7 +120,7 @@ def slots_text(band, bidders):
 
 
 def with_other_choices(book, text):
-    """Certificates whose head has another choice of the same value, and behind it parts that no test reaches: the last part of C3 fails first."""
+    """Certificates whose head has another choice of the same value, and after it parts that no test reaches: the last part of C3 fails first."""
     (_, value), (_, *first) = (next(line.split() for line in text.splitlines() if line.startswith(word)) for word in ("value ", "choice"))
     head, table = re.match(r"(.*?)choice.*?\n(table\n(?:t.*\n)+)", text, re.S).groups()
     empty = re.sub(r"\d+", "0", table)
@@ -266,18 +263,15 @@ def compare_words(comparison, book):
         comparison.answers_of("place-check, words and files", "place-check", "check-places", words)
 
 
-def main():
+def main(number):
     build_cca()
-    books, comparison = int(sys.argv[1]) if len(sys.argv) > 1 else 300, Comparison()
+    comparison = Comparison()
     compare_limits(comparison)
-    for seed in range(books):
+    for seed in range(number):
         compare_book(comparison, random.Random(seed))
         compare_slots(comparison, random.Random(f"slots {seed}"))
     for kind, count in sorted(comparison.kinds.items()):
         print(f"{count:>7} {kind}")
     print(", ".join(f"{count} {answer}" for answer, count in sorted(comparison.answers.items())))
     print(f"{sum(comparison.kinds.values())} compared, {comparison.differ} differ")
-    sys.exit(1 if comparison.differ else 0)
-
-
-main()
+    return 1 if comparison.differ else 0

@@ -1,21 +1,20 @@
-#!/usr/bin/env python3
-"""Writes vectors/: the cases, and their files. The answers come from the court's own files and from the rules of cca_tools, which have to agree, and
-from the program too where CCA_PROGRAM names it.
+"""Writes vectors/: the cases and their files.
 
-usage: bench/vectors
+The answers come from the court's own files and from the rules of cca_tools, which have to agree, and
+from the program too where CCA_PROGRAM names it.
 
 A case that an answer is written beside has to get this answer. It needs python3.
 """
 import itertools, os, pathlib, random, re, shutil, sys, tempfile
 
-HERE = os.path.dirname(os.path.realpath(__file__))
+from limit_books import HERE
+
 sys.path[:0] = [HERE, os.path.join(HERE, "..", "tools", "tests")]
 from samples import book_of, certificate_of, lines, sample
 from second_auctions import second_auction
 from small_certs import book_certificate, place_certificate
 from voices import FILES, court_answer, program_answer, rules_answer
 
-FOLDER = pathlib.Path(HERE, "..", "vectors")
 PROGRAM = os.environ.get("CCA_PROGRAM") and os.path.abspath(os.environ["CCA_PROGRAM"])
 
 
@@ -35,7 +34,7 @@ class Vectors:
         return known
 
     def case(self, name, why, command, texts, answer=None, made=()):
-        """A case of a command: its texts, or names of files as str that are there or missing; and the first line of its answer where it is known."""
+        """A case of a command: its texts, or names of files as str that are there or missing, and the first line of its answer where it is known."""
         if name in self.names:
             raise ValueError(f"two cases {name}")
         self.names.add(name)
@@ -85,20 +84,19 @@ def auction_answer(paths):
     return printed.removesuffix("\n"), status
 
 
-def main():
+def main(root):
+    """Writes vectors/ below this folder."""
     from vector_cases import add_all
 
     with tempfile.TemporaryDirectory() as folder:
         vectors = Vectors(folder)
         add_all(vectors)
-        shutil.rmtree(FOLDER / "files", ignore_errors=True)
-        os.makedirs(FOLDER / "files")
+        kept = root / "vectors"
+        shutil.rmtree(kept / "files", ignore_errors=True)
+        os.makedirs(kept / "files")
         for name in vectors.files:
-            shutil.copy(os.path.join(folder, name), FOLDER / "files" / name)
-    (FOLDER / "cases").write_text("\n\n".join(vectors.blocks) + "\n")
+            shutil.copy(os.path.join(folder, name), kept / "files" / name)
+    (kept / "cases").write_text("\n\n".join(vectors.blocks) + "\n")
     print(
         f"{len(vectors.blocks)} cases, {len(vectors.files)} files, {sum(map(len, vectors.files.values()))} bytes, {2 + bool(PROGRAM)} voices"
     )
-
-
-main()

@@ -1,15 +1,10 @@
-#!/usr/bin/env python3
-"""Makes the manual page of cca, docs/cca.1, from docs/FORMATS.md, and with --compare tells whether it is the one that is kept.
+"""Makes the manual page of cca, docs/cca.1, from docs/FORMATS.md.
 
-usage: bench/manual [--compare]
-
-Headings become sections, blocks of code stay as they are, and tables become lists: a tagged paragraph for each row. It needs python3; `man -l
-docs/cca.1` shows the page.
+Headings become sections, blocks of code stay as they are, and tables become lists: a tagged paragraph for each row. `man -l docs/cca.1` shows the page.
 """
-import pathlib, re, sys
+import pathlib, re
 
-DOCS = pathlib.Path(__file__).resolve().parent.parent / "docs"
-PAGE = DOCS / "cca.1"
+DOCS = pathlib.Path(__file__).resolve().parents[2] / "docs"
 HEAD = """.TH CCA 1 "" "" "Combinatorial clock auctions"
 .SH NAME
 cca \\- run a combinatorial clock auction, and price it by core-selecting prices
@@ -17,7 +12,7 @@ cca \\- run a combinatorial clock auction, and price it by core-selecting prices
 
 
 TAIL = """.SH SEE ALSO
-docs/GUIDE.md goes through an auction; docs/CERTIFICATES.md has the certificate and its tests.
+docs/GUIDE.md leads through an auction; docs/CERTIFICATES.md has the certificate and its tests.
 """
 SECTIONS = {"COMMANDS": "SYNOPSIS", "STATUSES": "EXIT STATUS"}
 
@@ -33,7 +28,7 @@ def cells(row):
 
 
 def table(rows):
-    """A tagged paragraph for each row behind the head: the first cell is its tag, and each other cell stands behind the word of its column."""
+    """A tagged paragraph for each row after the head: the first cell is its tag, and each other cell comes after the word of its column."""
     head, *body = [cells(row) for row in rows if not re.fullmatch(r"[|\s-]+", row)]
     for tag, *others in body:
         yield ".TP\n" + (tag or "\\&")
@@ -73,7 +68,7 @@ def manual(text):
     return "\n".join(made) + "\n" + TAIL
 
 
-made = manual((DOCS / "FORMATS.md").read_text())
-if "--compare" in sys.argv[1:]:
-    sys.exit(0 if PAGE.exists() and PAGE.read_text() == made else f"{PAGE.name} isn't the page of FORMATS.md: run bench/manual")
-PAGE.write_text(made)
+def main(root):
+    """Writes docs/cca.1 below this folder."""
+    (root / "docs").mkdir(parents=True, exist_ok=True)
+    (root / "docs" / "cca.1").write_text(manual((DOCS / "FORMATS.md").read_text()))

@@ -1,16 +1,14 @@
-#!/usr/bin/env python3
 """Tests what theory says of whole auctions of bidders that follow their values, on drawn awards and values.
 
-usage: CCA_PROGRAM=PATH bench/rehearsals [COUNT [FIRST]]
-
-COUNT auctions (1000) of award version 1, from number FIRST (0) on, with bidders that are straightforward in the clock and list
+NUMBER auctions of award version 1, from number FIRST on, with bidders that are straightforward in the clock and list
 every package with its value: each line has to be admitted by the program, no winner may pay more than its value, and where values
 are separable with decreasing marginal values, each price has to be the Vickrey price. Then 20 small auctions, in which efficiency
-and revenue have to be those of a program that goes through all allocations. It prints what isn't so, and ends with 1 then.
+and revenue have to be those of a program that visits all allocations. It prints what isn't so, and ends with 1 then.
 """
 import collections, concurrent.futures, functools, os, sys
 
-HERE = os.path.dirname(os.path.realpath(__file__))
+from limit_books import CCA, HERE, build_cca
+
 sys.path.insert(0, os.path.join(HERE, "..", "tools", "tests"))
 import checked  # noqa: E402
 
@@ -31,15 +29,11 @@ def told(results):
     return wrong
 
 
-def main(count=1000, first=0):
+def main(number, first):
+    build_cca()
     with concurrent.futures.ProcessPoolExecutor() as pool:
-        numbers = range(first, first + count)
+        numbers = range(first, first + number)
         wrong = told(zip(numbers, pool.map(checked.faults, numbers, chunksize=5)))
         small = functools.partial(checked.faults, is_small=True)
-        return wrong + told(zip(range(SMALL), pool.map(small, range(SMALL))))
-
-
-if __name__ == "__main__":
-    if not checked.PROGRAM:
-        sys.exit("CCA_PROGRAM names no program")
-    sys.exit(1 if main(*map(int, sys.argv[1:])) else 0)
+        wrong += told(zip(range(SMALL), pool.map(small, range(SMALL))))
+    return 1 if wrong else 0

@@ -1,38 +1,29 @@
-#!/usr/bin/env python3
-"""Times `cca price` on books at the limits, beside a plain Rust program with the best loops known and beside general solvers that are
-given the same core constraints, in one run.
-
-usage: bench/price [RUNS [SECONDS]]
+"""Times `cca price` on books at the limits, beside a plain Rust program with the best loops known and general solvers.
 
 Each book has 16 bidders with 600 bids each over 15,876 states, and at most six winners; each run of cca writes a fresh
 certificate. The solvers cbc and glpsol, where they are installed, get the same winner
-determinations, each as an integer program, for so many seconds at most: that of all bidders, one without each winner, and one with
+determinations, each as an integer program, for this many seconds at most: that of all bidders, one without each winner, and one with
 lowered bids for the point of each turn. The nearest point is left out on their side. Printed is the CPU time in milliseconds, the
 least of the runs, whether both certificates are the same, and whether each optimum is that which cca states. It needs rustc and python3.
 """
-import os, sys
+import os
 from limit_books import KINDS, OUT, build_cca, build_plain, price, priced_book, read
 from pricings import wanted_of
 from solvers import SOLVERS, beside, told
 
-RUNS = int(sys.argv[1]) if len(sys.argv) > 1 else 10
-SECONDS = int(sys.argv[2]) if len(sys.argv) > 2 else 5
 
 
-def main():
+def main(runs, seconds):
     build_cca()
     plain = build_plain()
     cert, plain_cert = (os.path.join(OUT, name) for name in ("price.cert", "plain.cert"))
     print(f"{'book':<8}{'cca':>9}{'plain':>9}{'factor':>8}  same")
     for kind in KINDS:
         name, book = priced_book(kind)
-        runs = [price(name, cert, "--rounds") for _ in range(RUNS)]
-        ours = min(spent for spent, _ in runs)
-        theirs = min(price(name, plain_cert, "--rounds", program=plain)[0] for _ in range(RUNS))
+        found = [price(name, cert, "--rounds") for _ in range(runs)]
+        ours = min(spent for spent, _ in found)
+        theirs = min(price(name, plain_cert, "--rounds", program=plain)[0] for _ in range(runs))
         print(f"{kind:<8}{ours:>7.1f}ms{theirs:>7.1f}ms{ours / theirs:>8.2f}  {read(cert) == read(plain_cert)}", flush=True)
-        wanted = wanted_of(runs[0][1])
+        wanted = wanted_of(found[0][1])
         for solver in SOLVERS:
-            print(told(solver, ours, *beside(solver, book, wanted, SECONDS)), flush=True)
-
-
-main()
+            print(told(solver, ours, *beside(solver, book, wanted, seconds)), flush=True)

@@ -1,13 +1,10 @@
-#!/usr/bin/env python3
 """Compares `cca make` with a generator that is written from the rules alone, and runs the made auctions through `award` and `audit`.
 
-usage: bench/made [NUMBER ..]
-
-Without numbers these are 0, 7, the greatest one and 20 random ones. For each number two runs of `make` have to append the generator's
+The numbers are 0, 7, the greatest one and NUMBER drawn ones. For each two runs of `make` have to append the generator's
 bytes and print its line, `award` has to be Done, and `audit` has to print `yes` and the same prices. Printed are how many differ, and
-the CPU time of each command in milliseconds, the least and the greatest. It needs python3, and ends with 1 where something differs.
+the CPU time of each command in milliseconds, the least and the greatest.
 """
-import os, random, subprocess, sys
+import os, random, subprocess
 from limit_books import CCA, OUT, build_cca, timed
 from made_auction import BIDDERS, award_text, log_text
 
@@ -50,17 +47,13 @@ def differs(number, times):
     return not all(same for same, _ in twice) or audited[1] != "yes\n" + priced[1]
 
 
-def main(numbers):
+def main(number, seed):
     build_cca()
-    rng = random.Random(1)
-    numbers = numbers or [0, 7, 2 ** 32 - 1, *(rng.randrange(2 ** 32) for _ in range(20))]
+    rng = random.Random(seed)
+    numbers = [0, 7, 2 ** 32 - 1, *(rng.randrange(2 ** 32) for _ in range(number))]
     times = {}
     faulty = [number for number in numbers if differs(number, times)]
     print(f"{len(numbers)} made auctions, {len(faulty)} differ", *faulty)
     for command, found in times.items():
         print(f"{command} {min(found):.0f} to {max(found):.0f} ms")
-    return bool(faulty)
-
-
-if __name__ == "__main__":
-    sys.exit(main([int(word) for word in sys.argv[1:]]))
+    return 1 if faulty else 0

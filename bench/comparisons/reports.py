@@ -1,12 +1,9 @@
-#!/usr/bin/env python3
-"""Compares what a report tells with what the program prints, on drawn auctions and books.
+"""Compares what a report says with what the program prints, on drawn auctions and books.
 
-usage: bench/told [NUMBER [SEED]]
-
-For each of NUMBER drawn auctions the program prices the book, and the report has to tell the same: every reply; for each winner its
+For each of NUMBER drawn auctions the program prices the book, and the report has to agree: every reply; for each winner its
 package, its bid, its Vickrey price and what it pays; a sum of what the others would bring more that comes to the Vickrey price; the
 revenue and the net value; as many turns as the program has. And for each bidder, from the whole log and from its own view alone, the
-same report. So it has to tell of NUMBER drawn books, and there no group of winners may pay less than it has to. Every tenth is made as a
+same report. It has to agree on NUMBER drawn books too, and there no group of winners may pay less than it has to. Every tenth is made as a
 page too. It needs the program; the status is 1 where something differs.
 """
 import collections, os, pathlib, random, subprocess, sys
@@ -22,8 +19,6 @@ from cca_tools.rules.award import read_award
 from cca_tools.rules.log import read_log
 from cca_tools.rules.view import view_text
 
-NUMBER = int(sys.argv[1]) if len(sys.argv) > 1 else 300
-SEED = int(sys.argv[2]) if len(sys.argv) > 2 else 1
 FOLDER = pathlib.Path(OUT, "told")
 WINNERS = "Winners and prices, reserves included"
 
@@ -70,10 +65,16 @@ def plainly(text):
     return text.replace(",", "")
 
 
+def exactly(cell):
+    """A number of a cell in the program's form."""
+    words, form = cell[:2]
+    return plainly(form or words)
+
+
 def winner_lines(made):
     """The winners of a report, as the program prints them."""
-    for name, won, bid, vickrey, pays, _ in table(made, "winners", WINNERS):
-        yield f"winner {name[0]} {won[1]} bid {plainly(bid[0])} vickrey {plainly(vickrey[0])} pays {plainly(pays[0])}"
+    for name, won, *_, bid, vickrey, pays, _ in table(made, "winners", WINNERS):
+        yield f"winner {name[0]} {won[1]} bid {exactly(bid)} vickrey {exactly(vickrey)} pays {exactly(pays)}"
 
 
 def figures(made):
@@ -81,14 +82,14 @@ def figures(made):
 
 
 def turns(made):
-    """How many turns a report tells of, and of each whether some coalition blocks in it."""
+    """How many turns a report has, and of each whether some coalition blocks in it."""
     cards = [card for section in made.sections for block in section.blocks for card in getattr(block, "cards", ())]
     return [card.blocks[1].text.startswith("No coalition blocks") for card in cards if card.title.startswith("Turn ")]
 
 
 def sums_differ(made):
-    """Whether some sum of what the others would bring more isn't the Vickrey price that stands among the winners."""
-    own, prices = dict(tables(made, "why")), {row[0][0]: int(plainly(row[3][0])) for row in table(made, "winners", WINNERS)}
+    """Whether some sum of what the others would bring more isn't the Vickrey price that is among the winners."""
+    own, prices = dict(tables(made, "why")), {row[0][0]: int(exactly(row[-3])) for row in table(made, "winners", WINNERS)}
     more = {name: [int(plainly(row[-1][0])) for row in own[f"Without {name}"]] for name in prices}
     return any(more[name][-1] != price or sum(more[name][:-1]) != price for name, price in prices.items())
 
@@ -183,19 +184,15 @@ def priced_differs(made, prices, facts):
         yield "turns"
 
 
-def main():
+def main(number, seed):
     build_cca()
     FOLDER.mkdir(parents=True, exist_ok=True)
     os.environ["CCA_PROGRAM"] = CCA
-    rng, counts, differ = random.Random(SEED), collections.Counter(), 0
-    for number in range(NUMBER):
-        found = [*compared(number, rng, counts), *book_differs(number, rng, counts)]
+    rng, counts, differ = random.Random(seed), collections.Counter(), 0
+    for at in range(number):
+        found = [*compared(at, rng, counts), *book_differs(at, rng, counts)]
         differ += bool(found)
         if found:
-            print(f"auction or book {number} of seed {SEED}: {', '.join(found)}")
-    print(f"{NUMBER} auctions and books, {differ} differ; " + ", ".join(f"{count} {word}" for word, count in counts.most_common()))
+            print(f"auction or book {at} of seed {seed}: {', '.join(found)}")
+    print(f"{number} auctions and books, {differ} differ; " + ", ".join(f"{count} {word}" for word, count in counts.most_common()))
     return 1 if differ else 0
-
-
-if __name__ == "__main__":
-    sys.exit(main())

@@ -1,19 +1,13 @@
-#!/usr/bin/env python3
-"""Compares the line that tools/explain tells first, and its status, with those of the program, on damaged files of each command.
-
-usage: bench/explained [NUMBER [SEED]]
+"""Compares the line that tools/explain says first, and its status, with those of the program, on damaged files of each command.
 
 NUMBER runs are made on the samples, each with some of its files damaged. Printed is how many differ, and how often each status of each
-command came. It needs python3; the status is 1 where something differs.
+command came.
 """
-import collections, os, random, subprocess, sys
+import collections, os, random, subprocess
 from drawn_auctions import damaged
 from limit_books import CCA, HERE, OUT, build_cca
 from second_tools import answer
 
-
-NUMBER = int(sys.argv[1]) if len(sys.argv) > 1 else 1000
-SEED = int(sys.argv[2]) if len(sys.argv) > 2 else 1
 EXAMPLES = os.path.join(HERE, "..", "examples")
 SIGNS = "0123456789 \n-abcdefghijklmnop_.,\""
 WRITES = ("auction", "award", "price", "weigh", "place")
@@ -25,7 +19,7 @@ def sample(name):
 
 
 def winners(count, others):
-    """A book in which so many bidders win, and weights: 1 for all but the last few."""
+    """A book in which this many bidders win, and weights: 1 for all but the last few."""
     book = "".join(f"bidder b{j}\nbid 1 5\n" for j in range(count))
     weights = "".join(f"weight b{j} {1 if j < count - others else 2}\n" for j in range(count))
     return f"book 1\nsupply 11\nreserve 0\n{book}end\n", f"weights 1\n{weights}end\n"
@@ -67,7 +61,7 @@ def told(*words):
 
 
 def is_same(command, names):
-    """Whether the status is the same, and a line that ends the program's run stands among those that are told; and the status."""
+    """Whether the status is the same, and a line that ends the program's run is among those that are shown, and the status."""
     out = [path_of("out")] if command in WRITES else []
     run = subprocess.run([CCA, command, *names, *out], capture_output=True, text=True)
     text, status = told(command, *names)
@@ -75,11 +69,11 @@ def is_same(command, names):
     return run.returncode == status and last in text.splitlines(), run.returncode
 
 
-def main():
+def main(number, seed):
     build_cca()
     os.makedirs(OUT, exist_ok=True)
-    rng, given, differ, statuses = random.Random(SEED), samples(), 0, collections.Counter()
-    for number in range(NUMBER):
+    rng, given, differ, statuses = random.Random(seed), samples(), 0, collections.Counter()
+    for _ in range(number):
         command = rng.choice(list(given))
         texts = [text if rng.random() < 0.4 else damaged(rng, text, SIGNS) for text in rng.choice(given[command])]
         names = [path_of(str(at), text) for at, text in enumerate(texts)]
@@ -88,9 +82,6 @@ def main():
         if not same:
             differ += 1
             print(command, *(path_of(f"differs-{differ}.{at}", text) for at, text in enumerate(texts)))
-    print(f"{NUMBER} runs, {differ} differ")
+    print(f"{number} runs, {differ} differ")
     print(", ".join(f"{word}: {count}" for word, count in sorted(statuses.items())))
     return 1 if differ else 0
-
-
-sys.exit(main())

@@ -1,13 +1,10 @@
-#!/usr/bin/env python3
 """Refuses each single request of memory of a command in turn, one in a run.
-
-usage: bench/refused
 
 The commands are `award`, `audit` and `auction` on the sample in the form of the UK's award, `price` and `check` on books of one and of
 several turns, `place` and `place-check` on a band, and `review` on edits of each kind. After a refused request the run has to end with
-want of memory, its line alone printed and every file as it was, or with the result of a run in which nothing is refused: where the
-program can do without the memory. A request that comes before `main` has its words may end it with 6 and no line. Then it is so of the
-desk that stays, by its replays of logs with each kind of line: a line that is answered with want of memory is handed in again, and all
+out of memory, its line alone printed and every file as it was, or with the result of a run in which nothing is refused: where the
+program can do without the memory. A request that comes before `main` has its words may end it with 6 and no line. So it is for the
+desk, by its replays of logs with each kind of line: a line that is answered with out of memory is handed in again, and all
 replies have to be those of a desk that never saw it refused. Printed is, for each command and for the desk, how many requests it makes
 and how the runs ended. It needs a C compiler, python3 and a program that is linked to the system's library.
 """
@@ -74,7 +71,7 @@ def contents(folder):
 
 
 def run(library, words, files, refused):
-    """One run in a folder with these files: its status, what it printed, the files behind it, and whether a request was refused."""
+    """One run in a folder with these files: its status, what it printed, the files that it left, and whether a request was refused."""
     with tempfile.TemporaryDirectory() as folder, tempfile.TemporaryDirectory() as aside:
         for name, text in files.items():
             with open(os.path.join(folder, name), "wb") as f:
@@ -179,7 +176,4 @@ def main():
         wrong += each_request(library, "review", ["review", "BOOK", "EDITS"], edited)[0]
         wrong += each_request_of_replays(library)
     print(f"{wrong} runs ended as they must not")
-    sys.exit(wrong > 0)
-
-
-main()
+    return 1 if wrong else 0

@@ -1,17 +1,13 @@
-#!/usr/bin/env python3
 """Times `cca auction` on logs of 100,000 records, ordinary and hostile ones, in one run.
-
-usage: bench/log [RUNS]
 
 Beside each log stands the time of reading alone, as that of the same log whose last record is faulty, and how many times as long
 the whole run takes. A hostile log is to take at most about ten times as long as it takes to read. Printed is the median of the CPU
-times in milliseconds, less that of a start. It needs python3.
+times in milliseconds, less that of a start.
 """
-import os, statistics, sys
+import os, statistics
 from hostile_logs import LOGS, award, text_of
 from limit_books import CCA, OUT, build_cca, timed
 
-RUNS = int(sys.argv[1]) if len(sys.argv) > 1 else 5
 
 
 def file_of(name, text):
@@ -21,10 +17,10 @@ def file_of(name, text):
     return path
 
 
-def cost(terms, log):
+def cost(terms, log, runs):
     """The median CPU time of `cca auction` in milliseconds, and the last line that it prints."""
     book, spent, last = os.path.join(OUT, "log.book"), [], ""
-    for _ in range(RUNS):
+    for _ in range(runs):
         if os.path.exists(book):
             os.remove(book)
         once, printed = timed([CCA, "auction", terms, log, book], may_fail=True)
@@ -33,19 +29,16 @@ def cost(terms, log):
     return statistics.median(spent), last
 
 
-def main():
+def main(runs):
     build_cca()
     terms = file_of("log.award", award())
-    start, _ = cost(terms, file_of("empty.log", ""))
+    start, _ = cost(terms, file_of("empty.log", ""), runs)
     print(f"{'log':<20}{'bytes':>11}{'reading':>11}{'auction':>11}{'times':>7}  ends with")
     for kind in LOGS:
         text = text_of(kind)
         broken = text[:-1].rpartition("\n")[0] + "\nclose\n"
-        reading, refused = cost(terms, file_of("broken.log", broken))
-        whole, last = cost(terms, file_of("whole.log", text))
+        reading, refused = cost(terms, file_of("broken.log", broken), runs)
+        whole, last = cost(terms, file_of("whole.log", text), runs)
         assert refused == "cca: refused log 100000", refused
         reading, whole = reading - start, whole - start
         print(f"{kind:<20}{len(text):>11,}{reading:>9.1f}ms{whole:>9.1f}ms{whole / reading:>7.1f}  {last}")
-
-
-main()

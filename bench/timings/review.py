@@ -1,26 +1,20 @@
-#!/usr/bin/env python3
 """Times an edit of `cca review` on books at the limits, beside `cca win` from scratch.
 
-usage: bench/review [RUNS]
-
-The books are those of bench/price. Raises are of a bid of the first, a middle and the last bidder, and change no winner as long as the
-bid stays below; then the bid of each winner is taken out and put in again, so that each edit changes the winners. Printed is the CPU
+The books are those of `price`. Raises are of a bid of the first, a middle and the last bidder, and change no winner as long as the
+bid stays below, then the bid of each winner is taken out and put in again, so that each edit changes the winners. Printed is the CPU
 time of one edit in milliseconds, which is that of many edits less that of few, divided by how many more they are, each the least of
-the runs; then that of `cca win`, less that of a start on the smallest book; what part of it an edit is; and whether the winners behind
-the edits are those that `cca win` prints for the edited book. The program is that of CCA_PROGRAM, or is built first. It needs python3.
+the runs, then that of `cca win`, less that of a start on the smallest book; what part of it an edit is, and whether the winners after
+the edits are those that `cca win` prints for the edited book.
 """
-import os, sys
-import limit_books
-from limit_books import BIDDERS, KINDS, OUT, build_cca, priced_book, timed
+import os
+from limit_books import BIDDERS, CCA, KINDS, OUT, build_cca, priced_book, timed
 
-RUNS = int(sys.argv[1]) if len(sys.argv) > 1 else 5
-CCA = os.environ.get("CCA_PROGRAM", limit_books.CCA)
 FEW, MANY = 10, 110
 
 
-def least_cpu(words):
-    runs = [timed(words) for _ in range(RUNS)]
-    return min(spent for spent, _ in runs), runs[-1][1]
+def least_cpu(words, runs):
+    found = [timed(words) for _ in range(runs)]
+    return min(spent for spent, _ in found), found[-1][1]
 
 
 def written(name, lines):
@@ -66,30 +60,25 @@ def winning_bids(book, bids):
         yield j, next(bid for bid in bids[j - 1] if list(bid[0]) == [int(n) for n in row[2:-1]])
 
 
-def row(kind, what, book, j, edits_of, bid, after, scratch):
-    few, _ = least_cpu([CCA, "review", book, edits_file(edits_of(j, bid, FEW))])
-    many, text = least_cpu([CCA, "review", book, edits_file(edits_of(j, bid, MANY))])
+def row(kind, what, book, j, edits_of, bid, after, scratch, runs):
+    few, _ = least_cpu([CCA, "review", book, edits_file(edits_of(j, bid, FEW))], runs)
+    many, text = least_cpu([CCA, "review", book, edits_file(edits_of(j, bid, MANY))], runs)
     edit = max(many - few, 0) / (MANY - FEW)
     last = "".join(text.splitlines(keepends=True)[MANY + 1 :])
     same = last == timed([CCA, "win", after])[1]
     print(f"{kind:<8}{what:<7}{j:>7}{edit:>10.3f}ms{scratch:>9.2f}ms{edit / scratch:>8.3f}  {same}")
 
 
-def main():
-    os.makedirs(OUT, exist_ok=True)
-    if "CCA_PROGRAM" not in os.environ:
-        build_cca()
+def main(runs):
+    build_cca()
     tiny = written("tiny.book", ["book 1", "supply 1", "reserve 0", "end"])
-    start = least_cpu([CCA, "win", tiny])[0]
+    start = least_cpu([CCA, "win", tiny], runs)[0]
     print(f"{'book':<8}{'edits':<7}{'bidder':>7}{'edit':>12}{'win':>11}{'part':>8}  same")
     for kind in KINDS:
         book, bids = priced_book(kind)
-        scratch = least_cpu([CCA, "win", book])[0] - start
+        scratch = least_cpu([CCA, "win", book], runs)[0] - start
         for j in (1, BIDDERS // 2, BIDDERS):
             bid = bids[j - 1][0]
-            row(kind, "raise", book, j, raises, bid, raised_book(book, j, bid, MANY), scratch)
+            row(kind, "raise", book, j, raises, bid, raised_book(book, j, bid, MANY), scratch, runs)
         for j, bid in winning_bids(book, bids):
-            row(kind, "swap", book, j, swaps, bid, book, scratch)
-
-
-main()
+            row(kind, "swap", book, j, swaps, bid, book, scratch, runs)

@@ -1,7 +1,4 @@
-#!/usr/bin/env python3
 """Compares the programs that are extracted from the second proof with `cca`: what they print, and with which status they end.
-
-usage: bench/second_proof [RUNS [SEED]]
 
 `check`, `weigh-check` and `place-check` are run on certificates that `cca` wrote of drawn books and slots: as they were made, with
 another denominator, with other numbers (entries, payments, rows, choices, orders), with damaged lines and bytes, on damaged books, weights
@@ -21,8 +18,6 @@ from cca_tools.rules.auction import replay
 from cca_tools.rules.award import read_award
 from cca_tools.rules.log import read_log
 
-RUNS = int(sys.argv[1]) if len(sys.argv) > 1 else 10000
-SEED = int(sys.argv[2]) if len(sys.argv) > 2 else 1
 SECOND = os.path.join(HERE, "..", "second_proof")
 CHECKER = os.path.join(SECOND, "built", "checker")
 WIDE = 2 ** 120
@@ -33,9 +28,8 @@ def prepared():
     """The program of cca, with both built where they aren't."""
     if not os.path.exists(CHECKER):
         subprocess.run([os.path.join(SECOND, "build")], check=True, stdout=subprocess.DEVNULL)
-    if "CCA_PROGRAM" not in os.environ:
-        build_cca()
-    return os.environ.get("CCA_PROGRAM", CCA)
+    build_cca()
+    return CCA
 
 
 # ---- drawn books, weights and slots ----
@@ -510,9 +504,9 @@ def run_spectrum(rng, comparison):
         comparison.check("check, spectrum", "check", {"book": book, "cert": text})
 
 
-def run_all(rng, comparison):
+def run_all(rng, number, comparison):
     """Drawn files, and then words, limits and the sample."""
-    while sum(comparison.kinds.values()) < RUNS:
+    while sum(comparison.kinds.values()) < number:
         runs_of(rng, comparison)
         comparison.log(rng)
     run_words(comparison)
@@ -520,12 +514,12 @@ def run_all(rng, comparison):
     run_spectrum(rng, comparison)
 
 
-def main():
-    rng = random.Random(SEED)
+def main(number, seed):
+    rng = random.Random(seed)
     with tempfile.TemporaryDirectory() as folder:
         comparison = Comparison(prepared(), folder)
         try:
-            run_all(rng, comparison)
+            run_all(rng, number, comparison)
         except KeyboardInterrupt:
             print("stopped; so far:")
     for kind, runs in sorted(comparison.kinds.items()):
@@ -533,7 +527,4 @@ def main():
     print(f"{sum(comparison.kinds.values())} runs, {sum(comparison.differ.values())} differ")
     for counts in comparison.answers, comparison.replies:
         print(", ".join(f"{count} {word}" for word, count in sorted(counts.items())))
-    sys.exit(1 if comparison.differ else 0)
-
-
-main()
+    return 1 if comparison.differ else 0

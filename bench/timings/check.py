@@ -1,22 +1,17 @@
-#!/usr/bin/env python3
-"""Times `cca win`, `cca price` and `cca check` on books at the limits, beside a plain Rust program and general solvers, in one run.
+"""Times `cca win`, `cca price` and `cca check` on books at the limits, beside a plain Rust program and general solvers.
 
-usage: bench/check [RUNS [SECONDS]]
-
-The books are those of bench/price. Printed is the median of the CPU times of whole runs in milliseconds, and whether both
+The books are those of `price`. Printed is the median of the CPU times of whole runs in milliseconds, and whether both
 programs print the same, and how much memory `cca win` and `cca check` keep: the book is the same, so what `check` keeps beyond `win` is
 what it needs for the certificate. The plain program has the best loops known. Then some certificates are broken in one number, and both checkers have to give the same verdict. The solvers cbc and glpsol, where they
-are installed, solve again all winner determinations that the certificate shows, each for so many seconds at most: what has to be done
-where there is no certificate. It needs rustc and python3.
+are installed, solve again all winner determinations that the certificate shows, each for this many seconds at most: what has to be done
+if there is no certificate. It needs rustc and python3.
 """
-import os, random, statistics, sys
+import os, random, statistics
 from damage import broken
 from limit_books import CCA, KINDS, OUT, build_cca, build_plain, memory_of, price, priced_book, read, timed
 from pricings import wanted_of
 from solvers import SOLVERS, beside, told
 
-RUNS = int(sys.argv[1]) if len(sys.argv) > 1 else 9
-SECONDS = int(sys.argv[2]) if len(sys.argv) > 2 else 5
 BREAKS = 20
 SIGNED_LINES = ("den", "value", "t", "pay", "mult")
 
@@ -48,15 +43,15 @@ def broken_verdicts(kind, book, cert, plain):
     return judged, differ
 
 
-def compare(kind, plain):
+def compare(kind, plain, runs, seconds):
     cert, plain_cert = (os.path.join(OUT, name) for name in ("check.cert", "plain.cert"))
     book, bids = priced_book(kind)
-    ours = {"win": [timed([CCA, "win", book]) for _ in range(RUNS)]}
-    ours["price"] = [price(book, cert, "--rounds") for _ in range(RUNS)]
-    ours["check"] = [timed([CCA, "check", book, cert]) for _ in range(RUNS)]
+    ours = {"win": [timed([CCA, "win", book]) for _ in range(runs)]}
+    ours["price"] = [price(book, cert, "--rounds") for _ in range(runs)]
+    ours["check"] = [timed([CCA, "check", book, cert]) for _ in range(runs)]
     printed = ours["price"][0][1]
-    theirs = {word: [timed([plain, word, book, *[cert] * (word == "check")]) for _ in range(RUNS)] for word in ("win", "check")}
-    theirs["price"] = [price(book, plain_cert, "--rounds", program=plain) for _ in range(RUNS)]
+    theirs = {word: [timed([plain, word, book, *[cert] * (word == "check")]) for _ in range(runs)] for word in ("win", "check")}
+    theirs["price"] = [price(book, plain_cert, "--rounds", program=plain) for _ in range(runs)]
     same = {"win": ours["win"][0][1] == theirs["win"][0][1], "price": read(cert) == read(plain_cert)}
     same["check"] = ours["check"][0][1] == "yes\n" + printed[printed.index("winner "):] and theirs["check"][0][1] == ours["check"][0][1]
     winners, turns = printed.count("winner "), printed.count("round ")
@@ -68,14 +63,11 @@ def compare(kind, plain):
     judged, differ = broken_verdicts(kind, book, cert, plain)
     print(f"  {judged} broken certificates, {differ} verdicts differ", flush=True)
     for solver in SOLVERS:
-        print(told(solver, median(ours["check"]), *beside(solver, bids, wanted_of(printed), SECONDS)), flush=True)
+        print(told(solver, median(ours["check"]), *beside(solver, bids, wanted_of(printed), seconds)), flush=True)
 
 
-def main():
+def main(runs, seconds):
     build_cca()
     plain = build_plain()
     for kind in KINDS:
-        compare(kind, plain)
-
-
-main()
+        compare(kind, plain, runs, seconds)

@@ -1,20 +1,15 @@
-#!/usr/bin/env python3
 """Feeds changed awards, logs, books, slots, edits and certificates to every command, under limits of memory, file size and time.
 
-usage: bench/mutants [RUNS] [SEED]
-
-A run changes one or two files of a sample (bytes, lines, numbers, fronts, parts of another file), draws a command, and now and then a
+A run changes one or two files of a sample (bytes, lines, numbers, prefixes, parts of another file), draws a command, and now and then a
 limit of memory, one of file size, or an output that takes nothing. It has to end in time with a status of the table and its line; the
 files that it reads stay as they are, and the file that it appends to holds what it held: all of the new text after a run that is done, a
-front of it after a fault of writing, and nothing new otherwise. Printed is how often each command ended with each status. Then come the
+prefix of it after a fault of writing, and nothing new otherwise. Printed is how often each command ended with each status. Then come the
 cases of `edge_cases.py`. It needs python3, and strace for what is said of syncs.
 """
 import collections, os, random, re, resource, signal, subprocess, sys, tempfile
 import edge_cases
 from limit_books import CCA, HERE, build_cca
 
-RUNS = int(sys.argv[1]) if len(sys.argv) > 1 else 10000
-SEED = int(sys.argv[2]) if len(sys.argv) > 2 else 1
 EXAMPLES = os.path.join(HERE, "..", "examples")
 SECONDS = 60
 STATUSES = {0: "done", 1: "no", 2: "words", 3: "refused", 4: "read", 5: "write", 6: "memory", 7: "limit"}
@@ -209,18 +204,16 @@ def one(rng, samples, folder):
     return command, code
 
 
-def main():
+def main(number, seed):
     build_cca()
-    rng, counts = random.Random(SEED), collections.Counter()
+    rng, counts = random.Random(seed), collections.Counter()
     samples = originals()
     with tempfile.TemporaryDirectory() as folder:
-        for _ in range(RUNS):
+        for _ in range(number):
             counts[one(rng, samples, folder)] += 1
     print(f"{'command':<10}" + "".join(f"{word:>9}" for word in STATUSES.values()))
     for command, *_ in COMMANDS:
         print(f"{command:<10}" + "".join(f"{counts[command, code]:>9}" for code in STATUSES))
-    print(f"{RUNS} runs, seed {SEED}: all ended as they have to")
+    print(f"{number} runs, seed {seed}: all ended as they have to")
     edge_cases.run_all()
-
-
-main()
+    return 0

@@ -1,19 +1,15 @@
-#!/usr/bin/python3
 """Times `cca win`, `price` and `check` as a book grows to the limits, and draws docs/pictures/growth.svg.
 
-usage: bench/growth [RUNS]
-
-Bidders, bids of each bidder and states double one after the other, up to 16, 600 and 16,384, while the other two stand at their
+Bidders, bids of each bidder and states double one after the other, up to 16, 600 and 16,384, while the other two are at their
 limit. At most five bidders win. Printed is the CPU time in milliseconds, the least of the runs, with the bytes of the
-certificate. Then an edit of `cca review` that raises a bid of a middle bidder by 1, in microseconds; and `price` on a book with six winners and as
+certificate. Then an edit of `cca review` that raises a bid of a middle bidder by 1, in microseconds, and `price` on a book with six winners and as
 many turns as were found, whose points take the most work; more than a second is an error. And `place` and `place-check` on slots at their limits, a
-band of 40 with a bid on each slot where a bidder may begin, as bidders grow to 6. It needs python3.
+band of 40 with a bid on each slot where a bidder may begin, as bidders grow to 6.
 """
 import itertools, math, os, random, sys
 from drawing import Drawing, keep
 from limit_books import CCA, OUT, build_cca, price, timed
 
-RUNS = int(sys.argv[1]) if len(sys.argv) > 1 else 7
 FEW, MANY = 10, 510
 SUPPLIES = {1024: (15, 3, 3, 3), 2048: (15, 7, 3, 3), 4096: (15, 7, 7, 3), 8192: (15, 7, 7, 3, 1), 16384: (15, 7, 7, 3, 3)}
 RESERVE = (1000, 300, 150, 60, 25)
@@ -53,18 +49,18 @@ def edits_file(book, bidder, count):
     return name
 
 
-def edit_time(book, bidder):
+def edit_time(book, bidder, runs):
     """The CPU time of an edit, in microseconds: that of many less that of few, by how many more they are."""
-    few, many = (min(timed([CCA, "review", book, edits_file(book, bidder, count)])[0] for _ in range(RUNS)) for count in (FEW, MANY))
+    few, many = (min(timed([CCA, "review", book, edits_file(book, bidder, count)])[0] for _ in range(runs)) for count in (FEW, MANY))
     return 1000 * max(many - few, 0) / (MANY - FEW)
 
 
-def times_of(sizes):
+def times_of(sizes, runs):
     """The least CPU time of each command on a book of these sizes, the bytes of its certificate, and how many bidders win."""
     book, cert = write_book(**sizes), os.path.join(OUT, "growth.cert")
-    runs = {"win": lambda: timed([CCA, "win", book]), "price": lambda: price(book, cert), "check": lambda: timed([CCA, "check", book, cert])}
-    times = {command: min(runs[command]()[0] for _ in range(RUNS)) for command in COMMANDS}
-    return times, os.path.getsize(cert), runs["win"]()[1].count("winner ")
+    of = {"win": lambda: timed([CCA, "win", book]), "price": lambda: price(book, cert), "check": lambda: timed([CCA, "check", book, cert])}
+    times = {command: min(of[command]()[0] for _ in range(runs)) for command in COMMANDS}
+    return times, os.path.getsize(cert), of["win"]()[1].count("winner ")
 
 
 def points_of(rows, kind, command):
@@ -133,11 +129,11 @@ def place(slots, cert):
     return timed([CCA, "place", slots, cert])
 
 
-def place_times(bidders):
-    """The least CPU time of `place` and of `place-check` on slots with so many bidders."""
+def place_times(bidders, runs):
+    """The least CPU time of `place` and of `place-check` on slots with this many bidders."""
     slots, cert = write_slots(bidders), os.path.join(OUT, "growth.placed")
-    placed = min(place(slots, cert)[0] for _ in range(RUNS))
-    return placed, min(timed([CCA, "place-check", slots, cert])[0] for _ in range(RUNS))
+    placed = min(place(slots, cert)[0] for _ in range(runs))
+    return placed, min(timed([CCA, "place-check", slots, cert])[0] for _ in range(runs))
 
 
 def draw(rows):
@@ -167,7 +163,7 @@ def said(row):
     return f"{sizes['bidders']} bidders, {sizes['bids']} bids, {sizes['states']:,} states, of whom {winners} win: {spent} ms."
 
 
-def main():
+def main(runs):
     build_cca()
     rows, known = [], {}
     print(f"{'bidders':>8}{'bids':>6}{'states':>8}{'win':>9}{'price':>9}{'check':>9}{'bytes':>13}{'winners':>9}")
@@ -176,22 +172,18 @@ def main():
             sizes = {**MOST, grown: step}
             key = tuple(sizes.values())
             if key not in known:
-                known[key] = times_of(sizes)
+                known[key] = times_of(sizes, runs)
             times, length, winners = known[key]
             rows.append((grown, sizes, times, length, winners))
             print("{bidders:8}{bids:6}{states:8}".format(**sizes) + "".join(f"{times[c]:9.0f}" for c in COMMANDS) + f"{length:13,}{winners:9}", flush=True)
     draw(rows)
-    print(f"an edit on the largest book: {edit_time(write_book(**MOST), (MOST['bidders'] + 1) // 2):.0f} microseconds")
+    print(f"an edit on the largest book: {edit_time(write_book(**MOST), (MOST['bidders'] + 1) // 2, runs):.0f} microseconds")
     book, cert = write_turns(), os.path.join(OUT, "turns.cert")
     turns = price(book, cert, "--rounds")[1].count("round ")
-    time = min(price(book, cert)[0] for _ in range(RUNS))
+    time = min(price(book, cert)[0] for _ in range(runs))
     print(f"six winners, {turns} turns: price {time:.1f}")
     for bidders in range(1, 7):
-        placed, tested = place_times(bidders)
+        placed, tested = place_times(bidders, runs)
         print(f"slots of {bidders} bidders: place {placed:.1f}, place-check {tested:.1f}")
     if time > 1000:
         sys.exit("price takes more than a second")
-
-
-if __name__ == "__main__":
-    main()

@@ -1,7 +1,4 @@
-#!/usr/bin/python3
 """Draws docs/pictures/core.svg and docs/pictures/rounds.svg from what the program prints of the samples.
-
-usage: bench/pictures
 
 The first shows which payments of the two winners of examples/day-cramton.book are blocked, and the ones that pricing finds. The second
 shows the price of each category of examples/spectrum.award by round, and how many lots of it are asked for. It needs python3.
@@ -31,7 +28,7 @@ def prices_of_two(text):
     return *winners, sum(vickrey for _, vickrey, _ in winners) + int(excess)
 
 
-def draw_core(text):
+def draw_core(text, folder):
     (bid, low, pays), (other_bid, other_low, other_pays), both = prices_of_two(text)
     drawing, scale = Drawing("core"), 25.0
     left, bottom, corner = low - 4, other_low - 3, both - other_low
@@ -113,7 +110,7 @@ def rounds_of(award, log, replies):
     return rounds
 
 
-def draw_rounds(award, rounds):
+def draw_rounds(award, rounds, folder):
     """The prices of each category as the stairs of reports, and below them the lots asked for."""
     drawing, count, wide = Drawing("rounds"), len(rounds), 198
     above = max(100 * asked[c] / category["supply"] for c, category in enumerate(award["category"]) for _, asked in rounds)
@@ -132,7 +129,7 @@ def draw_rounds(award, rounds):
     drawing.text(4, 168, "lots asked for, on a scale of the supply")
     key = [("orangish", "orange", True, "asked for above the supply"), ("greenish", "green", False, "asked for within the supply"), ("red", None, False, "supply")]
     draw_key(drawing, 4, 346, key)
-    keep(drawing, (792, 358), "Prices and demand by round", "; ".join(said(category, rounds, c) for c, category in enumerate(award["category"])) + ".")
+    keep(drawing, (792, 358), "Prices and demand by round", "; ".join(said(category, rounds, c) for c, category in enumerate(award["category"])) + ".", folder)
 
 
 def said(category, rounds, c):
@@ -142,16 +139,14 @@ def said(category, rounds, c):
     return f"{category['name']}, of which {supply} {'is' if supply == 1 else 'are'} sold: prices {prices} in millions, asked for {asked}"
 
 
-def main():
+def main(root):
+    """Writes the pictures below this folder."""
     build_cca()
-    draw_core(printed("price", "day-cramton.book", out="core.cert"))
+    folder = root / "docs" / "pictures"
+    draw_core(printed("price", "day-cramton.book", out="core.cert"), folder)
     with open(os.path.join(EXAMPLES, "spectrum.award"), "rb") as file:
         award = tomllib.load(file)
     with open(os.path.join(EXAMPLES, "spectrum.log"), newline="") as file:
         log = list(csv.reader(file))
     replies = [line.split(" ")[1:] for line in printed("auction", "spectrum.award", "spectrum.log", out="rounds.book").splitlines()]
-    draw_rounds(award, rounds_of(award, log, replies))
-
-
-if __name__ == "__main__":
-    main()
+    draw_rounds(award, rounds_of(award, log, replies), folder)

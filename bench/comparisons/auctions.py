@@ -1,13 +1,10 @@
-#!/usr/bin/env python3
 """Compares `cca auction`, `award` and `audit` with the second program in tools/, on random small auctions and on faulty ones.
-
-usage: bench/auctions [NUMBER [SEED]]
 
 NUMBER runs of each kind: drawn auctions, with lines that are refused for each reason and with ends and none; awards with a rule broken;
 awards of any TOML and of none; logs with a record that states no line; logs of any CSV; audits of certificates as they were written and
-altered; and a few runs with other words, the samples, made auctions and logs of 100,000 records. Compared are the printed lines, the
+altered, and a few runs with other words, the samples, made auctions and logs of 100,000 records. Compared are the printed lines, the
 exit status and the appended book. Printed is how many differ of each kind, and how often each answer came. What differs is kept in
-bench/out. It needs python3; the status is 1 where something differs.
+bench/out.
 """
 import collections, os, random, re, subprocess, sys
 import hostile_logs
@@ -17,8 +14,6 @@ from made_auction import award_text, log_text
 from second_auctions import drawn, second_auction
 from second_tools import answer
 
-NUMBER = int(sys.argv[1]) if len(sys.argv) > 1 else 300
-SEED = int(sys.argv[2]) if len(sys.argv) > 2 else 1
 EXAMPLES = os.path.join(HERE, "..", "examples")
 
 
@@ -164,14 +159,14 @@ def compare_long_logs(tally):
         compare_auction(tally, "long logs", hostile_logs.award().encode(), hostile_logs.text_of(kind).encode())
 
 
-def main():
+def main(number, seed):
     build_cca()
     os.makedirs(OUT, exist_ok=True)
-    rng, tally = random.Random(SEED), Tally()
+    rng, tally = random.Random(seed), Tally()
     compare_words(tally)
     compare_samples(rng, tally)
     compare_long_logs(tally)
-    for _ in range(NUMBER):
+    for _ in range(number):
         award, log, categories = drawn(rng)
         names = compare_auction(tally, "drawn auctions", award.encode(), log.encode())
         if names:
@@ -182,6 +177,3 @@ def main():
         compare_auction(tally, "logs of any CSV", award.encode(), bytes_of(rng, odd_log(rng, log)))
     tally.print()
     return 1 if tally.differ else 0
-
-
-sys.exit(main())

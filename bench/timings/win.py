@@ -1,0 +1,34 @@
+"""Times `cca win` on books at the limits, beside a plain Rust program with the best loop known and general solvers.
+
+The books are those of `price`, and two kinds whose bids nearly all matter. Printed is the least CPU time of the runs in
+milliseconds, less that of a start on the smallest book, and whether both programs print the same. The solvers cbc and glpsol, where
+they are installed, get the same winner determination as an integer program, for this many seconds at most. It needs rustc and python3.
+"""
+import os
+from limit_books import CCA, DENSE_KINDS, KINDS, OUT, build_cca, build_plain, priced_book, timed
+from solvers import SOLVERS, beside, told
+
+
+
+def least_cpu(words, runs):
+    found = [timed(words) for _ in range(runs)]
+    return min(spent for spent, _ in found), found[-1][1]
+
+
+def main(runs, seconds):
+    build_cca()
+    plain = build_plain()
+    tiny = os.path.join(OUT, "tiny.book")
+    with open(tiny, "w") as f:
+        f.write("book 1\nsupply 1\nreserve 0\nend\n")
+    start = {p: least_cpu([p, "win", tiny], runs)[0] for p in (CCA, plain)}
+    print(f"{'book':<9}{'cca':>9}{'plain':>9}{'factor':>8}  same")
+    for kind in KINDS + DENSE_KINDS:
+        name, book = priced_book(kind)
+        ours, our_text = least_cpu([CCA, "win", name], runs)
+        theirs, their_text = least_cpu([plain, "win", name], runs)
+        ours, theirs = ours - start[CCA], theirs - start[plain]
+        print(f"{kind:<9}{ours:>7.1f}ms{theirs:>7.1f}ms{ours / max(theirs, 0.001):>8.2f}  {our_text == their_text}")
+        net = int(our_text.split()[-1])
+        for solver in SOLVERS:
+            print(told(solver, ours, *beside(solver, book, [({}, None, net)], seconds)), flush=True)
