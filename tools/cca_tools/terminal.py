@@ -22,7 +22,7 @@ def is_terminal(stream: IO[str]) -> bool:
 
 
 def width(stream: IO[str], most: int = 10_000) -> int:
-    """How many columns a text has: those of the terminal, at most so many; so many where it goes to a file."""
+    """How many columns a text has: those of the terminal, at most this many; this many where it goes to a file."""
     return max(NARROWEST, min(most, shutil.get_terminal_size().columns)) if is_terminal(stream) else most
 
 

@@ -45,7 +45,7 @@ class Drawing:
         return range(1, len(self.award.names) + 1)
 
     def ask(self, j, most):
-        """One bid of about so many lots that is admitted, if one of six is; then one of at most so many."""
+        """One bid of about this many lots that is admitted, if one of six is, then one of at most this many."""
         near = [package for package in self.packages if most - 2 <= sum(package) <= most] or self.packages[:1]
         less = [package for package in self.packages if sum(package) <= most]
         any(self.take("bid", j, self.draw.choice(found)).is_ok for found in [near] * 6 + [less] * 3)

@@ -1,5 +1,5 @@
 """Small auctions by going through all allocations: the best one, and the least sum of the core. Nothing of cca_tools
-stands in it."""
+is in it."""
 import itertools
 from fractions import Fraction
 
@@ -33,7 +33,7 @@ def solved(rows):
 def core_sum(supply, reserves, bids, won):
     """The least sum, net, that winners with these net amounts (by their places from 0) pay in the core.
 
-    It is reached at a corner, so all corners are gone through.
+    It is reached at a corner, so all corners are visited.
     """
     winners, every = sorted(won), set(range(len(bids)))
     if not winners:

@@ -1,14 +1,16 @@
 """Books and certificates for the tests, and the tools as modules.
 
-`certificate_of` writes a certificate from its choices, payments and rows. Its tables are worked out by going down the
-bidders, and nothing of cca_tools stands in it.
+`certificate_of` writes a certificate from its choices, payments and rows. Its tables are computed by going down the
+bidders, and nothing of cca_tools is in it.
 """
+import contextlib
 import importlib
 import itertools
 import operator
 import os
 import sys
 import tempfile
+import unittest.mock
 
 TOOLS = os.path.join(os.path.dirname(os.path.realpath(__file__)), "..")
 EXAMPLES = os.path.join(TOOLS, "..", "examples")
@@ -20,13 +22,25 @@ def tool(name):
     return importlib.import_module(f"cca_tools.commands.{name.replace('-', '_')}")
 
 
+def called(name, *words, **environment):
+    """What a tool prints, its status, and what it says on standard error, where it is called in this process with these
+    variables in its environment."""
+    with tempfile.TemporaryFile("w+") as out, tempfile.TemporaryFile("w+") as faults:
+        with contextlib.redirect_stdout(out), contextlib.redirect_stderr(faults):
+            with unittest.mock.patch.dict(os.environ, environment):
+                status = tool(name).main(words)
+        for file in (out, faults):
+            file.seek(0)
+        return out.read(), status, faults.read()
+
+
 def sample(name):
     with open(os.path.join(EXAMPLES, name), "rb") as file:
         return file.read()
 
 
 def lines(text):
-    """The text of lines that stand behind each other with ` / ` between them."""
+    """The text of lines, which ` / ` separates."""
     return "".join(line + "\n" for line in text.split(" / ")).encode()
 
 

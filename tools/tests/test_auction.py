@@ -208,7 +208,7 @@ def uk(count):
 
 
 class Sample(unittest.TestCase):
-    """The sample of examples/, with the replies that the guide works out by hand."""
+    """The sample of examples/, with the replies that the guide computes by hand."""
 
     REFUSED = {
         5: "points 96",

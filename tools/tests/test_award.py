@@ -1,4 +1,4 @@
-"""The award: each rule broken once, with the number of its field and of its table; limits by the count; and what is
+"""The award: each rule broken once, with the number of its field and of its table; limits by the count, and what is
 read over."""
 import re
 import unittest
@@ -179,7 +179,7 @@ class Awards(unittest.TestCase):
         self.assertEqual(answer("step = [{excess = 1, permille = 50}]\n" + inline), "read")
 
     def test_raise(self):
-        # the least multiple of the tick that is at least the tick and at least so many thousandths
+        # the least multiple of the tick that is at least the tick and at least this many thousandths
         steps = "[[step]]\nexcess = 1\npermille = 50\n[[step]]\nexcess = 5\npermille = 200\n"
         for tick, price, excess, raised in [
             (1, 10, 3, 11),

@@ -75,7 +75,7 @@ class Clock(unittest.TestCase):
 
 class Fit(unittest.TestCase):
     def test_the_sample(self):
-        """GUIDE works out the cap of 534800 for this list."""
+        """GUIDE computes the cap of 534800 for this list."""
         self.assertIn("package 2 0 4 0 listed 760000 above by 225200 least 506000 round 3", spectrum(32, "everest"))
         self.assertEqual(
             spectrum(32, "everest", "--fit").splitlines(),

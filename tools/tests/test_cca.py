@@ -1,4 +1,4 @@
-"""The script `cca`, over a stand-in for the kit's tool and five small crates: what it builds, by which calls, and what it tells."""
+"""The script `cca`, over a stand-in for the kit's tool and five small crates: what it builds, by which calls, and what it says."""
 import os, pathlib, re, shutil, signal, stat, subprocess, sys, tempfile, time, unittest
 
 ROOT = pathlib.Path(__file__).resolve().parents[2]
@@ -165,7 +165,7 @@ class Case(unittest.TestCase):
         return subprocess.Popen([sys.executable, self.root / "cca", *words], env=variables, **how)
 
     def call(self, *words, **more):
-        """The status, the printed lines and what is told beside them."""
+        """The status, the printed lines and what is reported beside them."""
         process = self.begin(*words, **more)
         out, told = process.communicate(timeout=40)
         return process.returncode, out, told
@@ -185,7 +185,7 @@ class Case(unittest.TestCase):
             time.sleep(0.05)
 
     def named(self, told):
-        """The crates that were told, each as often as it was."""
+        """The crates that were named, each as often as it was."""
         return re.findall(r"^cca: .* crates, .* s: (\w+)$", told, re.M)
 
     def built(self, **other):

@@ -182,6 +182,18 @@ class Files(unittest.TestCase):
             self.assertEqual((ended.stdout, ended.returncode, b"\x1b" in ended.stderr), (b"", 70, False))
             self.assertIn(b"ValueError: ?[2J", ended.stderr)
 
+    def test_a_crash_of_an_import(self):
+        """Python without a part of its library, or without memory for it, gives no answer: 1 would be `no`."""
+        with tempfile.TemporaryDirectory() as folder:
+            pathlib.Path(folder, "fractions.py").write_text("raise MemoryError\n")
+            for name, words in (("audit", "abc"), ("check", "ab"), ("check-places", "ab")):
+                path = os.path.join(TOOLS, name)
+                ended = subprocess.run(
+                    [sys.executable, path, *words], capture_output=True, env={**os.environ, "PYTHONPATH": folder}
+                )
+                self.assertEqual((ended.stdout, ended.returncode), (b"", 70))
+                self.assertIn(b"MemoryError", ended.stderr)
+
     def test_word_that_is_no_text(self):
         for name in ("audit", "check", "check-places"):
             ended = run(name, b"\xff", "b", "c")

@@ -12,11 +12,13 @@ from samples import TOOLS, sample
 import cca_tools
 from cca_tools.data.bids import Sold, csv_text, json_text, read_bids
 from cca_tools.data.numbers import amount_of, decimal, fraction_of
-from cca_tools.data.prices import prices_of
+from cca_tools.data.prices import prices_of, stop_of
 from cca_tools.rules.book import book_text
 from cca_tools.rules.stops import Stop
 
 TWO = Sold((2, 6), (Decimal(10), Decimal("2.5")))
+# A book of one winner more than is priced.
+SEVEN = "book 1\nsupply 7\nreserve 0\n" + "".join(f"bidder b{n}\nbid 1 5\n" for n in range(7)) + "end\n"
 
 
 def run(name, *words, **how):
@@ -192,9 +194,18 @@ class Prices(unittest.TestCase):
         self.assertEqual((last["package"], last["bidder"]), (None, "b5"))
 
     @with_program
+    def test_a_limit_is_the_program_s_own_stop(self):
+        with self.assertRaises(Stop) as caught:
+            cca_tools.price(cca_tools.read_book(SEVEN.encode()))
+        self.assertEqual((caught.exception.line, caught.exception.status), ("cca: limit winners 7", 7))
+
+    def test_a_program_that_a_signal_ends(self):
+        stop = stop_of([], -9, "")
+        self.assertEqual((stop.line, stop.status), ("cca: status -9", 70))
+
+    @with_program
     def test_a_book_beyond_a_limit_doesn_t_stop_the_others(self):
-        seven = "book 1\nsupply 7\nreserve 0\n" + "".join(f"bidder b{n}\nbid 1 5\n" for n in range(7)) + "end\n"
-        printed, status, _ = run("prices", "-", f"{TOOLS}/../examples/tie.book", input=seven)
+        printed, status, _ = run("prices", "-", f"{TOOLS}/../examples/tie.book", input=SEVEN)
         rows = [line.split(",") for line in printed.splitlines()[1:]]
         self.assertEqual((status, {row[-1] for row in rows[:7]}, rows[7][6]), (0, {"limit winners 7"}, "0"))
 

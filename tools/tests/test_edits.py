@@ -1,4 +1,4 @@
-"""The edits that the prover has to refuse: each can be applied, and tells a body that is another."""
+"""The edits that the prover has to refuse: each can be applied, and changes a body."""
 import pathlib, unittest
 
 ROOT = pathlib.Path(__file__).resolve().parents[2]

@@ -2,7 +2,7 @@
 
 An auction is drawn as its award and log. Its winners and Vickrey prices are the right ones; what coalitions ask for
 above these is drawn too, since a title has to be true whatever that is. What a title claims is read out of its words,
-and compared with numbers that are worked out here.
+and compared with numbers that are computed here.
 """
 import dataclasses
 import re
@@ -14,6 +14,7 @@ from cca_tools.page import findings, rounds, winners
 from cca_tools.page.source import Source
 from cca_tools.page.words import VULGAR, Names
 from cca_tools.rules.certificate import Certificate, Row, winners_of
+from cca_tools.rules.clock import Round
 from cca_tools.rules.winners import winning_choice
 
 MANY = 500
@@ -24,7 +25,7 @@ AMOUNT = r"[\d,]*(?:[^\W\d_a-z ]|\+\d+/\d+)?"
 
 
 def counted(word):
-    """A number that stands as a word or as digits."""
+    """A number as a word or in digits."""
     return WORDS.index(word.lower()) if word.lower() in WORDS else int(word.replace(",", ""))
 
 
@@ -174,6 +175,16 @@ class Findings(unittest.TestCase):
             said = dict(part.split(" of ")[::-1] for part in re.split(r", | and ", found[5] or "") if part)
             self.assertEqual(said, {f"c{c}": str(lots) for c, lots in enumerate(left, 1) if lots})
 
+    def test_lots_of_many_categories(self):
+        """A title names three categories, and of more it has their number."""
+        self.number, source = "of four categories", Source([], Names(["a"], ["c1", "c2", "c3", "c4"]))
+        for left, words in (
+            ((0, 1, 0, 0), "1 of c2 stays unsold"),
+            ((1, 2, 0, 1), "1 of c1, 2 of c2 and 1 of c4 stay unsold"),
+            ((1, 2, 1, 1), "5 lots of four categories stay unsold"),
+        ):
+            self.assertEqual(findings.left_words(source, left), words)
+
     def test_bands_have_a_cell_for_each_lot(self):
         for source in self.each():
             won = [source.book.winning(source.certificate.choice, j)[0] for j in source.winners]
@@ -189,7 +200,7 @@ class Findings(unittest.TestCase):
                 title, prices = findings.of_category(closed, c, False), [it.prices[c] for it in closed]
                 found = re.fullmatch(
                     rf"The price (?:stayed at|rose by ([\d.,]+) % to) ([\d,]+); demand was (?:(never) above the supply"
-                    rf"|above the supply in ({COUNT}) of ({COUNT}) rounds?)",
+                    rf"|above the supply in (?:the (only) round|({COUNT}) of ({COUNT}) rounds))",
                     title,
                 )
                 above = sum(sum(package[c] for package in it.packages) > supply for it in closed)
@@ -197,9 +208,15 @@ class Findings(unittest.TestCase):
                 rose = Fraction((found[1] or "0").replace(",", ""))
                 self.assertLessEqual(abs(rose - Fraction(100 * (prices[-1] - prices[0]), prices[0])), Fraction(1, 20))
                 self.assertEqual((found[1] is None), prices[0] == prices[-1])
-                self.assertEqual(0 if found[3] else counted(found[4]), above)
-                if not found[3]:
-                    self.assertEqual(counted(found[5]), len(closed))
+                told = (0, len(closed)) if found[3] else (1, 1) if found[4] else (counted(found[5]), counted(found[6]))
+                self.assertEqual(told, (above, len(closed)))
+
+    def test_a_category_of_one_closed_round(self):
+        closed, after = Round(1, (100,), [5], [(3,)], (1,)), Round(2, (110,), [5], [(0,)], (1,))
+        self.assertEqual(
+            findings.of_category([closed, after], 0, True),
+            "The price rose by 10.0 % to 110; demand was above the supply in the closed round",
+        )
 
     def test_the_clock(self):
         for source in self.each():

@@ -1,6 +1,6 @@
-"""The colours of winners: that the colour-blind tell them apart, and that letters on them are legible.
+"""The colours of winners: that the colour-blind distinguish them, and that letters on them are legible.
 
-What the colour-blind see is worked out with the matrices of Machado, Oliveira and Fernandes (2009), for a whole loss of
+What the colour-blind see is computed with the matrices of Machado, Oliveira and Fernandes (2009), for a whole loss of
 one kind of cone; how far two colours are apart, in CIE L*a*b* (1976).
 """
 import itertools

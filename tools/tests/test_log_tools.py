@@ -5,7 +5,7 @@ import sys
 import tempfile
 import unittest
 import unittest.mock
-from samples import EXAMPLES, TOOLS, certificate_of, lines, said, sample, taking
+from samples import EXAMPLES, TOOLS, called, certificate_of, lines, said, sample, taking
 from test_auction import ROW, TWO, TWO_LOG
 from program import run as program_run
 from program import with_program
@@ -295,7 +295,7 @@ class Explain(unittest.TestCase):
         self.assertIn("`bidder` is there already; where there are several, each begins with [[bidder]]", text)
 
     def test_a_bidder(self):
-        """In the whole log and in its own view the refused lines of a bidder are the same, but for their numbers."""
+        """In the whole log and in its own view the refused lines of a bidder are the same, except for their numbers."""
         award, log = sample("spectrum.award"), sample("spectrum.log")
         text, status = said(lambda names: explain(["auction", *names, "--bidder", "tarn"]), award, log)
         self.assertEqual(
@@ -322,12 +322,17 @@ class Explain(unittest.TestCase):
             ["win", "a", "b"],
             ["audit", "a", "b", "c", "--json"],
         ):
-            self.assertEqual(run("explain", *words)[:2], ("cca: words\n", 2))
-        text, status, _ = run("explain", "win", "nothing.book")
+            self.assertEqual(called("explain", *words)[:2], ("cca: words\n", 2))
+        text, status, _ = called("explain", "win", "nothing.book")
         self.assertEqual(
             (text.splitlines()[:2], status),
             (["cca: read fault book", "`nothing.book` can't be read: No such file or directory."], 4),
         )
+
+    def test_an_amount_above_the_greatest(self):
+        log = lines("close,,, / draft,east,1,4398046511105")
+        text, _ = self.told("auction", SMALL, log)
+        self.assertIn("The amount is above the greatest one, 4398046511104.", text)
 
 
 class CapsTool(unittest.TestCase):
@@ -374,7 +379,7 @@ class CapsTool(unittest.TestCase):
             )
 
     def test_lines_of_others_in_a_view(self):
-        """They aren't the bidder's, and count nothing."""
+        """They aren't the bidder's, and add nothing."""
         view = "bid,east,3, / close,,12, / bid,east,1, / close,,sealed, / draft,east,3,44"
         other = view.replace("bid,east,1,", "bid,east,1, / bid,west,2, / bid,north,9,")
         self.assertEqual(self.asked(SMALL, lines(other), "east"), self.asked(SMALL, lines(view), "east"))
@@ -445,7 +450,7 @@ class WhatIf(unittest.TestCase):
             for name, data in zip(names, (SMALL, lines(ROW), lines(ROW + " / draft,east,1,1.5"))):
                 with open(name, "wb") as file:
                     file.write(data)
-            text, status, said = run("what-if", *names)
+            text, status, said = called("what-if", *names)
             self.assertEqual(
                 (text, said.splitlines()[:2], status),
                 (
@@ -458,7 +463,7 @@ class WhatIf(unittest.TestCase):
                 ),
             )
             self.assertIn("(in the edited log)", said)
-            text, status, said = run("caps", names[0], names[2], "east")
+            text, status, said = called("caps", names[0], names[2], "east")
             self.assertEqual(
                 (text, said.splitlines()[0], "(in the" in said, status),
                 ("", "tools/caps: cca: refused log 13", False, 3),
@@ -472,7 +477,7 @@ class WhatIf(unittest.TestCase):
         self.assertEqual(text.splitlines()[:3], ["lines", "- 13 close,,,: stage", "book"])
 
     def test_least(self):
-        # with 20 and 24 the net value is 14; three lots have to bring more than that, and come behind one lot in the
+        # with 20 and 24 the net value is 14; three lots have to bring more than that, and come after one lot in the
         # order of ties
         text, status = said(lambda names: what_if([*names, "--least", "east", "3"]), SMALL, lines(ROW))
         self.assertEqual((text.splitlines()[0], status), ("least east 3 45", 0))

@@ -4,7 +4,7 @@ from samples import lines, said, sample
 from voices import check_places
 
 SLOTS = sample("band.slots")
-# The choice 1 1 0 is worth 18 by the order x, z, y. Entry M is what those outside the set M can still reach behind it.
+# The choice 1 1 0 is worth 18 by the order x, z, y. Entry M is what those outside the set M can still reach after it.
 CERT = lines(
     "pcert 1 / den 1 / value 18 / order 1 3 2 / choice 1 1 0 / table / t 18 8 12 0 8 8 0 0 / without 1 / order 2 3 1 /"
     " choice 0 0 1 / table / t 12 8 12 0 8 8 0 0 / without 2 / order 2 3 1 / choice 0 0 1 / table / t 12 0 12 0 0 0 0 0"

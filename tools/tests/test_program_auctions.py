@@ -8,7 +8,7 @@ from second_auctions import drawn, second_auction
 
 NUMBER, SEED = 300, 1
 
-# What stands in the lines of all replies but `full`, in the books, and in the lines of all ends of an auction but that of 300 rounds.
+# What is in the lines of all replies but `full`, in the books, and in the lines of all ends of an auction but that of 300 rounds.
 WORDS = [" ok\n", " round ", " sealed\n", " closed\n", " stage\n", " unknown\n", " supply 1\n", " supply 2\n", " spectrum-cap 1 ",
          " spectrum-cap 2 ", " points ", " empty\n", " below-reserve ", " below-clock ", " no-draft\n", " relative-cap 1 ",
          " relative-cap 2 ", " amount-top ", " price-top 1 ", " price-top 2 ", "book 1\n", "\ncca: refused log ", "\ncca: limit price "]

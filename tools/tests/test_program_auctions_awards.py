@@ -30,7 +30,7 @@ TOPS = [
     ("version = 1\ntick = 1\ncategory = [{}, 1]\n", "3 0"),
 ]
 
-# What stands before the category `lot` and behind it.
+# What comes before the category `lot` and after it.
 LISTS = [
     ("bidder = 1\n", "", "8 0"),
     ("bidder = [{}, 1]\n", "", "8 0"),
@@ -43,7 +43,7 @@ LISTS = [
     ("", "[[step]]\nexcess = 1\npermille = 1\n[other]\n", "18 0"),
 ]
 
-# What stands behind the category `lot` and the head of another table.
+# What comes after the category `lot` and the head of another table.
 CATEGORIES = [
     ("supply = 0\n", "4 2"),
     ('name = "lot"\nsupply = 0\n', "4 2"),

@@ -15,7 +15,7 @@ bidder = [{name = "east", eligibility = 3}, {name = "west", eligibility = 2}]
 step = [{excess = 1, permille = 100}]
 """
 
-# The same with two caps and with north, which has no points and holds a lot of b.
+# That award with two caps and with north, which has no points and holds a lot of b.
 NORTH = PAIR.replace("eligibility = 2}]", 'eligibility = 2}, {name = "north", eligibility = 0, holding = [0, 1]}]')
 NORTH += "cap = [{weight = [1, 1], limit = 9}, {weight = [0, 9], limit = 9}]\n"
 
@@ -75,7 +75,7 @@ DOUBLED_REPLIES = "ok / ok / round 2 20 10 / ok / ok / sealed"
 
 
 def behind(count, text, rest):
-    """So many times a text, and the rest behind it."""
+    """This many times a text, and the rest after it."""
     return " / ".join([text] * count + [rest])
 
 

@@ -29,7 +29,7 @@ FAULTY_HEADS = [
     ("book 1\nsupply 1 1\nreserve 0 68719476737\nend\n", 18),
 ]
 
-# What stands behind FRONT, and the byte of the book where the faulty line begins.
+# What comes after FRONT, and the byte of the book where the faulty line begins.
 FAULTY_LINES = [
     ("", 42),
     ("bid 1 0 028\nend\n", 42),
@@ -101,7 +101,7 @@ FAULTY_EDITS = [
 
 # The third bidder would block the Vickrey prices of the first two, and half of what is missing is no whole number.
 HALVES = "book 1\nsupply 1 1\nreserve 10 5\nbidder a\nbid 1 0 25\nbidder b\nbid 0 1 20\nbidder c\nbid 1 1 36\nend\n"
-# The same of three bidders for one lot each, and of three others for each two of the lots.
+# As above, of three bidders for one lot each, and of three others for each two of the lots.
 PAIRS = ("book 1\nsupply 1 1 1\nreserve 10 0 0\nbidder a\nbid 1 0 0 20\nbidder b\nbid 0 1 0 10\nbidder c\nbid 0 0 1 10\n"
          "bidder ab\nbid 1 1 0 17\nbidder bc\nbid 0 1 1 7\nbidder ac\nbid 1 0 1 17\nend\n")
 
@@ -139,7 +139,7 @@ class Books(Stopping):
                 self.stops("win book", {"book": f"book 1\nsupply {supply}\nno line\n"}, f"cca: limit {limit}", 7)
 
     def test_seventeenth_bidder(self):
-        """26 bytes, nine lines of 10 bytes and seven of 11 stand before the line whose name is used."""
+        """26 bytes, nine lines of 10 bytes and seven of 11 are before the line whose name is used."""
         sixteen = "book 1\nsupply 1\nreserve 0\n" + "".join(f"bidder b{j}\n" for j in range(1, 17))
         self.assertEqual(run("win", "book", book=sixteen + "end\n")[:2], ("net 0\n", 0))
         self.stops("win book", {"book": sixteen + "bidder b17\nend\n"}, "cca: limit bidders 17", 7)

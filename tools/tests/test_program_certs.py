@@ -24,7 +24,7 @@ FAULTY_HEADS = [
     ("cert 1\nden 1\nvalue 0\nchoice 0\n", 21),
 ]
 
-# A certificate for nobody up to its rows, 44 bytes, and faulty lines behind it.
+# A certificate for nobody up to its rows, 44 bytes, and faulty lines after it.
 NOBODY_PAYS = "cert 1\nden 1\nvalue 0\nchoice\ntable\nt 0 0\npay\n"
 
 FAULTY_ENDS = [
@@ -35,7 +35,7 @@ FAULTY_ENDS = [
     ("rows 0\nlowered\nt 0 0\nend\nx", 69),
 ]
 
-# Two bidders, and the head of a certificate by which the first wins: 56 bytes; then the part without the first: 101 bytes; and then all up
+# Two bidders, and the head of a certificate by which the first wins: 56 bytes, then the part without the first: 101 bytes, and then all up
 # to the count of one row: 116 bytes. Whether a choice names bids is no matter of form.
 TWO = "book 1\nsupply 1\nreserve 0\nbidder a\nbidder b\nend\n"
 HEAD = "cert 1\nden 1\nvalue 0\nchoice 1 0\ntable\nt 0 0\nt 0 0\nt 0 0\n"

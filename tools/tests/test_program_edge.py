@@ -14,7 +14,7 @@ GIVEN = {
     "b.weights": "day-cramton.weights",
     "b.slots": "band.slots",
 }
-# The words of each command, its files first to be read and then, behind a `>`, to be appended to.
+# The words of each command, its files first to be read and then, after a `>`, to be appended to.
 COMMANDS = [
     "win b.book",
     "check b.book b.cert",
@@ -118,7 +118,7 @@ class Output(Case):
 
     @unittest.skipUnless(os.path.exists("/dev/full"), "there is no /dev/full")
     def test_a_full_device(self) -> None:
-        """What can't be printed is told by the status alone, and the files have their texts all the same."""
+        """What can't be printed is reported by the status alone, and the files have their texts."""
         for command in COMMANDS:
             words, files = words_of(command)
             whole = self.ended(*words)

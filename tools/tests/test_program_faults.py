@@ -264,6 +264,29 @@ class Syncs(Case):
                 )
                 self.assertEqual(syncs - writes, 0 if held else len(appends), calls)
 
+    def test_the_folder_that_is_synced_is_that_of_the_file(self) -> None:
+        """Of a name alone, of one in a folder below, of a whole path, and of a link, whose file lies in another folder."""
+        for name in ("cert", "below/cert", "{below}/cert", "link"):
+            with tempfile.TemporaryDirectory() as folder, tempfile.NamedTemporaryFile("r") as trace:
+                here = os.path.realpath(folder)
+                below = os.path.join(here, "below")
+                os.mkdir(below)
+                os.symlink("below/cert", os.path.join(here, "link"))
+                with open(os.path.join(here, "book"), "wb") as file:
+                    file.write(INPUTS["book"])
+                words = ["strace", "-f", "-qq", "-y", "-o", trace.name, "-e", "trace=fsync", "-e", "signal=none"]
+                subprocess.run(
+                    [*words, CCA, "price", "book", name.format(below=below)],
+                    cwd=here,
+                    stdin=subprocess.DEVNULL,
+                    capture_output=True,
+                    timeout=SECONDS,
+                    check=True,
+                )
+                home = here if name == "cert" else below
+                synced = re.findall(r"fsync\(\d+<([^>]*)>\)", trace.read())
+                self.assertEqual(synced, [os.path.join(home, "cert"), home], name)
+
     def test_a_sync_that_fails_is_a_fault_of_writing(self) -> None:
         for command in COMMANDS:
             for held, number in ((False, 1), (False, 2), (True, 1)):
@@ -303,7 +326,7 @@ class Short(Case):
     """Calls that do a part of what they are asked for."""
 
     def test_short_writes(self) -> None:
-        """Of a write that is told as short the rest is written by the next one."""
+        """Of a write that is reported as short the rest is written by the next one."""
         for command, held in BOTH:
             with self.folder(command, held) as folder:
                 own = [number for name, number in self.calls(folder) if name == "write"]

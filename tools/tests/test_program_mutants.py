@@ -148,7 +148,7 @@ class Mutants(unittest.TestCase):
                     text = mutant(kind, number, self.texts[kind])
                     ours, theirs = self.told(kind, text)
                     if kind == "edits":
-                        # `explain` tells the reviews in words; the line of a fault is the same.
+                        # `explain` says the reviews in words; the line of a fault is the same.
                         ours, theirs = (
                             (status, out if status else b"")
                             for status, out in (ours, (theirs[0], theirs[1].partition(b"\n")[0] + b"\n"))

@@ -22,7 +22,7 @@ EQUALS = book_of((1,), [[((1,), 9)]] * 4, ["n1", "n2", "n3", "n4"])
 
 class Case(unittest.TestCase):
     def ends(self, words, given, told, status=0, **made):
-        """A run over the given files alone prints these lines with this status, and leaves them but for what it made or appended to."""
+        """A run over the given files alone prints these lines with this status, and changes only what it made or appended to."""
         ended = run(*words.split(), **given)
         self.assertEqual((ended.printed, ended.status), (lines(told).decode(), status))
         self.assertEqual(ended.files, given | made)
@@ -76,7 +76,7 @@ class Win(Case):
                 self.ends("win BOOK", {"BOOK": book}, winners)
 
     def test_numbers_of_the_choice(self):
-        """`review` tells the numbers of the winning choice before any edit."""
+        """`review` says the numbers of the winning choice before any edit."""
         for name, book, numbers, winners in WINNERS:
             with self.subTest(name):
                 before = " ".join(["0", winners.split(" / ")[-1], "choice", *numbers.split()])

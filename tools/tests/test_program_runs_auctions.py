@@ -35,7 +35,7 @@ class Auction(Case):
                 self.ends("auction AWARD LOG BOOK", {"AWARD": AWARD, "LOG": log}, replies, BOOK=lines(book))
 
     def test_no_book(self):
-        """Behind the replies that were given stands why there is none."""
+        """After the replies comes why there is no book."""
         greatest = AWARD.replace(b"reserve = 10\n", b"reserve = 68719476736\n")
         for award, told, status in [(AWARD, "1 ok / 2 ok / 3 round 2 12 / cca: refused log 4", 3),
                                     (greatest, "1 ok / 2 ok / 3 price-top 1 82463372084 / cca: limit price 82463372084", 7)]:

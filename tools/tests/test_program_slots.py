@@ -14,7 +14,7 @@ FOUR = ("slots 1\nband 7\nbidder p 2\nplace 2 9\nplace 4 9\nplace 6 4\nbidder q 
 # A bid of the greatest amount for a start that no order gives.
 LATE = "slots 1\nband 9\nbidder m 2\nplace 3 4\nplace 8 4398046511104\nbidder n 1\nplace 2 1\nbidder o 1\nplace 1 1\nend\n"
 
-# The first lines of slots: 15 bytes; and they with a bidder and a bid: 37 bytes.
+# The first lines of slots, 15 bytes, and these with a bidder and a bid, 37 bytes.
 BAND = "slots 1\nband 4\n"
 ONE = BAND + "bidder x 2\nplace 2 10\n"
 

@@ -10,7 +10,7 @@ import sys
 import tempfile
 import unittest
 
-from samples import EXAMPLES, TOOLS, lines, said, sample, taking
+from samples import EXAMPLES, TOOLS, called, lines, said, sample, taking
 from cca_tools.rules.auction import replay
 from cca_tools.rules.award import read_award
 from cca_tools.rules.log import read_log
@@ -34,17 +34,9 @@ KEY = b"0123456789abcdef" * 4 + b"\n"
 report, seal, publish = map(taking, ("report", "seal", "publish"))
 
 
-def run(name, *words, cwd=None):
-    """What a tool prints as a program, its status, and its standard error."""
-    made = subprocess.run(
-        [sys.executable, os.path.join(TOOLS, name), *words],
-        stdin=subprocess.DEVNULL,
-        capture_output=True,
-        text=True,
-        cwd=cwd,
-        env={**os.environ, "CCA_PROGRAM": "/nowhere"},
-    )
-    return made.stdout, made.returncode, made.stderr
+def run(name, *words):
+    """What a tool prints, its status, and its standard error, where the program isn't there."""
+    return called(name, *words, CCA_PROGRAM="/nowhere")
 
 
 class Files(unittest.TestCase):
@@ -69,6 +61,8 @@ class Names(Files):
         self.assertEqual(names.amounts(), "thousand EUR")
         self.assertEqual(names_of(b"", AWARD), LongNames())
         self.assertEqual(names_of(b'currency = "NOK"\nunit = 5', AWARD).amounts(), "5 NOK")
+        for power, words in ((0, "NOK"), (3, "thousand NOK"), (6, "million NOK"), (9, "billion NOK")):
+            self.assertEqual(names_of(b'currency = "NOK"\nunit = %d' % 10**power, AWARD).amounts(), words)
 
     def test_faults(self):
         for text, why in (
@@ -116,7 +110,8 @@ class Names(Files):
         said_once = " ".join(text.split())
         for words in ("Auction report: A sample", "thousand EUR", "A lot of 800 MHz paired is 10 MHz wide.", "Éverest"):
             self.assertIn(words, said_once)
-        self.assertNotIn("everest", text)
+        self.assertIn("bid,everest,2 0 4 0,", text)  # as the log has it
+        self.assertNotIn("everest", re.sub(r"\b(bid|draft|drop|submit),everest,", "", text))
         text, status, fault = run("report", "--text", "--bidder", "everest", *self.files, "--names", names)
         self.assertEqual((status, fault), (0, ""))
         self.assertIn(
@@ -250,8 +245,9 @@ class Publish(Files):
         for command in re.findall(r"<dd><code>(.*?)</code>", page):
             words = command.split()
             if words[0].startswith("tools/") and "NAME" not in words:
-                text, status, _ = run(words[0][6:], *words[1:], cwd=folder)
-                self.assertEqual(status, 0, command)
+                made = [sys.executable, os.path.join(TOOLS, words[0][6:]), *words[1:]]
+                how = {**os.environ, "CCA_PROGRAM": "/nowhere"}
+                self.assertEqual(subprocess.run(made, cwd=folder, env=how, capture_output=True).returncode, 0, command)
                 count += 1
             elif words[0] == "sha256sum":
                 count += subprocess.run(words, cwd=folder, capture_output=True).returncode == 0

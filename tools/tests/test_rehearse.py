@@ -1,5 +1,4 @@
 """Bidders with values hold whole auctions."""
-import contextlib
 import pathlib
 import tempfile
 import threading
@@ -9,7 +8,7 @@ import unittest
 import checked
 import rehearsed
 from program import with_program
-from samples import tool
+from samples import called
 
 from cca_tools.rules.auction import replay
 from cca_tools.rules.award import read_award
@@ -81,6 +80,14 @@ class Bidders(unittest.TestCase):
         self.assertEqual(listed, {(1, 1): 15, (2, 0): max(30, asked)})
         self.assertEqual(sealed_list(rehearsal.auction, 1, values[0], Strategy(100, False)), {(1, 1): 30, (2, 0): 60})
 
+    def test_lists_are_within_their_caps_where_nothing_else_is_said(self):
+        """Three times its values are above a bidder's caps: such a list is refused, or lowered to them."""
+        award = read_award(ONE)
+        values = values_of_seed(award, VALUES, 1)
+        lowered, whole = (held(award, values, it) for it in (Strategy(300), Strategy(300, fit=False)))
+        self.assertEqual({reply.word for reply in lowered.replies if not reply.is_ok}, set())
+        self.assertEqual({reply.word for reply in whole.replies if not reply.is_ok}, {"relative-cap"})
+
 
 class Command(unittest.TestCase):
     def setUp(self):
@@ -94,12 +101,7 @@ class Command(unittest.TestCase):
         return str(self.folder / name)
 
     def rehearse(self, *words):
-        with tempfile.TemporaryFile("w+") as out, tempfile.TemporaryFile("w+") as said:
-            with contextlib.redirect_stdout(out), contextlib.redirect_stderr(said):
-                status = tool("rehearse").main([self.path("a"), self.path("v"), *words])
-            out.seek(0)
-            said.seek(0)
-            return out.read(), status, said.read()
+        return called("rehearse", self.path("a"), self.path("v"), *words)
 
     def test_a_log(self):
         printed, status, said = self.rehearse(self.path("log"))

@@ -1,15 +1,17 @@
-"""The report: what stands in it, as text and as a page."""
+"""The report: what is in it, as text and as a page."""
 import hashlib
 import os
+import pathlib
 import re
 import subprocess
 import sys
 import tempfile
+import unicodedata
 import unittest
 from fractions import Fraction
 from html.parser import HTMLParser
 
-from samples import EXAMPLES, TOOLS, certificate_of, book_of, sample, spectrum
+from samples import EXAMPLES, TOOLS, called, certificate_of, book_of, sample, spectrum
 from cca_tools.page import core, html, plain, source, words
 from cca_tools.page.report import page
 from cca_tools.rules.stops import Stop
@@ -128,6 +130,12 @@ class Numbers(unittest.TestCase):
         )
         self.assertEqual((words.price_cell(292400).words, words.price_cell(292400).code), ("292,400", ""))
 
+    def test_letters_of_fractions(self):
+        """Each letter has the value that Unicode gives it."""
+        for part, letter in words.VULGAR.items():
+            self.assertEqual(Fraction(unicodedata.numeric(letter)).limit_denominator(100), part)
+            self.assertEqual(words.price(7 + part), f"7{letter}")
+
     def test_per_cent(self):
         self.assertEqual(words.per_cent(310400, 400000), "77.6 %")
         self.assertEqual(words.per_cent(Fraction(1, 3), 1), "33.3 %")
@@ -216,6 +224,13 @@ class OfABook(Told):
         self.assert_told("The certificate fails a test, so it shows no winners and no prices.", told)
         self.assertNotIn("pays 16", told)
 
+    def test_what_it_rests_on(self):
+        made = page(facts_of(*self.files))
+        (files,) = tables(made, "The files, by their sums (SHA-256)")
+        self.assertEqual([row[:2] for row in files], [["book of bids", "file0"], ["certificate", "file1"]])
+        (kit,) = re.findall("Proved with `(.+?)`", pathlib.Path(TOOLS, "../README.md").read_text())
+        self.assert_told(f"Proved with {kit}.", flat(plain.text(made)))
+
     def test_a_book_alone(self):
         told = flat(text_of(self.files[0]))
         self.assert_told("No certificate was given, so no winners and no prices are shown.", told)
@@ -291,6 +306,14 @@ class OfALog(Told):
             [(row[1], row[3]) for row in every if row[0] == "harbour"],
             [("1", "68 of 68"), ("2", "48 of 68"), ("3 to 4", "48 of 48")],
         )
+
+    def test_heads_of_lines(self):
+        """A line is one of the log, and its reply one that docs/FORMATS.md has."""
+        (section,) = [it for it in self.made.sections if it.key == "lines"]
+        (table, *_) = [it for card in section.blocks[-1].cards for it in card.blocks]
+        first = dict(zip([it.head for it in table.columns], [html.parts(cell)[0] for cell in table.rows[0]]))
+        self.assertEqual((first["Line"], list(first)), ("1", ["Line", "What was sent", "Reply"]))
+        self.assert_told("everest asks for", first["What was sent"])
 
     def test_each_line_has_its_reply(self):
         codes = {line: reply.code for line, reply in replies(self.made).items()}
@@ -377,9 +400,19 @@ class OfALog(Told):
         for data in (AWARD, LOG, self.cert):
             self.assertIn(hashlib.sha256(data).hexdigest(), self.told)
 
+    def test_who_may_bid(self):
+        """As examples/spectrum.award has it."""
+        (bidders,) = tables(self.made, "Who may bid")
+        self.assertEqual(bidders[0], ["everest", "80", "2\N{NO-BREAK SPACE}x\N{NO-BREAK SPACE}a800"])
+        self.assertEqual([row[1:] for row in bidders[1:]], [[points, "nothing"] for points in ("68", "60", "22", "96")])
+        self.assertEqual(tables(page(facts_of(AWARD, LOG), "tarn"), "Who may bid"), [])
+
     def test_lots(self):
         (lots,) = tables(self.made, "Where the lots went")
-        self.assertEqual(lots[2], ["c2600", "14", "everest 3, harbour 2, meridian 4, niche 5", "0", "0"])
+        self.assertEqual(
+            lots[2],
+            ["c2600", "14", "everest~3, harbour~2, meridian~4, niche~5".replace("~", "\N{NO-BREAK SPACE}"), "0", "0"],
+        )
         self.assert_told("All lots are sold.", self.told)
 
     def test_a_log_in_progress(self):
@@ -455,6 +488,15 @@ class OfABidder(Told):
             auction = facts_of(award, log_of(*log)).auction
             self.assertEqual(auction.limit_stop.line, "cca: limit price 72155450636")
             self.assertEqual(self.view(award, log_of(*log)), self.view(award, view_text(auction, 5).encode()))
+
+    def test_lists_that_are_empty(self):
+        nothing, draft = log_of("close,,,"), log_of("close,,,", "draft,tarn,1 0 0 0,200000")
+        self.assert_told("You have drafted and submitted nothing.", self.view(AWARD, nothing))
+        made = page(facts_of(AWARD, draft), "tarn")
+        (drafts,) = tables(made, "Your drafts")
+        self.assertEqual([row[1] for row in drafts], ["1\N{NO-BREAK SPACE}x\N{NO-BREAK SPACE}a800"])
+        self.assertEqual(tables(made, "Your list as submitted last"), [])
+        self.assertNotIn("nothing.", flat(plain.text(made)).split("YOUR LISTS")[1].split("WHAT IS")[0])
 
     def test_a_view_takes_no_certificate(self):
         auction = facts_of(AWARD, LOG).auction
@@ -609,17 +651,9 @@ class OfAPage(Told):
 
 
 class OfTheTool(Told):
-    def run_tool(self, *words, program="/nowhere", standard=None):
-        how = {**os.environ, "CCA_PROGRAM": program}
-        done = subprocess.run(
-            [sys.executable, os.path.join(TOOLS, "report"), *words],
-            stdin=standard,
-            capture_output=True,
-            text=True,
-            env=how,
-        )
-        self.said = done.stderr
-        return done.stdout, done.returncode
+    def run_tool(self, *words, program="/nowhere"):
+        told, status, self.said = called("report", *words, CCA_PROGRAM=program)
+        return told, status
 
     def path(self, name):
         return os.path.join(EXAMPLES, name)
@@ -671,9 +705,16 @@ class OfTheTool(Told):
             files = [self.path("day-cramton.book"), self.path("day-cramton.cert")]
             with open(files[at], "rb") as file:
                 files[at] = "-"
-                told, status = self.run_tool("--text", *files, standard=file)
-            self.assertEqual(status, 0)
-            self.assert_told("b1 pays 17", told)
+                made = subprocess.run(
+                    [sys.executable, os.path.join(TOOLS, "report"), "--text", *files],
+                    stdin=file,
+                    capture_output=True,
+                    text=True,
+                    env={**os.environ, "CCA_PROGRAM": "/nowhere"},
+                )
+            self.assertEqual(made.returncode, 0)
+            self.assert_told("b1 pays 17", made.stdout)
+            self.assert_told(f"{('book of bids', 'certificate')[at]} standard input", flat(made.stdout))
 
     def test_a_stranger_sees_nothing(self):
         told, status = self.run_tool(

@@ -1,6 +1,7 @@
 """The second proof: its quotes in docs/SECOND_PROOF.md, and where Coq is installed its build and audits of the
 sample."""
 
+import hashlib
 import pathlib
 import shutil
 import subprocess
@@ -27,6 +28,27 @@ def ended(*words: object) -> tuple[int, str]:
     """The status of a run and what it prints."""
     done = subprocess.run([str(word) for word in words], capture_output=True, text=True, check=False)
     return done.returncode, done.stdout
+
+
+def sum_of_sources() -> str:
+    """What decides what the build says: the proofs, the samples and Coq's version. (The quotes have a test of their
+    own.)"""
+    folders = SECOND, SECOND / "coq_audit", EXAMPLES
+    files = sorted(path for folder in folders for path in folder.iterdir() if path.is_file())
+    parts = [b"%d %b" % (len(data), data) for data in map(pathlib.Path.read_bytes, files)]
+    return hashlib.sha256(b"".join([ended("coqc", "--version")[1].encode(), *parts])).hexdigest()
+
+
+def built_once() -> str:
+    """What the build of these sources says. It is kept beside what was built, so that only a change is proved again."""
+    kept, made_of = SECOND / "built" / "said", sum_of_sources()
+    if kept.exists() and kept.read_text().startswith(made_of):
+        return kept.read_text().removeprefix(made_of)
+    built = subprocess.run([SECOND / "build"], capture_output=True, text=True, check=False)
+    if built.returncode != 0:
+        raise AssertionError(f"second_proof/build: {built.stdout[-2000:]}{built.stderr[-2000:]}")
+    kept.write_text(f"{made_of}\n{built.stdout}")
+    return built.stdout
 
 
 def setUpModule() -> None:
@@ -119,10 +141,7 @@ class SecondProof(unittest.TestCase):
     @classmethod
     def setUpClass(cls) -> None:
         """Proves all and builds the checker."""
-        built = subprocess.run([SECOND / "build"], capture_output=True, text=True, check=False)
-        if built.returncode != 0:
-            raise AssertionError(f"second_proof/build: {built.stdout[-2000:]}{built.stderr[-2000:]}")
-        cls.built = built.stdout
+        cls.built = built_once()
         cls.folder = tempfile.TemporaryDirectory()
         cls.plain = pathlib.Path(cls.folder.name) / "plain"
         cls.other = ended(SECOND / "audit", "--plain", cls.plain, AWARD, LOG, CERT)

@@ -1,4 +1,4 @@
-"""tools/state in each stage, run as a program; and what a close does, against the log with that close."""
+"""tools/state in each stage, and what a close does, against the log with that close."""
 import contextlib
 import os
 import pty
@@ -7,9 +7,10 @@ import subprocess
 import sys
 import tempfile
 import unittest
+import unittest.mock
 
 from drawn import Drawing
-from samples import EXAMPLES, TOOLS, lines, sample
+from samples import EXAMPLES, TOOLS, called, lines, sample
 from cca_tools.rules.auction import replay
 from cca_tools.rules.award import read_award
 from cca_tools.rules.log import read_log
@@ -23,25 +24,21 @@ FATAL = "! A close must not be written now: a limit refuses it, and no later lin
 
 
 def shown(award, log, *words, **environment):
-    """What tools/state prints of these bytes, its status, and its standard error."""
+    """What tools/state prints of these bytes, its status, and its standard error, with these variables alone of those
+    that say how wide a screen is and whether it has colours."""
     with tempfile.TemporaryDirectory() as folder:
         names = [os.path.join(folder, name) for name in ("an.award", "a.log")]
         for name, data in zip(names, (award, log)):
             with open(name, "wb") as file:
                 file.write(data.encode() if isinstance(data, str) else data)
-        kept = {name: text for name, text in os.environ.items() if name not in ("COLUMNS", "FORCE_COLOR", "NO_COLOR")}
-        made = subprocess.run(
-            [sys.executable, os.path.join(TOOLS, "state"), *names, *words],
-            stdin=subprocess.DEVNULL,
-            capture_output=True,
-            text=True,
-            env={**kept, **environment},
-        )
-    return made.stdout, made.returncode, made.stderr
+        with unittest.mock.patch.dict(os.environ):
+            for name in ("COLUMNS", "FORCE_COLOR", "NO_COLOR"):
+                os.environ.pop(name, None)
+            return called("state", *names, *words, **environment)
 
 
 def spectrum(records):
-    """The screen after so many records of the sample."""
+    """The screen after this many records of the sample."""
     text, status, fault = shown(sample("spectrum.award"), b"".join(sample("spectrum.log").splitlines(True)[:records]))
     assert (status, fault) == (0, ""), fault
     return text.splitlines()
@@ -276,7 +273,7 @@ class Words(unittest.TestCase):
 
 
 def on_terminal(columns, *files):
-    """What tools/state prints on a terminal of so many columns."""
+    """What tools/state prints on a terminal of this many columns."""
     import fcntl
     import struct
     import termios

@@ -1,4 +1,5 @@
 """Studies: plans, rows, and runs that are stopped, killed, and spread over workers."""
+import contextlib
 import csv
 import importlib.util
 import io
@@ -16,10 +17,15 @@ from fractions import Fraction
 from program import PROGRAM, with_program
 from samples import TOOLS
 
+from cca_tools.page import html, plain
+from cca_tools.page.document import Figures, Table
 from cca_tools.rules.award import read_award
 from cca_tools.rules.stops import Stop
-from cca_tools.studies.measures import pairs_of, results_of, spread_of
+from cca_tools.studies import pictures
+from cca_tools.studies.measures import Spread, pairs_of, results_of, spread_of
+from cca_tools.studies.pages import drawings, page_of
 from cca_tools.studies.plan import award_of, award_text, read_plan
+from cca_tools.studies.rows import Job, rows_of
 from test_rehearse import ONE, VALUES
 
 PLAN = """plan = 1
@@ -95,6 +101,8 @@ class Plans(WithPlan):
                 "[vary]: `bidders` is 3; it has to be a list of whole numbers from 1 to 2",
             ),
             ("[vary]", "[var]", "the key `var` isn't known here"),
+            ('"v.values"', "[]", "`values` is []; it has to be a text or a list of texts"),
+            ('"v.values"', '["v.values", 3]', "`values` is ['v.values', 3]; it has to be a text or a list of texts"),
             ("= 5", "=", "the file is no TOML: here a value has to be (line 5, column 7)"),
         ):
             with self.subTest(new), self.assertRaises(Stop) as caught:
@@ -118,6 +126,91 @@ class Measures(WithPlan):
         self.assertEqual(pairs[:2], [("share", 1, 100, 80), ("version", 1, 100, 100)])
         first = results.difference(pairs_of(results)[0], lambda row: Fraction(row["efficiency"]))
         self.assertEqual((first.mean, first.error, first.count), (3.0, 0.0, 3))
+
+
+def row_of(number, best, core, vickrey, bids, efficiency, raised, rounds, unsold, profit):
+    """A row of a table; all profit is that of east."""
+    cells = "auction best core vickrey bids efficiency raised rounds unsold profit east_profit west_profit".split()
+    values = number, best, core, vickrey, bids, efficiency, raised, rounds, unsold, profit, profit, 0
+    return dict(zip(cells, map(str, values)))
+
+
+class Pages(WithPlan):
+    """The page of two cases of three auctions, of which a limit stopped one."""
+
+    TABLE = [
+        row_of(1, 100, 50, 50, 90, 1, "no", 3, 0, 40),
+        row_of(2, 100, 60, 50, 80, "0.9", "yes", 4, 0, 30),
+        row_of(3, 100, 70, 50, 70, "0.8", "yes", 8, 3, 0),
+        row_of(1, 200, 140, 100, 160, 1, "yes", 2, 0, 20),
+        row_of(2, 200, 100, 100, 160, 1, "yes", 2, 0, 60),
+        {"auction": "3", "stopped": "limit winners 7"},
+    ]
+
+    def setUp(self):
+        super().setUp()
+        self.results = results_of(read_plan(self.plan(PLAN.replace("share = [100, 60]", ""))), self.TABLE)
+        self.page = page_of(self.results, "name")
+
+    def test_what_was_tried(self):
+        plan, cases, differences = self.page.sections
+        self.assertEqual((plan.title, cases.title), ("What was tried", "What came out"))
+        self.assertEqual(differences.title, "What differs, auction by auction")
+        (figures,) = [it for it in plan.blocks if isinstance(it, Figures)]
+        self.assertEqual(figures.pairs, [("auctions", "3"), ("cases", "2"), ("first seed", "5")])
+        (fields,) = [it for it in plan.blocks if isinstance(it, Table)]
+        self.assertIn(["version", "1, 2"], [row[:2] for row in fields.rows])
+        self.assertIn("1 auction was stopped by a limit, and is left out below.", plain.text(self.page))
+
+    def test_measures(self):
+        """In the first case the core's revenue is 50, 60 and 70 percent: its mean is 60, its variance 100, and the
+        standard error the root of 100/3; the others likewise."""
+        (table,) = [it for it in self.page.sections[1].blocks if isinstance(it, Table)]
+        first = "90.00 ± 5.77", "60.00 ± 5.77", "50.00 ± 0.00", "80.00 ± 5.77", "66.67 ± 33.33", "5.00 ± 1.53"
+        second = "100.00 ± 0.00", "60.00 ± 10.00", "50.00 ± 0.00", "80.00 ± 0.00", "100.00 ± 0.00", "2.00 ± 0.00"
+        self.assertEqual(table.rows, [["version 1", *first, "1.00 ± 1.00"], ["version 2", *second, "0.00 ± 0.00"]])
+
+    def test_differences(self):
+        """The first two auctions alone have both: revenue 20 more and 10 less, profit 30 less and as much."""
+        rules, pair = drawings(self.results)
+        self.assertEqual((rules.key, pair.title), ("rules", "version 2 against 1"))
+        found = {name: (spread.count, spread.mean, spread.error) for name, spread, _ in pair.flat}
+        self.assertEqual(
+            found,
+            {
+                "efficiency": (2, 5.0, 5.0),
+                "revenue": (2, 5.0, 15.0),
+                "profit of all": (2, -15.0, 15.0),
+                "profit of east": (2, -15.0, 15.0),
+                "profit of west": (2, 0.0, 0.0),
+            },
+        )
+
+    def test_pictures_are_parts_of_the_page(self):
+        """A picture of the page is no file of its own: a browser would show its head as text."""
+        text = html.page(self.page)
+        self.assertEqual((text.count("<svg "), text.count("<?xml")), (2, 0))
+        self.assertEqual([it.text(is_file=True)[:5] for it in drawings(self.results)], ["<?xml"] * 2)
+
+    def test_colours_of_differences(self):
+        """Green is more and orange less, by over two standard errors."""
+        every = [pictures.colour_of(Spread(9, mean, 1.0, ())) for mean in (2.1, 2.0, -2.0, -2.1)]
+        self.assertEqual([edge for _, edge in every], ["green", "blue", "blue", "orange"])
+
+    def test_without_a_row(self):
+        every = [{"auction": str(n % 3 + 1), "stopped": "limit winners 7"} for n in range(6)]
+        (plan,) = page_of(results_of(self.results.plan, every), "name").sections
+        self.assertEqual(plan.title, "What was tried")
+        self.assertEqual(list(drawings(results_of(self.results.plan, every))), [])
+
+
+def address_of(where, end):
+    """The address that a scheduler of Dask writes into this file, once it is whole."""
+    while time.monotonic() < end:
+        with contextlib.suppress(OSError, ValueError):
+            return json.loads(where.read_text())["address"]
+        time.sleep(0.1)
+    raise AssertionError("the scheduler doesn't start")
 
 
 @with_program
@@ -158,7 +251,7 @@ class Runs(WithPlan):
         self.assertIn("version 2 against 1", pictures["pair2.svg"])
 
     def test_a_study_that_is_killed_goes_on(self):
-        text = PLAN.replace("auctions = 3", "auctions = 40")
+        text = PLAN.replace("auctions = 3", "auctions = 15")
         with subprocess.Popen(
             self.words("killed", text=text), stderr=subprocess.DEVNULL, start_new_session=True
         ) as made:
@@ -170,7 +263,12 @@ class Runs(WithPlan):
         self.assertLess(4, at_kill)
         self.run_study("killed", text=text)
         self.run_study("whole", text=text)
-        self.assertEqual((self.table("killed"), self.kept("killed")), (self.table("whole"), 161))
+        self.assertEqual((self.table("killed"), self.kept("killed")), (self.table("whole"), 61))
+
+    def test_the_first_of_each_hundred_is_audited(self):
+        plan = read_plan(self.plan())
+        made = rows_of(plan, [Job(0, number) for number in (1, 2, 100, 101, 201)], None)
+        self.assertEqual([it.row.get("audit") for it in made], ["yes", "", "", "yes", "yes"])
 
     def test_a_limit_is_a_row(self):
         many = b"".join(b'[[bidder]]\nname = "c%d"\neligibility = 9\n' % n for n in range(6))
@@ -185,7 +283,7 @@ class Runs(WithPlan):
 
     @unittest.skipUnless(importlib.util.find_spec("distributed"), "the package python3-distributed isn't installed")
     def test_workers_of_dask_one_of_them_killed(self):
-        text = PLAN.replace("auctions = 3", "auctions = 60")
+        text = PLAN.replace("auctions = 3", "auctions = 25")
         where = self.folder / "scheduler.json"
         quiet = {"stdout": subprocess.DEVNULL, "stderr": subprocess.DEVNULL, "cwd": self.folder}
         # (this package isn't on the path of the workers: they get it from the study)
@@ -204,9 +302,7 @@ class Runs(WithPlan):
         ]
         try:
             end = time.monotonic() + 300
-            while not where.exists() and time.monotonic() < end:
-                time.sleep(0.1)
-            address = json.loads(where.read_text())["address"]
+            address = address_of(where, end)
             with subprocess.Popen(
                 self.words("dask", "--scheduler", address, text=text), stdout=subprocess.PIPE, stderr=subprocess.PIPE
             ) as made:
@@ -215,7 +311,7 @@ class Runs(WithPlan):
                 workers[0].kill()
                 at_kill = self.kept("dask")
                 _, said = made.communicate()
-            self.assertEqual((made.returncode, 12 <= at_kill < 241), (0, True), said.decode())
+            self.assertEqual((made.returncode, 12 <= at_kill < 101), (0, True), said.decode())
         finally:
             for process in [*workers, scheduler]:
                 process.kill()

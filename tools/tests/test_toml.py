@@ -1,4 +1,4 @@
-"""The reader of TOML beside that of Python's library, which knows TOML 1.0; what TOML 1.1 has more; and what neither
+"""The reader of TOML beside that of Python's library, which knows TOML 1.0; what TOML 1.1 has more, and what neither
 reads."""
 import datetime
 import unittest
@@ -138,7 +138,7 @@ NO_TEXTS = [
     "a\n= 1",
     "[a.b.c]\nz = 9\n[a]\nb.c.t = 1",
 ]
-# Behind each the text that says the same in TOML 1.0.
+# Each with the text that has its meaning in TOML 1.0.
 NEWER = [
     ("{a = 1,\n}", "{a = 1}"),
     ("{ # no\n a = 1 # no\n ,\n b = 2,\n}", "{a = 1, b = 2}"),

@@ -14,7 +14,7 @@ import time
 import unittest
 import unittest.mock
 
-from samples import EXAMPLES, TOOLS, lines, sample, tool
+from samples import EXAMPLES, TOOLS, called, lines, sample
 
 from cca_tools import command_line, terminal
 from cca_tools.__main__ import COMMANDS, main as main_of_all
@@ -30,7 +30,7 @@ RIGHT = {
     "report": ("day-cramton.book day-cramton.cert --text", "Auction report: day-cramton\n"),
     "state": ("spectrum.award spectrum.log", "= The clock ended after round 4. The auction is closed.\n"),
 }
-# The same of the court's own files, which aren't of the package; test_court has more of them.
+# Those of the court's own files, which aren't of the package; test_court has more of them.
 COURT = {
     "audit": ("spectrum.award spectrum.log spectrum.cert", "yes\nwinner everest "),
     "check": ("day-cramton.book day-cramton.cert", "yes\nwinner b1 1 0 bid 28 vickrey 14 pays 17\n"),
@@ -51,16 +51,6 @@ def run(name, *words, stdin=b"", **how):
     """What a tool prints as a program, its status, and what it says on its standard error."""
     made = subprocess.run([sys.executable, os.path.join(TOOLS, name), *words], input=stdin, capture_output=True, **how)
     return made.stdout.decode(), made.returncode, made.stderr.decode()
-
-
-def called(name, *words):
-    """The same of a tool that is called in this process."""
-    with tempfile.TemporaryFile("w+") as out, tempfile.TemporaryFile("w+") as faults:
-        with contextlib.redirect_stdout(out), contextlib.redirect_stderr(faults):
-            status = tool(name).main(words)
-        for file in (out, faults):
-            file.seek(0)
-        return out.read(), status, faults.read()
 
 
 class WithFiles(unittest.TestCase):
@@ -121,7 +111,7 @@ class AsPrograms(WithFiles):
     def test_no_words(self):
         for name in RIGHT:
             with self.subTest(name):
-                text, status, said = run(name)
+                text, status, said = called(name)
                 self.assertEqual((text, status), ("cca: words\n" if name in AGREE else "", 2))
                 self.assertEqual(said.splitlines()[0][: len(f"usage: tools/{name} ")], f"usage: tools/{name} ")
 
@@ -379,7 +369,7 @@ class Crashes(WithFiles):
 
 class OnATerminal(WithFiles):
     def shown(self, name, *words, columns=80, **how):
-        """What a terminal of so many columns gets of a tool, its standard error too, and the status."""
+        """What a terminal of this many columns gets of a tool, its standard error too, and the status."""
         ours, its = pty.openpty()
         import fcntl
         import struct

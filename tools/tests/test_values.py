@@ -126,6 +126,9 @@ class Values(unittest.TestCase):
         }.items():
             self.fault(text, f"table 1 of [[bidder]]: {why}")
         self.fault(named.format("north"), "no table is for the bidder south")
+        below = "`value` is -1; it has to be a whole number from 0 to 1099511627776, or [least, greatest] of it"
+        text = 'model = "packages"\n[[bidder.package]]\nlots = [1, 0]\nvalue = -1'
+        self.fault(text, f"table 1 of [[bidder]], table 1 of [[package]]: {below}")
 
     def fault(self, text, why):
         with self.subTest(text), self.assertRaises(Stop) as caught:

@@ -120,7 +120,7 @@ class Advice(unittest.TestCase):
         self.seen["note"] += is_least
 
     def check_refusal(self, rows, name, listed, reply):
-        """The reply to the submission is the one that was told."""
+        """The reply to the submission is the one that was reported."""
         self.seen["refused"] += 1
         entry = sorted(listed)[reply.numbers[0] - 1]
         told = " ".join(map(str, entry))

@@ -177,8 +177,8 @@ class Small(unittest.TestCase):
         self.assertEqual(
             reasons.sharing(2),
             (
-                "Because of it b2 pays 12 more and b3 pays 12 more, which is the same for each. What others ask of them"
-                " changes that."
+                "It adds 12 to the price of b2 and 12 to the price of b3, which is the same for each. With all that is"
+                " added and taken, b2 pays 8 more than its Vickrey price and b3 pays just its Vickrey price."
             ),
         )
         self.assertEqual(

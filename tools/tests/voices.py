@@ -82,7 +82,7 @@ def rules_book(files):
 
 
 def rules_answer(command, names):
-    """The same with the status."""
+    """What the rules answer, and the status."""
     try:
         return rules_text(command, names), 0
     except Stop as stop:

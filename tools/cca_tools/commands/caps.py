@@ -1,11 +1,11 @@
 """Says what a bidder may ask for and offer.
 
-While the clock runs: its points, what is left of them, the room in each spectrum cap; and for each package that it has
+While the clock runs: its points, what is left of them, the room in each spectrum cap, and for each package that it has
 asked for, or for the one that is given as counts, what it costs and the cap that it would have if the clock ended with
 the open round as it is.
 
 While lists are taken: for each package of its draft list, or for the one that is given, the least amount, the cap, by
-how much the listed amount is above that, and where the cap comes from. One line for each package, then the same in
+how much the listed amount is above that, and where the cap comes from. One line for each package, then that in
 words:
 
     package 2 0 4 0 listed 660000 least 506000 round 3 held 1 0 4 0 stands 430000
@@ -29,7 +29,7 @@ prices of the next round, `sealed` or `closed`:
     close,,sealed,
     draft,everest,2 0 4 0,660000
 
-Statuses are those of `cca`; 1 where there is no list to fit. What it doesn't test: that a view has the prices that were
+Statuses are those of `cca`; 1 if there is no list to fit. What it doesn't test: that a view has the prices that were
 posted, and all lines that the bidder sent.
 """
 
@@ -168,7 +168,7 @@ def clock_lines(auction: Auction, j: BidderNumber, given: Sequence[Package]) -> 
 
 
 def fit_lines(auction: Auction, j: BidderNumber) -> Iterator[str]:
-    """The greatest list that is admitted and has no amount above that of the draft list; then the lines that lead to
+    """The greatest list that is admitted and has no amount above that of the draft list, then the lines that lead to
     it."""
     name, drafts = auction.award.names[j - 1], dict(auction.drafts(j))
     fitted = auction.caps(j).fitted(drafts)

@@ -160,12 +160,12 @@ class Steps:
 
 
 def lines_words(count: int) -> str:
-    """So many lines."""
+    """This many lines."""
     return "1 line" if count == 1 else f"{count} lines"
 
 
 def are(count: int) -> str:
-    """The verb for so many things."""
+    """The verb for this many things."""
     return "is" if count == 1 else "are"
 
 

@@ -4,7 +4,7 @@ before and after. The edited log is taken through all rules, the caps too.
 
 The second finds the least amount with which a bidder would win a package, all other bids of the book as they are; says
 whether the rules would admit it on the bidder's submitted list, and if they wouldn't, on which list they would and what
-that list wins; and shows what would be paid. PACKAGE is its counts.
+that list wins, and shows what would be paid. PACKAGE is its counts.
 
 Prices come from the program, that of CCA_PROGRAM or the one that ./cca has built; without it only the winners are
 shown. One file may be `-`, which is standard input. Statuses are those of `cca`; 1 where no amount wins. No file is
@@ -181,7 +181,7 @@ def least_to_draft(auction: Auction, j: BidderNumber, package: Package) -> Amoun
 
 def mended_list(auction: Auction, j: BidderNumber, package: Package, amount: Amount) -> dict[Package, Amount] | None:
     """An admitted list with the amount and with the submitted packages: the entries on which its cap rests are raised
-    by what it needs, and others are changed where their own caps ask for that. None where there is none."""
+    by what it needs, and others are changed where their own caps ask for that. None if there is none."""
     caps = auction.caps(j)
     raised = caps.raised(dict(auction.submitted(j)), package, amount)
     if raised is None:
@@ -192,7 +192,7 @@ def mended_list(auction: Auction, j: BidderNumber, package: Package, amount: Amo
 
 
 def change_words(before: Mapping[Package, Amount], after: Mapping[Package, Amount], package: Package) -> str:
-    """What a list has otherwise than the submitted one, but for one package."""
+    """What a list has otherwise than the submitted one, except for one package."""
     parts = []
     for it in sorted({*before, *after} - {package}):
         if it not in before:
@@ -226,7 +226,7 @@ class Admission(NamedTuple):
 
 
 def admission(auction: Auction, j: BidderNumber, package: Package, amount: Amount) -> Admission:
-    """Whether a submission with the amount is admitted, all other entries of the submitted list as they are; and if it
+    """Whether a submission with the amount is admitted, all other entries of the submitted list as they are, and if it
     isn't, a list that is, and what that wins."""
     submitted, name, alone = dict(auction.submitted(j)), auction.award.names[j - 1], "with it, were it admitted"
     listed = {**submitted, package: amount}

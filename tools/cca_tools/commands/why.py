@@ -51,7 +51,7 @@ class Files(NamedTuple):
 
 
 def read_files(options: argparse.Namespace) -> Files:
-    """The files but for the certificate. A book is told from an award by how it begins."""
+    """The files except for the certificate. A book is reported from an award by how it begins."""
     first = load(options.first, "book")
     is_book = options.third is None or first.startswith(b"book ")
     return from_book(first, options) if is_book else from_log(first, options)

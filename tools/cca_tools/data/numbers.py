@@ -27,7 +27,7 @@ def decimal(value: Fraction, places: int = PLACES) -> str:
 
 
 def amount_of(text: str, mark: str = ".") -> Decimal | None:
-    """The amount that a cell states, whose decimal mark is a point or a comma; None where it is no amount.
+    """The amount that a cell states, whose decimal mark is a point or a comma; or None.
 
     Spaces, apostrophes and a currency are left out, and the other mark where it divides thousands.
     """

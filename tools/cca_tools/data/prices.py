@@ -96,7 +96,7 @@ def stop_of(lines: Sequence[str], status: int, said: str) -> Stop:
 
 
 def price(book: Book) -> Prices:
-    """The winners of a book and their prices. A `Stop` where there is no program, or where it finds none, as for seven
+    """The winners of a book and their prices. A `Stop` if there is no program, or where it finds none, as for seven
     winners (`cca: limit winners 7`)."""
     words = [need_program(), "price", "/dev/stdin", "/dev/null"]
     run = subprocess.run(words, input=book_text(book), capture_output=True)

@@ -1,7 +1,7 @@
 """The report for one bidder: its own lines, the closes and the posted prices, and after the award each winner with its
 price.
 
-Nothing here is taken from another bidder's line, but for winners once the award is over.
+Nothing here is taken from another bidder's line, except for winners once the award is over.
 """
 
 from __future__ import annotations
@@ -71,7 +71,7 @@ class View:
 
     @property
     def is_over(self) -> bool:
-        """Whether there is an award to show. A certificate that was worked out for this report is none."""
+        """Whether there is an award to show. A certificate that was computed for this report is none."""
         return self.source.has_prices and self.source.is_given
 
     def seen(self) -> Iterator[tuple[Line, Reply]]:

@@ -20,7 +20,7 @@ ROUND_LINE = 16
 
 
 def nice_step(span: float, most: int) -> int:
-    """The least of 1, 2, 5, 10 .. of which at most so many fit into a span."""
+    """The least of 1, 2, 5, 10 .. of which at most this many fit into a span."""
     step, at = 1, 0
     while span / step > most:
         at += 1
@@ -29,7 +29,7 @@ def nice_step(span: float, most: int) -> int:
 
 
 def ticks(low: float, high: float, most: int) -> list[int]:
-    """At most so many places at whole numbers, from low to high."""
+    """At most this many places at whole numbers, from low to high."""
     step = nice_step(high - low, most - 1)
     return list(range(step * math.ceil(low / step), math.floor(high) + 1, step))
 
@@ -41,7 +41,7 @@ def round_ticks(count: int, most: int) -> list[int]:
 
 
 def shortened(name: str, room: float) -> str:
-    """A name in so much room, with an ellipsis where it has more letters."""
+    """A name in this much room, with an ellipsis where it has more letters."""
     letters = max(2, int(room / width_of("m")))
     return name if len(name) <= letters else name[: letters - 1] + "\N{HORIZONTAL ELLIPSIS}"
 
@@ -130,7 +130,7 @@ def label_prices(drawing: Drawing, frame: Frame, prices: Sequence[Amount], heigh
 def price_part(
     drawing: Drawing, top: float, bottom: float, left: float, prices: Sequence[Amount], most: float | None
 ) -> Frame:
-    """The prices of a category: in per cent of its reserve where the categories share a scale up to so many, else on a
+    """The prices of a category: in percent of its reserve where the categories share a scale up to this many, else on a
     scale of its own. Either begins at the reserve, with room for a label below."""
     heights = [100 * price / prices[0] for price in prices] if most else [float(price) for price in prices]
     low = heights[0]
@@ -195,7 +195,7 @@ def label_place(y: float, bottom: float, line: float) -> float:
 
 
 def draw_demand(drawing: Drawing, frame: Frame, demand: Sequence[int], supply: int, is_open: bool) -> None:
-    """Lots asked for in per cent of the supply, so that all categories share a scale."""
+    """Lots asked for in percent of the supply, so that all categories share a scale."""
     count, line = len(demand), frame.y(100)
     closed = demand[:-1] if is_open else demand
     each = [(n, n) for n in range(1, len(closed) + 1)] if count <= MANY else list(runs(closed))

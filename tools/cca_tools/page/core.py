@@ -55,12 +55,12 @@ def effort(book: Book) -> int:
 
 
 def is_known(book: Book) -> bool:
-    """Whether the demands of all sets of winners can be worked out here in a few seconds."""
+    """Whether the demands of all sets of winners can be computed here in a few seconds."""
     return effort(book) < 10**6 or importlib.util.find_spec("numpy") is not None
 
 
 def bounds(book: Book, choice: Choice, winners: Sequence[BidderNumber]) -> dict[Group, Amount]:
-    """For each set of winners what they have to pay together, net, since a choice without them offers so much."""
+    """For each set of winners what they have to pay together, net, since a choice without them offers this much."""
     bid = {j: book.net[j - 1][choice[j - 1] - 1] for j in winners}
     best = best_plainly if effort(book) < SMALL or not importlib.util.find_spec("numpy") else best_without
     sets = [chosen for size in range(1, len(winners) + 1) for chosen in combinations(winners, size)]
@@ -68,7 +68,7 @@ def bounds(book: Book, choice: Choice, winners: Sequence[BidderNumber]) -> dict[
 
 
 def clipped(polygon: list[Point], a: int, b: int, least: Number) -> list[Point]:
-    """The part of a polygon in which a x + b y is at least so much."""
+    """The part of a polygon in which a x + b y is at least this much."""
     kept: list[Point] = []
     for (x, y), (u, v) in zip(polygon, polygon[1:] + polygon[:1]):
         here, there = a * x + b * y - least, a * u + b * v - least

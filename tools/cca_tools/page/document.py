@@ -153,7 +153,7 @@ class Section:
 
 @dataclass
 class Page:
-    """A whole report. Its foot stands below each page that is printed."""
+    """A whole report. Its foot is below each page that is printed."""
 
     title: str
     under: str

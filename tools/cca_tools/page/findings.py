@@ -114,8 +114,9 @@ def of_category(shown: Sequence[Round], c: int, has_open: bool) -> str:
         return went
     if not above:
         return f"{went}; demand was never above the supply"
-    rounds = "closed rounds" if has_open else "rounds"
-    when = f"in {spelled(above)} of {spelled(whole)} {rounds if whole > 1 else rounds[:-1]}"
+    if whole == 1:
+        return f"{went}; demand was above the supply in the {'closed' if has_open else 'only'} round"
+    when = f"in {spelled(above)} of {spelled(whole)} {'closed rounds' if has_open else 'rounds'}"
     return f"{went}; demand was above the supply {when}"
 
 

@@ -49,15 +49,22 @@ def parts(cell: Content) -> tuple[str, str, str]:
 
 # The widest letter that is usual in tables, in units of 16 pixels, and the widths of stack.css.
 LETTER, STACKS = 0.56, (22, 28, 36, 48, 62)
+# The letters of the head of a row up to which it stays on one line; of several bidders it has more.
+MOST_KEY = 24
+
+
+def wraps(table: Table) -> bool:
+    """Whether the heads of rows may take several lines, since one of them is too long for one."""
+    return any(len(parts(row[0])[0]) > MOST_KEY for row in table.rows)
 
 
 def least_width(table: Table, i: int, column: Column) -> int:
-    """How wide a column is at least: numbers and heads of rows stand on one line, and words break between words."""
+    """How wide a column is at least: numbers and short heads of rows are on one line, and words break between words."""
     texts = [
         column.head if column.kind == "words" else max(column.head.split(" "), key=len),
         *(parts(row[i])[0] for row in table.rows),
     ]
-    if column.kind != "words":
+    if column.kind == "number" or column.kind == "key" and not wraps(table):
         return max(map(len, texts))
     longest = max((len(word) for text in texts for word in text.split(" ")), default=0)
     return max(longest, min(14, max(map(len, texts))))
@@ -85,12 +92,12 @@ def details(cell: Cell) -> str:
 def frames(table: Table, name: str) -> list[tuple[str, str]]:
     """For each column what comes before the tone of a cell, and after it. Where cells may stand one below the other,
     each has its head and its role."""
-    made = []
+    made, key = [], "key wraps" if wraps(table) else "key"
     for column in table.columns:
         is_key = column.kind == "key"
         tag, role = ('th scope="row"', "rowheader") if is_key else ("td", "cell")
         more = f' role="{role}" data-head="{escape(column.head)}"' if name else ""
-        made.append((f'<{tag}{more} class="{column.kind}', "</th>" if is_key else "</td>"))
+        made.append((f'<{tag}{more} class="{key if is_key else column.kind}', "</th>" if is_key else "</td>"))
     return made
 
 
@@ -203,7 +210,7 @@ class Writer:
 
 
 def style(foot: str) -> str:
-    """The style sheet; the foot stands below each page that is printed."""
+    """The style sheet; the foot is below each page that is printed."""
     quoted = '"' + "".join(letter for letter in foot if letter not in '"<\\') + '"'
     sheet = (TEMPLATES / "page.css").read_text(encoding="utf-8").replace("FOOT", quoted)
     above, below = sheet.split("/* stack.css, for each width */\n")

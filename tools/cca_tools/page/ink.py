@@ -8,7 +8,7 @@ from __future__ import annotations
 from html import escape
 
 # role: the colour on white; the colour on dark. A winner has a colour for its lots (w1 ..) and one for the lines of its
-# pattern (l1 ..); its letter has the colour `letter`. The colour-blind tell the winners' colours apart (test_ink).
+# pattern (l1 ..); its letter has the colour `letter`. The colour-blind distinguish the winners' colours (test_ink).
 ROLES = {
     "ink": ("#1f2328", "#e6edf3"),
     "soft": ("#57606a", "#9da7b3"),
@@ -80,7 +80,7 @@ def pattern(name: str, role: str, number: int | None) -> str:
 
 def as_picture(key: str, title: str, about: str, size: tuple[int, int] | int, inner: str) -> str:
     """A picture for a page. A size of width and height is drawn larger or smaller, letters too; where it is a height,
-    places across are in per cent, and letters have always one size."""
+    places across are in percent, and letters have always one size."""
     if isinstance(size, int):
         shape = f'class="picture fluid" width="100%" height="{size}"'
     else:

@@ -119,9 +119,13 @@ def title(place: int, auction: Auction) -> str:
 
 
 def tables(source: Source, part: Part, place_of: PlaceOf) -> list[Table]:
-    """The lines of a part, each a row: no more than so many in one table."""
+    """The lines of a part, each a row: no more than this many in one table."""
     rows: list[list[Content]] = [
-        [place_of(line), Cell(sent(line, source.names), record_text(line)), answer(line, reply, source)]
+        [
+            place_of(line),
+            Cell(sent(line, source.names), record_text(source.long.as_sent(line))),
+            answer(line, reply, source),
+        ]
         for line, reply in part
     ]
     parts = [rows[at : at + TOGETHER] for at in range(0, len(rows), TOGETHER)]

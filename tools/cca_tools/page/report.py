@@ -39,7 +39,7 @@ def title_of(source: Source, name: str) -> str:
 
 
 def foot(source: Source) -> str:
-    """What stands below each printed page: the first digits of the files' sums."""
+    """What is below each printed page: the first digits of the files' sums."""
     return ", ".join(f"{basis.KINDS[it.kind]} {it.sum[:12]}" for it in source.sums)
 
 

@@ -23,7 +23,7 @@ from cca_tools.page.document import (
     columns,
 )
 from cca_tools.page.source import Source, given
-from cca_tools.page.words import count, number
+from cca_tools.page.words import count, number, spelled
 from cca_tools.rules.auction import Auction
 from cca_tools.rules.award import Award
 from cca_tools.rules.clock import Round
@@ -32,10 +32,6 @@ from cca_tools.rules.types import BidderNumber, Package
 ON_ONE_SCALE = (
     "Prices are drawn in per cent of the reserve, and demand in per cent of the supply, so that the categories can be"
     " compared; the numbers at the marks are prices and lots."
-)
-ON_SCALES_OF_THEIR_OWN = (
-    "Prices are drawn each on a scale of its own, since they rose too differently for one scale; demand in per cent of"
-    " the supply, so that the categories can be compared."
 )
 CATEGORY_KEY = Key(
     [
@@ -61,7 +57,7 @@ def size(award: Award) -> Literal["", "mid"]:
 
 
 def price_scale(award: Award, rounds: Sequence[Round]) -> float | None:
-    """The greatest price in per cent of its reserve, where all categories can share a scale; else None."""
+    """The greatest price in percent of its reserve, where all categories can share a scale, or else None."""
     if not all(award.reserves):
         return None
     most = max(Fraction(price, reserve) for price, reserve in zip(rounds[-1].prices, award.reserves))
@@ -69,7 +65,7 @@ def price_scale(award: Award, rounds: Sequence[Round]) -> float | None:
 
 
 def demand_scale(award: Award, rounds: Sequence[Round]) -> float:
-    """The greatest demand in per cent of the supply, and 100 at least."""
+    """The greatest demand in percent of the supply, and 100 at least."""
     return max(100.0, *(100 * lots / supply for closed in rounds for lots, supply in zip(closed.demand, award.supply)))
 
 
@@ -196,10 +192,16 @@ def how_it_went(source: Source, rounds: Sequence[Round]) -> str:
 
 
 def scale_words(award: Award, rounds: Sequence[Round]) -> str:
-    """Which scales the pictures have."""
+    """Which scales the pictures have, and why."""
     if price_scale(award, rounds):
         return ON_ONE_SCALE
-    return ON_SCALES_OF_THEIR_OWN
+    why = (
+        f"a price rose to more than {spelled(COMPARED)} times its reserve" if all(award.reserves) else "a reserve is 0"
+    )
+    return (
+        f"Prices are drawn each on a scale of its own, since {why}; demand in per cent of the supply, so that the"
+        " categories can be compared."
+    )
 
 
 def section(source: Source) -> Section:

@@ -169,7 +169,7 @@ def visible(word: str) -> str:
 
 
 def first_text(word: str) -> tuple[str, bytes]:
-    """The bytes of the first file and its kind: a book is told by how it begins."""
+    """The bytes of the first file and its kind: a book is known by how it begins."""
     try:
         with open(0 if word == "-" else word, "rb") as file:
             start = file.read(5)
@@ -184,7 +184,7 @@ def first_text(word: str) -> tuple[str, bytes]:
 def of_files(words: Sequence[str], bidder: str = "", names: str | None = None) -> Source:
     """The facts of AWARD LOG, AWARD LOG CERT, BOOK or BOOK CERT; for a bidder LOG may be its own view.
 
-    `names` is a file of names for people, which are shown in place of the short ones; a book has none.
+    `names` is a file of names for people, which are shown instead of the short ones; a book has none.
     """
     first, data = first_text(words[0])
     kinds = ("book", "cert") if first == "book" else ("award", "log", "cert")
@@ -204,7 +204,7 @@ def of_files(words: Sequence[str], bidder: str = "", names: str | None = None) -
 
 
 def read_prices(source: Source, book: Book, texts: dict[str, bytes], bidder: str) -> None:
-    """The certificate, tested, and what the program says. A bidder is shown none that the program has worked out."""
+    """The certificate, tested, and what the program says. A bidder is shown none that the program has computed."""
     if "cert" in texts or not bidder:
         ask_program(source, book, texts)
     if "cert" in texts:

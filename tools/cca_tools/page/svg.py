@@ -1,6 +1,6 @@
 """Marks of pictures: rectangles, lines, letters and what is said of each under the mouse.
 
-Places are numbers in units of the picture, or per cent of its width as text. Colours are roles of `ink`.
+Places are numbers in units of the picture, or percent of its width as text. Colours are roles of `ink`.
 """
 
 from __future__ import annotations
@@ -22,7 +22,7 @@ def spot(value: Place) -> str:
 
 
 def share(part: float) -> str:
-    """A part of the whole width, in per cent."""
+    """A part of the whole width, in percent."""
     return f"{spot(100 * part)}%"
 
 

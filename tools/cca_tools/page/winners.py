@@ -162,7 +162,8 @@ def lots_table(source: Source) -> Table:
     heads = columns("Category", "Supply #", "Sold to", "Unsold #", "At reserve #")
     rows = []
     for c, name in enumerate(source.names.categories):
-        sold = [f"{source.names.bidder(j)} {source.won(j)[0][c]:,}" for j in source.winners if source.won(j)[0][c]]
+        lots = [(source.names.bidder(j), source.won(j)[0][c]) for j in source.winners]
+        sold = [f"{winner}\N{NO-BREAK SPACE}{many:,}" for winner, many in lots if many]
         left = unsold(source)[c]
         rows.append(
             [

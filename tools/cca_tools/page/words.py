@@ -51,7 +51,7 @@ def exact(value: Amount | Fraction) -> str:
 
 
 def price(value: Amount | Fraction) -> str:
-    """A fraction as people write it, where there is a letter for what is left over; else as the program prints it."""
+    """A fraction as people write it, if there is a letter for what is left over, or else as the program prints it."""
     whole, rest = divmod(Fraction(value), 1)
     if not rest:
         return f"{whole:,}"
@@ -59,7 +59,7 @@ def price(value: Amount | Fraction) -> str:
 
 
 def price_cell(value: Amount | Fraction, tone: Tone = "") -> Cell:
-    """A fraction as people write it, rounded to two places where there is no letter for what is left over, and as the
+    """A fraction as people write it, rounded to two places if there is no letter for what is left over, and as the
     program prints it."""
     rest = Fraction(value) % 1
     if not rest:
@@ -70,7 +70,7 @@ def price_cell(value: Amount | Fraction, tone: Tone = "") -> Cell:
 
 
 def per_cent(part: Amount | Fraction, whole: Amount | Fraction) -> str:
-    """To one decimal, halves up; a dash where there is no whole."""
+    """To one decimal, halves up; a dash if there is no whole."""
     if whole == 0:
         return "\N{EN DASH}"
     tenths = (Fraction(part) * 2000 / whole + 1) // 2
@@ -78,7 +78,7 @@ def per_cent(part: Amount | Fraction, whole: Amount | Fraction) -> str:
 
 
 def count(value: int, one: str, more: str | None = None) -> str:
-    """So many of something."""
+    """This many of something."""
     return f"{value:,} {one if value == 1 else more or one + 's'}"
 
 

@@ -70,7 +70,7 @@ class Bidder:
 
 @dataclasses.dataclass(frozen=True)
 class Step:
-    """From this excess on a price rises by so many thousandths."""
+    """From this excess on a price rises by this many thousandths."""
 
     excess: int
     permille: int
@@ -192,7 +192,7 @@ class Fields:
         return value
 
     def wholes(self, number: int, count: int, high: int, missing: Package | None = None) -> Package:
-        """A list of so many whole numbers, or what a missing one counts as."""
+        """A list of this many whole numbers, or what a missing one is taken as."""
         value = self.take(number)
         if value is MISSING and missing is not None:
             return missing
@@ -217,7 +217,7 @@ class Fields:
 
 
 def table_hint(field: str, read: object) -> str:
-    """What is wrong where one table is read in place of a list of tables."""
+    """What is wrong where one table is read instead of a list of tables."""
     is_one = isinstance(read, dict) and field in ("category", "bidder", "step", "cap")
     return f"; write [[{field}]] with two brackets in place of [{field}]" if is_one else ""
 
@@ -259,7 +259,7 @@ def step_of(table: Fields, before: Step | None) -> Step:
 
 
 def cap_of(table: Fields, count: int) -> SpectrumCap:
-    """The spectrum cap of a table, with a weight for each of so many categories."""
+    """The spectrum cap of a table, with a weight for each of this many categories."""
     cap = SpectrumCap(table.wholes(16, count, MOST["cap weight"]), table.whole(17, 0, MOST["cap limit"]))
     table.no_more()
     return cap

@@ -13,7 +13,7 @@ def heading_rows(text: str, kind: str) -> list[int]:
 
 
 def award_row(text: str, spot: FieldSpot) -> int:
-    """The line of an award's field, or of the heading of its table, where it is found; else 0."""
+    """The line of an award's field, or of the heading of its table, where it is found, or else 0."""
     rows = heading_rows(text, spot.heading) if spot.heading else []
     if len(rows) < spot.table:
         return 0
@@ -27,6 +27,6 @@ def award_row(text: str, spot: FieldSpot) -> int:
 
 
 def single_row(text: str, spot: FieldSpot) -> int:
-    """The line of the heading that has a list's name in single brackets, as one table; else 0."""
+    """The line of the heading that has a list's name in single brackets, as one table, or else 0."""
     rows = enumerate(text.splitlines(), 1)
     return next((row for row, line in rows if re.match(rf"\s*\[\s*{re.escape(spot.field)}\s*\]", line)), 0)

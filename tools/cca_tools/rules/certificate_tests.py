@@ -1,7 +1,7 @@
 """The nine tests of a certificate, as docs/CERTIFICATES.md has them. Each gives the places at which it fails, in order,
 with a sentence.
 
-A placement's tests are these too, but for what a choice and a table are; they are in placement_tests.py.
+A placement's tests are these too, except for what a choice and a table are; they are in placement_tests.py.
 """
 
 from __future__ import annotations

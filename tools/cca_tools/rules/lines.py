@@ -17,7 +17,7 @@ NAME = re.compile(rb"[a-z][a-z0-9_]{0,19}")
 # Signed numbers are strictly between -2^120 and 2^120. No number that any field allows has more bytes than these.
 WIDE = 2**120
 LONGEST = len(str(-WIDE))
-# So much of a faulty line is looked at for its sentence.
+# This much of a faulty line is looked at for its sentence.
 MOST_SHOWN = 1000
 
 
@@ -52,7 +52,7 @@ class Text:
         return line
 
     def fields(self, word: bytes, least: int, form: str) -> list[bytes]:
-        """The fields after the word of the next line, at least so many."""
+        """The fields after the word of the next line, at least this many."""
         first, *fields = self.line().split(b" ")
         self.need(first == word and len(fields) >= least, f"here a line `{form}` has to be")
         return fields
@@ -65,13 +65,13 @@ class Text:
         return int(field)
 
     def need_count(self, word: bytes, fields: list[bytes], count: int) -> None:
-        """Stops where a line hasn't so many numbers."""
+        """Stops where a line hasn't this many numbers."""
         other = " (is this the certificate of another book?)" if self.kind == "cert" else ""
         why = f"`{shown(word)}` has to be followed by {count} numbers, and not by {len(fields)}{other}"
         self.need(len(fields) == count, why)
 
     def numbers(self, word: bytes, count: int, low: int, high: int, what: str) -> tuple[int, ...]:
-        """The numbers of a line that is a word and so many numbers."""
+        """The numbers of a line that is a word and this many numbers."""
         fields = self.fields(word, 0, f"{shown(word)} ..")
         self.need_count(word, fields, count)
         return tuple(self.number(field, low, high, what) for field in fields)

@@ -23,7 +23,7 @@ END = re.compile(rb"\r\n|\r|\n")
 FIELD = re.compile(rb'"((?:[^"]+|"")*)(?:"|\Z)([^,\r\n]*)|([^,\r\n]*)')
 # A record has four fields. One more is read of a longer one, which is refused whatever follows.
 FIELDS = 4
-# So much of a faulty record is looked at for its sentence.
+# This much of a faulty record is looked at for its sentence.
 MOST_SHOWN = 1000
 
 # What a close posted, in a bidder's own view.

@@ -11,8 +11,8 @@ from typing import TypeAlias
 Pair: TypeAlias = tuple[int, int]
 # A part of each text: its first place, and the place after its last one, of the old and then of the new.
 Block: TypeAlias = tuple[int, int, int, int]
-# So many steps are taken to find what is the same between lines that are there several times. What isn't found by then
-# counts as gone and as new.
+# This many steps are taken to find what is the same between lines that are there several times. What isn't found by
+# then is taken as gone and as new.
 MOST_STEPS = 1_000_000
 
 
@@ -88,7 +88,7 @@ def by_fewest_changes(old: Sequence[str], new: Sequence[str], steps: int) -> tup
     """The pairs with which the fewest lines go and come, and the steps that this took; none where it takes too many.
 
     This is the greedy algorithm of Myers (1986): `farthest` has, for each difference k of the places in both texts, how
-    far in the old one so many changes can lead.
+    far in the old one this many changes can lead.
     """
     farthest, history, taken = {1: 0}, list[dict[int, int]](), 0
     for changes in range(len(old) + len(new) + 1):
@@ -121,5 +121,5 @@ def pairs_back(history: Sequence[dict[int, int]], i: int, j: int) -> list[Pair]:
 
 
 def goes(farthest: dict[int, int], changes: int, k: int) -> bool:
-    """Whether the last of so many changes that lead to the difference k takes a line out of the old text."""
+    """Whether the last of this many changes that lead to the difference k takes a line out of the old text."""
     return k != -changes and (k == changes or farthest[k - 1] >= farthest[k + 1])

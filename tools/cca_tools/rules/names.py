@@ -1,6 +1,6 @@
 """Names for people: what a title, a currency, categories and bidders are called where people read of an auction.
 
-An award has short names alone, and no other key. So these stand in a file of TOML of their own; no rule reads it:
+An award has short names alone, and no other key. So these are in a file of TOML of their own; no rule reads it:
 
     title = "Northland award of 700 MHz and 3.6 GHz"
     currency = "EUR"
@@ -20,6 +20,7 @@ of what is around it.
 from __future__ import annotations
 
 import dataclasses
+import functools
 import unicodedata
 from collections.abc import Collection, Iterable, Mapping
 from typing import NoReturn
@@ -62,7 +63,7 @@ class LongNames:
         return self.bidders.get(name, name)
 
     def award(self, award: Award) -> Award:
-        """The award with long names in place of the short ones, to be shown and for no program."""
+        """The award with long names instead of the short ones, to be shown and for no program."""
         return Award(
             award.version,
             award.tick,
@@ -73,8 +74,17 @@ class LongNames:
         )
 
     def lines(self, lines: Iterable[Line]) -> list[Line]:
-        """The lines of a log with long names in place of the short ones."""
+        """The lines of a log with long names instead of the short ones."""
         return [dataclasses.replace(line, name=self.bidder(line.name)) for line in lines]
+
+    @functools.cached_property
+    def short(self) -> Mapping[str, str]:
+        """The short names of bidders by their long ones, which differ."""
+        return {long: short for short, long in self.bidders.items()}
+
+    def as_sent(self, line: Line) -> Line:
+        """One of these lines with the short name that the log has."""
+        return dataclasses.replace(line, name=self.short.get(line.name, line.name))
 
     def lots(self) -> list[str]:
         """How wide the lots are, a sentence for each category that has a width."""

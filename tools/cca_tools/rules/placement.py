@@ -18,7 +18,7 @@ from cca_tools.rules.types import Amount, BidderNumber, TableLine
 
 @dataclass
 class Slots(Menu[int]):
-    """A band of so many slots, and for each bidder its width and its bids for starts, which rise."""
+    """A band of this many slots, and for each bidder its width and its bids for starts, which rise."""
 
     band: int
     names: list[str]

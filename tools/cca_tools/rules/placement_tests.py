@@ -1,5 +1,5 @@
-"""The nine tests of a placement's certificate. They are those of a book's, but for choices, which orders allow, and for
-tables over sets."""
+"""The nine tests of a placement's certificate. They are those of a book's, except for choices, which orders allow, and
+for tables over sets."""
 
 from __future__ import annotations
 

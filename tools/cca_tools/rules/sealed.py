@@ -52,7 +52,7 @@ class Caps:
         self.in_clock: dict[Package, float] = {}
 
     def constraining_round(self, package: Package) -> int:
-        """The last round in which the bidder was eligible for the points of the package, and 0 where there is none."""
+        """The last round in which the bidder was eligible for the points of the package, and 0 if there is none."""
         points = self.award.points_of(package)
         rounds = range(len(self.eligibility), 0, -1)
         return next((r for r in rounds if self.eligibility[r - 1] >= points), 0)

@@ -68,7 +68,7 @@ def ties_of(book: Book, most: int = MOST_TOLD, known: Table | None = None) -> Ti
 
 
 def differences(book: Book, ties: Ties, other: Choice, words: PackageWords = counts) -> str:
-    """What another choice gives in place of what the winning one gives: `west 2 in place of east 2`."""
+    """What another choice gives instead of what the winning one gives: `west 2 instead of east 2`."""
     gives, takes = list[str](), list[str]()
     for j, (ours, theirs) in enumerate(zip(ties.winners, other), 1):
         for number, found in ((theirs, gives), (ours, takes)) if ours != theirs else ():
@@ -86,7 +86,7 @@ def how_many(ties: Ties) -> str:
 
 
 def tie_sentences(book: Book, ties: Ties) -> list[str]:
-    """The ties in words, a line each, and none where there is no tie."""
+    """The ties in words, a line each, and none if there is no tie."""
     if not ties:
         return []
     head = f"There is a tie: {how_many(ties)} the same net value. {DECIDES}"

@@ -1,7 +1,7 @@
 """TOML 1.1, in which an award is written. The reader of Python's library knows TOML 1.0, and reads less.
 
 `read_toml` gives the table that a text is, or raises NoToml. Dates and times are read and not told apart, since no rule
-allows one. Arrays and inline tables stand at most 80 deep in one another, a key has at most 80 parts, a whole number
+allows one. Arrays and inline tables are at most 80 deep in one another, a key has at most 80 parts, a whole number
 has 64 bits with its sign, and a float is one that 64 bits can hold.
 """
 
@@ -250,7 +250,7 @@ class Reader:
 
 
 def scalar(word: str) -> Value:
-    """The value of a word, or None where it is none."""
+    """The value of a word, or None if it is none."""
     if word in ("true", "false"):
         return word == "true"
     if re.match(r"\d+[-:]", word, re.A):
@@ -263,7 +263,7 @@ def scalar(word: str) -> Value:
 
 def whole(word: str) -> int | None:
     """A whole number, or None where 64 bits don't hold it."""
-    # No number of 64 bits has so many digits as Python refuses to read.
+    # A number of 64 bits has fewer digits than those that Python refuses to read.
     number = int(word, 0) if len(word) < 80 else GREATEST
     return number if -GREATEST <= number < GREATEST else None
 

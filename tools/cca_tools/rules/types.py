@@ -1,4 +1,4 @@
-"""The kinds of values that the package hands on. Categories, bidders, bids, rounds, rows and records are numbered from
+"""The types of values that the package shares. Categories, bidders, bids, rounds, rows and records are numbered from
 1."""
 
 from __future__ import annotations

@@ -1,6 +1,6 @@
 """A bidder's own view of an auction: its own lines, and the closes with what each one posted.
 
-The form is that of a log, but for the closes. The third field of a close has the prices that it posted, one for each
+The form is that of a log, except for the closes. The third field of a close has the prices that it posted, one for each
 category, or `sealed` where it ended the clock, or `closed` where it ended the sealed round.
 """
 

@@ -226,8 +226,20 @@ class Reasons:
         if row.second < 0:
             less = self.bears(members, [-part for part in parts], "less")
             return f"They pay just that and no more, so it takes from what others ask of them: {less}, {how}."
-        rest = "" if sum(parts) == self.excess(offer) else " What others ask of them changes that."
-        return f"Because of it {self.bears(members, parts, 'more')}, {how}.{rest}"
+        if sum(parts) == self.excess(offer):
+            return f"Because of it {self.bears(members, parts, 'more')}, {how}."
+        added = listed([f"{fraction(part)} to the price of {self.name(j)}" for j, part in zip(members, parts)])
+        return f"It adds {added}, {how}. With all that is added and taken, {self.ends(members)}."
+
+    def ends(self, members: Sequence[BidderNumber]) -> str:
+        """How much more than its Vickrey price each of these pays in the end."""
+        above = {j: self.pays(j) - self.vickrey(j) for j in members}
+        return listed(
+            [
+                f"{self.name(j)} pays {f'{fraction(more)} more than' if more else 'just'} its Vickrey price"
+                for j, more in above.items()
+            ]
+        )
 
     def bears(self, members: Sequence[BidderNumber], parts: Sequence[Fraction], kind: str) -> str:
         """Who pays how much more, or less."""

@@ -69,7 +69,7 @@ class Fields:
         return value
 
     def wholes(self, name: str, low: int, high: int, count: int | None = None, default: object = MISSING) -> list[int]:
-        """A list of whole numbers of this range, so many where that is given; a single number is a list of one."""
+        """A list of whole numbers of this range, this many where that is given; a single number is a list of one."""
         value = self.take(name, default)
         value = value if isinstance(value, list) else [value]
         right = all(is_whole(it, low, high) for it in value) and (len(value) == count if count else bool(value))
@@ -84,7 +84,7 @@ class Fields:
         return found
 
     def ranges(self, name: str, count: int) -> list[Range]:
-        """So many of these."""
+        """This many of these."""
         value = self.take(name)
         found = [range_of(it, 0, MOST_VALUE) for it in value] if isinstance(value, list) else []
         rule = f"a list of {count}, each a whole number from 0 to {MOST_VALUE} or [least, greatest] of it"

@@ -7,6 +7,7 @@ from dataclasses import dataclass
 
 from cca_tools.page.document import Block, Card, Cards, Content, Figures, Key, Page, Picture, Section, Table, Words
 from cca_tools.page.document import columns as heads
+from cca_tools.page.words import count
 from cca_tools.studies import pictures
 from cca_tools.studies.measures import MEASURES, RULES, Measure, Pair, Results, Spread, of_best, pairs_of, per_cent
 from cca_tools.studies.plan import FIELDS, Plan
@@ -39,7 +40,8 @@ def tried(plan: Plan, limits: int) -> Iterator[Block]:
         " clock, and list their values, or the share of them, within their caps."
     )
     if limits:
-        yield Words(f"{limits} auctions were stopped by a limit, and are left out below.", tone="bad")
+        was, are = ("was", "is") if limits == 1 else ("were", "are")
+        yield Words(f"{count(limits, 'auction')} {was} stopped by a limit, and {are} left out below.", tone="bad")
 
 
 def case_rows(results: Results) -> list[list[Content]]:
