@@ -320,7 +320,7 @@ def double_click(held: Auction, number: int) -> None:
     held.ask_close(number)
     held.screen.push(held.words_of(number)[2], times=2)
     time.sleep(1)
-    headings = WRITTEN, "Is in the log already"
+    headings = WRITTEN, "It is in the log already"
     until(lambda: held.screen.has_heading(*headings), "the page after a double click")
     held.need_closed(number, held.screen.heading())
 
@@ -340,7 +340,7 @@ def back(held: Auction, number: int) -> None:
     if held.screen.heading() == title:  # (as it was kept by the browser)
         held.screen.fill("typed", words)
         held.screen.push(button)
-        held.need_closed(number, "Is in the log already")
+        held.need_closed(number, "It is in the log already")
         held.see("written-before")
     else:  # (asked for anew, and so of what a close does then)
         held.need_log(number)
@@ -354,7 +354,7 @@ def old_tab(held: Auction, number: int) -> None:
     held.close_only(number)
     held.screen.go_to_tab(first)
     held.screen.push(held.words_of(number)[2])
-    held.need_closed(number, "Is in the log already")
+    held.need_closed(number, "It is in the log already")
 
 
 def same_tab(held: Auction, number: int) -> None:
@@ -367,7 +367,7 @@ def same_tab(held: Auction, number: int) -> None:
     held.screen.push("Award and audit")
     held.screen.go_to_tab(first)
     held.screen.push(held.words_of(number)[2])
-    held.need_closed(number, "Is in the log already")
+    held.need_closed(number, "It is in the log already")
 
 
 def killed(screen: Screen, see: See) -> str:

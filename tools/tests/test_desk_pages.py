@@ -113,6 +113,8 @@ class Line(DeskTest):
         client.load(re.search(r'href="([^"]+/entry/[^"]+)">Correct it', client.page)[1])
         self.assertIn('<option value="tarn" selected>', client.page)
         self.assertIn('value="3  1 0 0"', client.page)
+        self.assertIn("bid,tarn,3 1 0 0, would be refused: points 96.", client.text())
+        self.assertIn("3 x 20 + 1 x 40 = 100 points, and tarn is eligible for 96 in this round.", client.text())
         self.assertEqual(self.log(), b"")
 
     def test_a_refused_line_that_was_sent_is_written(self):
@@ -151,7 +153,7 @@ class Line(DeskTest):
         places = [client.post("write", **form).headers["Location"] for _ in range(3)]
         self.assertEqual([it.rpartition("/")[2] for it in places], ["1-1", "1-1?again", "1-1?again"])
         client.load(places[1])
-        self.assertEqual((client.heading(), self.log()), ("Is in the log already", b"bid,everest,2 0 4 0,\n"))
+        self.assertEqual((client.heading(), self.log()), ("It is in the log already", b"bid,everest,2 0 4 0,\n"))
 
     def test_a_page_of_a_log_that_has_grown_is_answered_anew(self):
         client = self.open()
@@ -339,7 +341,7 @@ class Again(DeskTest):
         self.assertRegex(client.send("again", record="6", why="closed twice", typed="cut after 6"), "^/cut/")
         self.assertEqual(self.log(), f"{ROUND}\nclose,,,\n".encode())
         self.assertEqual((self.folder / "day.log.cut-1").read_bytes(), long)
-        self.assertIn(f"Void is the seal of the first close 2: {void}", client.text())
+        self.assertIn(f"The seal of the first close 2 is void: {void}", client.text())
         self.assertIn("closed twice", (self.folder / "day.log.desk").read_text())
 
 

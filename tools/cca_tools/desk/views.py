@@ -580,7 +580,7 @@ def written_page(desk: Desk, moment: Moment, first: int, last: int, was_there: b
     bidders = [line.name for line in shown.lines if line.bidder] if len(shown.lines) == 1 else []
     lead = "It was written before, and not a second time. " if was_there else ""
     return WrittenPage(
-        title="Is in the log already" if was_there else "Written and synced",
+        title="It is in the log already" if was_there else "Written and synced",
         lead=f"{lead}Both programs reply:",
         lines=answered_views(auction.award, shown),
         more=f"{count(more, 'more line')} {'is' if more == 1 else 'are'} after it now." if more > 0 else "",

@@ -8,7 +8,7 @@ from __future__ import annotations
 
 import secrets
 from collections.abc import Callable, Mapping
-from dataclasses import dataclass, field
+from dataclasses import dataclass, field, replace
 from pathlib import Path
 from typing import Any, TypeAlias
 
@@ -48,6 +48,8 @@ MENDS: dict[Mend, str] = {
     "keep changed log": "Go on with the log as it is",
     "restart": "Start again",
 }
+# Of how many lines a form says why they would be refused.
+MOST_REASONS = 3
 
 
 @dataclass(frozen=True)
@@ -153,7 +155,19 @@ class Pages:
 
     def home(self, number: str = "") -> Answer:
         """The stage, with the form of a line."""
-        return self.stage(self.store.find(number) if number else Kept())
+        return self.stage(self.with_reasons(self.store.find(number)) if number else Kept())
+
+    def with_reasons(self, kept: Kept) -> Kept:
+        """A form that is corrected, with why its lines would be refused."""
+        if not kept.text or kept.notice:
+            return kept
+        moment = self.desk.now()
+        try:
+            lines = views.preview_page(moment, self.desk.preview(moment, kept.text)).lines
+        except Refused as fault:
+            return replace(kept, notice=str(fault))
+        reasons = [f"{line.record} would be refused: {line.reply}. {line.words}" for line in lines if not line.is_ok]
+        return replace(kept, notice=" ".join(reasons[:MOST_REASONS]))
 
     def stage(self, kept: Kept) -> Answer:
         """The stage, with the form as it was typed and what was wrong."""
