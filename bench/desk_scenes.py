@@ -220,6 +220,7 @@ def drill(screen: Screen, see: See) -> str:
     last = len(held.records)
     held.begin_with(last - 1)
     held.start()
+    held.take_given()
     check("what is said of the log", f"{last - 1:,} lines in the log." in screen.text(), True)
     see("lists-drill")
     held.close(last)

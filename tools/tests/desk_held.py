@@ -250,6 +250,15 @@ class Auction:
         self.see("posted-first")
         self.home()
 
+    def take_given(self) -> None:
+        """Takes the seals that were given out before this desk was opened: those of its log."""
+        files = self.log_path.with_name("day.log.key"), self.award_path, self.log_path
+        words = [sys.executable, TOOLS / "seal", "sum", *files]
+        for line in subprocess.run(words, capture_output=True, text=True, check=True).stdout.splitlines():
+            words_of = line.split(" ")
+            named = 1 if words_of[0] == "key" else 2
+            self.sums.setdefault(" ".join(words_of[:named]), " ".join(words_of[named:]))
+
     def end(self) -> None:
         """Awards, makes the report and the set by their buttons, and tests what came of it."""
         for step, button in STEPS.items():
