@@ -86,7 +86,9 @@ def draw_rounds(drawing: Drawing, frame: Frame) -> None:
     drawing.line(frame.left, frame.bottom, frame.right, frame.bottom, "soft", 1)
     drawing.text(frame.left - 5, frame.bottom + 15, "round", side="end")
     for number in round_ticks(frame.count, 8):
-        drawing.text(frame.x(number), frame.bottom + 15, f"{number:,}", side="middle")
+        label = f"{number:,}"
+        middle = min(frame.x(number), frame.right - width_of(label) / 2)  # of many rounds the last is at the edge
+        drawing.text(middle, frame.bottom + 15, label, side="middle")
 
 
 def margin(places: Sequence[int]) -> float:
@@ -305,7 +307,11 @@ def activities(key: str, title: str, about: str, every: Sequence[Activity], most
             drawing.text(share((number - 0.5) / count), top + 46, f"{points:,}", "ink", "middle")
     bottom = len(every) * high + 10
     for at, number in enumerate(round_ticks(count, 5)):
-        drawing.text(share((number - 0.5) / count), bottom, f"{'' if at else 'round '}{number:,}", side="middle")
+        label, place = f"{'' if at else 'round '}{number:,}", (number - 0.5) / count
+        if (1 - place) * WIDE < width_of(label) / 2:  # of many rounds the last is at the edge
+            drawing.text(share(1), bottom, label, side="end")
+        else:
+            drawing.text(share(place), bottom, label, side="middle")
     return as_picture(key, title, about, bottom + 6, drawing.inner())
 
 
