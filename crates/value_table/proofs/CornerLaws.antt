@@ -1,12 +1,12 @@
 -- Lines that never fall, and the blocks of them that a bid leaves as they are.
-use Rattle.std.specs.Prelude.{◌≡◌, ℕ, suc, ◌+◌, ◌-◌, ◌*◌, ◌≤◌, ◌<◌, nat_le, IsTrue, List, [], ◌∷◌, length, get_or, take, drop, ℤ, pos, ◌+ℤ◌, ◌≤ℤ◌}
+use Rattle.std.specs.Prelude.{◌≡◌, ℕ, suc, ◌+◌, ◌-◌, ◌*◌, ◌≤◌, ◌<◌, nat_le, IsTrue, List, [], ◌∷◌, length, get_or, drop, ℤ, pos, ◌+ℤ◌, ◌≤ℤ◌}
 use Rattle.std.specs.Int.{int_max}
 use Rattle.std.proofs.Common.{inl, inr, sym, ◌∙◌, ap, subst, arith}
 use Rattle.std.proofs.lemmas.Bool.{false≢true, cases_Bool, cond-true, cond-false, and_parts, and_from, le-leb}
 use Rattle.std.proofs.lemmas.Int.{ints}
 use Rattle.std.proofs.lemmas.Nat.{div-mul-add, mod-mul-add, mul-add-lt}
 use Rattle.auction_model.specs.Menu.{Menu}
-use Rattle.auction_model.specs.Package.{IsNothingFrom, is_within, less}
+use Rattle.auction_model.specs.Package.{is_within, less}
 use Rattle.auction_model.specs.Place.{left_at, place_of, states_of}
 use Rattle.auction_model.specs.Steps.{raised}
 use Rattle.auction_model.specs.Table.{IsLine}
@@ -15,9 +15,8 @@ use Rattle.auction_model.proofs.LineLaws.{IsLineUpTo, int_max-left}
 use Rattle.auction_model.proofs.PlaceLaws.{left_at-less, left_at-whole, left_at-within, length-left_at, place-below, place-less, place-less_below}
 use Rattle.auction_model.proofs.PlaceLaws.{place_of-left_at, states-positive, within-within}
 use Rattle.auction_model.proofs.TableLaws.{fits_up_to, from_parts, parts}
-use Rattle.auction_model.proofs.TrimLaws.{trim-place, trim-within}
 use Rattle.choices.proofs.MoreLots.{less-more}
-use Rattle.value_table.specs.Growing.{Grows, HasCorners}
+use Rattle.value_table.specs.Growing.{BothGrow, Grows}
 
 module _ (supply p : List ℕ) (s : ℕ) (low : s < states_of supply) where
   -- the place of a package that fits at s has no more than s
@@ -51,22 +50,22 @@ module _ (supply p : List ℕ) (s : ℕ) (low : s < states_of supply) where
       (subst (λ (k : List ℕ). IsTrue (is_within (less (left_at supply s) p) k)) (sym left) more)
 
 -- a bid changes nothing in a block where its corners show it
-pub corner-none : (supply p : List ℕ) (first : ℕ) (line below : List ℤ) (worth : ℤ) → HasCorners supply p first line below
-    → (worth +ℤ get_or below (states_of supply - 1 - first) (pos 0)) ≤ℤ get_or line first (pos 0)
+pub corner-none : (supply p : List ℕ) (first : ℕ) (line below : List ℤ) (worth : ℤ) → IsTrue (is_within p supply) → first ≡ place_of supply p
+    → BothGrow supply line below → (worth +ℤ get_or below (states_of supply - 1 - first) (pos 0)) ≤ℤ get_or line first (pos 0)
     → (s : ℕ) → s < states_of supply → get_or line s (pos 0) ≡ raised supply below p worth s (get_or line s (pos 0))
-corner-none supply p first line below worth c test s low =
+corner-none supply p first line below worth fits place grow test s low =
     let old = get_or line s (pos 0) in
     let from = place_of supply (less (left_at supply s) p) in
     let rest = get_or below from (pos 0) in
     let last = states_of supply - 1 - first in
-    let first_low : first < states_of supply = omega (arith, c.place, place-below supply p c.fits) in
+    let first_low : first < states_of supply = omega (arith, place, place-below supply p fits) in
     let last_low : last < states_of supply = omega (arith, states-positive supply) in
     elim (cases_Bool (is_within p (left_at supply s))) [
       | inl here ↦
-          let lowest : IsTrue (is_within (left_at supply first) (left_at supply s)) = rw c.place (low-within supply p s low here) in
-          let highest : IsTrue (is_within (left_at supply from) (left_at supply last)) = rw c.place (high-within supply p s low c.fits) in
-          let own : get_or line first (pos 0) ≤ℤ old = c.line_grows first s first_low low lowest in
-          let most : rest ≤ℤ get_or below last (pos 0) = c.below_grows from last (place-less_below supply p s low) last_low highest in
+          let lowest : IsTrue (is_within (left_at supply first) (left_at supply s)) = rw place (low-within supply p s low here) in
+          let highest : IsTrue (is_within (left_at supply from) (left_at supply last)) = rw place (high-within supply p s low fits) in
+          let own : get_or line first (pos 0) ≤ℤ old = grow.line_grows first s first_low low lowest in
+          let most : rest ≤ℤ get_or below last (pos 0) = grow.below_grows from last (place-less_below supply p s low) last_low highest in
           let enough : (worth +ℤ rest) ≤ℤ old = omega (arith, ints, own, most, test) in
           sym (cond-true (is_within p (left_at supply s)) (int_max old (worth +ℤ rest)) old here ∙ int_max-left old (worth +ℤ rest) enough)
       | inr misses ↦ sym (cond-false (is_within p (left_at supply s)) (int_max old (worth +ℤ rest)) old misses)
@@ -86,20 +85,28 @@ grows-part (b ∷ supply) line part q some high reads grows = λ s t s_low t_low
     (and_from (nat_le q q) (is_within (left_at supply s) (left_at supply t)) (le-leb q q (omega arith)) within) in
     rw (reads s s_low, reads t t_low) (grows (q * W + s) (q * W + t) s_in t_in same)
 
--- the corners of a block, by those of the whole
-pub corners-part : (supply p : List ℕ) (first q S : ℕ) (line below part rest : List ℤ) → 0 < length p → length p ≤ length supply
-    → S ≡ states_of (drop 1 supply) → get_or p 0 0 ≤ q → q ≤ get_or supply 0 0
+-- so do the parts of both lines in a block that a bid raises
+pub parts-grow : (supply p : List ℕ) (q S : ℕ) (line below part rest : List ℤ) → 0 < length supply
+    → S ≡ states_of (drop 1 supply) → q ≤ get_or supply 0 0
     → ((i : ℕ) → i < S → get_or part i (pos 0) ≡ get_or line (q * S + i) (pos 0))
     → ((i : ℕ) → i < S → get_or rest i (pos 0) ≡ get_or below ((q - get_or p 0 0) * S + i) (pos 0))
-    → HasCorners supply p first line below → HasCorners (drop 1 supply) (drop 1 p) (first - get_or p 0 0 * S) part rest
-corners-part supply [] first q S line below part rest some few width low high own other c = absurd (omega (arith, some))
-corners-part [] (a ∷ p) first q S line below part rest some few width low high own other c = absurd (omega (arith, few))
-corners-part (b ∷ supply) (a ∷ p) first q S line below part rest some few width low high own other c = record {
-  fits = (and_parts (nat_le a b) (is_within p supply) c.fits).1;
-  place = rw (c.place, width) (omega arith);
-  line_grows = grows-part (b ∷ supply) line part q (omega arith) high (rw width at own) c.line_grows;
-  below_grows = grows-part (b ∷ supply) below rest (q - a) (omega arith) (omega (arith, high)) (rw width at other) c.below_grows;
+    → BothGrow supply line below → BothGrow (drop 1 supply) part rest
+parts-grow supply p q S line below part rest any width high own other grow = record {
+  line_grows = grows-part supply line part q any high (rw width at own) grow.line_grows;
+  below_grows = grows-part supply below rest (q - get_or p 0 0) any (omega (arith, high)) (rw width at other) grow.below_grows;
 }
+
+-- the lots of the other categories are within the rest of the supply, and their place is what the first leaves
+pub rest-fits : (supply p : List ℕ) → 0 < length p → length p ≤ length supply → IsTrue (is_within p supply) → IsTrue (is_within (drop 1 p) (drop 1 supply))
+rest-fits supply [] some few fits = absurd (omega (arith, some))
+rest-fits [] (a ∷ p) some few fits = absurd (omega (arith, few))
+rest-fits (b ∷ supply) (a ∷ p) some few fits = (and_parts (nat_le a b) (is_within p supply) fits).1
+
+pub rest-place : (supply p : List ℕ) → 0 < length p → length p ≤ length supply
+    → place_of supply p - get_or p 0 0 * states_of (drop 1 supply) ≡ place_of (drop 1 supply) (drop 1 p)
+rest-place supply [] some few = absurd (omega (arith, some))
+rest-place [] (a ∷ p) some few = absurd (omega (arith, few))
+rest-place (b ∷ supply) (a ∷ p) some few = omega arith
 
 module _ (m : Menu) (counts : ℕ → ℕ → ℤ) (supply : List ℕ) (k : ℕ) where
   -- an exact line never falls
@@ -128,13 +135,3 @@ module _ (m : Menu) (counts : ℕ → ℕ → ℤ) (supply : List ℕ) (k : ℕ)
       let same : length (left_at supply s) ≡ length (left_at supply t) = length-left_at supply s ∙ sym (length-left_at supply t) in
       let most = (e.exact t t_low).bound own.0 (more i (left_at supply s) (left_at supply t) own.0 same within own.1) in
       subst (λ (z : ℤ). z ≤ℤ get_or line t (pos 0)) own.2 most
-
--- so a bid without its empty end has the same corners
-pub trim-corners : (n : ℕ) (supply p : List ℕ) (first : ℕ) (line below : List ℤ) → IsNothingFrom n p → HasCorners supply p first line below
-    → HasCorners supply (take n p) first line below
-trim-corners n supply p first line below h c = record {
-  fits = trim-within n p supply h ∙ c.fits;
-  place = c.place ∙ sym (trim-place n supply p h);
-  line_grows = c.line_grows;
-  below_grows = c.below_grows;
-}

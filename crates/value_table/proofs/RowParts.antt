@@ -1,21 +1,13 @@
 -- The blocks of a line by the first category: block `q` begins at `q` times the first width, and each lies within the line.
-use Rattle.std.proofs.Common.{◌≡◌, ◌∙◌, ◌<◌, ◌≤◌, ◌+◌, ◌-◌, ◌*◌, ℕ, sym, ap, arith, get_or, length, List, [], ◌∷◌, drop, take}
+use Rattle.std.proofs.Common.{◌≡◌, ◌∙◌, ◌<◌, ◌≤◌, ◌+◌, ◌-◌, ◌*◌, ℕ, sym, ap, arith, get_or, length, List, drop, take}
 use Rattle.std.proofs.Math.Nat.{mul-le-mul_right}
-use Rattle.std.proofs.lemmas.List.{take_rest}
-use Rattle.std.proofs.lemmas.Nat.{mul-le}
-use Rattle.auction_model.specs.Place.{place_of, states_of, widths_of}
+use Rattle.auction_model.specs.Place.{states_of, widths_of}
 use Rattle.auction_model.proofs.RunLaws.{states-first, width-at_most, width-first, widths-rest}
 use borrow.Rule.Slice.PartMut.{mid_len}
 
 -- a block has the places of the other categories
 pub first-width : (supply widths : List ℕ) → widths ≡ widths_of supply → 0 < length supply → get_or widths 0 0 ≡ states_of (drop 1 supply)
 first-width supply widths is some = ap (λ (l : List ℕ). get_or l 0 0) is ∙ width-first supply some
-
--- where a block begins is a small number
-pub row-small : (supply widths : List ℕ) (q : ℕ) → widths ≡ widths_of supply → 0 < length supply → states_of supply ≤ 16384 → q < 65537
-    → q * get_or widths 0 0 ≤ 65536 * 16384
-row-small supply widths q is some few low =
-    mul-le q (get_or widths 0 0) 65536 16384 (omega (arith, low)) (omega (arith, first-width supply widths is some, width-at_most supply some, few))
 
 -- a block ends within the line
 pub row-inside : (supply widths : List ℕ) (q : ℕ) → widths ≡ widths_of supply → 0 < length supply → q < get_or supply 0 0 + 1
@@ -31,31 +23,17 @@ row-inside supply widths q is some low =
 pub row-length : {A : Type 0} (supply widths : List ℕ) (q : ℕ) (line : List A) → widths ≡ widths_of supply → 0 < length supply
     → length line ≡ states_of supply → q < get_or supply 0 0 + 1
     → length (take (q * get_or widths 0 0 + get_or widths 0 0 - q * get_or widths 0 0)
-    (drop (q * get_or widths 0 0) line)) ≡ states_of (take (length supply - 1) (drop 1 supply))
+    (drop (q * get_or widths 0 0) line)) ≡ states_of (drop 1 supply)
 row-length supply widths q line is some all low =
     let S = get_or widths 0 0 in
     let wide : q * S + S - q * S ≡ S = omega arith in
     mid_len (q * S) (q * S + S) line (omega (arith, row-inside supply widths q is some low, all)) ∙ wide ∙ first-width supply widths is some
-    ∙ ap states_of (sym (take_rest supply 1))
 
 -- the other widths are those of the supply without its first category
 pub left-widths : (supply widths : List ℕ) → widths ≡ widths_of supply
-    → take (length widths - 1) (drop 1 widths) ≡ widths_of (take (length supply - 1) (drop 1 supply))
-left-widths supply widths is =
-    take_rest widths 1 ∙ ap (drop 1) is ∙ widths-rest supply ∙ ap widths_of (sym (take_rest supply 1))
+    → drop 1 widths ≡ widths_of (drop 1 supply)
+left-widths supply widths is = ap (drop 1) is ∙ widths-rest supply
 
 -- and it has no more places than all
-pub left-few : (supply : List ℕ) → 0 < length supply → states_of (take (length supply - 1) (drop 1 supply)) ≤ states_of supply
-left-few supply some = omega (arith, ap states_of (take_rest supply 1), width-at_most supply some)
-
--- the place of some lots is at least where their block begins
-place-first : (supply counts : List ℕ) → 0 < length supply → 0 < length counts
-    → get_or counts 0 0 * states_of (drop 1 supply) ≤ place_of supply counts
-place-first [] counts some any = absurd (omega arith)
-place-first (u ∷ supply) [] some any = absurd (omega arith)
-place-first (u ∷ supply) (a ∷ counts) some any = omega arith
-
-pub row-place : (supply widths counts : List ℕ) → widths ≡ widths_of supply → 0 < length supply → 0 < length counts
-    → get_or counts 0 0 * get_or widths 0 0 ≤ place_of supply counts
-row-place supply widths counts is some any =
-    omega (arith, place-first supply counts some any, ap (λ n. get_or counts 0 0 * n) (first-width supply widths is some))
+pub left-few : (supply : List ℕ) → 0 < length supply → states_of (drop 1 supply) ≤ states_of supply
+left-few supply some = omega (arith, width-at_most supply some)

@@ -1,7 +1,7 @@
--- Lines that never fall, and the corners of their blocks.
-use Rattle.std.specs.Prelude.{◌≡◌, ℕ, ◌<◌, IsTrue, List, slice_index_or, ℤ, pos, ◌≤ℤ◌}
+-- Lines that never fall.
+use Rattle.std.specs.Prelude.{ℕ, ◌<◌, IsTrue, List, slice_index_or, ℤ, pos, ◌≤ℤ◌}
 use Rattle.auction_model.specs.Package.{is_within}
-use Rattle.auction_model.specs.Place.{left_at, place_of, states_of}
+use Rattle.auction_model.specs.Place.{left_at, states_of}
 
 -- where more is left of each category, the line has at least as much
 abbrev pub Grows : List ℕ → List ℤ → Type 0
@@ -9,9 +9,7 @@ Grows supply line = (s t : ℕ) → s < states_of supply → t < states_of suppl
     → IsTrue (is_within (left_at supply s) (left_at supply t))
     → slice_index_or line s (pos 0) ≤ℤ slice_index_or line t (pos 0)
 
--- lots that fit have the place `first`, and neither line falls: then the corners show whether a bid for them changes anything
-pub record HasCorners (supply lots : List ℕ) (first : ℕ) (line below : List ℤ) : Type 0 where
-  pub fits : IsTrue (is_within lots supply)
-  pub place : first ≡ place_of supply lots
+-- neither line falls
+pub record BothGrow (supply : List ℕ) (line below : List ℤ) : Type 0 where
   pub line_grows : Grows supply line
   pub below_grows : Grows supply below

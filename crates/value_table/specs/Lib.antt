@@ -1,3 +1,4 @@
+pub mod Block
 pub mod BookTable
 pub mod Counted
 pub mod Growing

@@ -1,9 +1,7 @@
 -- What is asked where one more bid is counted in a line, and what is done.
 use Rattle.std.specs.Prelude.{◌≡◌, ℕ, ◌≤◌, ◌<◌, ◌^◌, IfSome, List, Option, length, map, slice_index_or, ℤ, pos, unsigned_abs}
-use Rattle.auction_model.specs.Place.{states_of, widths_of}
 use Rattle.auction_model.specs.Steps.{raised}
 use Rattle.choices.specs.Coarse.{AreCoarse}
-use Rattle.limits.specs.declared.TheConstants.{MOST_STATES}
 
 -- a line and the line below it have that many places, and the worth and the numbers of the line below are so small that a sum of both
 -- is a number of their size
@@ -12,13 +10,6 @@ pub record CanRaise {A : Type 0} (number : A → ℤ) (most states : ℕ) (own r
   pub places : length rest ≡ states
   pub worth : unsigned_abs (number amount) ≤ most
   pub sizes : (s : ℕ) → unsigned_abs (slice_index_or (map number rest) s (pos 0)) ≤ most
-
--- the same of the lines of a supply, for lots of its first categories
-pub record CanRaiseLots {A : Type 0} (number : A → ℤ) (most : ℕ) (supply spans lots : List ℕ) (own rest : List A) (amount : A) : Type 0 where
-  pub widths : spans ≡ widths_of supply
-  pub categories : length lots ≤ length supply
-  pub states : states_of supply ≤ MOST_STATES
-  pub lines : CanRaise number most (states_of supply) own rest amount
 
 -- a bid of some lots and a worth is counted at each place of a line where it fits
 abbrev pub IsRaisedBy : {A : Type 0} → (A → ℤ) → List ℕ → List ℕ → List A → A → List A → List A → Type 0

@@ -1,6 +1,7 @@
 //! Exact tables of a book, and the winning choice.
 #![tactic(auto)]
 
+mod block;
 mod book_chooser;
 mod buffers;
 mod cell;

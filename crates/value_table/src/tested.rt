@@ -4,87 +4,75 @@ ghost use Rattle.std.specs.Prelude.{◌≡◌, ◌*◌, ◌^◌, ◌<◌, IsTrue
 ghost use Rattle.choices.specs.Coarse.{HasMask};
 ghost use Rattle.auction_model.specs.Package.{is_within};
 ghost use Rattle.auction_model.specs.Place.{states_of};
-ghost use Rattle.value_table.specs.Growing.{Grows, HasCorners};
-ghost use Rattle.value_table.specs.Raising.{AreInUnits, CanRaise, CanRaiseLots, IsRaisedBy, MayBeInUnits};
+ghost use Rattle.value_table.specs.Growing.{BothGrow, Grows};
+ghost use Rattle.value_table.specs.Raising.{AreInUnits, CanRaise, IsRaisedBy, MayBeInUnits};
 
+use crate::block::Block;
 use crate::cell::Cell;
 use crate::runs::{is_reached, raise_block};
 use choices::coarse::{CoarseBid, MASK_ROOM, is_covered, put_deep_mask};
-use lots::{Package, Supply, used_categories};
+use lots::{Package, Supply};
 
 /// Counts one more bid in a block, where no mask for just these categories shows that it changes nothing there.
 fn raise_unless_covered<C: Cell>(
     coarse: &CoarseBid,
-    supply: &[u16],
-    widths: &[usize],
-    counts: &[u16],
-    first: usize,
+    block: &Block,
     line: &mut [C],
     below: &[C],
     low: &mut [u16],
     high: &[u16],
     worth: C,
 ) -> u32
-    requires lots { CanRaiseLots C.number C.most supply.now widths.now counts.now line.old below.now worth }
-    requires some { 0 < length counts.now }
-    requires corners { HasCorners supply.now counts.now first (map C.number line.old) (map C.number below.now) }
+    requires lines { CanRaise C.number C.most (states_of block.now.supply.now) line.old below.now worth }
+    requires grow { BothGrow block.now.supply.now (map C.number line.old) (map C.number below.now) }
     requires units { AreInUnits C.number coarse.now.shift line.old below.now low.old high.now }
     requires worth { C.number worth ≤ℤ pos (coarse.now.worth * 2 ^ coarse.now.shift) }
-    requires mask { HasMask coarse.now.level supply.now counts.now coarse.now.mask.now }
-    ensures line { IsRaisedBy C.number supply.now counts.now below.now worth line.old line.new }
+    requires mask { HasMask coarse.now.level block.now.supply.now block.now.counts.now coarse.now.mask.now }
+    ensures line { IsRaisedBy C.number block.now.supply.now block.now.counts.now below.now worth line.old line.new }
     ensures units { AreInUnits C.number coarse.now.shift line.new below.now low.new high.now }
 {
-    if counts.len() == coarse.level && is_covered(coarse, first, low, high) {
+    if block.counts.len() == coarse.level && is_covered(coarse, block.first, low, high) {
         return 1;
     }
-    raise_block(supply, widths, counts, first, line, below, worth);
+    raise_block(block, line, below, worth);
     C::put_low(low, line, coarse.shift);
     0
 }
 
-/// Counts one more bid in the places of some categories, of which the blocks for which there is a mask are tested in 16 bits.
+/// Counts one more bid in a block, of which the parts for which there is a mask are tested in 16 bits.
 fn raise_coarse<C: Cell>(
     coarse: &CoarseBid,
-    supply: &[u16],
-    widths: &[usize],
-    counts: &[u16],
-    first: usize,
+    block: &Block,
     line: &mut [C],
     below: &[C],
     low: &mut [u16],
     high: &[u16],
     worth: C,
 ) -> u32
-    requires lots { CanRaiseLots C.number C.most supply.now widths.now counts.now line.old below.now worth }
-    requires some { 0 < length counts.now }
-    requires corners { HasCorners supply.now counts.now first (map C.number line.old) (map C.number below.now) }
+    requires lines { CanRaise C.number C.most (states_of block.now.supply.now) line.old below.now worth }
+    requires grow { BothGrow block.now.supply.now (map C.number line.old) (map C.number below.now) }
     requires units { AreInUnits C.number coarse.now.shift line.old below.now low.old high.now }
     requires worth { C.number worth ≤ℤ pos (coarse.now.worth * 2 ^ coarse.now.shift) }
-    requires mask { HasMask coarse.now.level supply.now counts.now coarse.now.mask.now }
-    ensures line { IsRaisedBy C.number supply.now counts.now below.now worth line.old line.new }
+    requires mask { HasMask coarse.now.level block.now.supply.now block.now.counts.now coarse.now.mask.now }
+    ensures line { IsRaisedBy C.number block.now.supply.now block.now.counts.now below.now worth line.old line.new }
     ensures units { AreInUnits C.number coarse.now.shift line.new below.now low.new high.now }
 {
-    if is_reached(first, line, below, worth) {
+    if is_reached(block.first, line, below, worth) {
         return 0;
     }
-    if counts.len() == coarse.level || counts.len() == 1 {
-        return raise_unless_covered(
-            coarse, supply, widths, counts, first, line, below, low, high, worth,
-        );
+    if block.counts.len() == coarse.level || block.counts.len() == 1 {
+        return raise_unless_covered(coarse, block, line, below, low, high, worth);
     }
-    let width = widths[0];
-    let count = counts[0] as usize;
-    let rest = first - count * width;
+    let width = block.widths[0];
+    let count = block.counts[0] as usize;
+    let rest = block.rest();
     let mut covered: u32 = 0;
-    for block in count..supply[0] as usize + 1 {
-        let to = block * width;
-        let from = (block - count) * width;
+    for row in count..block.supply[0] as usize + 1 {
+        let to = row * width;
+        let from = (row - count) * width;
         let more = raise_coarse(
             coarse,
-            &supply[1..],
-            &widths[1..],
-            &counts[1..],
-            rest,
+            &rest,
             &mut line[to..to + width],
             &below[from..from + width],
             &mut low[to..to + width],
@@ -96,80 +84,68 @@ fn raise_coarse<C: Cell>(
     covered
 }
 
-/// Counts one more bid in lines that are in units of `2^shift` too.
+/// Counts one more bid in a block of lines that are in units of `2^shift` too.
 fn raise_in_units<C: Cell>(
     shift: u32,
-    supply: &[u16],
-    widths: &[usize],
-    counts: &[u16],
-    first: usize,
+    block: &Block,
     line: &mut [C],
     below: &[C],
     low: &mut [u16],
     high: &[u16],
     worth: C,
 ) -> u32
-    requires lots { CanRaiseLots C.number C.most supply.now widths.now counts.now line.old below.now worth }
-    requires some { 0 < length counts.now }
-    requires corners { HasCorners supply.now counts.now first (map C.number line.old) (map C.number below.now) }
+    requires lines { CanRaise C.number C.most (states_of block.now.supply.now) line.old below.now worth }
+    requires grow { BothGrow block.now.supply.now (map C.number line.old) (map C.number below.now) }
     requires units { AreInUnits C.number shift line.old below.now low.old high.now }
-    ensures line { IsRaisedBy C.number supply.now counts.now below.now worth line.old line.new }
+    ensures line { IsRaisedBy C.number block.now.supply.now block.now.counts.now below.now worth line.old line.new }
     ensures units { AreInUnits C.number shift line.new below.now low.new high.now }
 {
-    if is_reached(first, line, below, worth) {
+    if is_reached(block.first, line, below, worth) {
         return 0;
     }
     let units = C::worth_units(worth, shift);
     if units == 0 {
-        raise_block(supply, widths, counts, first, line, below, worth);
+        raise_block(block, line, below, worth);
         C::put_low(low, line, shift);
         return 0;
     }
     let mut mask = [0u16; MASK_ROOM];
-    let level = put_deep_mask(supply, widths, counts, &mut mask);
+    let level = put_deep_mask(block.supply, block.widths, block.counts, &mut mask);
     let coarse = CoarseBid {
         worth: units,
         shift,
         level,
         mask: &mask,
     };
-    raise_coarse(
-        &coarse, supply, widths, counts, first, line, below, low, high, worth,
-    )
+    raise_coarse(&coarse, block, line, below, low, high, worth)
 }
 
-/// Counts one more bid, in units where there is a shift.
+/// Counts one more bid in a block, in units where there is a shift.
 fn raise_lots<C: Cell>(
     shift: Option<u32>,
-    supply: &[u16],
-    widths: &[usize],
-    counts: &[u16],
-    first: usize,
+    block: &Block,
     line: &mut [C],
     below: &[C],
     low: &mut [u16],
     high: &[u16],
     worth: C,
 ) -> u32
-    requires lots { CanRaiseLots C.number C.most supply.now widths.now counts.now line.old below.now worth }
-    requires some { 0 < length counts.now }
-    requires corners { HasCorners supply.now counts.now first (map C.number line.old) (map C.number below.now) }
+    requires lines { CanRaise C.number C.most (states_of block.now.supply.now) line.old below.now worth }
+    requires grow { BothGrow block.now.supply.now (map C.number line.old) (map C.number below.now) }
     requires units { MayBeInUnits C.number shift line.old below.now low.old high.now }
-    ensures line { IsRaisedBy C.number supply.now counts.now below.now worth line.old line.new }
+    ensures line { IsRaisedBy C.number block.now.supply.now block.now.counts.now below.now worth line.old line.new }
     ensures units { MayBeInUnits C.number shift line.new below.now low.new high.now }
 {
     match shift {
-        Some(shift) => raise_in_units(
-            shift, supply, widths, counts, first, line, below, low, high, worth,
-        ),
+        Some(shift) => raise_in_units(shift, block, line, below, low, high, worth),
         None => {
-            raise_block(supply, widths, counts, first, line, below, worth);
+            raise_block(block, line, below, worth);
             0
         }
     }
 }
 
-/// Counts one more bid that fits in each entry of the line. Neither line falls where more is left. Where there is a shift both stand
+/// Counts one more bid that fits in each entry of the line. Neither line falls where more is left. Where there is a shift both are
 /// in units of `2^shift` too.
 pub fn add_bid<C: Cell>(
     supply: &Supply,
@@ -190,20 +166,6 @@ pub fn add_bid<C: Cell>(
     ensures line { IsRaisedBy C.number supply.now lots.now below.now worth line.old line.new }
     ensures units { MayBeInUnits C.number shift line.new below.now low.new high.now }
 {
-    let radices = supply.counts();
-    let counts = lots.counts();
-    let used = used_categories(counts);
-    let first = supply.place(lots);
-    raise_lots(
-        shift,
-        radices,
-        supply.widths(),
-        &counts[..used],
-        first,
-        line,
-        below,
-        low,
-        high,
-        worth,
-    )
+    let block = Block::whole(supply, lots);
+    raise_lots(shift, &block, line, below, low, high, worth)
 }

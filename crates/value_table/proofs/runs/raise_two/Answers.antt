@@ -6,60 +6,59 @@ use Rattle.value_table.proofs.NumberParts.{small-numbers}
 use Rattle.value_table.proofs.RowSteps.{skip-less, start-inside, left-rows, two-back}
 use Rattle.value_table.proofs.runs.raise_two.Goals as goal
 
-pub bounds-widths-0 : goal.bounds-widths-0
-bounds-widths-0 g c = rw c.requires.lots.widths (omega (arith, widths-count c.args.supply.now, c.requires.two, c.requires.lots.categories))
-
 pub offset_bounds-line-from : goal.offset_bounds-line-from
 offset_bounds-line-from g c =
-    let inside = start-inside c.args.supply.now c.args.widths.now c.args.counts.now c.requires.lots.widths c.requires.two c.requires.lots.categories
-    c.requires.fits in
-    let room : get_or c.args.counts.now 0 0 * get_or c.args.widths.now 0 0 + get_or c.args.counts.now 1 0 * get_or c.args.widths.now 1 0
-    ≤ length c.args.line.now = omega (arith, inside, c.requires.lots.lines.line) in
+    let b = c.args.block.now in
+    let inside = start-inside b.supply.now b.widths.now b.counts.now b.is.widths c.requires.two b.is.categories
+    b.is.fits in
+    let room : get_or b.counts.now 0 0 * get_or b.widths.now 0 0 + get_or b.counts.now 1 0 * get_or b.widths.now 1 0
+    ≤ length c.args.line.now = omega (arith, inside, c.requires.lines.line) in
     grind (arith, common_steps, room)
 
 pub invariant_of-rows : goal.invariant_of-rows
 invariant_of-rows g c =
-    let less = skip-less c.args.supply.now c.args.widths.now c.args.counts.now c.requires.lots.widths c.requires.two (omega (
+    let b = c.args.block.now in
+    let less = skip-less b.supply.now b.widths.now b.counts.now b.is.widths c.requires.two (omega (
       arith,
       c.requires.two,
-      c.requires.lots.categories,
-    )) c.requires.fits in
+      b.is.categories,
+    )) b.is.fits in
     record { some = (omega arith, omega (arith, less)); inside = omega arith }
 
 pub raise_rows-requires-clause-rows : goal.raise_rows-requires-clause-rows
 raise_rows-requires-clause-rows g c =
-    let supply = c.args.supply.now in
-    let widths = c.args.widths.now in
-    let counts = c.args.counts.now in
+    let b = c.args.block.now in
+    let supply = b.supply.now in
+    let widths = b.widths.now in
+    let counts = b.counts.now in
     let line = c.args.line.now in
     let start = get_or counts 0 0 * get_or widths 0 0 + get_or counts 1 0 * get_or widths 1 0 in
     let k = length line - start in
     length-take-le k (drop start line) (omega (arith, length-drop start line)) ∙ omega (
       arith,
-      c.requires.lots.lines.line,
+      c.requires.lines.line,
       left-rows supply widths counts
-          c.requires.lots.widths c.requires.two c.requires.lots.categories c.requires.fits,
+          b.is.widths c.requires.two b.is.categories b.is.fits,
     )
 
 pub raise_rows-requires-clause-sizes : goal.raise_rows-requires-clause-sizes
 raise_rows-requires-clause-sizes g c =
-    let widths = c.args.widths.now in
-    let counts = c.args.counts.now in
+    let b = c.args.block.now in
+    let widths = b.widths.now in
+    let counts = b.counts.now in
     let start = get_or counts 0 0 * get_or widths 0 0 + get_or counts 1 0 * get_or widths 1 0 in
-    small-numbers g.C.Cell.number c.args.below.now 0 (length c.args.line.now - start) g.C.Cell.most c.requires.lots.lines.sizes
+    small-numbers g.C.Cell.number c.args.below.now 0 (length c.args.line.now - start) g.C.Cell.most c.requires.lines.sizes
 
 pub returns : goal.returns
 returns g c =
+    let b = c.args.block.now in
     let line = c.args.line.now in
-    let start = get_or c.args.counts.now 0 0 * get_or c.args.widths.now 0 0 + get_or c.args.counts.now 1 0 * get_or c.args.widths.now 1 0 in
+    let start = get_or b.counts.now 0 0 * get_or b.widths.now 0 0 + get_or b.counts.now 1 0 * get_or b.widths.now 1 0 in
     let k = length line - start in
-    two-back c.args.supply.now c.args.widths.now c.args.counts.now c.requires.lots.widths c.requires.two c.requires.lots.categories c.requires.fits
-    g.C.Cell.number (g.C.Cell.number c.args.worth) line c.args.below.now c.raise_rows.new.line k c.requires.lots.lines.line (omega arith)
+    two-back b.supply.now b.widths.now b.counts.now b.is.widths c.requires.two b.is.categories b.is.fits
+    g.C.Cell.number (g.C.Cell.number c.args.worth) line c.args.below.now c.raise_rows.new.line k c.requires.lines.line (omega arith)
     (c.raise_rows.auto.line ∙ length-take-le k (drop start line) (omega (arith, length-drop start line)))
     c.raise_rows.ensures.raised c.raise_rows.ensures.kept
-
-pub bounds-widths-1 : goal.bounds-widths-1
-bounds-widths-1 g c = grind (arith, common_steps)
 
 pub overflow_mul-skip : goal.overflow_mul-skip
 overflow_mul-skip g c = grind (arith, common_steps)
@@ -84,3 +83,8 @@ slice_bounds-raise_rows-start g c = grind (arith, common_steps)
 
 pub slice_bounds-raise_rows-count-2 : goal.slice_bounds-raise_rows-count-2
 slice_bounds-raise_rows-count-2 g c = grind (arith, common_steps)
+
+pub bounds-block-0 : goal.bounds-block-0
+bounds-block-0 g c =
+    let b = c.args.block.now in
+    rw b.is.widths (omega (arith, widths-count b.supply.now, b.is.some, b.is.categories))

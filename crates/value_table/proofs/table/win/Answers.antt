@@ -1,4 +1,4 @@
-use Rattle.std.proofs.Common.{List, ℤ, pos, ap, ◌∙◌, get_or}
+use Rattle.std.proofs.Common.{pos, ◌∙◌}
 use Rattle.value_table.proofs.LoweredLaws.{first-from}
 use Rattle.value_table.proofs.Plain.{plain-range, plain-winning}
 use Rattle.value_table.proofs.table.win.Goals as goal

@@ -4,16 +4,18 @@ use Rattle.value_table.proofs.tested.raise_in_units.Goals as goal
 
 pub is_reached-requires-clause-first : goal.is_reached-requires-clause-first
 is_reached-requires-clause-first g c =
-    first-inside g.C.Cell.number g.C.Cell.most c.args.supply.now c.args.widths.now c.args.counts.now c.args.line.now c.args.below.now c.args.worth
-    c.requires.some c.requires.lots c.args.first c.requires.corners
+    let b = c.args.block.now in
+    first-inside g.C.Cell.number g.C.Cell.most b.supply.now b.widths.now b.counts.now b.first b.is c.args.line.now c.args.below.now c.args.worth
+    c.requires.lines
 
 pub is_reached-requires-clause-lines : goal.is_reached-requires-clause-lines
-is_reached-requires-clause-lines g c = rw c.requires.lots.lines.line c.requires.lots.lines
+is_reached-requires-clause-lines g c = rw c.requires.lines.line c.requires.lines
 
 pub returns-then-is_reached-clause-line : goal.returns-then-is_reached-clause-line
 returns-then-is_reached-clause-line g c =
-    reached-none g.C.Cell.number g.C.Cell.most c.args.supply.now c.args.widths.now c.args.counts.now c.args.line.now c.args.below.now c.args.worth
-    c.requires.some c.requires.lots c.args.first c.requires.corners (c.is_reached.ensures.0 c.if-is_reached.true)
+    let b = c.args.block.now in
+    reached-none g.C.Cell.number g.C.Cell.most b.supply.now b.widths.now b.counts.now b.first b.is c.args.line.now c.args.below.now c.args.worth
+    c.requires.lines c.requires.grow (c.is_reached.ensures.0 c.if-is_reached.true)
 
 pub returns-then-units-eq0-clause-units : goal.returns-then-units-eq0-clause-units
 returns-then-units-eq0-clause-units g c =

@@ -7,11 +7,12 @@ use Rattle.value_table.proofs.tested.raise_unless_covered.Goals as goal
 
 pub is_covered-requires-clause-first : goal.is_covered-requires-clause-first
 is_covered-requires-clause-first g c =
+    let b = c.args.block.now in
     omega (
       arith,
       c.requires.units.places,
-      first-inside g.C.Cell.number g.C.Cell.most c.args.supply.now c.args.widths.now c.args.counts.now c.args.line.now c.args.below.now c.args.worth
-          c.requires.some c.requires.lots c.args.first c.requires.corners,
+      first-inside g.C.Cell.number g.C.Cell.most b.supply.now b.widths.now b.counts.now b.first b.is c.args.line.now c.args.below.now c.args.worth
+          c.requires.lines,
     )
 
 pub is_covered-requires-clause-short : goal.is_covered-requires-clause-short
@@ -22,16 +23,17 @@ pub returns-then-is_covered-clause-line : goal.returns-then-is_covered-clause-li
 returns-then-is_covered-clause-line g c = λ s h.
     let number = g.C.Cell.number in
     let coarse = c.args.coarse.now in
-    let supply = c.args.supply.now in
-    let counts = c.args.counts.now in
+    let b = c.args.block.now in
+    let supply = b.supply.now in
+    let counts = b.counts.now in
     let line = c.args.line.now in
     let below = c.args.below.now in
     kept-none supply counts (map number line) (map number below) (number c.args.worth)
-    (coarse-keeps (2 ^ coarse.shift) supply counts c.args.first coarse.worth (map number line) (map number below) c.args.low.now c.args.high.now
-    coarse.mask.now (number c.args.worth) c.requires.corners.place (length-map line number ∙ c.requires.lots.lines.line)
-    (length-map below number ∙ c.requires.lots.lines.places) c.requires.units.coarse coarse.some c.requires.worth
-    (mask-here coarse.level supply counts coarse.mask.now c.requires.some c.if-counts-coarse.true c.requires.mask)
-    (c.is_covered.ensures c.if-is_covered.true)) s (omega (arith, h, c.requires.lots.lines.line))
+    (coarse-keeps (2 ^ coarse.shift) supply counts b.first coarse.worth (map number line) (map number below) c.args.low.now c.args.high.now
+    coarse.mask.now (number c.args.worth) b.is.place (length-map line number ∙ c.requires.lines.line)
+    (length-map below number ∙ c.requires.lines.places) c.requires.units.coarse coarse.some c.requires.worth
+    (mask-here coarse.level supply counts coarse.mask.now b.is.some c.if-block-coarse.true c.requires.mask)
+    (c.is_covered.ensures c.if-is_covered.true)) s (omega (arith, h, c.requires.lines.line))
 
 pub returns-clause-units : goal.returns-clause-units
 returns-clause-units g c =

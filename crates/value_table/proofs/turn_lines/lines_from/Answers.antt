@@ -1,4 +1,5 @@
-use Rattle.std.proofs.Common.{◌∙◌, ◌^◌, List, ℕ, arith, map, pos, rules, subst, sym}
+use Rattle.std.proofs.lemmas.Grind.{common_steps}
+use Rattle.std.proofs.Common.{◌∙◌, ◌^◌, List, ℕ, map, pos, rules, subst, sym, arith}
 use Rattle.value_table.specs.Counted.{IsCountedLine}
 use Rattle.value_table.proofs.Sizes.{line-within, line-sign}
 use Rattle.value_table.proofs.turn_lines.lines_from.Goals as goal
@@ -18,3 +19,9 @@ narrow_into-requires-clause-signs c = λ s.
     let l = c.args.lowered.now in
     let own = subst (IsCountedLine l c.args.top) (sym (c.deref.ensures.value ∙ c.in_ok-wide.ensures)) c.requires.first in
     line-sign l c.args.top c.deref.result.now c.requires.top own s
+
+pub lines_down-requires-clause-first : goal.lines_down-requires-clause-first
+lines_down-requires-clause-first c = grind (arith, common_steps)
+
+pub lines_down-requires-2-clause-first : goal.lines_down-requires-2-clause-first
+lines_down-requires-2-clause-first c = grind (arith, common_steps)

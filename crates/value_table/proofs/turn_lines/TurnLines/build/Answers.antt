@@ -1,4 +1,4 @@
-use Rattle.std.proofs.Common.{◌≡◌, ◌∙◌, ap, map, pos, refl, replicate, length}
+use Rattle.std.proofs.Common.{◌≡◌, ◌∙◌, ap, map, pos, refl, replicate}
 use Rattle.std.proofs.lemmas.List.{length-map, length-replicate}
 use Rattle.std.proofs.lemmas.Result.{IfOk-weaker}
 use Rattle.auction_model.specs.Place.{states_of}
