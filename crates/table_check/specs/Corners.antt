@@ -1,4 +1,4 @@
--- The rule of a bid in a block, and the corners of a block.
+-- The rule of a bid in a block, and lines that never fall.
 use Rattle.std.specs.Prelude.{◌≡◌, ℕ, ◌-◌, ◌<◌, Bool, true, IsTrue, List, ℤ, ◌+ℤ◌, ◌≤ℤ◌}
 use Rattle.auction_model.specs.Package.{is_within}
 use Rattle.auction_model.specs.Place.{left_at, place_of, states_of}
@@ -14,9 +14,3 @@ KeepsBlock supply lots line below worth = (n : ℕ) → n < states_of supply →
 pub record BothGrow (supply : List ℕ) (grow : Bool) (line below : List ℤ) : Type 0 where
   pub line_grows : grow ≡ true → Grows supply line
   pub below_grows : grow ≡ true → Grows supply below
-
--- the package fits in the block and has the place `first`; where no line falls, its corners show whether the rule holds in all of it
-pub record HasCorners (supply lots : List ℕ) (first : ℕ) (grow : Bool) (line below : List ℤ) : Type 0 where
-  pub fits : IsTrue (is_within lots supply)
-  pub place : first ≡ place_of supply lots
-  pub both : BothGrow supply grow line below

@@ -1,3 +1,4 @@
+pub mod Block
 pub mod Faults
 pub mod Narrow
 pub mod Growth

@@ -5,7 +5,7 @@ use Rattle.auction_model.specs.Place.{left_at, place_of, states_of}
 use Rattle.auction_model.specs.Table.{entry_at}
 use Rattle.auction_model.specs.Menu.{Menu, without}
 use Rattle.auction_model.specs.Book.{lots_of, menu_of}
-use Rattle.cert_soundness.specs.Tests.{ObeysAt, Obeys, bidders_of, states}
+use Rattle.cert_soundness.specs.Tests.{ObeysAt, bidders_of, states}
 use Rattle.wide_num.specs.Sums.{nth}
 use Rattle.table_check.specs.Worths.{worth_with}
 use Rattle.table_check.specs.declared.offers.TestedBids.{TestedBids}
@@ -39,10 +39,6 @@ pub record KeepsSome (o : TestedBids) (j : ℕ) (line below : List ℤ) (some s 
 -- the rules of line k at a place
 abbrev pub ObeysIn : TestedBids → List (List ℤ) → ℕ → ℕ → Type 0
 ObeysIn o table k s = s < states o.book.now → ObeysAt (offered o) (worth_of o) o.book.now.supply table k s
-
--- where a bidder is skipped, this table has the rules for the bids of all
-abbrev pub IsWhole : TestedBids → List (List ℤ) → Type 0
-IsWhole o whole = 0 < o.skip → Obeys (menu_of o.book.now) (worth_of o) o.book.now.supply whole
 
 -- the rules of all lines at a number, which names a line and a place
 abbrev pub RulesAt : TestedBids → List (List ℤ) → ℕ → Type 0

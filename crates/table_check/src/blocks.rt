@@ -2,12 +2,13 @@
 // places with `q` lots of that category left, and what a bid of `count` lots asks there it reads in block `q - count` of the line
 // below. A block is left out where its corners show that the rule holds in all of it.
 ghost use Rattle.std.specs.Prelude.{◌≡◌, ◌↔◌, ℕ, ◌-◌, ◌≤◌, ◌<◌, ◌^◌, IsTrue, length, ◌+ℤ◌, ◌≤ℤ◌, unsigned_abs};
-ghost use Rattle.auction_model.specs.Place.{states_of, widths_of};
+ghost use Rattle.auction_model.specs.Place.{states_of};
 ghost use Rattle.wide_num.specs.Sums.{nth};
 ghost use Rattle.table_check.specs.Narrow.{IsSmall};
-ghost use Rattle.table_check.specs.Corners.{KeepsBlock, HasCorners};
-ghost use Rattle.limits.specs.declared.TheConstants.{MOST_STATES};
+ghost use Rattle.table_check.specs.Corners.{KeepsBlock, BothGrow};
 
+use crate::block::Block;
+use crate::narrow::NarrowLines;
 use crate::rule::NarrowRule;
 
 /// From this number on a mark has its highest bit.
@@ -51,7 +52,7 @@ fn gap(here: i64, below: i64) -> u64
     (here - below).cast_unsigned()
 }
 
-/// The same as `covers_all` for a worth of 0, with a step less for each number.
+/// Whether each number is at least that of the line below: `covers_all` for a worth of 0, with a step less for each number.
 pub fn none_below(line: &[i64], below: &[i64]) -> bool
     requires places { length below.now ≡ length line.now }
     requires small { IsSmall line.now }
@@ -66,63 +67,36 @@ pub fn none_below(line: &[i64], below: &[i64]) -> bool
 }
 
 /// Whether a block of a package of one category is seen to keep the rule: its places are one run.
-fn one_holds(
-    rule: &NarrowRule,
-    supply: &[u16],
-    widths: &[usize],
-    lots: &[u16],
-    line: &[i64],
-    below: &[i64],
-) -> bool
-    requires widths { widths.now ≡ widths_of supply.now }
-    requires one { length lots.now ≡ 1 }
-    requires categories { length lots.now ≤ length supply.now }
-    requires states { states_of supply.now ≤ MOST_STATES }
-    requires places { length line.now ≡ states_of supply.now }
-    requires below { length below.now ≡ states_of supply.now }
+fn one_holds(rule: &NarrowRule, block: &Block, line: &[i64], below: &[i64]) -> bool
+    requires one { length block.now.lots.now ≡ 1 }
+    requires places { length line.now ≡ states_of block.now.supply.now }
+    requires below { length below.now ≡ states_of block.now.supply.now }
     requires small { IsSmall line.now }
     requires small_below { IsSmall below.now }
-    ensures { IsTrue result → KeepsBlock supply.now lots.now line.now below.now rule.now.worth }
+    ensures { IsTrue result → KeepsBlock block.now.supply.now block.now.lots.now line.now below.now rule.now.worth }
 {
-    let from = lots[0] as usize * widths[0];
-    let all = line.len();
-    if from >= all {
-        return true;
-    }
-    covers_all(&line[from..], &below[..all - from], rule.worth)
+    let from = block.place();
+    covers_all(&line[from..], &below[..line.len() - from], rule.worth)
 }
 
-/// The same of a package of two categories, without a call for each run.
-fn two_hold(
-    rule: &NarrowRule,
-    supply: &[u16],
-    widths: &[usize],
-    lots: &[u16],
-    line: &[i64],
-    below: &[i64],
-) -> bool
-    requires widths { widths.now ≡ widths_of supply.now }
-    requires two { length lots.now ≡ 2 }
-    requires categories { length lots.now ≤ length supply.now }
-    requires states { states_of supply.now ≤ MOST_STATES }
-    requires places { length line.now ≡ states_of supply.now }
-    requires below { length below.now ≡ states_of supply.now }
-    requires small { IsSmall line.now }
-    requires small_below { IsSmall below.now }
-    ensures { IsTrue result → KeepsBlock supply.now lots.now line.now below.now rule.now.worth }
+/// Whether a block of a package of two categories is seen to keep the rule, without a struct for each run.
+fn two_hold(rule: &NarrowRule, block: &Block, lines: &NarrowLines) -> bool
+    requires two { length block.now.lots.now ≡ 2 }
+    requires places { length lines.now.line.now ≡ states_of block.now.supply.now }
+    ensures { IsTrue result
+        → KeepsBlock block.now.supply.now block.now.lots.now lines.now.line.now lines.now.below.now rule.now.worth }
 {
-    let width = widths[0];
-    let count = lots[0] as usize;
-    for row in count..supply[0] as usize + 1 {
-        let here = row * width;
-        let rest = (row - count) * width;
+    let width = block.width();
+    let count = block.count();
+    let row = block.rest();
+    for digit in count..block.parts() {
+        let here = block.start(digit);
+        let back = block.start(digit - count);
         if !one_holds(
             rule,
-            &supply[1..],
-            &widths[1..],
-            &lots[1..],
-            &line[here..here + width],
-            &below[rest..rest + width],
+            &row,
+            &lines.line[here..here + width],
+            &lines.below[back..back + width],
         ) {
             return false;
         }
@@ -130,66 +104,53 @@ fn two_hold(
     true
 }
 
-/// Whether the lowest entry of a block at which a package fits, at the place `first` of its lots, is at least the worth and the
-/// highest entry of the line below that is read there. Where no line falls the rule then holds in the whole block.
-pub fn is_reached(rule: &NarrowRule, first: usize, line: &[i64], below: &[i64]) -> bool
-    requires places { length below.now ≡ length line.now }
-    requires first { first < length line.now }
-    requires small_below { IsSmall below.now }
+/// Whether neither line falls, and an entry is at least the worth and that entry of the line below that is as far from its end.
+fn corner_covers(rule: &NarrowRule, lines: &NarrowLines, first: usize) -> bool
+    requires first { first < length lines.now.line.now }
     ensures { IsTrue result → IsTrue rule.now.grow
-        × ((rule.now.worth +ℤ nth below.now (length line.now - 1 - first)) ≤ℤ nth line.now first) }
+        × ((rule.now.worth +ℤ nth lines.now.below.now (length lines.now.line.now - 1 - first)) ≤ℤ nth lines.now.line.now first) }
 {
     if !rule.grow {
         return false;
     }
-    rule.worth + below[line.len() - 1 - first] <= line[first]
+    rule.worth + lines.below[lines.line.len() - 1 - first] <= lines.line[first]
 }
 
-/// Whether a block is seen to keep the rule of a bid, whose lots have the place `first`.
-pub fn block_holds(
-    rule: &NarrowRule,
-    supply: &[u16],
-    widths: &[usize],
-    lots: &[u16],
-    first: usize,
-    line: &[i64],
-    below: &[i64],
-) -> bool
-    requires widths { widths.now ≡ widths_of supply.now }
-    requires some { 0 < length lots.now }
-    requires categories { length lots.now ≤ length supply.now }
-    requires corners { HasCorners supply.now lots.now first rule.now.grow line.now below.now }
-    requires states { states_of supply.now ≤ MOST_STATES }
-    requires places { length line.now ≡ states_of supply.now }
-    requires below { length below.now ≡ states_of supply.now }
-    requires small { IsSmall line.now }
-    requires small_below { IsSmall below.now }
-    ensures { IsTrue result → KeepsBlock supply.now lots.now line.now below.now rule.now.worth }
+/// Whether the lowest entry of a block at which a package fits, which is at the place of its lots, is at least the worth and the
+/// highest entry of the line below that is read there. Where no line falls the rule then holds in the whole block.
+pub fn is_reached(rule: &NarrowRule, block: &Block, lines: &NarrowLines) -> bool
+    requires places { length lines.now.line.now ≡ states_of block.now.supply.now }
+    requires grow { BothGrow block.now.supply.now rule.now.grow lines.now.line.now lines.now.below.now }
+    ensures { IsTrue result
+        → KeepsBlock block.now.supply.now block.now.lots.now lines.now.line.now lines.now.below.now rule.now.worth }
 {
-    if is_reached(rule, first, line, below) {
+    corner_covers(rule, lines, block.place())
+}
+
+/// Whether a block is seen to keep the rule of a bid.
+pub fn block_holds(rule: &NarrowRule, block: &Block, lines: &NarrowLines) -> bool
+    requires places { length lines.now.line.now ≡ states_of block.now.supply.now }
+    requires grow { BothGrow block.now.supply.now rule.now.grow lines.now.line.now lines.now.below.now }
+    ensures { IsTrue result
+        → KeepsBlock block.now.supply.now block.now.lots.now lines.now.line.now lines.now.below.now rule.now.worth }
+{
+    if is_reached(rule, block, lines) {
         return true;
     }
-    if lots.len() == 1 {
-        return one_holds(rule, supply, widths, lots, line, below);
+    if block.lots.len() == 1 {
+        return one_holds(rule, block, lines.line, lines.below);
     }
-    if lots.len() == 2 {
-        return two_hold(rule, supply, widths, lots, line, below);
+    if block.lots.len() == 2 {
+        return two_hold(rule, block, lines);
     }
-    let width = widths[0];
-    let count = lots[0] as usize;
-    let start = first - count * width;
-    for block in count..supply[0] as usize + 1 {
-        let here = block * width;
-        let rest = (block - count) * width;
-        if !block_holds(
-            rule,
-            &supply[1..],
-            &widths[1..],
-            &lots[1..],
-            start,
-            &line[here..here + width],
-            &below[rest..rest + width],
-        ) {
+    let width = block.width();
+    let count = block.count();
+    let rest = block.rest();
+    for digit in count..block.parts() {
+        let here = block.start(digit);
+        let back = block.start(digit - count);
+        let part = lines.part(here, back, width);
+        if !block_holds(rule, &rest, &part) {
             return false;
         }
     }

@@ -1,77 +1,53 @@
 // Whether a line is seen to keep the rule of a bid in 16 bits: both lines are counted in one unit, the line rounded down, and the
 // line below and the worth rounded up. A block of the last few categories is tested in one run, with a mask of the places at which
 // the package fits. A yes is a yes of the exact numbers; where units are too coarse to tell, 64 bits are.
-ghost use Rattle.std.specs.Prelude.{◌≡◌, ◌*◌, ◌^◌, ◌≤◌, ◌<◌, IsTrue, length, pos, ◌≤ℤ◌};
-ghost use Rattle.auction_model.specs.Place.{states_of, widths_of};
-ghost use Rattle.table_check.specs.Narrow.{IsSmall};
-ghost use Rattle.table_check.specs.Corners.{KeepsBlock, HasCorners};
+ghost use Rattle.std.specs.Prelude.{◌≡◌, ◌*◌, ◌^◌, ◌<◌, IsTrue, true, length, pos, ◌≤ℤ◌};
+ghost use Rattle.auction_model.specs.Place.{states_of};
+ghost use Rattle.table_check.specs.Corners.{KeepsBlock, BothGrow};
 ghost use Rattle.choices.specs.Coarse.{AreCoarse, HasMask};
-ghost use Rattle.limits.specs.declared.TheConstants.{MOST_STATES};
 
+use crate::block::Block;
 use crate::blocks::{block_holds, is_reached};
+use crate::narrow::CoarseLines;
 use crate::rule::{LinePair, NarrowRule};
 use choices::coarse::{
     CoarseBid, MASK_ROOM, is_covered, put_deep_mask, put_high, put_low, shift_for, worth_units,
 };
 
-/// Whether a block is seen to keep the rule of a bid, whose lots have the place `first`: the blocks for which there is a mask are
-/// tested in 16 bits, and else in 64.
+/// Whether a block is seen to keep the rule of a bid: the blocks for which there is a mask are tested in 16 bits, and else in 64.
 pub fn coarse_holds(
     rule: &NarrowRule,
     coarse: &CoarseBid,
-    supply: &[u16],
-    widths: &[usize],
-    lots: &[u16],
-    first: usize,
-    line: &[i64],
-    below: &[i64],
-    low: &[u16],
-    high: &[u16],
+    block: &Block,
+    lines: &CoarseLines,
 ) -> bool
-    requires widths { widths.now ≡ widths_of supply.now }
-    requires some { 0 < length lots.now }
-    requires categories { length lots.now ≤ length supply.now }
-    requires corners { HasCorners supply.now lots.now first rule.now.grow line.now below.now }
-    requires states { states_of supply.now ≤ MOST_STATES }
-    requires places { length line.now ≡ states_of supply.now }
-    requires below { length below.now ≡ states_of supply.now }
-    requires small { IsSmall line.now }
-    requires small_below { IsSmall below.now }
-    requires coarse { AreCoarse (2 ^ coarse.now.shift) line.now below.now low.now high.now }
-    requires worth { rule.now.worth ≤ℤ pos (coarse.now.worth * 2 ^ coarse.now.shift) }
-    requires mask { HasMask coarse.now.level supply.now lots.now coarse.now.mask.now }
-    ensures { IsTrue result → KeepsBlock supply.now lots.now line.now below.now rule.now.worth }
+    requires places { length lines.now.narrow.line.now ≡ states_of block.now.supply.now }
+    requires grow { BothGrow block.now.supply.now rule.now.grow lines.now.narrow.line.now lines.now.narrow.below.now }
+    requires worth { rule.now.worth ≤ℤ pos (coarse.now.worth * 2 ^ lines.now.shift) }
+    requires mask { HasMask coarse.now.level block.now.supply.now block.now.lots.now coarse.now.mask.now }
+    ensures { IsTrue result
+        → KeepsBlock block.now.supply.now block.now.lots.now lines.now.narrow.line.now lines.now.narrow.below.now rule.now.worth }
 {
-    if is_reached(rule, first, line, below) {
+    if is_reached(rule, block, &lines.narrow) {
         return true;
     }
-    if lots.len() == coarse.level {
-        if is_covered(coarse, first, low, high) {
+    if block.lots.len() == coarse.level {
+        if is_covered(coarse, block.place(), lines.low, lines.high) {
             return true;
         }
-        return block_holds(rule, supply, widths, lots, first, line, below);
+        return block_holds(rule, block, &lines.narrow);
     }
-    if lots.len() == 1 {
-        return block_holds(rule, supply, widths, lots, first, line, below);
+    if block.lots.len() == 1 {
+        return block_holds(rule, block, &lines.narrow);
     }
-    let width = widths[0];
-    let count = lots[0] as usize;
-    let start = first - count * width;
-    for block in count..supply[0] as usize + 1 {
-        let here = block * width;
-        let rest = (block - count) * width;
-        if !coarse_holds(
-            rule,
-            coarse,
-            &supply[1..],
-            &widths[1..],
-            &lots[1..],
-            start,
-            &line[here..here + width],
-            &below[rest..rest + width],
-            &low[here..here + width],
-            &high[rest..rest + width],
-        ) {
+    let width = block.width();
+    let count = block.count();
+    let rest = block.rest();
+    for digit in count..block.parts() {
+        let here = block.start(digit);
+        let back = block.start(digit - count);
+        let part = lines.part(here, back, width);
+        if !coarse_holds(rule, coarse, &rest, &part) {
             return false;
         }
     }
@@ -105,48 +81,41 @@ pub fn shift_of(line: &[i64]) -> u32
     shift_for(line[line.len() - 1].unsigned_abs())
 }
 
-/// Whether the lines are seen to keep the rule of a bid, whose lots have the place `first`: in 16 bits where they are in these too.
-pub fn rule_holds(
-    rule: &NarrowRule,
-    lines: &LinePair,
-    supply: &[u16],
-    widths: &[usize],
-    lots: &[u16],
-    first: usize,
-) -> bool
-    requires widths { widths.now ≡ widths_of supply.now }
-    requires some { 0 < length lots.now }
-    requires categories { length lots.now ≤ length supply.now }
-    requires corners { HasCorners supply.now lots.now first rule.now.grow lines.now.narrow_line.now lines.now.narrow_below.now }
-    requires states { states_of supply.now ≤ MOST_STATES }
-    requires places { length lines.now.narrow_line.now ≡ states_of supply.now }
-    requires below { length lines.now.narrow_below.now ≡ states_of supply.now }
-    requires small { IsSmall lines.now.narrow_line.now }
-    requires small_below { IsSmall lines.now.narrow_below.now }
+/// Whether a block is seen to keep the rule of a bid, with a mask of its package: in 16 bits where the worth is in these too.
+fn masked_holds(rule: &NarrowRule, block: &Block, lines: &CoarseLines) -> bool
+    requires places { length lines.now.narrow.line.now ≡ states_of block.now.supply.now }
+    requires grow { BothGrow block.now.supply.now rule.now.grow lines.now.narrow.line.now lines.now.narrow.below.now }
     ensures { IsTrue result
-        → KeepsBlock supply.now lots.now lines.now.narrow_line.now lines.now.narrow_below.now rule.now.worth }
+        → KeepsBlock block.now.supply.now block.now.lots.now lines.now.narrow.line.now lines.now.narrow.below.now rule.now.worth }
 {
-    let line = lines.narrow_line;
-    let below = lines.narrow_below;
-    if !lines.is_coarse {
-        return block_holds(rule, supply, widths, lots, first, line, below);
-    }
     let worth = worth_units(rule.worth, lines.shift);
     if worth == 0 {
-        return block_holds(rule, supply, widths, lots, first, line, below);
+        return block_holds(rule, block, &lines.narrow);
     }
-    if is_reached(rule, first, line, below) {
+    if is_reached(rule, block, &lines.narrow) {
         return true;
     }
     let mut mask = [0u16; MASK_ROOM];
-    let level = put_deep_mask(supply, widths, lots, &mut mask);
+    let level = put_deep_mask(block.supply, block.widths, block.lots, &mut mask);
     let coarse = CoarseBid {
         worth,
         shift: lines.shift,
         level,
         mask: &mask,
     };
-    coarse_holds(
-        rule, &coarse, supply, widths, lots, first, line, below, lines.low, lines.high,
-    )
+    coarse_holds(rule, &coarse, block, lines)
+}
+
+/// Whether a block of all places of the lines is seen to keep the rule of a bid: in 16 bits where the lines are in these too.
+pub fn rule_holds(rule: &NarrowRule, block: &Block, lines: &LinePair) -> bool
+    requires narrow { lines.now.is_narrow ≡ true }
+    requires places { length lines.now.line.now ≡ states_of block.now.supply.now }
+    requires grow { BothGrow block.now.supply.now rule.now.grow lines.now.line.now lines.now.below.now }
+    ensures { IsTrue result
+        → KeepsBlock block.now.supply.now block.now.lots.now lines.now.line.now lines.now.below.now rule.now.worth }
+{
+    if lines.is_coarse {
+        return masked_holds(rule, block, &lines.in_16_bits());
+    }
+    block_holds(rule, block, &lines.in_64_bits())
 }

@@ -44,7 +44,7 @@ pub fn is_growing(supply: &[u16], widths: &[usize], line: &[i128]) -> bool
     true
 }
 
-/// The same as `rises_by` in 64 bits.
+/// What `rises_by` says, in 64 bits.
 fn rises_narrow(line: &[i64], width: usize) -> bool
     requires small { IsSmall line.now }
     ensures { IsTrue result → RisesBy width line.now }
@@ -75,7 +75,7 @@ fn rows_grow(supply: &[u16], width: usize, line: &[i64]) -> bool
     true
 }
 
-/// The same as `is_growing` in 64 bits.
+/// What `is_growing` says, in 64 bits.
 pub fn is_growing_narrow(supply: &[u16], widths: &[usize], line: &[i64]) -> bool
     requires widths { widths.now ≡ widths_of supply.now }
     requires some { 0 < length supply.now }

@@ -5,10 +5,12 @@
 //! the rest. Anyone who tests a table tests it two lines at a time.
 #![tactic(auto)]
 
+mod block;
 mod blocks;
 mod coarse;
 mod growth;
 mod lines;
+mod narrow;
 mod offers;
 mod rule;
 mod walk;

@@ -11,6 +11,7 @@ ghost use Rattle.table_check.specs.Corners.{BothGrow, KeepsBlock};
 ghost use Rattle.table_check.specs.Growth.{Grows};
 ghost use Rattle.table_check.specs.Narrow.{IsSmall};
 
+use crate::block::Block;
 use crate::blocks::none_below;
 use crate::coarse::{put_coarse, rule_holds, shift_of};
 use crate::growth::{is_growing, is_growing_narrow};
@@ -18,12 +19,12 @@ use crate::offers::TestedBids;
 use crate::rule::{LinePair, LineRule, NarrowRule};
 use crate::walk::{block_fault, run_fault};
 use limits::MOST_STATES;
-use lots::{Package, Supply, used_categories};
+use lots::{Package, Supply};
 
 /// The greatest number with which the rules are tested in 64 bits.
 const MOST_NARROW: i128 = 1 << 60;
 
-/// The same, below which the bits of a narrow line stay.
+/// The bits of each number of a narrow line are below this.
 const NARROW_EDGE: u128 = 1 << 60;
 
 /// All bits of 64.
@@ -94,8 +95,6 @@ fn fast_bid_rule(supply: &Supply, lots: &Package, lines: &LinePair, grow: bool, 
     requires grow { BothGrow supply.now grow lines.now.line.now lines.now.below.now }
     ensures { IsTrue result → KeepsBlock supply.now lots.now lines.now.line.now lines.now.below.now worth }
 {
-    let radices = supply.counts();
-    supply.kept();
     if !lines.is_narrow {
         return false;
     }
@@ -106,16 +105,8 @@ fn fast_bid_rule(supply: &Supply, lots: &Package, lines: &LinePair, grow: bool, 
         worth: worth as i64,
         grow,
     };
-    let counts = lots.counts();
-    let used = used_categories(counts);
-    rule_holds(
-        &rule,
-        lines,
-        radices,
-        supply.widths(),
-        &counts[..used],
-        supply.place(lots),
-    )
+    let block = Block::of(supply, lots);
+    rule_holds(&rule, &block, lines)
 }
 
 /// The first place, below `until`, at which the line of bidder `j` breaks the rule of its bid `i`, and `until` if there is none,
@@ -127,50 +118,31 @@ fn exact_fault(offers: &TestedBids, j: u16, i: u16, lines: &LinePair, until: usi
     ensures { FirstFault (KeepsBid offers.now j lines.now.line.now lines.now.below.now i) until result }
 {
     let supply = offers.book.supply();
-    supply.kept();
     let bid = offers.book.bid(j, i);
     let worth = offers.worth(j, i);
+    let block = Block::of(supply, &bid.package);
     let rule = LineRule {
         line: lines.line,
         below: lines.below,
-        shift: supply.place(&bid.package),
+        shift: block.first,
         worth,
     };
-    let counts = bid.package.counts();
-    let used = used_categories(counts);
-    block_fault(
-        &rule,
-        supply.counts(),
-        supply.widths(),
-        &counts[..used],
-        0,
-        until,
-    )
+    block_fault(&rule, &block, 0, until)
 }
 
-/// The same, and only where the rule isn't seen to hold in 64 bits place by place. Where `grow` says so neither line falls where
+/// Whether the rule of bid `i` of bidder `j` is seen to hold in 64 bits at each place. Where `grow` says so neither line falls where
 /// more is left.
-fn bid_fault(
-    offers: &TestedBids,
-    j: u16,
-    i: u16,
-    lines: &LinePair,
-    grow: bool,
-    until: usize,
-) -> usize
+fn is_bid_kept(offers: &TestedBids, j: u16, i: u16, lines: &LinePair, grow: bool) -> bool
     requires bidder { (0 < j) × (j ≤ bidders_of offers.now.book.now) }
     requires bid { (0 < i) × (i ≤ length (bids_of offers.now.book.now j)) }
     requires line { length lines.now.line.now ≡ states offers.now.book.now }
     requires grow { BothGrow offers.now.book.now.supply grow lines.now.line.now lines.now.below.now }
-    ensures { FirstFault (KeepsBid offers.now j lines.now.line.now lines.now.below.now i) until result }
+    ensures { IsTrue result → (s : ℕ) → KeepsBid offers.now j lines.now.line.now lines.now.below.now i s }
 {
     let supply = offers.book.supply();
     let bid = offers.book.bid(j, i);
     let worth = offers.worth(j, i);
-    if fast_bid_rule(supply, &bid.package, lines, grow, worth) {
-        return until;
-    }
-    exact_fault(offers, j, i, lines, until)
+    fast_bid_rule(supply, &bid.package, lines, grow, worth)
 }
 
 /// Whether the line below never falls where more is left.
@@ -224,7 +196,10 @@ fn pair_fault(offers: &TestedBids, j: u16, lines: &LinePair, known: bool) -> Lin
         if grows && offers.is_needless(j, i + 1) {
             continue;
         }
-        found = bid_fault(offers, j, i + 1, lines, grow, found);
+        if is_bid_kept(offers, j, i + 1, lines, grow) {
+            continue;
+        }
+        found = exact_fault(offers, j, i + 1, lines, found);
     }
     LineFault {
         place: found,
@@ -255,7 +230,7 @@ fn narrow_into(numbers: &mut [i64], line: &[i128]) -> bool
     seen < NARROW_EDGE
 }
 
-/// The same as `line_fault`, with room for `N` numbers of each line in 64 bits.
+/// What `line_fault` gives, with room for `N` numbers of each line in 64 bits.
 fn line_fault_sized<const N: usize>(
     offers: &TestedBids,
     j: u16,

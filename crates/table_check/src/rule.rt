@@ -3,6 +3,8 @@ ghost use Rattle.std.specs.Prelude.{◌≡◌, ℕ, ◌^◌, ◌<◌, ◌≤◌,
 ghost use Rattle.choices.specs.Coarse.{AreCoarse};
 ghost use Rattle.table_check.specs.Narrow.{AreNarrow};
 
+use crate::narrow::{CoarseLines, NarrowLines};
+
 /// A line of a table and the line below it. Where `is_narrow` says so both are in 64 bits too, and so small that no sum of four
 /// numbers leaves these. Where `is_coarse` says so they are in 16 bits as well, in units of `2^shift`.
 #[derive(Drop)]
@@ -21,6 +23,38 @@ pub struct LinePair<'a> {
     pub ghost narrow: { is_narrow ≡ true → AreNarrow line.now below.now narrow_line.now narrow_below.now },
     pub ghost coarse: { is_coarse ≡ true → (shift < 64)
         × AreCoarse (2 ^ shift) narrow_line.now narrow_below.now low.now high.now },
+}
+
+impl<'a> LinePair<'a> {
+    /// Both lines in 64 bits.
+    pub fn in_64_bits(&self) -> NarrowLines<'a>
+        requires { self.now.is_narrow ≡ true }
+        ensures line { result.line.now ≡ self.now.line.now }
+        ensures below { result.below.now ≡ self.now.below.now }
+    {
+        NarrowLines {
+            line: self.narrow_line,
+            below: self.narrow_below,
+        }
+    }
+
+    /// Both lines in 64 bits and in 16.
+    pub fn in_16_bits(&self) -> CoarseLines<'a>
+        requires narrow { self.now.is_narrow ≡ true }
+        requires coarse { self.now.is_coarse ≡ true }
+        ensures line { result.narrow.line.now ≡ self.now.line.now }
+        ensures below { result.narrow.below.now ≡ self.now.below.now }
+        ensures shift { result.shift ≡ self.now.shift }
+        ensures low { result.low.now ≡ self.now.low.now }
+        ensures high { result.high.now ≡ self.now.high.now }
+    {
+        CoarseLines {
+            narrow: self.in_64_bits(),
+            shift: self.shift,
+            low: self.low,
+            high: self.high,
+        }
+    }
 }
 
 /// What one bid asks of a line: at each place where its package fits, the line is at least the worth of the bid and what the

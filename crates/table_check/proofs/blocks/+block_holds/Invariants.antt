@@ -1,14 +1,11 @@
-use Rattle.std.proofs.Common.{◌≡◌, ◌≤◌, ◌<◌, ◌*◌, ◌-◌, ℕ, get_or, drop, take, length}
+use Rattle.std.proofs.Common.{drop, length}
 use Rattle.auction_model.specs.Place.{states_of}
-use Rattle.table_check.specs.Corners.{KeepsBlock}
+use Rattle.table_check.proofs.CornerLaws.{PartsKeep}
 use Rattle.table_check.proofs.blocks.+block_holds.Given as goal
 
 abbrev pub decreases-block_holds : goal.decreases-block_holds
-decreases-block_holds l = length l.lots.now
+decreases-block_holds l = length l.block.now.lots.now
 
-abbrev pub invariant-loop-block : goal.invariant-loop-block
-invariant-loop-block l = record {
-  width : l.width ≡ states_of (drop 1 l.supply);
-  parts : (q : ℕ) → get_or l.lots 0 0 ≤ q → q < l.block → KeepsBlock (drop 1 l.supply) (drop 1 l.lots) (take l.width (drop (q * l.width) l.line))
-      (take l.width (drop ((q - get_or l.lots 0 0) * l.width) l.below)) l.rule.worth;
-}
+abbrev pub invariant-loop-digit : goal.invariant-loop-digit
+invariant-loop-digit l =
+    PartsKeep l.rest.supply.now l.rest.lots.now l.count (states_of (drop 1 l.block.supply.now)) l.digit l.lines.line.now l.lines.below.now l.rule.worth

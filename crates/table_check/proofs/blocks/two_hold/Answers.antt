@@ -1,53 +1,56 @@
-use Rattle.std.proofs.lemmas.Grind.{common_steps}
-use Rattle.std.proofs.Common.{◌∙◌, ℕ, ◌+◌, ◌-◌, ◌*◌, ap, arith, refl, get_or, List}
-use Rattle.auction_model.proofs.RunLaws.{width-first, widths-count}
-use Rattle.table_check.proofs.CornerLaws.{parts-more, parts-keep}
+use Rattle.std.proofs.Common.{◌≡◌, ℕ, List, ◌+◌, ◌-◌, ap, arith, drop, length, refl, take}
+use Rattle.std.proofs.lemmas.List.{length-drop}
+use Rattle.auction_model.specs.Place.{states_of}
+use Rattle.table_check.proofs.CornerLaws.{block-keeps, part-places, part-small, parts-more}
 use Rattle.table_check.proofs.blocks.two_hold.Goals as goal
 
-pub bounds-widths-0 : goal.bounds-widths-0
-bounds-widths-0 c = rw c.requires.widths (omega (arith, widths-count c.args.supply.now, c.requires.two, c.requires.categories))
+pub loop-digit-init : goal.loop-digit-init
+loop-digit-init c = λ q low high. absurd (omega (arith, low, high))
 
-pub loop-row-init : goal.loop-row-init
-loop-row-init c = record {
-  width = ap (λ (l : List ℕ). get_or l 0 0) c.requires.widths ∙ width-first c.args.supply.now (omega (arith, c.requires.two, c.requires.categories));
-  parts = λ q low high. absurd (omega (arith, low, high));
-}
-
-pub loop-row-preserved : goal.loop-row-preserved
-loop-row-preserved c =
-    let W = get_or c.args.widths.now 0 0 in
-    let d = c.loop-row.row in
-    let count = get_or c.args.lots.now 0 0 in
+pub one_holds-requires : goal.one_holds-requires
+one_holds-requires c =
+    let supply = c.args.block.now.supply.now in
+    let lots = c.args.block.now.lots.now in
+    let line = c.args.lines.now.line.now in
+    let below = c.args.lines.now.below.now in
+    let row = c.rest-row in
+    let here = c.start-here in
+    let back = c.start-back in
+    let width = c.width-width.result in
+    let k = here.result + width - here.result in
+    let m = back.result + width - back.result in
+    let one : length row.result.lots.now ≡ length (drop 1 lots) = ap (λ (l : List ℕ). length l) row.ensures.lots in
     record {
-      width = c.loop-row.invariant.width;
-      parts = parts-more c.args.supply.now c.args.lots.now W d (d * W + W - d * W) ((d - count) * W + W -
-          (d - count) * W) c.args.line.now c.args.below.now c.args.rule.now.worth (omega arith) (omega arith)
-          c.loop-row.invariant.parts (c.if-not-one_holds.ensures refl);
+      one = omega (arith, one, length-drop 1 lots, c.requires.two);
+      places = part-places supply row.result.supply.now here.result k line (take k (drop here.result line)) row.ensures.supply
+          (omega (arith, c.width-width.ensures)) (omega (arith, here.ensures.room, c.requires.places)) refl;
+      below = part-places supply row.result.supply.now back.result m below (take m (drop back.result below)) row.ensures.supply
+          (omega (arith, c.width-width.ensures)) (omega (arith, back.ensures.room, c.requires.places, c.args.lines.now.places)) refl;
+      small = part-small line here.result k c.args.lines.now.small;
+      small_below = part-small below back.result m c.args.lines.now.small_below;
     }
+
+pub loop-digit-preserved : goal.loop-digit-preserved
+loop-digit-preserved c =
+    let block = c.args.block.now in
+    let lines = c.args.lines.now in
+    let row = c.rest-row.result in
+    let here = c.start-here in
+    let back = c.start-back in
+    let width = c.width-width.result in
+    let k : here.result + width - here.result ≡ width = omega arith in
+    let m : back.result + width - back.result ≡ width = omega arith in
+    parts-more row.supply.now row.lots.now c.count-count.result (states_of (drop 1 block.supply.now)) c.loop-digit.digit here.result back.result width
+    lines.line.now lines.below.now (take (here.result + width - here.result) (drop here.result lines.line.now))
+    (take (back.result + width - back.result) (drop back.result lines.below.now)) c.args.rule.now.worth c.width-width.ensures here.ensures.start
+    back.ensures.start (ap (λ (n : ℕ). take n (drop here.result lines.line.now)) k) (ap (λ (n : ℕ). take n (drop back.result lines.below.now)) m)
+    c.loop-digit.invariant (c.if-not-one_holds.ensures refl)
 
 pub returns : goal.returns
 returns c = λ _.
-    parts-keep c.args.supply.now c.args.lots.now (get_or c.args.widths.now 0 0) c.args.line.now c.args.below.now c.args.rule.now.worth (omega
-    (arith, c.requires.two)) c.requires.categories c.loop-row.invariant.width
-    (λ q low high. c.loop-row.invariant.parts q low (omega (arith, high, c.loop-row-test.false)))
-
-pub slice_bounds-one_holds-end-in-loop-row-3 : goal.slice_bounds-one_holds-end-in-loop-row-3
-slice_bounds-one_holds-end-in-loop-row-3 c = grind (arith, common_steps)
-
-pub one_holds-requires-clause-widths : goal.one_holds-requires-clause-widths
-one_holds-requires-clause-widths c = grind (arith, common_steps)
-
-pub one_holds-requires-clause-states : goal.one_holds-requires-clause-states
-one_holds-requires-clause-states c = grind (arith, common_steps)
-
-pub one_holds-requires-clause-places : goal.one_holds-requires-clause-places
-one_holds-requires-clause-places c = grind (arith, common_steps)
-
-pub one_holds-requires-clause-below : goal.one_holds-requires-clause-below
-one_holds-requires-clause-below c = grind (arith, common_steps)
-
-pub one_holds-requires-clause-small : goal.one_holds-requires-clause-small
-one_holds-requires-clause-small c = grind (arith, common_steps)
-
-pub one_holds-requires-clause-small_below : goal.one_holds-requires-clause-small_below
-one_holds-requires-clause-small_below c = grind (arith, common_steps)
+    let block = c.args.block.now in
+    let lines = c.args.lines.now in
+    let row = c.rest-row in
+    block-keeps block.supply.now block.widths.now block.lots.now row.result.supply.now row.result.lots.now block.first c.count-count.result
+    c.loop-digit.digit lines.line.now lines.below.now c.args.rule.now.worth block.is row.ensures.supply row.ensures.lots c.count-count.ensures.count
+    (omega (arith, c.loop-digit-test.false, c.parts-digit-end.ensures)) c.loop-digit.invariant

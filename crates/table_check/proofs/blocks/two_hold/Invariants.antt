@@ -1,11 +1,8 @@
-use Rattle.std.proofs.Common.{◌≡◌, ◌≤◌, ◌<◌, ◌*◌, ◌-◌, ℕ, get_or, drop, take}
+use Rattle.std.proofs.Common.{drop}
 use Rattle.auction_model.specs.Place.{states_of}
-use Rattle.table_check.specs.Corners.{KeepsBlock}
+use Rattle.table_check.proofs.CornerLaws.{PartsKeep}
 use Rattle.table_check.proofs.blocks.two_hold.Given as goal
 
-abbrev pub invariant-loop-row : goal.invariant-loop-row
-invariant-loop-row l = record {
-  width : l.width ≡ states_of (drop 1 l.supply);
-  parts : (q : ℕ) → get_or l.lots 0 0 ≤ q → q < l.row → KeepsBlock (drop 1 l.supply) (drop 1 l.lots) (take l.width (drop (q * l.width) l.line))
-      (take l.width (drop ((q - get_or l.lots 0 0) * l.width) l.below)) l.rule.worth;
-}
+abbrev pub invariant-loop-digit : goal.invariant-loop-digit
+invariant-loop-digit l =
+    PartsKeep l.row.supply.now l.row.lots.now l.count (states_of (drop 1 l.block.supply.now)) l.digit l.lines.line.now l.lines.below.now l.rule.worth

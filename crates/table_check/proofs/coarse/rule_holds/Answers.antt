@@ -1,15 +1,39 @@
-use Rattle.std.proofs.Common.{arith, length}
-use Rattle.auction_model.proofs.PlaceLaws.{place-below}
-use Rattle.table_check.proofs.CornerLaws.{corner-keeps}
+use Rattle.std.proofs.Common.{◌∙◌, ℤ, List, ap, length}
+use Rattle.table_check.proofs.CornerLaws.{same-grow, same-keep}
 use Rattle.table_check.proofs.coarse.rule_holds.Goals as goal
 
-pub is_reached-requires-clause-first : goal.is_reached-requires-clause-first
-is_reached-requires-clause-first c = omega
-    (arith, c.requires.corners.place, c.requires.places, place-below c.args.supply.now c.args.lots.now c.requires.corners.fits)
+pub masked_holds-requires : goal.masked_holds-requires
+masked_holds-requires c =
+    let pair = c.args.lines.now in
+    let own = c.in_16_bits in
+    record {
+      places = ap (λ (l : List ℤ). length l) own.ensures.line ∙ c.requires.places;
+      grow = same-grow c.args.block.now.supply.now c.args.rule.now.grow pair.line.now pair.below.now own.result.narrow.line.now own.result.narrow.below.now
+          own.ensures.line own.ensures.below c.requires.grow;
+    }
 
-pub returns-then-is_reached : goal.returns-then-is_reached
-returns-then-is_reached c = λ _.
-    let lines = c.args.lines.now in
-    let reached = c.is_reached.ensures c.if-is_reached.true in
-    corner-keeps c.args.supply.now c.args.lots.now c.args.first (length lines.narrow_line.now)
-    c.args.rule.now.grow lines.narrow_line.now lines.narrow_below.now c.args.rule.now.worth c.requires.corners reached.0 c.requires.places reached.1
+pub returns-then-lines : goal.returns-then-lines
+returns-then-lines c = λ h.
+    let block = c.args.block.now in
+    let pair = c.args.lines.now in
+    let own = c.in_16_bits in
+    same-keep block.supply.now block.lots.now pair.line.now pair.below.now own.result.narrow.line.now own.result.narrow.below.now c.args.rule.now.worth
+    own.ensures.line own.ensures.below (c.masked_holds.ensures h)
+
+pub block_holds-requires : goal.block_holds-requires
+block_holds-requires c =
+    let pair = c.args.lines.now in
+    let own = c.in_64_bits in
+    record {
+      places = ap (λ (l : List ℤ). length l) own.ensures.line ∙ c.requires.places;
+      grow = same-grow c.args.block.now.supply.now c.args.rule.now.grow pair.line.now pair.below.now own.result.line.now own.result.below.now
+          own.ensures.line own.ensures.below c.requires.grow;
+    }
+
+pub returns : goal.returns
+returns c = λ h.
+    let block = c.args.block.now in
+    let pair = c.args.lines.now in
+    let own = c.in_64_bits in
+    same-keep block.supply.now block.lots.now pair.line.now pair.below.now own.result.line.now own.result.below.now c.args.rule.now.worth
+    own.ensures.line own.ensures.below (c.block_holds.ensures h)
