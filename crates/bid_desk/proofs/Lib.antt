@@ -1,5 +1,6 @@
 mod DeskLaws
 mod TakeLaws
+mod OtherReplies
 mod EntryLaws
 mod BestBids
 mod BookLaws

@@ -6,6 +6,8 @@ use Rattle.auction_rules.specs.declared.Event.TheVariants.{Close, Draft, Drop, S
 use Rattle.auction_rules.specs.declared.Event.TheVariants as event_kind
 use Rattle.auction_rules.specs.declared.Reply.{Reply}
 use Rattle.auction_rules.specs.declared.Reply.TheVariants as reply
+use Rattle.auction_rules.specs.declared.Stage.{Stage}
+use Rattle.auction_rules.specs.declared.Stage.TheVariants as stages
 use Rattle.auction_rules.specs.Lawful.{HasCategories}
 use Rattle.auction_rules.specs.Replies.{reply_to}
 use Rattle.auction_rules.specs.State.{DeskState, reply_in, state_of, state_with}
@@ -21,10 +23,20 @@ pub record IsTaken (old : DeskState) (line : Event) (answer : Reply) (new : Desk
   pub reply : answer ≡ reply_in old line
   pub state : new ≡ state_with old line
 
--- there was no memory, and nothing changed
-pub record IsRefusedMemory (old : DeskState) (answer : Reply) (new : DeskState) : Type 0 where
+-- Out of memory may come in place of this reply of the rules at this stage: never for a clock bid or a drop, for a draft only where it is
+-- admitted, for a submission only where the bidder's list is tested, and for a close only while the clock runs.
+abbrev pub MayLack : Stage → Event → Reply → Type 0
+MayLack stage (event_kind.Bid k lots) answer = ⊥
+MayLack stage (Drop k lots) answer = ⊥
+MayLack stage (Draft k lots amount) answer = answer ≡ reply.Ok
+MayLack stage (Submit k) answer = (answer ≢ reply.Stage) × (answer ≢ reply.Unknown)
+MayLack stage Close answer = stage ≡ stages.Clock
+
+-- there was no memory where it may lack, and nothing changed
+pub record IsRefusedMemory (old : DeskState) (line : Event) (answer : Reply) (new : DeskState) : Type 0 where
   pub reply : answer ≡ reply.Memory
   pub same : new ≡ old
+  pub may : MayLack old.stage line (reply_in old line)
 
 -- the line is a clock bid or a drop
 abbrev pub IsBidOrDrop : Event → Type 0
@@ -36,7 +48,7 @@ IsBidOrDrop Close = ⊥
 
 -- the line was answered and taken, or there was no memory
 abbrev pub IsTakenOrMemory : DeskState → Event → Reply → DeskState → Type 0
-IsTakenOrMemory old line answer new = IsRefusedMemory old answer new ⊎ IsTaken old line answer new
+IsTakenOrMemory old line answer new = IsRefusedMemory old line answer new ⊎ IsTaken old line answer new
 
 -- A desk that stood for this log answered the line by the rules and stands for the log with the line; or there was no memory, and it
 -- stands for the log as before.
@@ -45,9 +57,10 @@ pub record StandsWith (old : DeskState) (log : List Event) (line : Event) (answe
   pub state : new ≡ state_of old.terms (line ∷ log)
 
 abbrev pub StandsNext : DeskState → List Event → Event → Reply → DeskState → Type 0
-StandsNext old log line answer new = IsRefusedMemory old answer new ⊎ StandsWith old log line answer new
+StandsNext old log line answer new = IsRefusedMemory old line answer new ⊎ StandsWith old log line answer new
 
 -- the line was answered and taken, or there was no memory, for which a clock bid and a drop have no need
 pub record Takes (old : DeskState) (line : Event) (answer : Reply) (new : DeskState) : Type 0 where
   pub taken : IsTakenOrMemory old line answer new
   pub sure : IsBidOrDrop line → answer ≢ reply.Memory
+  pub memory : answer ≡ reply.Memory → MayLack old.stage line (reply_in old line)

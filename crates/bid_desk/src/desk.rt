@@ -1,5 +1,5 @@
 // The desk.
-ghost use Rattle.std.specs.Prelude.{◌≡◌, ◌≢◌, ◌⊎◌, ◌∷◌, ◌&&◌, [], Err, IfOk, IsTrue, List, None, ℕ, length, map, nat_le, nat_lt, not, option_map, replicate, true, false};
+ghost use Rattle.std.specs.Prelude.{◌≡◌, ◌≢◌, ◌⊎◌, ◌∷◌, ◌&&◌, [], Err, IfOk, IsTrue, List, None, OnErr, ℕ, length, map, nat_le, nat_lt, not, option_map, replicate, true, false};
 ghost use Rattle.limits.specs.declared.TheConstants.{MOST_DRAFTS};
 ghost use Rattle.auction_model.specs.Package.{cost_of};
 ghost use Rattle.auction_rules.specs.declared.Event.{Event};
@@ -21,7 +21,7 @@ ghost use Rattle.bid_desk.specs.BookClaims.{AreCapped, AreOwn};
 ghost use Rattle.bid_desk.specs.Closes.{reply_value};
 ghost use Rattle.bid_desk.specs.Lists.{lists_with};
 ghost use Rattle.bid_desk.specs.Known.{IsKnown, amount_reply, fault_in, submitted_of};
-ghost use Rattle.bid_desk.specs.Reached.{IsBidOrDrop, IsTaken, IsTakenOrMemory, StandsNext, Takes};
+ghost use Rattle.bid_desk.specs.Reached.{IsBidOrDrop, IsTaken, IsTakenOrMemory, MayLack, StandsNext, Takes};
 
 use crate::book::book_of;
 use crate::lists::{BidderLists, empty_lists};
@@ -154,8 +154,10 @@ impl Desk {
     /// Takes a line of a log, whose package has the award's number of categories.
     ///
     /// The reply is that of the rules, and what the line changes is what the rules say; a desk that stands for a log then stands for
-    /// the log with this line. After every reply but Ok the desk is as it was. Memory comes instead of the reply of the rules, and
-    /// never for a clock bid or a drop. Whatever other bidders do, the reply follows from the line and from what its bidder has seen.
+    /// the log with this line. After every reply but Ok the desk is as it was. Memory comes instead of the reply of the rules, and hides
+    /// few refusals: it never comes for a clock bid or a drop, for a draft only instead of Ok, for a submission only where the bidder's list is
+    /// tested, and for a close only while the clock runs. Whatever other bidders do, the reply follows from the line and from what its bidder
+    /// has seen.
     pub fn take(&mut self, alloc: Global, line: &Event) -> Reply
         requires { HasCategories self.old.terms line.now }
         ensures taken { IsTakenOrMemory self.old line.now result self.new }
@@ -164,6 +166,7 @@ impl Desk {
         ensures refused { result ≢ Reply.Ok → self.new ≡ self.old }
         ensures terms { self.new.terms ≡ self.old.terms }
         ensures no_memory { IsBidOrDrop line.now → result ≢ Reply.Memory }
+        ensures memory { result ≡ Reply.Memory → MayLack self.old.stage line.now (reply_in self.old line.now) }
         ensures view { (j : ℕ) (log other : List Event) → IsTrue (is_of j line.now)
             → self.old ≡ state_of self.old.terms log
             → view self.old.terms j log ≡ view self.old.terms j other
@@ -441,10 +444,12 @@ impl Desk {
         Reply::Ok
     }
 
-    /// The reply to a submission. What the desk stands for stays the same; the only error is out of memory.
+    /// The reply to a submission. What the desk stands for stays the same; the only error is out of memory, and only where the list is tested.
     fn reply_to_submit(&mut self, alloc: Global, bidder: u16) -> Result<Reply, AllocError>
         ensures reply { IfOk result (λ reply. reply ≡ reply_in self.old (Event.Submit bidder)) }
         ensures known { IfOk result (λ reply. reply ≡ Reply.Ok → IsKnown self.old.terms self.old bidder) }
+        ensures memory { OnErr result
+            (MayLack self.old.stage (Event.Submit bidder) (reply_in self.old (Event.Submit bidder))) }
         ensures same { self.new ≡ self.old }
     {
         if !self.is_sealed() {

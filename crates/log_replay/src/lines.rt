@@ -1,8 +1,9 @@
 // One line of a log after the other.
-ghost use Rattle.std.specs.Prelude.{◌≡◌, [], IfOk, OnOk};
+ghost use Rattle.std.specs.Prelude.{◌≡◌, [], IfOk, OnErr, OnOk};
 ghost use Rattle.std.specs.Option.{option_or};
 ghost use Rattle.auction_rules.specs.Lawful.{HasCategories};
-ghost use Rattle.auction_rules.specs.State.{round_in};
+ghost use Rattle.auction_rules.specs.State.{reply_in, round_in};
+ghost use Rattle.bid_desk.specs.Reached.{MayLack};
 ghost use Rattle.log_replay.specs.Course.{Answers, IsCourse, TakesLine, line_at};
 ghost use Rattle.log_replay.specs.ReplyLines.{done_at, done_by, refusal_of};
 
@@ -52,10 +53,11 @@ pub fn take_line(
     Ok(())
 }
 
-/// What the desk answers to a line.
+/// What the desk answers to a line. The only error is out of memory, where the desk's own may come.
 fn answer(alloc: Global, desk: &mut Desk, line: &Event) -> Result<Reply, AllocError>
     requires { HasCategories desk.old.terms line.now }
-    ensures { IfOk result (λ reply. Answers desk.old line.now reply desk.new) }
+    ensures answers { IfOk result (λ reply. Answers desk.old line.now reply desk.new) }
+    ensures memory { OnErr result (MayLack desk.old.stage line.now (reply_in desk.old line.now)) }
 {
     match desk.take(alloc, line) {
         Reply::Memory => Err(AllocError),

@@ -1,5 +1,5 @@
 // The reader of the text of slots.
-ghost use Rattle.std.specs.Prelude.{IfNone, IfOk, IfSome, None, Some, ℕ, ◌≡◌, ◌≤◌};
+ghost use Rattle.std.specs.Prelude.{IfNone, IfOk, IfSome, None, Some, ℕ, ◌≡◌, ◌≢◌, ◌≤◌};
 ghost use Rattle.limits.specs.declared.TheConstants.{MOST_COUNT};
 ghost use Rattle.line_format.specs.LineText.{Says, beyond, faulty, stated};
 ghost use Rattle.slot_places.specs.SlotForm.{IsSlotText, band_line, slot_lines};
@@ -82,6 +82,7 @@ fn take_line(alloc: Global, stage: Stage, line: &[u8]) -> Result<Stage, LineStop
     ensures form { result ≡ Err LineStop.Form → (t : Stage) → Step stage line.now t → ⊥ }
     ensures limit { (kind : LimitKind) (count : ℕ) → result ≡ Err (LineStop.Limit (kind, count))
         → (t : Stage) × Step stage line.now t × (excess t ≡ Some (kind, count)) }
+    ensures memory { result ≡ Err LineStop.Memory → (t : Stage) × Step stage line.now t × (excess t ≡ None) }
 {
     match stage {
         Stage::Start => take_first(line),
@@ -96,6 +97,7 @@ fn take_first(line: &[u8]) -> Result<Stage, LineStop<Excess>>
     ensures ok { IfOk result (λ next. Step Stage.Start line.now next × (excess next ≡ None)) }
     ensures form { result ≡ Err LineStop.Form → (t : Stage) → Step Stage.Start line.now t → ⊥ }
     ensures no_limit { (kind : LimitKind) (count : ℕ) → result ≡ Err (LineStop.Limit (kind, count)) → ⊥ }
+    ensures no_memory { result ≢ Err LineStop.Memory }
 {
     if line != b"slots 1".as_slice() {
         return Err(LineStop::Form);
@@ -103,12 +105,13 @@ fn take_first(line: &[u8]) -> Result<Stage, LineStop<Excess>>
     Ok(Stage::Headed)
 }
 
-/// Takes the line of the band.
+/// Takes the line of the band. It takes no memory.
 fn take_band(alloc: Global, line: &[u8]) -> Result<Stage, LineStop<Excess>>
     ensures ok { IfOk result (λ next. Step Stage.Headed line.now next × (excess next ≡ None)) }
     ensures form { result ≡ Err LineStop.Form → (t : Stage) → Step Stage.Headed line.now t → ⊥ }
     ensures limit { (kind : LimitKind) (count : ℕ) → result ≡ Err (LineStop.Limit (kind, count))
         → (t : Stage) × Step Stage.Headed line.now t × (excess t ≡ Some (kind, count)) }
+    ensures no_memory { result ≢ Err LineStop.Memory }
 {
     let Some(band) = read_band(line) else {
         return Err(LineStop::Form);
@@ -128,12 +131,14 @@ fn read_band(line: &[u8]) -> Option<u64>
     read_within(field, 1, MOST_COUNT)
 }
 
-/// Takes the line of a bidder or of a bid, or the last line.
+/// Takes the line of a bidder or of a bid, or the last line. Memory is asked for only after the line was found right.
 fn take_listed(alloc: Global, mut slots: Slots, line: &[u8]) -> Result<Stage, LineStop<Excess>>
     ensures ok { IfOk result (λ next. Step (Stage.Listing slots) line.now next × (excess next ≡ None)) }
     ensures form { result ≡ Err LineStop.Form → (t : Stage) → Step (Stage.Listing slots) line.now t → ⊥ }
     ensures limit { (kind : LimitKind) (count : ℕ) → result ≡ Err (LineStop.Limit (kind, count))
         → (t : Stage) × Step (Stage.Listing slots) line.now t × (excess t ≡ Some (kind, count)) }
+    ensures memory { result ≡ Err LineStop.Memory
+        → (t : Stage) × Step (Stage.Listing slots) line.now t × (excess t ≡ None) }
 {
     if line == b"end".as_slice() {
         return Ok(Stage::Ended(slots));

@@ -17,6 +17,8 @@ pub fn take_entry(alloc: Global, slots: &mut Slots, line: &[u8]) -> Result<(), L
     ensures form { result ≡ Err LineStop.Form → (new : SlotList) → Adds slots.old new line.now → ⊥ }
     ensures limit { (kind : LimitKind) (count : ℕ) → result ≡ Err (LineStop.Limit (kind, count))
         → (new : SlotList) × Adds slots.old new line.now × (excess_of new ≡ Some (kind, count)) }
+    ensures memory { result ≡ Err LineStop.Memory
+        → (new : SlotList) × Adds slots.old new line.now × (excess_of new ≡ None) }
 {
     match line.strip_prefix(b"bidder ") {
         Some(fields) => take_bidder(alloc, slots, fields),
@@ -29,6 +31,8 @@ fn take_bidder(alloc: Global, slots: &mut Slots, fields: &[u8]) -> Result<(), Li
     ensures ok { OnOk result (AddsBidder slots.old slots.new (codes "bidder " ++ fields.now) × (excess_of slots.new ≡ None)) }
     ensures form { result ≡ Err LineStop.Form → (new : SlotList) → AddsBidder slots.old new (codes "bidder " ++ fields.now) → ⊥ }
     ensures limit { (kind : LimitKind) (count : ℕ) → result ≡ Err (LineStop.Limit (kind, count)) → (new : SlotList) × AddsBidder slots.old new (codes "bidder " ++ fields.now) × (excess_of new ≡ Some (kind, count)) }
+    ensures memory { result ≡ Err LineStop.Memory
+        → (new : SlotList) × AddsBidder slots.old new (codes "bidder " ++ fields.now) × (excess_of new ≡ None) }
 {
     let Some((text, width)) = read_bidder(slots, fields) else {
         return Err(LineStop::Form);
@@ -60,6 +64,8 @@ fn take_place(slots: &mut Slots, line: &[u8]) -> Result<(), LineStop<Excess>>
     ensures ok { OnOk result (AddsPlace slots.old slots.new line.now × (excess_of slots.new ≡ None)) }
     ensures form { result ≡ Err LineStop.Form → (new : SlotList) → AddsPlace slots.old new line.now → ⊥ }
     ensures no_limit { (kind : LimitKind) (count : ℕ) → result ≡ Err (LineStop.Limit (kind, count)) → ⊥ }
+    ensures memory { result ≡ Err LineStop.Memory
+        → (new : SlotList) × AddsPlace slots.old new line.now × (excess_of new ≡ None) }
 {
     if slots.bidders() == 0 {
         return Err(LineStop::Form);

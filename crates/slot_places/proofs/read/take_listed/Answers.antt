@@ -3,7 +3,7 @@ use Rattle.std.specs.Prelude.{codes}
 use Rattle.std.proofs.lemmas.Result.{err_from_is_err_and}
 use Rattle.std.proofs.lemmas.Bool.Decides.{Decides-eqb}
 use Rattle.std.proofs.lemmas.Slice.Eq.{slice_eq-Decides}
-use Rattle.line_format.specs.declared.stop.LineStop.TheVariants.{Form, Limit}
+use Rattle.line_format.specs.declared.stop.LineStop.TheVariants.{Form, Limit, Memory}
 use Rattle.slot_places.specs.declared.read.Stage.TheVariants.{Listing}
 use Rattle.slot_places.proofs.EntryLaws.{adds_step}
 use Rattle.slot_places.proofs.read.take_listed.Goals as goal
@@ -23,3 +23,10 @@ returns-in_err-take_entry-clause-limit c = λ kind count err.
     let limit : c.in_err-take_entry.field-0.0 ≡ Limit (kind, count) = cc (p.1, p.2, err) in
     let over = c.in_err-take_entry.ensures.limit kind count (ap Err limit) in
     (Listing over.0, inr (over.0, over.1, refl), over.2)
+
+pub returns-in_err-take_entry-clause-memory : goal.returns-in_err-take_entry-clause-memory
+returns-in_err-take_entry-clause-memory c = λ err.
+    let p = err_from_is_err_and c.from_residual.result c.from_residual.ensures.1 in
+    let memory : c.in_err-take_entry.field-0.0 ≡ Memory = cc (p.1, p.2, err) in
+    let within = c.in_err-take_entry.ensures.memory (ap Err memory) in
+    (Listing within.0, inr (within.0, within.1, refl), within.2)

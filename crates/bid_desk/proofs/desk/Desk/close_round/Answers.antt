@@ -36,6 +36,7 @@ returns c =
       | inl same ↦ inl (record {
         reply = c.reply_of.ensures ∙ ap reply_value same.0;
         same = ap (λ (k : ClockState). desk_value c.self.inside.award k c.self.inside.closed c.self.inside.bidders.items) same.1 ∙ c.self.view_is;
+        may = c.requires;
       })
       | inr told ↦ inr (record {
         reply = c.reply_of.ensures ∙ told-reply c.close-closed.result (reply_to_close c.self.inside.award c.self.inside.clock) c.close-closed.new.self told.0

@@ -15,6 +15,13 @@ add_place-requires-clause-kept c =
     grown slots (with_bid slots bid) c.args.line.now c.bidders.ensures.kept.rules (inr (adds_next slots c.args.line.now bid some c.in-Some.ensures.found))
     (place_marks slots bid some)
 
+pub returns-in_err-add_place-clause-memory : goal.returns-in_err-add_place-clause-memory
+returns-in_err-add_place-clause-memory c = λ err.
+    let slots = c.args.slots.now in
+    let some : 0 < length slots.bidders = omega arith in
+    let bid = bid_value c.in-Some.place in
+    (with_bid slots bid, adds_next slots c.args.line.now bid some c.in-Some.ensures.found, place_marks slots bid some)
+
 pub returns-clause-ok : goal.returns-clause-ok
 returns-clause-ok c =
     let slots = c.args.slots.now in
