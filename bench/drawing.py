@@ -4,6 +4,8 @@ import os, sys
 
 HERE = os.path.dirname(os.path.realpath(__file__))
 PICTURES = os.path.join(HERE, "..", "docs", "pictures")
+# The most units that a picture is wide. A printed page shrinks it to 694, and its letters can still be read.
+WIDTH = 720
 sys.path.insert(0, os.path.join(HERE, "..", "tools"))
 from cca_tools.page.ink import as_file  # noqa: E402
 from cca_tools.page.svg import Drawing, width_of  # noqa: E402

@@ -4,7 +4,7 @@ The first shows which payments of the two winners of examples/day-cramton.book a
 shows the price of each category of examples/spectrum.award by round, and how many lots of it are asked for. It needs python3.
 """
 import csv, math, os, re, subprocess, tomllib
-from drawing import Drawing, draw_key, keep
+from drawing import WIDTH, Drawing, draw_key, keep
 from cca_tools.page.charts import Frame, draw_demand, draw_prices
 from limit_books import CCA, HERE, OUT, build_cca
 
@@ -112,7 +112,7 @@ def rounds_of(award, log, replies):
 
 def draw_rounds(award, rounds, folder):
     """The prices of each category as the stairs of reports, and below them the lots asked for."""
-    drawing, count, wide = Drawing("rounds"), len(rounds), 198
+    drawing, count, wide = Drawing("rounds"), len(rounds), 180
     above = max(100 * asked[c] / category["supply"] for c, category in enumerate(award["category"]) for _, asked in rounds)
     for c, category in enumerate(award["category"]):
         prices, demand, left = [prices[c] for prices, _ in rounds], [asked[c] for _, asked in rounds], 4 + wide * c
@@ -129,7 +129,7 @@ def draw_rounds(award, rounds, folder):
     drawing.text(4, 168, "lots asked for, on a scale of the supply")
     key = [("orangish", "orange", True, "asked for above the supply"), ("greenish", "green", False, "asked for within the supply"), ("red", None, False, "supply")]
     draw_key(drawing, 4, 346, key)
-    keep(drawing, (792, 358), "Prices and demand by round", "; ".join(said(category, rounds, c) for c, category in enumerate(award["category"])) + ".", folder)
+    keep(drawing, (WIDTH, 358), "Prices and demand by round", "; ".join(said(category, rounds, c) for c, category in enumerate(award["category"])) + ".", folder)
 
 
 def said(category, rounds, c):

@@ -7,7 +7,7 @@ many turns as were found, whose points take the most work; more than a second is
 band of 40 with a bid on each slot where a bidder may begin, as bidders grow to 6.
 """
 import itertools, math, os, random, sys
-from drawing import Drawing, keep
+from drawing import WIDTH, Drawing, keep
 from limit_books import CCA, OUT, build_cca, price, timed
 
 FEW, MANY = 10, 510
@@ -72,12 +72,12 @@ def draw_kind(drawing, rows, kind, left, height):
     low, high = math.log2(STEPS[kind][0]), math.log2(STEPS[kind][-1])
 
     def across(size):
-        return left + 20 + (math.log2(size) - low) / (high - low) * 190
+        return left + 16 + (math.log2(size) - low) / (high - low) * 176
 
     for size in STEPS[kind]:
         drawing.line(across(size), 52, across(size), 250, "rule", 1)
         drawing.text(across(size), 268, f"{size:,}", side="middle")
-    drawing.text(left + 115, 288, {"bids": "bids of each bidder"}.get(kind, kind), "ink", "middle")
+    drawing.text(left + 104, 288, {"bids": "bids of each bidder"}.get(kind, kind), "ink", "middle")
     for command, role in ROLES.items():
         points = points_of(rows, kind, command)
         drawing.path([(across(size), height(time)) for size, time in points], role)
@@ -146,15 +146,16 @@ def draw(rows):
         return 250 - (math.log10(time) - low) / (high - low) * 198
 
     for mark in [n * 10**power for power in range(-1, 5) for n in (1, 2, 5) if least / 2 <= n * 10**power <= 1.5 * most]:
-        drawing.line(60, height(mark), 792, height(mark), "rule", 1)
+        drawing.line(60, height(mark), WIDTH - 8, height(mark), "rule", 1)
         drawing.text(54, height(mark) + 4, f"{mark:g}", side="end")
     for place, kind in enumerate(STEPS):
-        draw_kind(drawing, rows, kind, 60 + 244 * place, height)
-    drawing.text(4, 16, "CPU time in milliseconds, on one machine, as one of three sizes doubles; the others are 16 bidders, 600 bids, 16,384 states")
+        draw_kind(drawing, rows, kind, 60 + 220 * place, height)
+    drawing.text(4, 16, "CPU time in milliseconds, on one machine, as one of three sizes doubles;")
+    drawing.text(4, 32, "the others are 16 bidders, 600 bids, 16,384 states")
     for place, (command, role) in enumerate(ROLES.items()):
-        drawing.dot(64 + 70 * place, 34, 4, role)
-        drawing.text(74 + 70 * place, 38, command, role)
-    keep(drawing, (800, 300), "CPU time of win, price and check as books grow", " ".join(map(said, rows)))
+        drawing.dot(516 + 70 * place, 28, 4, role)
+        drawing.text(526 + 70 * place, 32, command, role)
+    keep(drawing, (WIDTH, 300), "CPU time of win, price and check as books grow", " ".join(map(said, rows)))
 
 
 def said(row):
