@@ -283,7 +283,7 @@ def tie(screen: Screen, see: See) -> str:
     held.hold(range(1, len(held.records) + 1))
     screen.push(STEPS["award"])
     told = " ".join(screen.texts("main ul.box.warm"))
-    check("the tie", ("There is a tie" in told, "west 1 in place of east 1" in told), (True, True))
+    check("the tie", ("There is a tie" in told, "west 1 instead of east 1" in told), (True, True))
     see("closed-tie")
     screen.push(STEPS["report"])
     screen.push(STEPS["publish"])
@@ -372,7 +372,7 @@ def same_tab(held: Auction, number: int) -> None:
 
 
 def killed(screen: Screen, see: See) -> str:
-    """The desk is killed at a preview, while lines and closes are written, and at the end; and started again."""
+    """The desk is killed at a preview, while lines and closes are written, and at the end, and is started again."""
     held, draw, counts = Auction(screen, AWARD, LOG, see=see), random.Random(1), [0, 0]
     held.start()
     held.note_key()
@@ -576,7 +576,7 @@ def keyboard(screen: Screen, see: See) -> str:
 
 
 def held_key(held: Auction) -> None:
-    """An Enter that is held leads to a preview, and writes nothing; nor does it in the field of a close."""
+    """An Enter that is held leads to a preview and writes nothing, also in the field of a close."""
     screen = held.screen
     type_line(held, "bid,east,2 1,")
     screen.hold_enter("It would be admitted")

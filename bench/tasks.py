@@ -1,4 +1,4 @@
-"""Programs of bench/ that do one of several tasks, each of which is a module of a folder here."""
+"""The words of the programs of bench/, and of those that do one of several tasks, each a module of a folder here."""
 
 from __future__ import annotations
 
@@ -36,21 +36,37 @@ def about(task: Task, folder: str) -> str:
     return ast.get_docstring(ast.parse(text)) or ""
 
 
+def reader_of(name: str, what: str | None) -> argparse.ArgumentParser:
+    """A reader of the words of a program of bench/, whose help has this description with its lines as they are."""
+    form = argparse.RawDescriptionHelpFormatter
+    return argparse.ArgumentParser(prog=f"bench/{name}", description=what, formatter_class=form)
+
+
+def whole(text: str) -> int:
+    """A whole number that isn't negative, from a word."""
+    if not (text.isascii() and text.isdecimal()):
+        raise argparse.ArgumentTypeError(f"{text} is no whole number")
+    return int(text)
+
+
+def take(reader: argparse.ArgumentParser, *numbers: Number) -> None:
+    """Has a reader take these numbers, each of which may be left out with all after it."""
+    for it in numbers:
+        more = f"{it.help} ({it.default})"
+        reader.add_argument(it.name, type=whole, nargs="?", default=it.default, metavar=it.name.upper(), help=more)
+
+
 def parser(name: str, what: str, folder: str, tasks: Sequence[Task]) -> argparse.ArgumentParser:
     """The words of a program whose tasks are modules of this folder."""
     form = argparse.RawDescriptionHelpFormatter
-    reader = argparse.ArgumentParser(prog=f"bench/{name}", description=what, formatter_class=form)
+    reader = reader_of(name, what)
     words = reader.add_subparsers(dest="task", metavar="WHAT", required=True)
     for task in tasks:
         doc = about(task, folder)
         one = words.add_parser(
             task.word, help=f"{doc.splitlines()[0]} ({task.time})", description=doc, formatter_class=form
         )
-        for number in task.numbers:
-            more = f"{number.help} ({number.default})"
-            one.add_argument(
-                number.name, type=int, nargs="?", default=number.default, metavar=number.name.upper(), help=more
-            )
+        take(one, *task.numbers)
         one.set_defaults(module=task.module, names=[number.name for number in task.numbers])
     return reader
 

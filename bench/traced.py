@@ -130,7 +130,7 @@ class Tracer:
         names: Collection[str] = (),
         is_traced: bool = True,
     ) -> Traced:
-        """Runs a program with these faults, and kills it after so many seconds.
+        """Runs a program with these faults, and kills it after this many seconds.
 
         The calls that are looked at are those of the faults, of `names`, and of `ALWAYS`.
         """

@@ -2,6 +2,7 @@
 
 Times aren't tested. Each comparison ends with 0 only where nothing differs.
 """
+import ast
 import os
 import pathlib
 import re
@@ -44,7 +45,21 @@ def words_of(name):
     )
 
 
+def programs():
+    """The programs of bench/."""
+    return sorted(path.name for path in BENCH.iterdir() if path.is_file() and path.read_bytes()[:2] == b"#!")
+
+
 class Bench(unittest.TestCase):
+    def test_each_program_has_help(self):
+        """It names its words, says what its docstring says, and runs nothing."""
+        for name in programs():
+            with self.subTest(name=name):
+                done = ran(name, "--help")
+                self.assertEqual((done.returncode, done.stderr), (0, ""))
+                self.assertTrue(done.stdout.startswith(f"usage: bench/{name} [-h]"), done.stdout)
+                self.assertIn(ast.get_docstring(ast.parse((BENCH / name).read_text())), done.stdout)
+
     def test_each_comparison_is_run_or_named(self):
         self.assertEqual(set(words_of("compare")), {*SMALL, *NOT_RUN})
 
@@ -89,6 +104,21 @@ class Bench(unittest.TestCase):
             ["compare", "made", "x"],
             ["times", "win", "1", "2", "3"],
             ["draw", "nothing"],
+            ["believed", "limits::nothing"],
+            ["believed", "nothing"],
+            ["desk_kills", "x"],
+            ["documents", "nothing"],
+            ["edge_runs", "-1"],
+            ["edge_runs", "1", "2", "3", "4"],
+            ["late"],
+            ["late", "nothing"],
+            ["libraries", "nothing"],
+            ["looks", "nothing"],
+            ["mutate", "rules"],
+            ["mutate_court", "1", "2", "3"],
+            ["proofs", "ci"],
+            ["wrong", "nothing"],
+            *([name, "--nothing"] for name in programs()),
         ):
             with self.subTest(words=words):
                 done = ran(*words)
@@ -97,9 +127,9 @@ class Bench(unittest.TestCase):
 
     def test_every_program_is_named(self):
         """README names each program of the folder, and no other."""
-        programs = {path.name for path in BENCH.iterdir() if path.is_file() and path.read_bytes()[:2] == b"#!"}
         rows = re.findall(r"^\| (`.*?) \|", (BENCH / "README.md").read_text(), re.MULTILINE)
-        self.assertEqual({name.split(" ")[0] for row in rows for name in re.findall(r"`([a-z_ A-Z]+)`", row)}, programs)
+        named = {name.split(" ")[0] for row in rows for name in re.findall(r"`([a-z_ A-Z]+)`", row)}
+        self.assertEqual(named, set(programs()))
 
     def test_site(self):
         if not shutil.which("mkdocs"):

@@ -141,7 +141,7 @@ class Case(unittest.TestCase):
             folder.mkdir(parents=True)
         shutil.copy2(ROOT / "cca", self.root)
         (self.root / "bench").mkdir()
-        for name in ("building.py", "kit.py", "libraries", "proofs"):
+        for name in ("building.py", "kit.py", "libraries", "proofs", "tasks.py"):
             shutil.copy2(ROOT / "bench" / name, self.root / "bench")
         (self.root / "HANDLES").write_text("Handles allowed: none.\n")
         (self.root / "crates.txt").write_text("# Crates.\n" + "".join(f"{name}: {low} # .\n" for name, low in USES.items()))
@@ -355,7 +355,7 @@ class ByTheGate(Both, Case):
         return done.returncode, done.stderr
 
     def test_an_edit_waits_for_its_tests(self):
-        self.assertEqual(self.proofs("ci"), (1, "usage: bench/proofs\n"))
+        self.assertEqual(self.proofs("ci"), (2, "usage: bench/proofs [-h]\nbench/proofs: error: unrecognized arguments: ci\n"))
         self.assertEqual(self.noted("calls"), [])
         self.assertEqual(self.proofs(), (0, ""))
         self.assertEqual((sorted(self.noted("tested")), sorted(self.noted("tried"))), (sorted(USES), sorted(USES)))
@@ -430,7 +430,7 @@ class ByLibraries(Both, Case):
         self.assertNotIn("rt: top", out)
         self.write("right", "right")
         self.assertEqual(self.libraries("cca")[1].count(" proved\n"), 2)
-        self.assertEqual(self.libraries("none"), (1, "", "usage: bench/libraries [CRATE]\n"))
+        self.assertEqual(self.libraries("none"), (2, "", "usage: bench/libraries [-h] [CRATE]\nbench/libraries: error: none is no crate\n"))
 
 
 class ByTheKit(Case):
