@@ -81,7 +81,7 @@ class Screen(browser.Browser):  # type: ignore[misc, unused-ignore]
         self.size(WIDTH, HEIGHT)
 
     def close(self) -> None:
-        """Ends the browser, also where it takes too long to end by itself."""
+        """Ends the browser, also where it takes too long to end on its own."""
         try:
             super().close()
         except subprocess.TimeoutExpired:

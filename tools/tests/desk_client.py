@@ -115,7 +115,7 @@ class Client:
         return self.place
 
     def post(self, action, **fields):
-        """Sends a form that needn't be on any page."""
+        """Sends a form that need not be on any page."""
         return self.ask("POST", f"{self.guard.inside}/{action}", {"token": self.guard.token, **fields})
 
     def send_to(self, action, **typed):

@@ -514,7 +514,7 @@ class FullDisk(Case):
         log = self.open()
         self.write(log, FIRST)
         with most_bytes(self.beside("desk").stat().st_size + 20):
-            with self.assertRaisesRegex(Unsure, "The line is in the log, but the journal"):
+            with self.assertRaisesRegex(Unsure, "What was sent is in the log, but the journal"):
                 log.append(log.base(FIRST), SECOND, ok)
         self.assertEqual(log.stop().mend, "restart")
         log.mend("restart", "there is room again")

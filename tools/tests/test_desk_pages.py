@@ -146,6 +146,40 @@ class Line(DeskTest):
         self.assertEqual(self.log(), f"{ROUND}\n".encode())
         self.assertEqual(sum(what == "line" for _, what, _ in self.desk.log.answered_at()), 1, journal)
 
+    def test_one_line_is_it_and_many_are_them(self):
+        """Of all that can be done on the page of replies, and of what the page says of a refused line."""
+        client = self.open()
+        one, other, above = "bid,everest,2 0 4 0,", "bid,harbour,1 1 2 4,", "bid,tarn,3 1 0 0,"
+        for texts, links, button, warning in (
+            ([one], ["Correct it", "Drop it"], "Write it", ""),
+            ([above], ["Correct it", "Drop it"], "The bidder sent this: write it", "Write it only if the bidder sent"),
+            ([one, other], ["Correct them", "Drop them"], "Write 2 lines", ""),
+            (
+                [one, above],
+                ["Correct them", "Drop them"],
+                "The bidders sent these: write them",
+                "Write these 2 lines only if the bidders sent just these; correct slips of your own.",
+            ),
+        ):
+            with self.subTest(texts=texts):
+                client.load("")
+                client.send("preview", raw="\n".join(texts))
+                row = client.page.partition('<div class="row">')[2]
+                self.assertEqual(re.findall(r"<a[^>]*>(.*?)</a>", row.partition("</div>")[0]), links)
+                self.assertEqual(re.findall(r"<button[^>]*>(.*?)</button>", row), [button])
+                self.assertIn(warning, client.text())
+                self.assertEqual("stays in the log for ever" in client.text(), bool(warning))
+        client.load("")
+        client.send("preview", raw=f"{one}\n{other}")
+        form = client.form("write")
+        for heading, lead in (
+            ("Written and synced", "Both programs reply:"),
+            ("They are in the log already", "They were written before, and not a second time. Both programs reply:"),
+        ):
+            client.load(client.post("write", **form).headers["Location"])
+            self.assertEqual(client.heading(), heading)
+            self.assertIn(lead, client.text())
+
     def test_the_same_form_twice_writes_once(self):
         client = self.open()
         client.send("preview", raw="bid,everest,2 0 4 0,")
@@ -198,6 +232,20 @@ class Line(DeskTest):
         for place in ("lines/1-1", "lines/0-0", "cut/0000"):
             self.assertEqual(client.load(place).status_code, 404)
 
+    def test_a_table_of_many_columns_has_each_head_in_its_cells_too(self):
+        """Where they are one below the other, the heads of columns aren't seen."""
+        self.open().load("")
+        categories, bidders = re.findall(r"<table.*?</table>", self.client.page, re.DOTALL)[:2]
+        self.assertNotRegex(categories, "data-head|role=")
+        heads = re.findall(r'<th scope="col" role="columnheader".*?>(.*?)</th>', bidders)
+        heads = [it.replace("<small>", " ").replace("</small>", "") for it in heads]
+        self.assertEqual((len(heads), heads[-1]), (8, "Room in cap 2 of 42"))
+        rows = bidders.partition("<tbody")[2].split("<tr")[1:]
+        self.assertEqual(len(rows), 5)
+        for row in rows:
+            self.assertEqual(re.findall(r'<td role="cell" data-head="(.*?)"', row), heads[1:])
+            self.assertEqual((row.count('role="row"'), row.count('role="rowheader"')), (1, 1))
+
     def test_lines_that_another_hand_wrote_are_shown(self):
         client = self.open()
         client.write("bid,everest,2 0 4 0,")
@@ -205,11 +253,17 @@ class Line(DeskTest):
             file.write(b"bid,tarn,1 0 0 0,\nbid,tarn,9 0 0 0,\n")
         client.load("")
         client.load("")
-        self.assertIn("Lines 2 to 3 of the log were not written by this desk.", client.text())
+        which, then = "Lines 2 to 3 of the log were", "Read the replies below, and say them to the bidders."
+        self.assertIn(f"{which} not written by this desk. {then}", client.text())
         self.assertEqual(client.text().count("not by this desk"), 2)
         client.write("bid,niche,0 0 1 0,")
         client.load("")
         self.assertNotIn("were not written by this desk", client.text())
+        with self.log_path.open("ab") as file:
+            file.write(b"bid,niche,0 0 2 0,\n")
+        client.load("")
+        words = "Line 5 of the log was not written by this desk. Read the reply below, and say it to the bidder."
+        self.assertIn(words, client.text())
 
 
 class Closes(DeskTest):
@@ -502,7 +556,7 @@ class Auctions(DeskTest):
         client.load("")
         client.send("end/award")
         self.assertIn("There is a tie: one other choice has the same net value.", client.text())
-        self.assertIn("west 1 in place of east 1", client.text())
+        self.assertIn("west 1 instead of east 1", client.text())
         client.send("end/publish")
         self.assertIn("The set is in", client.text())
         done = subprocess.run(["sha256sum", "-c", "--quiet", "SHA256SUMS"], cwd=self.folder / "day.log.set")

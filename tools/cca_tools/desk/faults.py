@@ -73,7 +73,7 @@ def torn_line(data: bytes) -> Stop:
         f"The last line of the log has no line feed: `{shown(torn)}`. A write was cut short, or an editor left it out.",
         f"{ANSWERED} That line was never answered.",
         "Take the line back, and a copy of it is kept; then the bidder's line is written anew. If it is whole as it is"
-        " shown, end it in place of that.",
+        " shown, end it instead.",
         "take back",
     )
 

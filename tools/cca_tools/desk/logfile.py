@@ -386,7 +386,7 @@ class LogFile:
         """Puts the text at the end of the log, so that it is the one that is wanted."""
         disk.append_once(handle, text, self.path.name)
         if not disk.is_named(handle, self.path):
-            raise Unsure(f"The line was written, but another file has taken the place of {self.path.name}.")
+            raise Unsure(f"What was sent was written, but another file has taken the place of {self.path.name}.")
         if read_open(handle, self.path.name) != wanted:
             raise Unsure(
                 f"{self.path.name} doesn't have what was written to it: another program writes without asking for the"
@@ -398,7 +398,7 @@ class LogFile:
         try:
             self._journal.note(new)
         except Refused as fault:
-            raise Unsure(f"The line is in the log, but the journal couldn't be written. {fault}") from None
+            raise Unsure(f"What was sent is in the log, but the journal couldn't be written. {fault}") from None
 
     # Cuts and mends
 

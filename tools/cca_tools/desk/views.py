@@ -168,13 +168,15 @@ class ClosePage:
 
 @dataclass(frozen=True)
 class Preview:
-    """What lines would be answered."""
+    """What lines would be answered. `warning` is empty where none is refused; the last three are what can be done."""
 
     title: str
     lines: Sequence[LineView]
-    refused: int
-    write: str
     basis: str
+    warning: str
+    write: str
+    correct: str
+    drop: str
 
 
 @dataclass(frozen=True)
@@ -432,8 +434,10 @@ def found_words(moment: Moment, entries: Entries) -> str:
     ends = line_ends(moment.data)
     before = entries[-2][2] if len(entries) > 1 else 0
     first, last = bisect.bisect_right(ends, before) + 1, bisect.bisect_right(ends, entries[-1][2])
-    which = f"Line {first} of the log was" if first == last else f"Lines {first} to {last} of the log were"
-    return f"{which} not written by this desk. Read the replies below, and say them to the bidders."
+    if first == last:
+        return f"Line {first} of the log was not written by this desk. Read the reply below, and say it to the bidder."
+    which = f"Lines {first} to {last} of the log"
+    return f"{which} were not written by this desk. Read the replies below, and say them to the bidders."
 
 
 def form_of(moment: Moment, typed: Typed, names: LongNames) -> Form:
@@ -561,13 +565,30 @@ def preview_page(moment: Moment, answered: Answered) -> Preview:
         title = "It would be refused" if refused else "It would be admitted"
     else:
         title = f"{number(refused)} of {many} would be refused" if refused else f"All {many} would be admitted"
-    basis = f"Both programs give {'this reply' if many == 1 else 'these replies'}."
-    lines = answered_views(moment.auction.award, answered)
+    return Preview(
+        title=title,
+        lines=answered_views(moment.auction.award, answered),
+        basis=f"Both programs give {'this reply' if many == 1 else 'these replies'}.",
+        warning=refused_words(many) if refused else "",
+        write=write_words(many, refused),
+        correct="Correct it" if many == 1 else "Correct them",
+        drop="Drop it" if many == 1 else "Drop them",
+    )
+
+
+def refused_words(many: int) -> str:
+    """When lines of which some would be refused are written all the same."""
+    stays = "A refused line stays in the log for ever. Write"
+    if many == 1:
+        return f"{stays} it only if the bidder sent just this; correct a slip of your own."
+    return f"{stays} these {many} lines only if the bidders sent just these; correct slips of your own."
+
+
+def write_words(many: int, refused: int) -> str:
+    """What the button says that writes these lines."""
     if refused:
-        write = "The bidder sent this: write it" if many == 1 else "The bidders sent these: write them"
-    else:
-        write = "Write it" if many == 1 else f"Write {many} lines"
-    return Preview(title, lines, refused, write, basis)
+        return "The bidder sent this: write it" if many == 1 else "The bidders sent these: write them"
+    return "Write it" if many == 1 else f"Write {many} lines"
 
 
 def written_page(desk: Desk, moment: Moment, first: int, last: int, was_there: bool) -> WrittenPage:
@@ -578,9 +599,12 @@ def written_page(desk: Desk, moment: Moment, first: int, last: int, was_there: b
     closes = [it for it in closes_of(moment.data, auction) if first <= it.record <= last]
     seal, seal_name = seal_view(desk, moment, closes[-1]) if closes else ("", "")
     bidders = [line.name for line in shown.lines if line.bidder] if len(shown.lines) == 1 else []
-    lead = "It was written before, and not a second time. " if was_there else ""
+    title, lead = "Written and synced", ""
+    if was_there:
+        title = "It is in the log already" if first == last else "They are in the log already"
+        lead = f"{'It was' if first == last else 'They were'} written before, and not a second time. "
     return WrittenPage(
-        title="It is in the log already" if was_there else "Written and synced",
+        title=title,
         lead=f"{lead}Both programs reply:",
         lines=answered_views(auction.award, shown),
         more=f"{count(more, 'more line')} {'is' if more == 1 else 'are'} after it now." if more > 0 else "",

@@ -195,7 +195,7 @@ class Pages:
                 return self.to("close")
             self.desk.preview(self.desk.now(), text)
         except (NotLines, Refused) as fault:
-            return self.keep("entry", notice=f"This isn't written. {fault}")
+            return self.keep("entry", notice=f"Nothing was written. {fault}")
         return self.keep("preview", text)
 
     def take_waiting(self) -> Answer:
@@ -208,7 +208,7 @@ class Pages:
             text = plain(b"".join(lines).decode("ascii", "replace"))
             self.desk.preview(self.desk.now(), text)
         except (NotLines, Refused) as fault:
-            return self.keep("entry", notice=f"This isn't written. {fault}")
+            return self.keep("entry", notice=f"Nothing was written. {fault}")
         return self.to(f"preview/{self.store.keep(Kept({'raw': text.decode()}, text))}")
 
     def previewed(self, number: str) -> Answer:
