@@ -289,7 +289,7 @@ class Explain(unittest.TestCase):
         one = award[: award.index(b"[[bidder]]")] + award[award.index(b"[[step]]") :]
         text, _ = self.told("award", one.replace(b"[[step]]", b"[bidder]\nname = 'x'\n[[step]]", 1), b"")
         self.assertIn("Field 8: `bidder` is a table of 1 at the top of the award; it has to be a list of tables", text)
-        self.assertIn("write [[bidder]] with two brackets in place of [bidder]", text)
+        self.assertIn("write [[bidder]] with two brackets instead of [bidder]", text)
         self.assertIn("Line ", text)
         text, _ = self.told("award", award.replace(b"[[bidder]]", b"[bidder]"), b"")
         self.assertIn("`bidder` is there already; where there are several, each begins with [[bidder]]", text)

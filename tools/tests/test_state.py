@@ -210,7 +210,7 @@ class Closed(unittest.TestCase):
         rows = shown(SMALL, lines(TIE + "close,,,"))[0].splitlines()
         head = "! There is a tie: one other choice has the same net value. The order of the bidders, then that of their"
         at = rows.index(f"{head} packages, decides.")
-        self.assertEqual(rows[at + 1], "!   west 2 in place of east 2")
+        self.assertEqual(rows[at + 1], "!   west 2 instead of east 2")
 
 
 class Words(unittest.TestCase):

@@ -79,12 +79,12 @@ class Enumeration(unittest.TestCase):
     def test_words(self):
         book = Book((1,), (0,), ["a", "b", "c"], [[((1,), 5)], [((1,), 5)], [((1,), 5)]])
         head = f"There is a tie: 2 other choices have the same net value. {DECIDES}"
-        rows = [head, "  b 1 in place of a 1", "  c 1 in place of a 1"]
+        rows = [head, "  b 1 instead of a 1", "  c 1 instead of a 1"]
         self.assertEqual(tie_sentences(book, ties_of(book)), rows)
         head = f"There is a tie: more than 1 other choices have the same net value. {DECIDES}"
         self.assertEqual(tie_sentences(book, ties_of(book, 1)), [head, rows[1]])
         nothing = Book((1,), (3,), ["a"], [[((1,), 3)]])
-        self.assertEqual(tie_sentences(nothing, ties_of(nothing))[1], "  nothing in place of a 1")
+        self.assertEqual(tie_sentences(nothing, ties_of(nothing))[1], "  nothing instead of a 1")
 
 
 class Tools(unittest.TestCase):
@@ -100,14 +100,14 @@ class Tools(unittest.TestCase):
         text, status = said(why, data, TIE_CERT)
         self.assertEqual(status, 0, text)
         self.assertIn(
-            f"There is a tie: one other choice has the same net value. {DECIDES} east 2 in place of east 1, west 1",
+            f"There is a tie: one other choice has the same net value. {DECIDES} east 2 instead of east 1, west 1",
             " ".join(text.split()),
         )
         text, status = said(lambda names: report([*names, "--text"]), data, TIE_CERT)
         self.assertEqual(status, 0, text)
         shown = " ".join(text.split()).replace(NBSP, " ")
         self.assertIn(f"There is a tie: one other choice has the same net value. {DECIDES}", shown)
-        self.assertIn("east 2 of category 1 in place of east 1 of category 1, west 1 of category 1", shown)
+        self.assertIn("east 2 of category 1 instead of east 1 of category 1, west 1 of category 1", shown)
 
     def test_no_tie(self):
         award, log, cert = (sample(f"spectrum.{kind}") for kind in ("award", "log", "cert"))
@@ -121,7 +121,7 @@ class Tools(unittest.TestCase):
         log = lines(TIE + "close,,,")
         text, _ = said(what_if, SMALL.encode(), lines(TIE.replace("2,24", "2,23") + "close,,,"), log)
         self.assertEqual(text.count("There is a tie: one other choice"), 1)
-        self.assertTrue(text.endswith("\n  west 2 in place of east 2\n" + text.splitlines()[-1]), text)
+        self.assertTrue(text.endswith("\n  west 2 instead of east 2\n" + text.splitlines()[-1]), text)
         text, _ = said(lambda names: what_if([*names, "--least", "east", "2"]), SMALL.encode(), log)
         self.assertIn("There is a tie: one other choice", text)
 

@@ -14,7 +14,7 @@ from cca_tools.rules.log import Line, read_log
 from cca_tools.rules.winners import winning_choice
 
 what_if = taking("what-if")
-ENTRY = re.compile(r"with ([\d ]+?) for (\d+)(?: in place of (\d+))?(?=, with|\. With)")
+ENTRY = re.compile(r"with ([\d ]+?) for (\d+)(?: instead of (\d+))?(?=, with|\. With)")
 
 
 def auction_of(award, log):

@@ -83,23 +83,23 @@ b pays 17+1/2: its Vickrey price of 10, and 7+1/2 more, since {MORE}.
 
 a wins `1` with a bid of 30 (20 net of reserve), and pays 22+1/2 (12+1/2 net of reserve).
   Without a:
-    c would win `3` for 50 in place of nothing: 50 more
-    b would win nothing in place of `1` for 25: 25 less
-    the seller would keep nothing in place of `1` at the reserve of 10: 10 less
+    c would win `3` for 50 instead of nothing: 50 more
+    b would win nothing instead of `1` for 25: 25 less
+    the seller would keep nothing instead of `1` at the reserve of 10: 10 less
   So the others would bring 50 - 25 - 10 = 15 (5 net of reserve) more. This is the Vickrey price of a.
   7+1/2 more because of coalition 1 (below).
 
 b wins `1` with a bid of 25 (15 net of reserve), and pays 17+1/2 (7+1/2 net of reserve).
   Without b:
-    the seller would keep `2` at the reserve of 20 in place of `1` at the reserve of 10: 10 more
+    the seller would keep `2` at the reserve of 20 instead of `1` at the reserve of 10: 10 more
     a would win as now
   So the others would bring 10 (0 net of reserve) more. This is the Vickrey price of b.
   7+1/2 more because of coalition 1 (below).
 
 Coalition 1: c, for what a and b win.
-    c would win `3` for 50 in place of nothing: 50 more
-    the seller would keep nothing in place of `1` at the reserve of 10: 10 less
-  That is 50 - 10 = 40 (20 net of reserve). So much a and b have to pay together.
+    c would win `3` for 50 instead of nothing: 50 more
+    the seller would keep nothing instead of `1` at the reserve of 10: 10 less
+  That is 50 - 10 = 40 (20 net of reserve). a and b have to pay that much together.
   Their Vickrey prices come to 15 + 10 = 25 (5 net of reserve): 15 less.
   Because of it a pays 7+1/2 more and b pays 7+1/2 more, which is the same for each."""
 

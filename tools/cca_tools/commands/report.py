@@ -1,7 +1,7 @@
 """The auction on one page: its rounds, lines, bids, winners and prices, for a browser without network or script. On a
 terminal, or with --text, it is plain text.
 
-A file that begins with "book " is taken as a book. A log needn't be complete: the report is of what there is. Where no
+A file that begins with "book " is taken as a book. A log may be incomplete: the report is of what there is. Where no
 certificate is given and the program is there, the program works one out; it is the one that CCA_PROGRAM names, or that
 ./cca has built here. The program also gives the turns of pricing; without it the coalitions that raise prices are shown
 from the certificate alone. One file may be `-`, which is standard input.
@@ -32,7 +32,7 @@ def parser() -> Parser:
     )
     words = Parser("report", __doc__, *forms)
     words.add_file("FILES", "an award, its log and the certificate, or a book and its certificate", nargs="+")
-    words.add_argument("--text", action="store_true", help="print plain text in place of a page")
+    words.add_argument("--text", action="store_true", help="print plain text instead of a page")
     words.add_argument(
         "--bidder",
         metavar="NAME",

@@ -198,7 +198,7 @@ def change_words(before: Mapping[Package, Amount], after: Mapping[Package, Amoun
         if it not in before:
             parts.append(f"with {counts(it)} for {after[it]}")
         elif before[it] != after[it]:
-            parts.append(f"with {counts(it)} for {after[it]} in place of {before[it]}")
+            parts.append(f"with {counts(it)} for {after[it]} instead of {before[it]}")
     return f"They would admit it on that list {', '.join(parts)}."
 
 

@@ -186,7 +186,7 @@ def draw_bar(drawing: Drawing, frame: Frame, first: int, last: int, lots: int, s
 
 
 def label_place(y: float, bottom: float, line: float) -> float:
-    """Where the letters of a bar's number stand so that a line doesn't cross them: above the bar, in it, or above the
+    """Where the letters of a bar's number are, so that a line doesn't cross them: above the bar, in it, or above the
     line."""
     above, inside = y - 4, y + 13
     if not above - 12 <= line <= above + 3:

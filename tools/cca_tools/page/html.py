@@ -90,7 +90,7 @@ def details(cell: Cell) -> str:
 
 
 def frames(table: Table, name: str) -> list[tuple[str, str]]:
-    """For each column what comes before the tone of a cell, and after it. Where cells may stand one below the other,
+    """For each column what comes before the tone of a cell, and after it. Where cells may be one below the other,
     each has its head and its role."""
     made, key = [], "key wraps" if wraps(table) else "key"
     for column in table.columns:

@@ -43,7 +43,7 @@ CATEGORY_KEY = Key(
     ]
 )
 ACTIVITY_KEY = Key([("bluish", "pale", "points of the package"), ("red", "line", "eligibility")])
-COMPARED = 5  # prices whose greatest is more than so many times its reserve would make the others flat
+COMPARED = 5  # prices whose greatest is more than this many times its reserve would make the others flat
 
 
 def shown_rounds(auction: Auction) -> list[Round]:

@@ -28,7 +28,7 @@ ADMITTED = ("ok", "round", "sealed", "closed")
 
 
 class Facts(TypedDict, total=False):
-    """What was compared for a reply, from which its reason is told."""
+    """What was compared for a reply, from which its reason is made."""
 
     stage: Stage
     count: int

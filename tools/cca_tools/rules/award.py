@@ -219,7 +219,7 @@ class Fields:
 def table_hint(field: str, read: object) -> str:
     """What is wrong where one table is read instead of a list of tables."""
     is_one = isinstance(read, dict) and field in ("category", "bidder", "step", "cap")
-    return f"; write [[{field}]] with two brackets in place of [{field}]" if is_one else ""
+    return f"; write [[{field}]] with two brackets instead of [{field}]" if is_one else ""
 
 
 def shown(value: object) -> str:

@@ -74,7 +74,7 @@ def differences(book: Book, ties: Ties, other: Choice, words: PackageWords = cou
         for number, found in ((theirs, gives), (ours, takes)) if ours != theirs else ():
             if number:
                 found.append(f"{book.names[j - 1]} {words(book.bids[j - 1][number - 1][0])}")
-    return f"{', '.join(gives) or 'nothing'} in place of {', '.join(takes) or 'nothing'}"
+    return f"{', '.join(gives) or 'nothing'} instead of {', '.join(takes) or 'nothing'}"
 
 
 def how_many(ties: Ties) -> str:

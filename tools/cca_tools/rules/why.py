@@ -188,12 +188,12 @@ class Reasons:
         for change in offer.changes:
             now = f"{counts(change.now[0])} for {change.now[1]}" if change.now else "nothing"
             then = f"{counts(change.then[0])} for {change.then[1]}" if change.then else "nothing"
-            yield f"    {self.name(change.j)} would win {then} in place of {now}: {more(change.more)}"
+            yield f"    {self.name(change.j)} would win {then} instead of {now}: {more(change.more)}"
         if offer.unsold != offer.unsold_then:
             reserves = self.book.reserve(offer.unsold_then), self.book.reserve(offer.unsold)
             kept = zip((offer.unsold_then, offer.unsold), reserves)
             then, now = (f"{counts(lots)} at the reserve of {cost}" if any(lots) else "nothing" for lots, cost in kept)
-            yield f"    the seller would keep {then} in place of {now}: {more(offer.kept)}"
+            yield f"    the seller would keep {then} instead of {now}: {more(offer.kept)}"
         if offer.same:
             yield f"    {self.names(offer.same)} would win as now"
 
@@ -204,7 +204,7 @@ class Reasons:
         reserves = sum(map(self.reserve, offer.members))
         yield f"Coalition {number}: {self.offering(offer)}, for what {self.names(offer.members)} win."
         yield from self.offer_lines(offer)
-        yield f"  That is {sum_of(offer)}{net_of(offer)}. So much {self.names(offer.members)} have to pay together."
+        yield f"  That is {sum_of(offer)}{net_of(offer)}. {self.names(offer.members)} have to pay that much together."
         yield (
             f"  Their Vickrey prices come to {' + '.join(map(str, vickrey))} ="
             f" {both(sum(vickrey), sum(vickrey) - reserves)}: {self.excess(offer)} less."
