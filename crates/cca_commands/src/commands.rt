@@ -51,7 +51,7 @@ fn checked<F: Files>(
     accepted(alloc, book, &facts)
 }
 
-// The same with a weight of 1 for each bidder.
+// What `checked` gives by a weight of 1 for each bidder.
 fn checked_alike<F: Files>(
     alloc: Global,
     files: &mut F,

@@ -106,7 +106,7 @@ pub fn price_weighed(
     }
 }
 
-/// The same with a weight of 1 for each bidder.
+/// The prices of a book by a weight of 1 for each bidder, printed in this form, and their certificate.
 pub fn price_alike(alloc: Global, book: &BidBook, form: PriceForm) -> Result<Work, Stop>
     ensures { IsWork (PriceGives book.now (ones book.now) form) (FileKind.Cert ∷ []) result }
 {

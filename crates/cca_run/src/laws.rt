@@ -84,7 +84,7 @@ pub fn written_cert_passes()
     one_price_text();
 }
 
-/// The same of `weigh` and `weigh-check`, by the same weights.
+/// What `weigh` writes, `weigh-check` accepts by the same weights, as `check` accepts what `price` writes.
 pub fn weighed_cert_passes()
     ensures passes { (book weights cert : List ℕ) (form : PriceForm) (file later : List ℕ → Option (List ℕ))
         (o p : Outcome)
@@ -104,7 +104,7 @@ pub fn weighed_cert_passes()
     one_price_text();
 }
 
-/// The same of `place` and `place-check`. With `--rounds` what `place` printed has the lines of the turns before the placement.
+/// What `place` writes, `place-check` accepts. With `--rounds` what `place` printed has the lines of the turns before the placement.
 pub fn placed_cert_passes()
     ensures passes { (slots cert : List ℕ) (rounds : Bool) (file later : List ℕ → Option (List ℕ)) (o p : Outcome)
         → FilesGive (place slots cert rounds) file o → HoldsCert (slots ∷ []) cert file later o

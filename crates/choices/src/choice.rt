@@ -54,7 +54,7 @@ impl Choice {
         self.numbers.set(j as usize - 1, number);
     }
 
-    /// The same choice again.
+    /// A copy of the choice.
     pub fn copied(&self, alloc: Global) -> Result<Choice, AllocError>
         ensures { IfOk result (λ choice. choice ≡ self.now) }
     {

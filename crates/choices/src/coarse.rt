@@ -105,7 +105,7 @@ pub fn put_low(low: &mut [u16], line: &[i64], shift: u32)
     }
 }
 
-/// The same rounded up, and whether all are so small. It goes on where one isn't, as above.
+/// The numbers of a line in units of `2^shift`, rounded up, and whether none has too many. It goes on where one has, as `put_units` does.
 pub fn put_high(high: &mut [u16], line: &[i64], shift: u32) -> bool
     requires places { length high.old ≡ length line.now }
     requires shift { shift < 64 }

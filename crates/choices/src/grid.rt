@@ -72,7 +72,7 @@ impl Grid {
         Ok(())
     }
 
-    /// The same of a line of numbers of 32 bits, which stay so: they take a quarter of the room.
+    /// Adds a line of numbers of 32 bits at the end, which stay so: they take a quarter of the room. If memory runs out, the grid stays as it is.
     pub fn push_short(&mut self, line: Vec<u32>) -> Result<(), AllocError>
         requires { 0 < length self.old → length line.items ≡ width_of self.old }
         ensures pushed { OnOk result (self.new ≡ self.old ++ map (λ n. pos n) line.items ∷ []) }

@@ -35,7 +35,7 @@ impl GridLine {
         }
     }
 
-    /// The same line for another grid: its numbers are not copied.
+    /// This line for another grid: its numbers are shared, not copied.
     pub(crate) fn share(&self) -> Result<GridLine, AllocError>
         ensures { IfOk result (λ line. numbers_in line ≡ numbers_in self.now) }
     {

@@ -17,7 +17,7 @@ pub fn known(book: &BidBook, choice: &Choice) -> bool
     are_known(book, choice.numbers())
 }
 
-/// The same for the numbers of a choice, bidder by bidder.
+/// Whether there is one number for each bidder, and each is the number of one of its bids or 0.
 pub fn are_known(book: &BidBook, numbers: &[u16]) -> bool
     ensures { result ≡ is_known_after (menu_of book.now) 0 numbers.now }
 {
@@ -40,7 +40,7 @@ pub fn fits(book: &BidBook, choice: &Choice) -> bool
     are_within(book, choice.numbers())
 }
 
-/// The same for the numbers of a choice, bidder by bidder.
+/// Whether the sum of the packages of these bids is within the supply. The numbers are those of a known choice, bidder by bidder.
 pub fn are_within(book: &BidBook, numbers: &[u16]) -> bool
     requires { IsTrue (is_known_after (menu_of book.now) 0 numbers.now) }
     ensures { result ≡ fits_after (menu_of book.now) 0 book.now.supply numbers.now }
@@ -83,7 +83,7 @@ pub fn value(book: &BidBook, choice: &Choice) -> i128
     value_among(book, choice.numbers())
 }
 
-/// The same for the numbers of a choice, bidder by bidder.
+/// The value of a known choice, by its numbers, bidder by bidder.
 pub fn value_among(book: &BidBook, numbers: &[u16]) -> i128
     requires { IsTrue (is_known_after (menu_of book.now) 0 numbers.now) }
     ensures value { result ≡ value_of (market_of book.now) numbers.now }

@@ -36,7 +36,7 @@ impl Numbers {
         Ok(Numbers { numbers })
     }
 
-    /// The same list again.
+    /// A copy of the list.
     pub fn copied(&self, alloc: Global) -> Result<Numbers, AllocError>
         ensures { IfOk result (λ list. list ≡ self.now) }
     {

@@ -67,7 +67,7 @@ fn give(
     Ok(())
 }
 
-// The same where there is such a word.
+// Puts these bytes into the file that the word at this place names, where there is such a word.
 fn fill(
     files: &mut CleanFiles,
     words: &[String],

@@ -154,7 +154,7 @@ fn ended_of(
     })
 }
 
-/// The same where both files are there and no call fails.
+/// A run where both files are there and no call fails, and what it has left.
 pub(crate) fn run_plain(
     alloc: Global,
     words: &[&str],

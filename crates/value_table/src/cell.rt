@@ -67,7 +67,7 @@ pub trait Cell: Copy {
         ensures floor { IsFloor (2 ^ shift) (map number line.now) low.new }
         ensures places { length low.new ≡ length line.now };
 
-    /// The same rounded up, and whether numbers of this size have such units. Those of 128 bits are never tested in 16.
+    /// The numbers of a line in units of `2^shift`, rounded up, and whether none has too many; those of 128 bits always have.
     fn put_high(high: &mut [u16], line: &[Self], shift: u32) -> bool
         requires places { length high.old ≡ length line.now }
         requires shift { shift < 64 }

@@ -18,7 +18,7 @@ fn units(number: u32, shift: u32) -> u32
     number >> shift
 }
 
-/// The same in the last 15 bits, which are all where the unit is large enough.
+/// The last 15 bits of a number in units of `2^shift`, rounded down. They are all where the unit is large enough.
 fn low_units(number: u32, shift: u32) -> u16
     requires { shift < 32 }
     ensures { result * 2 ^ shift ≤ number }
@@ -60,7 +60,7 @@ pub fn put_low(low: &mut [u16], line: &[u32], shift: u32)
     put_floor(low, line, shift);
 }
 
-/// The same rounded up, and whether all are so small.
+/// The numbers of a line in units of `2^shift`, rounded up, and whether none has too many.
 pub fn put_high(high: &mut [u16], line: &[u32], shift: u32) -> bool
     requires places { length high.old ≡ length line.now }
     ensures ceiling { IsTrue result → IsCeiling (2 ^ shift) (map (λ n. pos n) line.now) high.new }

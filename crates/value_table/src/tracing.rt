@@ -106,7 +106,7 @@ fn next_step<C: Cell>(lowered: &LoweredBids, j: u16, place: usize, here: i128, b
     Step { number, place }
 }
 
-/// The same from the lines of a table, each in the size in which it is kept.
+/// One step of the walk over the lines of a table, each in the size in which it is kept.
 fn grid_step(lowered: &LoweredBids, j: u16, place: usize, lines: &Grid) -> Step
     requires bidder { (0 < j) × (j ≤ length lowered.now.book.now.bidders) }
     requires place { place < states_of lowered.now.book.now.supply }
@@ -154,7 +154,7 @@ pub fn line_at<C: Cell>(lines: &[Vec<C>], line: usize) -> &[C]
     &lines[line]
 }
 
-/// The same from lines in either size.
+/// The first of the greatest choices, from the lines of its table, all in one size.
 pub fn trace_slices<C: Cell>(
     alloc: Global,
     lowered: &LoweredBids,

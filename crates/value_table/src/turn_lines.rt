@@ -68,7 +68,7 @@ impl TurnLines {
         }
     }
 
-    /// The same lines as a grid.
+    /// The lines as a grid.
     pub fn grid(&self, alloc: Global, lowered: &LoweredBids) -> Result<Grid, AllocError>
         requires { IsCountedTable lowered.now (lines_in self.now) }
         ensures { IfOk result (λ g. g ≡ lines_in self.now) }
