@@ -88,7 +88,7 @@ def kind_of(ended, whole, files):
     if ended == whole:
         return "done all the same"
     if status == MEMORY and not errors and behind == files and printed in (b"cca: memory\n", b""):
-        return "want of memory" if printed else "want of memory, no line"
+        return "out of memory" if printed else "out of memory, no line"
     return None
 
 

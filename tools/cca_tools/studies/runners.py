@@ -40,7 +40,7 @@ def here(plan: Plan, jobs: Sequence[Job]) -> Iterator[Done]:
             for part in as_completed(parts):
                 yield from part.result()
         except BrokenProcessPool:
-            why = "a process of the study was killed, perhaps for want of memory; run it again to go on"
+            why = "a process of the study was killed, perhaps because memory ran out; run it again to go on"
             raise Stop("cca: stopped", CRASH, why=why) from None
         finally:
             pool.shutdown(wait=False, cancel_futures=True)
