@@ -244,6 +244,13 @@ class Faults(unittest.TestCase):
                 self.assertNotEqual(cert, CERT)
                 self.assertEqual(said(check, BOOK, cert), (line, 1 if line.startswith("no") else 3))
 
+    def test_the_first_word_of_each_line(self):
+        rows = CERT.splitlines(keepends=True)
+        for at, row in enumerate(rows):
+            with self.subTest(row=row):
+                cert = b"".join([*rows[:at], b"x" + row, *rows[at + 1 :]])
+                self.assertEqual(said(check, BOOK, cert), (f"cca: refused cert {sum(map(len, rows[:at]))}", 3))
+
     def test_single_rows_only(self):
         rows = b"pay 14 12 0 0 0\nrows 2\nrow 1\nmult 1 0\nchoice 0 1 0 1 0\nrow 2\nmult 1 0\nchoice 1 0 0 0 1\nlowered"
         cert = re.sub(rb"pay .*lowered", rows, CERT, flags=re.DOTALL)

@@ -336,6 +336,14 @@ class OfALog(Told):
         self.assertEqual(dict(cell.details)["highest amount named for that"], "303,800")
         self.assertEqual(dict(cell.details)["what the package costs more there"], "+231,000")
 
+    def test_the_table_of_a_package_that_costs_less(self):
+        """By the rules: three lots were asked for at 10 each, and one of them costs 20 less."""
+        log = log_of("bid,east,3,", "close,,,", "draft,east,1,50", "submit,east,,")
+        cell = replies(page(facts_of(sample("sample.award"), log)))[4]
+        self.assertEqual(cell.code, "relative-cap 1 10")
+        self.assertEqual(dict(cell.details)["cap"], "30 - 20 = 10")
+        self.assertEqual(dict(cell.details)["what the package costs more there"], "-20")
+
     def test_net_of_reserve(self):
         (net,) = tables(self.made, "The same net of reserve")
         self.assertEqual([row[4] for row in net], ["47,400", "30,000", "32,000", "6,200", "60,200", "175,800"])
