@@ -1,5 +1,5 @@
 // Placements in a band, with their prices and their certificates.
-ghost use Rattle.std.specs.Prelude.{◌≡◌, ◌<◌, ◌^◌, [], ◌∷◌, IfOk, List, ℕ, length};
+ghost use Rattle.std.specs.Prelude.{◌≡◌, ◌<◌, ◌^◌, [], ◌∷◌, Err, IfOk, List, ℕ, length};
 ghost use Rattle.std.specs.List.{AllByRecursion};
 ghost use Rattle.core_price.specs.Turns.{turns_of};
 ghost use Rattle.outcome.specs.Turns.{CanPrintTurn};
@@ -9,7 +9,8 @@ ghost use Rattle.placement_check.specs.PlaceTests.{PlacementHolds};
 ghost use Rattle.cca_cli.specs.Outcome.{done};
 ghost use Rattle.cca_cli.specs.declared.status.FileKind.{FileKind};
 ghost use Rattle.cca_commands.specs.Gives.{ArePlacedLines, IsPlaceYes, PlaceGives, PlaceVerdictGives, cert_file};
-ghost use Rattle.cca_commands.specs.Works.{IsWork};
+ghost use Rattle.cca_commands.specs.Works.{IsWork, bare};
+ghost use Rattle.cca_cli.specs.declared.status.Status.TheVariants.{Memory};
 
 use crate::price_text::behind_rounds;
 use crate::pricing::{PriceTexts, with_cert};
@@ -103,7 +104,8 @@ fn place_yes(alloc: Global, slots: &Slots, cert: &PlaceCertificate) -> Result<Te
 /// What a certificate of a placement gives.
 pub fn place_verdict(alloc: Global, slots: &Slots, cert: &PlaceCertificate) -> Result<Work, Stop>
     requires shape { length cert.now.choice ≡ length slots.now.bidders }
-    ensures { IsWork (PlaceVerdictGives slots.now (place_cert_value cert.now)) [] result }
+    ensures work { IsWork (PlaceVerdictGives slots.now (place_cert_value cert.now)) [] result }
+    ensures memory { result ≡ Err (bare Memory) → PlacementHolds slots.now (place_cert_value cert.now) }
 {
     match check_places(slots, cert) {
         Verdict::Yes => {

@@ -28,4 +28,4 @@ returns g c =
     let slots = c.args.slots.now in
     let tested = c.in_ok-cert.ensures.value in
     input-works Cert CERT_BYTES (PlaceCertAnswers (length slots.bidders)) (PlaceVerdictGives slots) c.args.cert.now old new c.in_ok-cert.ensures.loads
-    (place_cert_value c.in_ok-cert.cert) tested.bytes tested.short tested.says.0 tested.here c.place_verdict.result c.place_verdict.ensures
+    (place_cert_value c.in_ok-cert.cert) tested.bytes tested.short tested.says.0 tested.here c.place_verdict.result c.place_verdict.ensures.work
