@@ -1,6 +1,6 @@
-use crate::samples::{book_of, is_line};
+use crate::samples::{book_of, choice_of, is_line};
 use bid_book::BidBook;
-use choices::{Choice, Grid, Numbers, first_by_listing};
+use choices::{Choice, Grid, Numbers, first_by_listing, known};
 use std::alloc::{AllocError, Global};
 use std::process::Abort;
 use wide_num::NumList;
@@ -68,4 +68,24 @@ fn listing_takes_the_first_of_the_greatest(rt: HostRuntime) -> Result<(), AllocE
         "book 1\nsupply 2\nreserve 0\nbidder east\nbid 1 5\nbid 2 9\nbidder west\nbid 1 4\nend\n";
     let book = book_of(&rt, rt.alloc(), text);
     is_listed_first(&rt, rt.alloc(), &book, &[1, 1])
+}
+
+#[test]
+fn a_choice_is_known_by_its_numbers(rt: HostRuntime) -> Result<(), AllocError> {
+    // East has two bids, and west one.
+    let text =
+        "book 1\nsupply 2\nreserve 0\nbidder east\nbid 1 5\nbid 2 9\nbidder west\nbid 1 4\nend\n";
+    let book = book_of(&rt, rt.alloc(), text);
+    assert!(rt; is_known(rt.alloc(), &book, &[0, 0])?);
+    assert!(rt; is_known(rt.alloc(), &book, &[2, 1])?);
+    assert!(rt; !is_known(rt.alloc(), &book, &[3, 1])?);
+    assert!(rt; !is_known(rt.alloc(), &book, &[2, 2])?);
+    assert!(rt; !is_known(rt.alloc(), &book, &[2])?);
+    assert!(rt; !is_known(rt.alloc(), &book, &[2, 1, 0])?);
+    Ok(())
+}
+
+fn is_known(alloc: Global, book: &BidBook, numbers: &[u16]) -> Result<bool, AllocError> {
+    let choice = choice_of(alloc, numbers)?;
+    Ok(known(book, &choice))
 }

@@ -10,13 +10,13 @@ use std::process::Abort;
 use std::test::Fail;
 
 /// One category of three lots for two bidders.
-const AWARD: &str = "version = 1\ntick = 1\n\
+pub(crate) const AWARD: &str = "version = 1\ntick = 1\n\
     category = [{ name = \"lot\", supply = 3, points = 1, reserve = 10 }]\n\
     bidder = [{ name = \"east\", eligibility = 3 }, { name = \"west\", eligibility = 2 }]\n\
     step = [{ excess = 1, permille = 200 }]\n";
 
 /// Bids for that many lots of the one category, by these bidders in turn. Each is answered by its reply.
-fn take_bids(
+pub(crate) fn take_bids(
     rt: &impl Abort,
     alloc: Global,
     clock: &mut Clock,
@@ -53,7 +53,7 @@ fn take_bid(
 }
 
 /// The answer of a close.
-fn close(rt: &impl Abort, alloc: Global, clock: &mut Clock, award: &Award) -> Closed
+pub(crate) fn close(rt: &impl Abort, alloc: Global, clock: &mut Clock, award: &Award) -> Closed
     requires { IsFor award.now clock.old }
     ensures { IsFor award.now clock.new }
 {

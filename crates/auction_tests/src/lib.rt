@@ -1,4 +1,4 @@
-//! Tests of what awards, logs, the clock and the desk tell through their own types; of books, choices, tables of greatest value, values
+//! Tests of what awards, logs, the clock, caps and the desk tell through their own types; of books, choices, tables of greatest value, values
 //! without a winner, blocking coalitions, slots, weights, edits and printed fractions.
 #![tactic(auto)]
 
@@ -6,6 +6,8 @@
 mod awards;
 #[cfg(test)]
 mod books;
+#[cfg(test)]
+mod caps;
 #[cfg(test)]
 mod choosing;
 #[cfg(test)]

@@ -17,7 +17,7 @@ use Rattle.award_file.specs.Award.{IsAward, IsSteps, IsEntrant, IsCap, AreThresh
 use Rattle.award_file.specs.Reading.{IsStated}
 use Rattle.award_file.specs.Stated.{has_other, name_at, list_of}
 use Rattle.award_file.specs.Walk as walk
-use Rattle.award_file.specs.Walk.{Fault, Category, tables_fault, first_fault, unless, entry_behind}
+use Rattle.award_file.specs.Walk.{Fault, Category, tables_fault, first_fault, unless, entry_after}
 use Rattle.award_file.proofs.FaultLaws.{three-hold, four-hold, five-hold, number-in, row-at, holding-at, name-in, list-count, list-passes}
 
 -- ---- lists
@@ -46,7 +46,7 @@ IsCategory c = ((1 ≤ c.supply) × (c.supply ≤ 999)) × (c.points ≤ 10000) 
 category-is : (before : List (List ℕ)) (t : Members) → walk.category_fault before t ≡ None → IsCategory (walk.category_of t)
 category-is before t h =
     let all = five-hold (walk.is_new before (name_at t)) (is_some (walk.supply_at t)) (is_some (walk.points_at t)) (is_some (walk.reserve_at t))
-    (not (has_other walk.category_keys t)) 4 5 6 7 18 (entry_behind (length before)) h in
+    (not (has_other walk.category_keys t)) 4 5 6 7 18 (entry_after (length before)) h in
     (number-in 1 999 (codes "supply") t all.1, (number-in 0 10000 (codes "points") t all.2).1, (number-in 0 (2 ^ 36) (codes "reserve") t all.3).1)
 
 categories-are : (t : Members) → walk.categories_fault t ≡ None → (0 < length (walk.categories_of t)) × AllByRecursion IsCategory (walk.categories_of t)
@@ -83,7 +83,7 @@ IsStep before t = IsNext before (walk.excess_or_none t) × (walk.excess_or_none 
 step-is : (before : List ℕ) (t : Members) → walk.step_fault before t ≡ None → IsStep before t
 step-is before t h =
     let all = three-hold (walk.comes_next before (walk.excess_at t)) (is_some (walk.permille_at t)) (not (has_other walk.step_keys t)) 13 14 18
-    (entry_behind (length before)) h in
+    (entry_after (length before)) h in
     let next = next-is before (walk.excess_at t) all.0 in
     let permille = number-in 1 1000 (codes "permille") t all.1 in
     (next.1, (number-in 1 1000 (codes "excess") t next.0).1, permille.0, permille.1)
@@ -112,7 +112,7 @@ bidder-is : (categories : ℕ) (before : List (List ℕ)) (t : Members) → walk
     → IsEntrant categories (walk.entrant_of categories t)
 bidder-is categories before t h =
     let all = four-hold (walk.is_new before (name_at t)) (is_some (walk.eligibility_at t)) (is_some (walk.holding_at categories t))
-    (not (has_other walk.bidder_keys t)) 9 10 11 18 (entry_behind (length before)) h in
+    (not (has_other walk.bidder_keys t)) 9 10 11 18 (entry_after (length before)) h in
     let holding = holding-at categories (get_member (codes "holding") t) all.2 in
     record {
       name = name-in before t all.0;
@@ -124,7 +124,7 @@ bidder-is categories before t h =
 cap-is : (categories : ℕ) (before : List ℕ) (t : Members) → walk.cap_fault categories before t ≡ None → IsCap categories (walk.cap_of categories t)
 cap-is categories before t h =
     let all = three-hold (is_some (walk.weights_at categories t)) (is_some (walk.limit_at t)) (not (has_other walk.cap_keys t)) 16 17 18
-    (entry_behind (length before)) h in
+    (entry_after (length before)) h in
     let weights = row-at categories 1000 (get_member (codes "weight") t) all.0 in
     record {
       weights = weights.0;

@@ -16,7 +16,7 @@ use Rattle.award_file.specs.Award.{AreNamedApart, IsAward, is_stranger, names_of
 use Rattle.award_file.specs.Reading.{IsStated, bidders_excess, reading, reading_after, reading_of, reading_within, stated_table, stated_terms, terms_excess}
 use Rattle.award_file.specs.Stated.{has_other, name_at}
 use Rattle.award_file.specs.Walk as walk
-use Rattle.award_file.specs.Walk.{Fault, award_fault, bidder_fault, entry_behind, is_new, name_or_none, tables_fault, terms_of}
+use Rattle.award_file.specs.Walk.{Fault, award_fault, bidder_fault, entry_after, is_new, name_or_none, tables_fault, terms_of}
 use Rattle.award_file.proofs.AwardLaws.{award-of, names-of, offer-of}
 use Rattle.award_file.proofs.FaultLaws.{four-hold}
 
@@ -33,7 +33,7 @@ names-apart n before [] apart h = subst (λ names. IsDistinct bytes_eq names) (s
 names-apart n before (t ∷ ts) apart h =
     let later = tables_fault (bidder_fault n) name_or_none (before ++ name_or_none t ∷ []) ts in
     let all = four-hold (is_new before (name_at t)) (is_some (walk.eligibility_at t)) (is_some (walk.holding_at n t))
-    (not (has_other walk.bidder_keys t)) 9 10 11 18 (entry_behind (length before)) (none_first (bidder_fault n before t) later h) in
+    (not (has_other walk.bidder_keys t)) 9 10 11 18 (entry_after (length before)) (none_first (bidder_fault n before t) later h) in
     let stranger : is_stranger (name_or_none t) before ≡ true = new-name before (name_at t) all.0 in
     let more = IsDistinct-push nat_list_eq_equiv before (name_or_none t) apart (not-true (list_any (bytes_eq (name_or_none t)) before) stranger) in
     subst (λ names. IsDistinct bytes_eq names) (append_assoc before (name_or_none t ∷ []) (map name_or_none ts))

@@ -11,6 +11,7 @@ use Rattle.limits.specs.declared.LimitKind.TheVariants.{Bidders, Categories, Lot
 use Rattle.auction_rules.specs.Terms.{Terms}
 use Rattle.lots.specs.declared.LotStop.{LotStop}
 use Rattle.lots.specs.declared.LotStop.TheVariants as lots
+use Rattle.award_file.specs.declared.read.field_numbers.TheConstants.{SUPPLY}
 use Rattle.award_file.specs.Walk.{Fault, award_fault, terms_of}
 use Rattle.award_file.specs.declared.read.AwardStop.{AwardStop}
 use Rattle.award_file.specs.declared.read.AwardStop.TheVariants.{Text, Field, Limit, Memory}
@@ -85,7 +86,7 @@ pub record IsStated (terms : Terms) : Type 0 where
 -- the stop where no supply is made of the counts; categories are numbered from 1
 abbrev pub limit_stop : LotStop → AwardStop
 limit_stop (lots.Categories count) = Limit Categories count
-limit_stop (lots.Zero category) = Field 5 (min category (2 ^ 32 - 1))
+limit_stop (lots.Zero category) = Field SUPPLY (min category (2 ^ 32 - 1))
 limit_stop (lots.Lots count) = Limit Lots count
 limit_stop (lots.States count) = Limit States count
 limit_stop lots.Memory = Memory

@@ -7,6 +7,8 @@ use Rattle.toml.specs.Data.{Data, Members, get_member}
 use Rattle.auction_rules.specs.Step.{last_or}
 use Rattle.auction_rules.specs.Terms.{Terms, Entrant, SpectrumCap}
 use Rattle.award_file.specs.Award.{is_stranger}
+use Rattle.award_file.specs.declared.read.field_numbers.TheConstants.{BIDDERS, BIDDER_NAME, CAPS, CAP_LIMIT, CAP_WEIGHTS, CATEGORIES, CATEGORY_NAME, ELIGIBILITY, EXCESS}
+use Rattle.award_file.specs.declared.read.field_numbers.TheConstants.{HOLDING, OTHER_KEY, PERMILLE, POINTS, RESERVE, STEPS, SUPPLY, TICK, VERSION}
 use Rattle.award_file.specs.Stated.{number_at, row_of, name_at, tables_at, has_other}
 
 -- a broken rule: the number of its field, and the number of the table in its list, or 0
@@ -23,8 +25,8 @@ first_fault [] = None
 first_fault (f ∷ fs) = option_or f (first_fault fs)
 
 -- the number of the table after that many, which stops at 2^32 - 1
-abbrev pub entry_behind : ℕ → ℕ
-entry_behind done = min (done + 1) (2 ^ 32 - 1)
+abbrev pub entry_after : ℕ → ℕ
+entry_after done = min (done + 1) (2 ^ 32 - 1)
 
 -- the first fault of tables, each judged after what those before it state
 abbrev pub tables_fault : {A : Type 0} → (List A → Members → Option Fault) → (Members → A) → List A → List Members
@@ -67,11 +69,11 @@ reserve_at t = number_at 0 MOST_PRICE (codes "reserve") t
 -- the first fault of a category after those of these names
 abbrev pub category_fault : List (List ℕ) → Members → Option Fault
 category_fault before t = first_fault (
-    unless (is_new before (name_at t)) 4 (entry_behind (length before))
-    ∷ unless (is_some (supply_at t)) 5 (entry_behind (length before))
-    ∷ unless (is_some (points_at t)) 6 (entry_behind (length before))
-    ∷ unless (is_some (reserve_at t)) 7 (entry_behind (length before))
-    ∷ unless (not (has_other category_keys t)) 18 (entry_behind (length before))
+    unless (is_new before (name_at t)) CATEGORY_NAME (entry_after (length before))
+    ∷ unless (is_some (supply_at t)) SUPPLY (entry_after (length before))
+    ∷ unless (is_some (points_at t)) POINTS (entry_after (length before))
+    ∷ unless (is_some (reserve_at t)) RESERVE (entry_after (length before))
+    ∷ unless (not (has_other category_keys t)) OTHER_KEY (entry_after (length before))
     ∷ [])
 
 -- at least one category
@@ -80,7 +82,7 @@ categories_at t = tables_at (nat_le 1) (codes "category") t
 
 -- the first fault of the categories
 abbrev pub categories_fault : Members → Option Fault
-categories_fault t = list_fault 3 (tables_fault category_fault name_or_none []) (categories_at t)
+categories_fault t = list_fault CATEGORIES (tables_fault category_fault name_or_none []) (categories_at t)
 
 -- ---- bidders
 
@@ -104,10 +106,10 @@ holding_at categories t = holding_in categories (get_member (codes "holding") t)
 -- the first fault of a bidder after those of these names
 abbrev pub bidder_fault : ℕ → List (List ℕ) → Members → Option Fault
 bidder_fault categories before t = first_fault (
-    unless (is_new before (name_at t)) 9 (entry_behind (length before))
-    ∷ unless (is_some (eligibility_at t)) 10 (entry_behind (length before))
-    ∷ unless (is_some (holding_at categories t)) 11 (entry_behind (length before))
-    ∷ unless (not (has_other bidder_keys t)) 18 (entry_behind (length before))
+    unless (is_new before (name_at t)) BIDDER_NAME (entry_after (length before))
+    ∷ unless (is_some (eligibility_at t)) ELIGIBILITY (entry_after (length before))
+    ∷ unless (is_some (holding_at categories t)) HOLDING (entry_after (length before))
+    ∷ unless (not (has_other bidder_keys t)) OTHER_KEY (entry_after (length before))
     ∷ [])
 
 -- any number of bidders
@@ -116,7 +118,7 @@ bidders_at t = tables_at (λ n. true) (codes "bidder") t
 
 -- the first fault of the bidders
 abbrev pub bidders_fault : ℕ → Members → Option Fault
-bidders_fault categories t = list_fault 8 (tables_fault (bidder_fault categories) name_or_none []) (bidders_at t)
+bidders_fault categories t = list_fault BIDDERS (tables_fault (bidder_fault categories) name_or_none []) (bidders_at t)
 
 -- ---- steps
 
@@ -145,9 +147,9 @@ excess_or_none t = unwrap_or (excess_at t) 0
 -- the first fault of a step after those of these excesses
 abbrev pub step_fault : List ℕ → Members → Option Fault
 step_fault before t = first_fault (
-    unless (comes_next before (excess_at t)) 13 (entry_behind (length before))
-    ∷ unless (is_some (permille_at t)) 14 (entry_behind (length before))
-    ∷ unless (not (has_other step_keys t)) 18 (entry_behind (length before))
+    unless (comes_next before (excess_at t)) EXCESS (entry_after (length before))
+    ∷ unless (is_some (permille_at t)) PERMILLE (entry_after (length before))
+    ∷ unless (not (has_other step_keys t)) OTHER_KEY (entry_after (length before))
     ∷ [])
 
 -- at least one step
@@ -156,7 +158,7 @@ steps_at t = tables_at (λ n. nat_le 1 n && nat_le n MOST_STEPS) (codes "step") 
 
 -- the first fault of the steps
 abbrev pub steps_fault : Members → Option Fault
-steps_fault t = list_fault 12 (tables_fault step_fault excess_or_none []) (steps_at t)
+steps_fault t = list_fault STEPS (tables_fault step_fault excess_or_none []) (steps_at t)
 
 -- ---- caps
 
@@ -179,9 +181,9 @@ limit_or_none t = unwrap_or (limit_at t) 0
 -- the first fault of a cap after those of these limits
 abbrev pub cap_fault : ℕ → List ℕ → Members → Option Fault
 cap_fault categories before t = first_fault (
-    unless (is_some (weights_at categories t)) 16 (entry_behind (length before))
-    ∷ unless (is_some (limit_at t)) 17 (entry_behind (length before))
-    ∷ unless (not (has_other cap_keys t)) 18 (entry_behind (length before))
+    unless (is_some (weights_at categories t)) CAP_WEIGHTS (entry_after (length before))
+    ∷ unless (is_some (limit_at t)) CAP_LIMIT (entry_after (length before))
+    ∷ unless (not (has_other cap_keys t)) OTHER_KEY (entry_after (length before))
     ∷ [])
 
 -- no more caps than are allowed
@@ -190,7 +192,7 @@ caps_at t = tables_at (λ n. nat_le n MOST_CAPS) (codes "cap") t
 
 -- the first fault of the caps
 abbrev pub caps_fault : ℕ → Members → Option Fault
-caps_fault categories t = list_fault 15 (tables_fault (cap_fault categories) limit_or_none []) (caps_at t)
+caps_fault categories t = list_fault CAPS (tables_fault (cap_fault categories) limit_or_none []) (caps_at t)
 
 -- ---- the whole table
 
@@ -213,13 +215,13 @@ category_count t = length (unwrap_or (categories_at t) [])
 -- the first fault of an award
 abbrev pub award_fault : Members → Option Fault
 award_fault t = first_fault (
-    unless (is_some (version_at t)) 1 0
-    ∷ unless (is_some (tick_at t)) 2 0
+    unless (is_some (version_at t)) VERSION 0
+    ∷ unless (is_some (tick_at t)) TICK 0
     ∷ categories_fault t
     ∷ bidders_fault (category_count t) t
     ∷ steps_fault t
     ∷ caps_fault (category_count t) t
-    ∷ unless (not (has_other top_keys t)) 18 0
+    ∷ unless (not (has_other top_keys t)) OTHER_KEY 0
     ∷ [])
 
 -- ---- what a table without a fault states

@@ -12,6 +12,7 @@ ghost use Rattle.award_file.specs.declared.read.AwardStop.TheVariants.{Memory};
 
 mod bidders;
 mod categories;
+mod field_numbers;
 mod fields;
 mod price_steps;
 mod spectrum_caps;
@@ -21,6 +22,7 @@ use crate::entrants::Entrants;
 use crate::{Award, StepTable};
 use bidders::read_bidders;
 use categories::{Category, read_categories};
+use field_numbers::{OTHER_KEY, SUPPLY, TICK, VERSION};
 use fields::{broken_top, has_other, number_at};
 use limits::{LimitKind, MOST_BIDDERS, MOST_PRICE};
 use lots::{LotStop, Supply};
@@ -86,7 +88,10 @@ impl From<LotStop> for AwardStop {
             LotStop::Categories(count) => AwardStop::Limit(LimitKind::Categories, count),
             LotStop::Zero(category) => {
                 let entry = u32::try_from(category).unwrap_or(u32::MAX);
-                AwardStop::Field { number: 5, entry }
+                AwardStop::Field {
+                    number: SUPPLY,
+                    entry,
+                }
             }
             LotStop::Lots(count) => AwardStop::Limit(LimitKind::Lots, count),
             LotStop::States(count) => AwardStop::Limit(LimitKind::States, count),
@@ -157,17 +162,17 @@ fn read_parts(alloc: Global, table: &Table) -> Result<Parts, AwardStop>
     ensures err { IfErr result (IsFault (award_fault (table_view table.now))) }
 {
     let Some(version) = number_at(table, "version", FIRST_VERSION, LAST_VERSION) else {
-        return Err(broken_top(1));
+        return Err(broken_top(VERSION));
     };
     let Some(tick) = number_at(table, "tick", 1, MOST_TICK) else {
-        return Err(broken_top(2));
+        return Err(broken_top(TICK));
     };
     let categories = read_categories(alloc, table)?;
     let bidders = read_bidders(alloc, table, categories.len())?;
     let thresholds = read_steps(alloc, table)?;
     let caps = read_caps(alloc, table, categories.len())?;
     if has_other(table, &TOP_KEYS) {
-        return Err(broken_top(18));
+        return Err(broken_top(OTHER_KEY));
     }
     Ok(Parts {
         version: version as u8,

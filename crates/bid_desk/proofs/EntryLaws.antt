@@ -1,8 +1,7 @@
 -- Lists of entries in the order of their packages: the place of a package in them.
-use Rattle.std.proofs.Common.{◌≡◌, ℕ, zero, suc, ◌<◌, ◌≤◌, true, false, List, [], ◌∷◌, length, map, get_or, set, refl, sym, subst, ◌∙◌, ap, inl, inr, arith}
+use Rattle.std.proofs.Common.{◌≡◌, ℕ, zero, suc, ◌<◌, ◌≤◌, true, false, List, [], ◌∷◌, length, map, get_or, set, refl, sym, subst, ◌∙◌, ap, arith}
 use Rattle.std.specs.List.{All, AllByRecursion, insert, remove}
-use Rattle.std.proofs.lemmas.Bool.{cases_Bool, false≢true}
-use Rattle.std.proofs.lemmas.List.{length-map, map-set}
+use Rattle.std.proofs.lemmas.List.{map-set}
 use Rattle.auction_model.specs.Book.{BookBid}
 use Rattle.auction_model.specs.Package.{cost_of}
 use Rattle.auction_rules.specs.BookOfLog.{bid_lots}
@@ -10,7 +9,7 @@ use Rattle.auction_model.specs.Entries.{with_entry, without_entry}
 use Rattle.auction_model.specs.PackageTests.{AllAfter, InOrder, is_before, is_same}
 use Rattle.auction_rules.specs.Replies.{has_entry}
 use Rattle.auction_rules.proofs.Drafts.{AllAfter-trans}
-use Rattle.auction_model.proofs.PackageTestLaws.{is_before-not_same, is_before-total, is_before-trans, is_same-refl, is_same-true, not_same-sym}
+use Rattle.auction_model.proofs.PackageTestLaws.{is_before-not_same, is_before-total, is_same-refl, is_same-true, not_same-sym}
 use Rattle.auction_rules.proofs.KeptStandings.{absent-before}
 use Rattle.bid_book.proofs.PlaceLaws.{not-before}
 use Rattle.bid_book.proofs.SettleLaws.{map-insert, map-remove}

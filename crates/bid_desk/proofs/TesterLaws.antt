@@ -1,9 +1,9 @@
 -- The testers that a desk keeps.
-use Rattle.std.proofs.Common.{Bool, List, None, Option, Some, ap, arith, false, get_or, inl, inr, length, refl, set, subst, sym, true, ℕ, ◌+◌, ◌-◌}
+use Rattle.std.proofs.Common.{Bool, List, None, Option, Some, ap, arith, false, get_or, inl, inr, length, set, subst, sym, true, ℕ, ◌+◌, ◌-◌}
 use Rattle.std.proofs.Common.{◌<◌, ◌∙◌, ◌≡◌, ◌≤◌}
 use Rattle.std.specs.Prelude.{replicate}
 use Rattle.std.proofs.lemmas.Bool.{cases_order}
-use Rattle.std.proofs.lemmas.List.{length-set, length-replicate, get_or-set_same, get_or-set_other, get_or-replicate, get_or_default}
+use Rattle.std.proofs.lemmas.List.{length-set, length-replicate, get_or-set_same, get_or-set_other, get_or-replicate}
 use Rattle.auction_rules.specs.State.{DeskState, Round, drafts_of}
 use Rattle.auction_rules.specs.Terms.{Terms}
 use Rattle.auction_model.specs.Book.{BookBid}

@@ -21,30 +21,19 @@ use relative_cap::amount_listed;
 use std::alloc::{AllocError, Global};
 
 /// Sets the amount for the package in a list, or leaves the list's own where that is greater.
-fn raise_to(
-    alloc: Global,
-    list: &mut Vec<Bid>,
-    package: &Package,
-    amount: u64,
-) -> Result<(), AllocError>
+fn raise_to(list: &mut Vec<Bid>, package: &Package, amount: u64) -> Result<(), AllocError>
     requires { IsKept (length «package».now) (map bid_value list.old.items) }
     ensures { OnOk result
         (map bid_value list.new.items ≡ with_greater «package».now amount (map bid_value list.old.items)) }
 {
     let most = amount.max(amount_listed(list, package));
-    put_entry(alloc, list, package, most)?;
+    put_entry(list, package, most)?;
     Ok(())
 }
 
 /// Puts the clock bid of bidder `j` in round `r` into the list, unless it is for the empty package or the list's own amount is
 /// greater.
-fn put_clock_bid(
-    alloc: Global,
-    history: &History,
-    j: u16,
-    r: u32,
-    list: &mut Vec<Bid>,
-) -> Result<(), AllocError>
+fn put_clock_bid(history: &History, j: u16, r: u32, list: &mut Vec<Bid>) -> Result<(), AllocError>
     requires bidder { IsBidderOf history.now j }
     requires round { (1 ≤ r) × (r ≤ length history.now) }
     requires kept { IsKept (categories_in history.now) (map bid_value list.old.items) }
@@ -57,7 +46,7 @@ fn put_clock_bid(
     if held.is_empty() {
         return Ok(());
     }
-    raise_to(alloc, list, held, held.cost(history.prices(r)))?;
+    raise_to(list, held, held.cost(history.prices(r)))?;
     Ok(())
 }
 
@@ -87,7 +76,7 @@ fn bids_of(
 {
     let mut bids = copied_entries(alloc, submitted)?;
     for r in (0..history.rounds()).rev() {
-        put_clock_bid(alloc, history, j, r + 1, &mut bids)?;
+        put_clock_bid(history, j, r + 1, &mut bids)?;
     }
     let list = listed(alloc, bids)?;
     Ok(list)

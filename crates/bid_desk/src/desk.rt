@@ -186,7 +186,7 @@ impl Desk {
                 bidder,
                 package,
                 amount,
-            } => self.draft(alloc, *bidder, package, *amount),
+            } => self.draft(*bidder, package, *amount),
             Event::Drop { bidder, package } => self.drop_draft(*bidder, package),
             Event::Submit { bidder } => self.submit(alloc, *bidder),
             Event::Close => self.close(alloc),
@@ -247,26 +247,26 @@ impl Desk {
     }
 
     /// Takes a draft.
-    fn draft(&mut self, alloc: Global, bidder: u16, package: &Package, amount: u64) -> Reply
+    fn draft(&mut self, bidder: u16, package: &Package, amount: u64) -> Reply
         requires { length «package».now ≡ length self.old.terms.supply }
         ensures { IsTakenOrMemory self.old (Event.Draft bidder «package».now amount) result self.new }
     {
         let reply = self.reply_to_draft(bidder, package, amount);
         if matches!(reply, Reply::Ok) {
-            return self.put_draft(alloc, bidder, package, amount);
+            return self.put_draft(bidder, package, amount);
         }
         reply
     }
 
     /// Puts an admitted draft into the draft list of its bidder.
-    fn put_draft(&mut self, alloc: Global, bidder: u16, package: &Package, amount: u64) -> Reply
+    fn put_draft(&mut self, bidder: u16, package: &Package, amount: u64) -> Reply
         requires categories { length «package».now ≡ length self.old.terms.supply }
         requires admitted { reply_in self.old (Event.Draft bidder «package».now amount) ≡ Reply.Ok }
         requires known { IsKnown self.old.terms self.old bidder }
         ensures { IsTakenOrMemory self.old (Event.Draft bidder «package».now amount) result self.new }
     {
         let lists = &mut self.bidders[bidder as usize - 1];
-        if lists.put(alloc, package, amount).is_err() {
+        if lists.put(package, amount).is_err() {
             return Reply::Memory;
         }
         Reply::Ok
@@ -414,31 +414,31 @@ impl Desk {
         ensures { IsTakenOrMemory self.old (Event.Submit bidder) result self.new }
     {
         match self.reply_to_submit(alloc, bidder) {
-            Ok(reply) => self.submit_by(alloc, bidder, reply),
+            Ok(reply) => self.submit_by(bidder, reply),
             Err(_) => Reply::Memory,
         }
     }
 
     /// Takes a submission to which the rules give this reply.
-    fn submit_by(&mut self, alloc: Global, bidder: u16, reply: Reply) -> Reply
+    fn submit_by(&mut self, bidder: u16, reply: Reply) -> Reply
         requires reply { reply ≡ reply_in self.old (Event.Submit bidder) }
         requires known { reply ≡ Reply.Ok → IsKnown self.old.terms self.old bidder }
         ensures { IsTakenOrMemory self.old (Event.Submit bidder) result self.new }
     {
         if matches!(reply, Reply::Ok) {
-            return self.submit_list(alloc, bidder);
+            return self.submit_list(bidder);
         }
         reply
     }
 
     /// Puts the draft list of a bidder, whose submission is admitted, instead of its submitted list.
-    fn submit_list(&mut self, alloc: Global, bidder: u16) -> Reply
+    fn submit_list(&mut self, bidder: u16) -> Reply
         requires admitted { reply_in self.old (Event.Submit bidder) ≡ Reply.Ok }
         requires known { IsKnown self.old.terms self.old bidder }
         ensures { IsTakenOrMemory self.old (Event.Submit bidder) result self.new }
     {
         let lists = &mut self.bidders[bidder as usize - 1];
-        if lists.submit(alloc).is_err() {
+        if lists.submit().is_err() {
             return Reply::Memory;
         }
         Reply::Ok

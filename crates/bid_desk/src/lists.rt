@@ -81,13 +81,13 @@ impl BidderLists {
     }
 
     /// Sets the amount for the package in the draft list. If memory runs out, the lists stay as they are.
-    pub fn put(&mut self, alloc: Global, package: &Package, amount: u64) -> Result<(), AllocError>
+    pub fn put(&mut self, package: &Package, amount: u64) -> Result<(), AllocError>
         requires { IsKept (length «package».now) self.old.drafts }
         ensures put { OnOk result
             (self.new ≡ lists_with (with_entry «package».now amount self.old.drafts) self.old.submitted) }
         ensures unchanged { OnErr result (self.new ≡ self.old) }
     {
-        let place = put_entry(alloc, &mut self.drafts, package, amount)?;
+        let place = put_entry(&mut self.drafts, package, amount)?;
         self.difference = with_amount(self.difference, place);
         Ok(())
     }
@@ -105,14 +105,14 @@ impl BidderLists {
 
     /// The draft list becomes the submitted list. If memory runs out, the lists stay as they are, and lists that are known to be
     /// alike need none.
-    pub fn submit(&mut self, alloc: Global) -> Result<(), AllocError>
+    pub fn submit(&mut self) -> Result<(), AllocError>
         ensures submitted { OnOk result (self.new ≡ lists_with self.old.drafts self.old.drafts) }
         ensures unchanged { OnErr result (self.new ≡ self.old) }
     {
         match self.difference {
             Difference::Nothing => {}
             Difference::AmountAt(place) => self.submit_amount(place),
-            Difference::Anything => self.submit_all(alloc)?,
+            Difference::Anything => self.submit_all()?,
         }
         Ok(())
     }
@@ -127,11 +127,11 @@ impl BidderLists {
     }
 
     /// All drafts become the submitted list.
-    fn submit_all(&mut self, alloc: Global) -> Result<(), AllocError>
+    fn submit_all(&mut self) -> Result<(), AllocError>
         ensures submitted { OnOk result (self.new ≡ lists_with self.old.drafts self.old.drafts) }
         ensures unchanged { OnErr result (self.new ≡ self.old) }
     {
-        copy_entries(alloc, &self.drafts, &mut self.spare)?;
+        copy_entries(&self.drafts, &mut self.spare)?;
         mem::swap(&mut self.submitted, &mut self.spare);
         self.difference = Difference::Nothing;
         Ok(())

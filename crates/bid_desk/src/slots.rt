@@ -47,7 +47,6 @@ pub fn has_entry(list: &[Bid], package: &Package) -> bool
 /// Sets the amount for the package in a list, and gives the place of its entry where one was there. If memory runs out, the list stays
 /// as it is.
 pub fn put_entry(
-    alloc: Global,
     list: &mut Vec<Bid>,
     package: &Package,
     amount: u64,
@@ -65,7 +64,7 @@ pub fn put_entry(
             Ok(Some(place))
         }
         Position::Free(place) => {
-            let package = package.copied(alloc)?;
+            let package = package.copied();
             list.insert(place, Bid { package, amount })?;
             Ok(None)
         }
@@ -79,7 +78,7 @@ pub fn copied_entries(alloc: Global, list: &[Bid]) -> Result<Vec<Bid>, AllocErro
     let mut copies = Vec::with_capacity(alloc, list.len())?;
     for bid in list {
         copies.push(Bid {
-            package: bid.package.copied(alloc)?,
+            package: bid.package.copied(),
             amount: bid.amount,
         })?;
     }
@@ -87,7 +86,7 @@ pub fn copied_entries(alloc: Global, list: &[Bid]) -> Result<Vec<Bid>, AllocErro
 }
 
 /// Makes the entry at the place that of the bid; those before it stay.
-fn copy_entry(alloc: Global, list: &mut Vec<Bid>, place: usize, bid: &Bid) -> Result<(), AllocError>
+fn copy_entry(list: &mut Vec<Bid>, place: usize, bid: &Bid) -> Result<(), AllocError>
     requires { place ≤ length list.old.items }
     ensures { OnOk result
         (take (place + 1) (map bid_value list.new.items)
@@ -99,10 +98,9 @@ fn copy_entry(alloc: Global, list: &mut Vec<Bid>, place: usize, bid: &Bid) -> Re
         entry.amount = bid.amount;
         return Ok(());
     }
-    let package = bid.package.copied(alloc)?;
     list.truncate(place);
     list.push(Bid {
-        package,
+        package: bid.package.copied(),
         amount: bid.amount,
     })?;
     Ok(())
@@ -110,11 +108,11 @@ fn copy_entry(alloc: Global, list: &mut Vec<Bid>, place: usize, bid: &Bid) -> Re
 
 /// Makes the entries of a list those of another. It overwrites what is there, and takes memory only where there are fewer. For want
 /// of memory the list has some entries of each.
-pub fn copy_entries(alloc: Global, from: &[Bid], list: &mut Vec<Bid>) -> Result<(), AllocError>
+pub fn copy_entries(from: &[Bid], list: &mut Vec<Bid>) -> Result<(), AllocError>
     ensures { OnOk result (map bid_value list.new.items ≡ map bid_value from.now) }
 {
     for (place, bid) in from.iter().enumerate() {
-        copy_entry(alloc, list, place, bid)?;
+        copy_entry(list, place, bid)?;
     }
     list.truncate(from.len());
     Ok(())

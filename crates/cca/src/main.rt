@@ -66,7 +66,7 @@ fn listed(alloc: Global, all: Args) -> Result<Vec<String>, AllocError>
 }
 
 // All words but the first, which is the program's name.
-fn behind_name(mut all: Vec<String>) -> Vec<String>
+fn after_name(mut all: Vec<String>) -> Vec<String>
     ensures { result.items ≡ drop 1 all.items }
 {
     if !all.is_empty() {
@@ -84,7 +84,7 @@ fn words(alloc: Global, given: io::Result<Args>) -> Result<Vec<String>, NoWords>
 {
     match given {
         Ok(all) => match listed(alloc, all) {
-            Ok(list) => Ok(behind_name(list)),
+            Ok(list) => Ok(after_name(list)),
             Err(_) => Err(NoWords::Memory),
         },
         Err(error) => Err(none_by(&error)),

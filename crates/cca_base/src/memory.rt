@@ -1,4 +1,4 @@
-// Files and an output in memory, as tests and proofs of the callers see them.
+// Files and outputs in memory, for tests. The program uses none of them.
 
 pub(crate) mod clean_file;
 pub(crate) mod clean_files;

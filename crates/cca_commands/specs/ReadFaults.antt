@@ -1,7 +1,9 @@
 -- What was loaded, the cause of a fault of reading, and which counts of faults may rise.
-use Rattle.std.specs.Prelude.{◌≡◌, ◌≤◌, ℕ, IsSome, Option, Some, List, Contains, length, map, take}
+use Rattle.std.specs.Prelude.{◌≡◌, ◌≤◌, ℕ, IsSome, Option, Some, List, [], ◌∷◌, ◌++◌, Contains, length, map, take}
+use Rattle.std.specs.List.{AllByRecursion}
 use Rattle.cca_base.specs.Faults.{Rose}
-use Rattle.cca_base.specs.Files.{Agrees, Content, Folder, GaveOf}
+use Rattle.cca_base.specs.Files.{Agrees, Content, Folder, GaveOf, given_since}
+use Rattle.cca_base.specs.Given.{Given}
 use Rattle.cca_cli.specs.Command.{CommandValue, contents_of, input_as, missing}
 use Rattle.cca_cli.specs.Outcome.{stopped}
 use Rattle.cca_cli.specs.declared.status.FileKind.{FileKind}
@@ -25,8 +27,15 @@ pub record CountsAmong (names : List (List ℕ)) (old new : List ℕ → ℕ) : 
   pub not_less : (name : List ℕ) → old name ≤ new name
   pub elsewhere : (name : List ℕ) → (Contains names name → ⊥) → new name ≡ old name
 
--- What the loads in between gave is what files hold that hold these contents: of the first of these names, one after the other.
+-- These loads, the last one first, were of these names, one name after the other: all loads of a name came before those of the next.
+abbrev pub AreInOrder : List (List ℕ) → List Given → Type 0
+AreInOrder [] loads = loads ≡ []
+AreInOrder (name ∷ names) loads = (later earlier : List Given) × (loads ≡ later ++ earlier) × AllByRecursion (λ g. g.name ≡ name) earlier
+    × AreInOrder names later
+
+-- The loads in between were of the first of these names, one name after the other, and gave what files hold that hold these contents.
 pub record Loaded (names : List (List ℕ)) (old new : Folder) : Type 0 where
   pub contents : List Content
   pub first : map (λ c. c.name) contents ≡ take (length contents) names
+  pub order : AreInOrder (map (λ c. c.name) contents) (given_since old new)
   pub gave : GaveOf contents old new

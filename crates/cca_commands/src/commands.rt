@@ -66,7 +66,7 @@ fn checked_alike<F: Files>(
 }
 
 // The book that the log of an award leads to.
-fn logged_behind<F: Files>(
+fn logged_after<F: Files>(
     alloc: Global,
     files: &mut F,
     log: &str,
@@ -92,7 +92,7 @@ fn logged<F: Files>(alloc: Global, files: &mut F, terms: &str, log: &str) -> Res
     ensures { HasLogged terms.now log.now (F.folder files.old) (F.folder files.new) result }
 {
     let award = read_input(alloc, files, terms, &AwardInput)?;
-    logged_behind(alloc, files, log, award)
+    logged_after(alloc, files, log, award)
 }
 
 fn winners(alloc: Global, book: &BidBook) -> Result<Work, Stop>
@@ -210,7 +210,7 @@ fn weigh_check_work<F: Files>(
 }
 
 // What the log of an award gives.
-fn replayed_behind<F: Files>(
+fn replayed_after<F: Files>(
     alloc: Global,
     files: &mut F,
     log: &str,
@@ -241,7 +241,7 @@ fn auction_work<F: Files>(
         → Works (auction award.now log.now book) (F.folder files.old) (F.folder files.new) result }
 {
     let award = read_input(alloc, files, award, &AwardInput)?;
-    replayed_behind(alloc, files, log, award)
+    replayed_after(alloc, files, log, award)
 }
 
 fn award_work<F: Files>(

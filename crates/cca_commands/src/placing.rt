@@ -12,9 +12,9 @@ ghost use Rattle.cca_commands.specs.Gives.{ArePlacedLines, IsPlaceYes, PlaceGive
 ghost use Rattle.cca_commands.specs.Works.{IsWork, bare};
 ghost use Rattle.cca_cli.specs.declared.status.Status.TheVariants.{Memory};
 
-use crate::price_text::behind_rounds;
+use crate::price_text::after_rounds;
 use crate::pricing::{PriceTexts, with_cert};
-use crate::verdict::behind_yes;
+use crate::verdict::after_yes;
 use crate::work::{Stop, Work};
 use cca_cli::{CertKind, Status};
 use cert_output::LongText;
@@ -43,7 +43,7 @@ fn placed_lines(
 {
     slots.kept();
     let prices = place_text(alloc, slots, cert)?;
-    behind_rounds(alloc, &cert.choice, turns, rounds, &prices)
+    after_rounds(alloc, &cert.choice, turns, rounds, &prices)
 }
 
 // The text of a certificate of a placement.
@@ -98,7 +98,7 @@ fn place_yes(alloc: Global, slots: &Slots, cert: &PlaceCertificate) -> Result<Te
     ensures { IfOk result (λ text. IsPlaceYes slots.now (place_cert_value cert.now) text) }
 {
     let prices = place_text(alloc, slots, cert)?;
-    behind_yes(alloc, &prices)
+    after_yes(alloc, &prices)
 }
 
 /// What a certificate of a placement gives.

@@ -40,7 +40,7 @@ fn rounds_part(
 }
 
 /// These lines, after those of the turns where they are asked for.
-pub fn behind_rounds(
+pub fn after_rounds(
     alloc: Global,
     winners: &Choice,
     turns: &[Turn],
@@ -85,7 +85,7 @@ fn price_lines(
 {
     book.kept();
     let prices = cert_lines(alloc, book, cert)?;
-    behind_rounds(alloc, &cert.choice, turns, rounds, &prices)
+    after_rounds(alloc, &cert.choice, turns, rounds, &prices)
 }
 
 // The line of JSON of the facts of a certificate, with the turns where they are asked for.

@@ -16,7 +16,7 @@ use std::alloc::{AllocError, Global};
 use wide_num::Text;
 
 /// These lines after the line `yes`.
-pub fn behind_yes(alloc: Global, lines: &Text) -> Result<Text, AllocError>
+pub fn after_yes(alloc: Global, lines: &Text) -> Result<Text, AllocError>
     ensures { IfOk result (λ text. text ≡ codes "yes\n" ++ lines.now) }
 {
     let mut text = Text::new(alloc);
@@ -30,7 +30,7 @@ fn yes_text(alloc: Global, book: &BidBook, facts: &CertFacts) -> Result<Text, Al
     ensures { (c : CertValue) → AreFacts book.now c facts.now → IfOk result (IsYesText book.now c) }
 {
     let outcome = outcome_text(alloc, book, facts)?;
-    behind_yes(alloc, &outcome)
+    after_yes(alloc, &outcome)
 }
 
 /// What a certificate with these facts gives for which all tests hold.

@@ -1,5 +1,6 @@
 -- How a command ends that has its work, and how a run then ends.
-use Rattle.std.proofs.Common.{inl, inr, ◌≡◌, ◌⊎◌, ◌∙◌, ℕ, ◌≤◌, ◌<◌, Option, Some, List, length, refl, sym, ap, subst}
+use Rattle.std.proofs.Common.{inl, inr, ◌≡◌, ◌⊎◌, ◌∙◌, ℕ, ◌≤◌, ◌<◌, Option, Some, List, length, map, refl, sym, ap, subst, take}
+use Rattle.std.specs.Prelude.{◌-◌}
 use Rattle.cca_base.specs.Faults.{Rose}
 use Rattle.cca_base.specs.Files.{Agrees, Folder}
 use Rattle.cca_base.proofs.Given.{agrees_same, agrees_told, of_same}
@@ -15,7 +16,8 @@ use Rattle.cca_cli.specs.declared.status.FileKind.TheVariants as file_kind
 use Rattle.cca_cli.specs.declared.status.Status.{Status}
 use Rattle.cca_cli.specs.declared.status.Status.TheVariants.{Done, ReadFault, Words, WriteFault}
 use Rattle.cca_commands.specs.Gives.{FilesGive}
-use Rattle.cca_commands.specs.ReadFaults.{CountsAmong}
+use Rattle.cca_base.specs.Given.{Given}
+use Rattle.cca_commands.specs.ReadFaults.{AreInOrder, CountsAmong}
 use Rattle.cca_run.specs.Run.{AppendsAll, FailsToWrite, IsWriteFault, Prints}
 use Rattle.cca_commands.specs.Works.{OnlyReads}
 use Rattle.cca_run.specs.Ends.{FailsAt, FinishEnds, OnlyAppends, RunEnds}
@@ -140,6 +142,8 @@ module _ (command : CommandValue) (old mid new : Folder) (before now : Output) (
     loaded = record {
       contents = reads.loaded.contents;
       first = reads.loaded.first;
+      order = subst (λ (gave : List Given). AreInOrder (map (λ c. c.name) reads.loaded.contents) (take (length gave - length old.gave) gave))
+          (sym e.counts.gave) reads.loaded.order;
       gave = of_same reads.loaded.contents old mid new e.counts.gave reads.loaded.gave;
     };
     files = inr (record {

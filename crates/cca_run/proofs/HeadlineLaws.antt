@@ -119,7 +119,7 @@ log-never terms bytes (inl (number, first, is)) = absurd cc
 log-never terms bytes (inr (many, is)) = absurd cc
 
 -- nor those of a certificate
-cert-never : (book : Book) (bytes : List ℕ) → CertAnswers book bytes (stops Done) → ⊥
+pub cert-never : (book : Book) (bytes : List ℕ) → CertAnswers book bytes (stops Done) → ⊥
 cert-never book bytes (said, says, is) = by said is
   where
     by : (said : Said CertValue ℕ) → stops Done ≡ cert_answer said → ⊥
@@ -128,7 +128,7 @@ cert-never book bytes (said, says, is) = by said is
     by (beyond place) is = absurd cc
 
 -- the bytes of a certificate state its value
-states-cert : (book : Book) (bytes : List ℕ) (c : CertValue) → CertAnswers book bytes (value c) → CertSays (bidders_of book) (states book) bytes (stated c)
+pub states-cert : (book : Book) (bytes : List ℕ) (c : CertValue) → CertAnswers book bytes (value c) → CertSays (bidders_of book) (states book) bytes (stated c)
 states-cert book bytes c (said, says, is) = by said says is
   where
     by : (said : Said CertValue ℕ) → CertSays (bidders_of book) (states book) bytes said → value c ≡ cert_answer said
@@ -146,7 +146,7 @@ has-book records (Err (Price price)) follows o gives ends = let no = sym (ap (λ
 has-book records (Err Open) follows o gives ends = let no = sym (ap (λ (x : Outcome). x.status) gives) ∙ ends in absurd cc
 
 -- each bidder of a book weighs 1
-one-each : (book : Book) (j : ℕ) → 0 < j → j ≤ (market_of book).bidders → weight_of (ones book) j ≡ 1
+pub one-each : (book : Book) (j : ℕ) → 0 < j → j ≤ (market_of book).bidders → weight_of (ones book) j ≡ 1
 one-each book j some inside = get_or-replicate {A = ℕ} (bidders_of book) (j - 1) 1 0 (omega (arith, some, inside))
 
 module _ (plain : (m : Market) (w : ℕ → ℕ) (z : List ℕ) (p : Point) → ((j : ℕ) → 0 < j → j ≤ m.bidders → w j ≡ 1) → IsWinning m z → IsCoreOutcome m w z p

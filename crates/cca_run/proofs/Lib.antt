@@ -8,6 +8,7 @@ mod Finished
 mod HeadlineLaws
 mod Held
 mod LogBooks
+mod MadeAuctions
 mod Moved
 mod Named
 mod OneAuction
@@ -23,4 +24,5 @@ mod Same
 mod Stated
 mod Stopped
 mod SeenYes
+mod VerdictLaws
 mod WordsApart

@@ -1,5 +1,5 @@
 -- How the end of a run keeps each clause of the top call.
-use Rattle.std.proofs.Common.{IsTrue, List, None, Option, Some, [], ap, arith, drop, inl, inr, length, refl, subst, sym, take, ℕ, ◌∙◌, ◌∷◌, ◌≡◌, ◌≢◌}
+use Rattle.std.proofs.Common.{Bool, IsTrue, List, None, Option, Some, [], ap, arith, drop, inl, inr, length, refl, subst, sym, take, ℕ, ◌∙◌, ◌∷◌, ◌≡◌, ◌≢◌}
 use Rattle.std.proofs.Common.{◌≤◌, ◌⊎◌}
 use Rattle.std.proofs.lemmas.List.{append-nil, take_all}
 use Rattle.std.proofs.Math.Seq.{drop-append_seam}
@@ -7,7 +7,7 @@ use Rattle.auction_rules.specs.Terms.{Terms}
 use Rattle.auction_rules.specs.declared.Event.{Event}
 use Rattle.cca_base.specs.Files.{Adds, Agrees, Folder, added}
 use Rattle.cca_base.specs.Sink.{Output, Puts}
-use Rattle.cca_cli.specs.Command.{CommandValue, audit, award, command_of}
+use Rattle.cca_cli.specs.Command.{CommandValue, audit, award, check, command_of, place, place_check, price, review, weigh, weigh_check}
 use Rattle.cca_cli.specs.Outcome.{Outcome}
 use Rattle.cca_cli.specs.Statuses.{IsDecided}
 use Rattle.cca_cli.specs.declared.file_text.FileText.{FileText}
@@ -19,11 +19,12 @@ use Rattle.cca_cli.specs.declared.status.Status.TheVariants.{Done, Limit, Memory
 use Rattle.cca_commands.specs.Gives.{FilesGive, WordsGive, cert_file}
 use Rattle.cca_run.specs.Headline.{CanBeAwarded, IsAuction, IsAudited, IsAwarded, IsDoneOrLimited}
 use Rattle.cca_run.specs.Later.{HoldsCert, HoldsNothing, after}
-use Rattle.cca_run.specs.Run.{Appended, AppendsAll, HasNoFault, IsReadFault, IsWriteFault, inputs}
+use Rattle.cca_run.specs.Run.{Appended, AppendsAll, AppendsUpTo, Changes, HasNoFault, IsReadFault, IsWriteFault, inputs}
+use Rattle.cca_run.specs.Verdicts.{IsChecked, IsPlaceChecked, IsPlaced, IsPriced, IsReviewed, IsWeighChecked, IsWeighed}
 use Rattle.cca_run.specs.Ends.{RunEnds}
 use Rattle.cca_run.specs.Runs.{Runs}
 use Rattle.cca_run.proofs.Named.{input-among, output-among}
-use Rattle.cca_run.proofs.SeenYes.{seen-yes}
+use Rattle.cca_run.proofs.SeenYes.{audit-or-line, check-or-line, place-check-or-line, seen-yes, weigh-check-or-line}
 use Rattle.cca_run.proofs.Rooms.{run-roomy}
 use Rattle.cca_run.proofs.Held.{some-agree}
 use Rattle.cca_run.proofs.WordsApart.{IsApart, apart-in, award-files, words-apart}
@@ -63,6 +64,23 @@ DoneLaw = (file : List ℕ → Option (List ℕ)) (terms log cert : List ℕ) (f
 abbrev pub PassLaw : Type 0
 PassLaw = (terms log cert : List ℕ) (form : PriceForm) (file later : List ℕ → Option (List ℕ)) (o p : Outcome) → FilesGive (award terms log cert form) file o
     → HoldsCert (terms ∷ log ∷ []) cert file later o → FilesGive (audit terms log cert) later p → p.status ≡ Done
+
+-- what the laws of the other commands say
+pub record VerdictLaws : Type 0 where
+  pub checked : (file : List ℕ → Option (List ℕ)) (book cert : List ℕ) (o : Outcome) → FilesGive (check book cert) file o → o.status ≡ Done
+      → IsChecked file book cert o.printed
+  pub weigh_checked : (file : List ℕ → Option (List ℕ)) (book weights cert : List ℕ) (o : Outcome) → FilesGive (weigh_check book weights cert) file o → o.status ≡ Done
+      → IsWeighChecked file book weights cert o.printed
+  pub place_checked : (file : List ℕ → Option (List ℕ)) (slots cert : List ℕ) (o : Outcome) → FilesGive (place_check slots cert) file o → o.status ≡ Done
+      → IsPlaceChecked file slots cert o.printed
+  pub priced : (file : List ℕ → Option (List ℕ)) (book cert : List ℕ) (form : PriceForm) (o : Outcome) → FilesGive (price book cert form) file o → o.status ≡ Done
+      → (text : List ℕ) × IsPriced file book text × (o.appended ≡ cert_file text ∷ [])
+  pub weighed : (file : List ℕ → Option (List ℕ)) (book weights cert : List ℕ) (form : PriceForm) (o : Outcome) → FilesGive (weigh book weights cert form) file o → o.status ≡ Done
+      → (text : List ℕ) × IsWeighed file book weights text × (o.appended ≡ cert_file text ∷ [])
+  pub placed : (file : List ℕ → Option (List ℕ)) (slots cert : List ℕ) (rounds : Bool) (o : Outcome) → FilesGive (place slots cert rounds) file o → o.status ≡ Done
+      → (text : List ℕ) × IsPlaced file slots text × (o.appended ≡ cert_file text ∷ [])
+  pub reviewed : (file : List ℕ → Option (List ℕ)) (book edits : List ℕ) (o : Outcome) → FilesGive (review book edits) file o → o.status ≡ Done
+      → IsReviewed file book edits o.printed
 
 -- an `award` that is done
 record IsAwardDone (files : List ℕ → Option (List ℕ)) (old new : Folder) (terms log cert : List ℕ) (form : PriceForm) : Type 0 where
@@ -188,8 +206,23 @@ appended-behind terms log cert text form given old new o apart some nothing (bet
         ap (λ (l : List ℕ). added (given name) (drop (length (old.took name)) l)) (in_new name ∙ adds.other_took name other ∙ sym (append-nil (old.took name)))
         ∙ ap (added (given name)) (drop-append_seam (old.took name) []) ∙ nothing-behind (given name)
 
+-- what was appended leaves the names that are known
+appends-know : (command : CommandValue) (texts : List FileText) (old new : Folder) → AppendsAll command texts old new → new.knows ≡ old.knows
+appends-know command [] old new kept = kept.knows
+appends-know command (t ∷ texts) old new (between, one, rest) = appends-know command texts between new rest ∙ one.whole.knows
+
+changes-know : (command : Option CommandValue) (old new : Folder) → Changes command old new → new.knows ≡ old.knows
+changes-know None old new kept = kept.knows
+changes-know (Some command) old new (inl kept) = kept.knows
+changes-know (Some command) old new (inr grows) = by grows.grown
+  where
+    by : AppendsAll command grows.appended old new ⊎ ((kind : FileKind) × AppendsUpTo command kind grows.appended old new) → new.knows ≡ old.knows
+    by (inl all) = appends-know command grows.appended old new all
+    by (inr (kind, part)) = part.front.knows ∙ appends-know command part.before old part.between part.whole
+
 -- a run that ended so keeps all clauses
-module _ (audits : AuditLaw) (awards : AwardLaw) (limits : LimitLaw) (done_where : DoneLaw) (passes : PassLaw) (said : List (List ℕ)) (old new : Folder)
+module _ (audits : AuditLaw) (awards : AwardLaw) (limits : LimitLaw) (done_where : DoneLaw) (passes : PassLaw) (verdicts : VerdictLaws)
+    (said : List (List ℕ)) (old new : Folder)
     (before now : Output) (result : Status)
     (ends : RunEnds (command_of said) old new before now result) where
   -- what the words give is what their command gives
@@ -222,6 +255,28 @@ module _ (audits : AuditLaw) (awards : AwardLaw) (limits : LimitLaw) (done_where
   awarded-by terms log cert form is files agrees done =
       award-done awards (command_of said) old new before now result ends terms log cert form is files agrees done
 
+  -- what a command that is done has printed is what its law says
+  prints-done : (c : CommandValue) → command_of said ≡ Some c → (files : List ℕ → Option (List ℕ)) → Agrees files old new → result ≡ Done
+      → (P : List ℕ → Type 0) → ((o : Outcome) → FilesGive c files o → o.status ≡ Done → P o.printed)
+      → (text : List ℕ) × P text × Puts before now text (length text)
+  prints-done c is files agrees done P law =
+      let d = is-done (command_of said) old new before now result ends files agrees done in
+      (d.outcome.printed, law d.outcome (gives-of c is files d.outcome d.gives) d.ends, d.puts)
+
+  -- and so is the certificate that it has appended
+  appends-done : (c : CommandValue) → command_of said ≡ Some c → (files : List ℕ → Option (List ℕ)) → Agrees files old new → result ≡ Done
+      → (P : List ℕ → Type 0)
+      → ((o : Outcome) → FilesGive c files o → o.status ≡ Done → (text : List ℕ) × P text × (o.appended ≡ cert_file text ∷ []))
+      → (text : List ℕ) × P text × AppendsAll c (cert_file text ∷ []) old new
+  appends-done c is files agrees done P law =
+      let d = is-done (command_of said) old new before now result ends files agrees done in
+      let shows = law d.outcome (gives-of c is files d.outcome d.gives) d.ends in (
+        shows.0,
+        shows.1,
+        subst (λ (texts : List FileText). AppendsAll c texts old new) shows.2
+            (subst (λ (k : Option CommandValue). Appended k d.outcome.appended old new) is d.appends),
+      )
+
   apart : (terms log cert : List ℕ) (form : PriceForm) → command_of said ≡ Some (award terms log cert form) → IsApart terms log cert
   apart terms log cert form is = award-files terms log cert form (apart-in said (award terms log cert form) is)
 
@@ -234,6 +289,26 @@ module _ (audits : AuditLaw) (awards : AwardLaw) (limits : LimitLaw) (done_where
         let d = is-done (command_of said) old new before now result ends given agrees done in
         (d.outcome.printed, (audits given terms log cert d.outcome (gives-of (audit terms log cert) is given d.outcome d.gives) d.ends).0, d.puts);
     award = λ terms log cert form is given agrees done. let d = awarded-by terms log cert form is given agrees done in (d.text, d.awarded, d.appends);
+    checked = λ book cert is given agrees done. prints-done (check book cert) is given agrees done (λ text. IsChecked given book cert text) (verdicts.checked given book cert);
+    check_seen = λ book cert is given agrees.
+        seen-yes (check book cert) given (λ text. IsChecked given book cert text) (verdicts.checked given book cert) (check-or-line book cert given)
+        (command_of said) old new before now result ends is agrees;
+    weigh_checked = λ book weights cert is given agrees done. prints-done (weigh_check book weights cert) is given agrees done (λ text. IsWeighChecked given book weights cert text) (verdicts.weigh_checked given book weights cert);
+    weigh_check_seen = λ book weights cert is given agrees.
+        seen-yes (weigh_check book weights cert) given (λ text. IsWeighChecked given book weights cert text) (verdicts.weigh_checked given book weights cert) (weigh-check-or-line book weights cert given)
+        (command_of said) old new before now result ends is agrees;
+    place_checked = λ slots cert is given agrees done. prints-done (place_check slots cert) is given agrees done (λ text. IsPlaceChecked given slots cert text) (verdicts.place_checked given slots cert);
+    place_check_seen = λ slots cert is given agrees.
+        seen-yes (place_check slots cert) given (λ text. IsPlaceChecked given slots cert text) (verdicts.place_checked given slots cert) (place-check-or-line slots cert given)
+        (command_of said) old new before now result ends is agrees;
+    priced = λ book cert form is given agrees done.
+        appends-done (price book cert form) is given agrees done (λ text. IsPriced given book text) (verdicts.priced given book cert form);
+    weighed = λ book weights cert form is given agrees done.
+        appends-done (weigh book weights cert form) is given agrees done (λ text. IsWeighed given book weights text) (verdicts.weighed given book weights cert form);
+    placed = λ slots cert rounds is given agrees done.
+        appends-done (place slots cert rounds) is given agrees done (λ text. IsPlaced given slots text) (verdicts.placed given slots cert rounds);
+    reviewed = λ book edits is given agrees done.
+        prints-done (review book edits) is given agrees done (λ text. IsReviewed given book edits text) (verdicts.reviewed given book edits);
     every_log = λ terms log cert form is given agrees t lines auction none.
         limited (award terms log cert form) is given agrees none (λ o gives. limits given terms log cert form t lines o auction gives);
     awarded = λ terms log cert form is given agrees can none.
@@ -251,7 +326,9 @@ module _ (audits : AuditLaw) (awards : AwardLaw) (limits : LimitLaw) (done_where
     roomy = λ told has. run-roomy said old new before now (ends.told told) has result ends;
     read_fault = ends.read_fault;
     write_fault = ends.write_fault;
-    seen = λ terms log cert is. seen-yes audits (command_of said) old new before now result ends terms log cert is;
+    seen = λ terms log cert is given agrees.
+        seen-yes (audit terms log cert) given (λ text. IsAudited given terms log cert text) (λ o gives done. (audits given terms log cert o gives done).0)
+        (audit-or-line terms log cert given) (command_of said) old new before now result ends is agrees;
     loaded = ends.loaded;
     given = some-agree (inputs (command_of said)) old new (words-apart said) ends.loaded;
     told = ends.told;
@@ -260,6 +337,7 @@ module _ (audits : AuditLaw) (awards : AwardLaw) (limits : LimitLaw) (done_where
     front = λ fault. let f = ends.front fault in (f.0, f.1, f.2, f.3, f.4);
     kept = ends.kept;
     files = ends.files;
+    knows = changes-know (command_of said) old new ends.files;
     loads = ends.loads;
     appends = ends.appends;
     faults = faults;

@@ -1,4 +1,4 @@
--- What is printed by `audit` begins with `yes` only where it is done.
+-- What a checker prints begins with `yes` only if it accepts.
 use Rattle.std.proofs.Common.{Err, List, None, Ok, Option, Result, Some, [], ap, arith, inl, inr, length, refl, reverse, subst, suc, sym, take, zero}
 use Rattle.std.proofs.Common.{ℕ, ◌++◌, ◌∙◌, ◌∷◌, ◌≡◌, ◌⊎◌}
 use Rattle.std.specs.Prelude.{codes}
@@ -9,7 +9,7 @@ use Rattle.auction_rules.specs.declared.Event.{Event}
 use Rattle.cca_base.specs.Files.{Agrees, Folder}
 use Rattle.cca_base.specs.Sink.{Output, Puts}
 use Rattle.cert_grammar.specs.Certificate.{CertValue}
-use Rattle.cca_cli.specs.Command.{CommandValue, audit, contents_of}
+use Rattle.cca_cli.specs.Command.{CommandValue, audit, check, place_check, weigh_check}
 use Rattle.cca_cli.specs.Outcome.{Answer, AnswerGives, InputGives, Outcome, stops, value}
 use Rattle.cca_cli.specs.StatusLine.{status_line}
 use Rattle.cca_cli.specs.Statuses.{IsDecided, IsHindered}
@@ -20,12 +20,13 @@ use Rattle.cca_cli.specs.declared.status.Status.{Status}
 use Rattle.cca_cli.specs.declared.status.Status.TheVariants.{Done, Limit, Memory, No, ReadFault, Refused, Words, WriteFault}
 use Rattle.log_replay.specs.ReplyLines.{end_of}
 use Rattle.log_replay.specs.declared.results.ReplayStop.{ReplayStop}
-use Rattle.cca_cli.specs.Answers.{CertAnswers}
+use Rattle.cca_cli.specs.Answers.{CertAnswers, PlaceCertAnswers}
 use Rattle.limits.specs.declared.TheConstants.{CERT_BYTES}
-use Rattle.cca_commands.specs.Gives.{CertGives, EndGives, FilesGive, VerdictGives, WordsGive, ones, replay_status}
+use Rattle.cca_commands.specs.Gives.{CertGives, EndGives, FilesGive, PlaceVerdictGives, VerdictGives, WordsGive, ones, replay_status}
+use Rattle.cert_grammar.specs.PlaceCert.{PlaceCertValue}
+use Rattle.slot_places.specs.Slots.{SlotList}
 use Rattle.cca_run.specs.Ends.{RunEnds}
 use Rattle.cca_run.specs.Run.{Appended, IsHindrance}
-use Rattle.cca_run.specs.Headline.{IsAudited}
 
 abbrev first : List ℕ → ℕ
 first [] = 0
@@ -41,7 +42,7 @@ not-c : ◌≡◌ {A = ℕ} 99 121 → ⊥
 not-c e = absurd (omega arith)
 
 -- no line of a status begins so
-no-yes : (s : Status) (n : ℕ) (more : List ℕ) → take n (status_line s) ≡ codes "yes\n" ++ more → ⊥
+no-yes : (s : Status) (n : ℕ) (more : List ℕ) → take n (status_line s) ≡ codes "yes" ++ more → ⊥
 no-yes s zero more is = not-0 (ap first is)
 no-yes Done (suc n) more is = not-0 (ap first is)
 no-yes (No kind test place) (suc n) more is = not-n (ap first is)
@@ -75,63 +76,84 @@ verdict-or-line : (b : Book) (weights : List ℕ) (c : CertValue) (o : Outcome) 
 verdict-or-line b weights c o (inl holds) = inl (ap (λ (x : Outcome). x.status) holds.2.2)
 verdict-or-line b weights c o (inr fails) = inr (No certs.Book fails.0 fails.1, ap (λ (x : Outcome). x.printed) fails.3)
 
-audit-or-line : (terms log cert : List ℕ) (file : List ℕ → Option (List ℕ)) (o : Outcome) → FilesGive (audit terms log cert) file o → IsDoneOrLine o
+place-verdict-or-line : (slots : SlotList) (p : PlaceCertValue) (o : Outcome) → PlaceVerdictGives slots p o → IsDoneOrLine o
+place-verdict-or-line slots p o (inl holds) = inl (ap (λ (x : Outcome). x.status) holds.2.2)
+place-verdict-or-line slots p o (inr fails) = inr (No certs.Placement fails.0 fails.1, ap (λ (x : Outcome). x.printed) fails.3)
+
+cert-or-line : (b : Book) (weights : List ℕ) (content : Option (List ℕ)) (o : Outcome) → CertGives b content (VerdictGives b weights) o → IsDoneOrLine o
+cert-or-line b weights content o gives =
+    input-or-line kinds.Cert CERT_BYTES (CertAnswers b) content (VerdictGives b weights) o (λ c g. verdict-or-line b weights c o g) gives
+
+pub audit-or-line : (terms log cert : List ℕ) (file : List ℕ → Option (List ℕ)) (o : Outcome) → FilesGive (audit terms log cert) file o → IsDoneOrLine o
 audit-or-line terms log cert file o gives =
     input-or-line _ _ _ _ _ o
     (λ t g1. input-or-line _ _ _ _ _ o
     (λ events g2. end-or-line (length events) (end_of t (reverse events))
-    (λ b. CertGives b (contents_of (audit terms log cert) file kinds.Cert) (VerdictGives b (ones b))) o
-    (λ b g3. input-or-line kinds.Cert CERT_BYTES (CertAnswers b) (contents_of (audit terms log cert) file kinds.Cert) (VerdictGives b (ones b)) o
-    (λ c g4. verdict-or-line b (ones b) c o g4) g3) g2) g1) gives
+    (λ b. CertGives b (file cert) (VerdictGives b (ones b))) o
+    (λ b g3. cert-or-line b (ones b) (file cert) o g3) g2) g1) gives
+
+pub check-or-line : (book cert : List ℕ) (file : List ℕ → Option (List ℕ)) (o : Outcome) → FilesGive (check book cert) file o → IsDoneOrLine o
+check-or-line book cert file o gives = input-or-line _ _ _ _ _ o (λ b g. cert-or-line b (ones b) (file cert) o g) gives
+
+pub weigh-check-or-line : (book weights cert : List ℕ) (file : List ℕ → Option (List ℕ)) (o : Outcome) → FilesGive (weigh_check book weights cert) file o
+    → IsDoneOrLine o
+weigh-check-or-line book weights cert file o gives =
+    input-or-line _ _ _ _ _ o (λ b g1. input-or-line _ _ _ _ _ o (λ w g2. cert-or-line b w (file cert) o g2) g1) gives
+
+pub place-check-or-line : (slots cert : List ℕ) (file : List ℕ → Option (List ℕ)) (o : Outcome) → FilesGive (place_check slots cert) file o → IsDoneOrLine o
+place-check-or-line slots cert file o gives =
+    input-or-line _ _ _ _ _ o
+    (λ s g1. input-or-line kinds.Cert CERT_BYTES (PlaceCertAnswers (length s.bidders)) (file cert) (PlaceVerdictGives s) o
+    (λ p g2. place-verdict-or-line s p o g2) g1) gives
 
 -- what was added is what was put
 put-is : (before now : Output) (text : List ℕ) (n : ℕ) (more : List ℕ) → Puts before now text n → now.bytes ≡ before.bytes ++ more → take n text ≡ more
 put-is before now text n more puts is = append_cancel_left before.bytes (take n text) more (sym puts.bytes ∙ is)
 
-module _ (law : (file : List ℕ → Option (List ℕ)) (terms log cert : List ℕ) (o : Outcome) → FilesGive (audit terms log cert) file o → o.status ≡ Done
-    → IsAudited file terms log cert o.printed × (o.appended ≡ [])) where
-  -- the headline, and of its text this prefix was printed
-  abbrev pub IsSeen : (List ℕ → Option (List ℕ)) → List ℕ → List ℕ → List ℕ → List ℕ → Type 0
-  IsSeen given terms log cert seen = (text : List ℕ) × IsAudited given terms log cert text × ((n : ℕ) × (seen ≡ take n text))
+-- of a text that is so this prefix was printed
+abbrev pub IsSeen : (List ℕ → Type 0) → List ℕ → Type 0
+IsSeen P seen = (text : List ℕ) × P text × ((n : ℕ) × (seen ≡ take n text))
 
-  of-outcome : (terms log cert : List ℕ) (given : List ℕ → Option (List ℕ)) (o : Outcome) (n : ℕ) (more : List ℕ)
-      → FilesGive (audit terms log cert) given o → take n o.printed ≡ codes "yes\n" ++ more → IsSeen given terms log cert (codes "yes\n" ++ more)
-  of-outcome terms log cert given o n more gives is = by (audit-or-line terms log cert given o gives)
+module _ (c : CommandValue) (given : List ℕ → Option (List ℕ)) (P : List ℕ → Type 0)
+    (law : (o : Outcome) → FilesGive c given o → o.status ≡ Done → P o.printed)
+    (lines : (o : Outcome) → FilesGive c given o → IsDoneOrLine o) where
+  of-outcome : (o : Outcome) (n : ℕ) (more : List ℕ) → FilesGive c given o → take n o.printed ≡ codes "yes" ++ more → IsSeen P (codes "yes" ++ more)
+  of-outcome o n more gives is = by (lines o gives)
     where
-      by : IsDoneOrLine o → IsSeen given terms log cert (codes "yes\n" ++ more)
-      by (inl done) = (o.printed, (law given terms log cert o gives done).0, (n, sym is))
+      by : IsDoneOrLine o → IsSeen P (codes "yes" ++ more)
+      by (inl done) = (o.printed, law o gives done, (n, sym is))
       by (inr (s, line)) = absurd (no-yes s n more (ap (λ (t : List ℕ). take n t) (sym line) ∙ is))
 
-  -- whatever the status, where what was printed begins with `yes`
+  -- whatever the status, if what was printed begins with `yes`
   pub seen-yes : (command : Option CommandValue) (old new : Folder) (before now : Output) (result : Status) → RunEnds command old new before now result
-      → (terms log cert : List ℕ) → command ≡ Some (audit terms log cert) → (given : List ℕ → Option (List ℕ)) → Agrees given old new
-      → (more : List ℕ) → now.bytes ≡ before.bytes ++ (codes "yes\n" ++ more) → IsSeen given terms log cert (codes "yes\n" ++ more)
-  seen-yes command old new before now result ends terms log cert is given agrees more shown = by result refl
+      → command ≡ Some c → Agrees given old new
+      → (more : List ℕ) → now.bytes ≡ before.bytes ++ (codes "yes" ++ more) → IsSeen P (codes "yes" ++ more)
+  seen-yes command old new before now result ends is agrees more shown = by result refl
     where
-      decided : IsDecided result → IsSeen given terms log cert (codes "yes\n" ++ more)
+      decided : IsDecided result → IsSeen P (codes "yes" ++ more)
       decided ok = let a = ends.answer given agrees ok in
-          of-outcome terms log cert given a.0 (length a.0.printed) more (subst (λ (k : Option CommandValue). WordsGive k given a.0) is a.1)
-          (put-is before now a.0.printed (length a.0.printed) (codes "yes\n" ++ more) a.3 shown)
+          of-outcome a.0 (length a.0.printed) more (subst (λ (k : Option CommandValue). WordsGive k given a.0) is a.1)
+          (put-is before now a.0.printed (length a.0.printed) (codes "yes" ++ more) a.3 shown)
 
-      hindered : (result ≡ Words) ⊎ IsHindered result → IsSeen given terms log cert (codes "yes\n" ++ more)
+      hindered : (result ≡ Words) ⊎ IsHindered result → IsSeen P (codes "yes" ++ more)
       hindered why = absurd (no-yes result (length (status_line result)) more
-          (put-is before now (status_line result) (length (status_line result)) (codes "yes\n" ++ more) (ends.line why) shown))
+          (put-is before now (status_line result) (length (status_line result)) (codes "yes" ++ more) (ends.line why) shown))
 
-      broken : result ≡ WriteFault kinds.Out → IsSeen given terms log cert (codes "yes\n" ++ more)
+      broken : result ≡ WriteFault kinds.Out → IsSeen P (codes "yes" ++ more)
       broken fault =
           let f = ends.front fault in
-          let front : take f.1 f.0 ≡ codes "yes\n" ++ more = put-is before now f.0 f.1 (codes "yes\n" ++ more) f.3 shown in
+          let front : take f.1 f.0 ≡ codes "yes" ++ more = put-is before now f.0 f.1 (codes "yes" ++ more) f.3 shown in
           due f.0 f.1 front (f.4 given agrees)
         where
-          due : (text : List ℕ) (n : ℕ) → take n text ≡ codes "yes\n" ++ more
+          due : (text : List ℕ) (n : ℕ) → take n text ≡ codes "yes" ++ more
               → ((o : Outcome) × WordsGive command given o × (text ≡ o.printed) × Appended command o.appended old new)
               ⊎ ((status : Status) × IsHindrance command old new status × (text ≡ status_line status))
-              → IsSeen given terms log cert (codes "yes\n" ++ more)
-          due text n front (inl a) = of-outcome terms log cert given a.0 n more (subst (λ (k : Option CommandValue). WordsGive k given a.0) is a.1)
+              → IsSeen P (codes "yes" ++ more)
+          due text n front (inl a) = of-outcome a.0 n more (subst (λ (k : Option CommandValue). WordsGive k given a.0) is a.1)
               (ap (λ (t : List ℕ). take n t) (sym a.2) ∙ front)
           due text n front (inr h) = absurd (no-yes h.0 n more (ap (λ (t : List ℕ). take n t) (sym h.2) ∙ front))
 
-      by : (s : Status) → result ≡ s → IsSeen given terms log cert (codes "yes\n" ++ more)
+      by : (s : Status) → result ≡ s → IsSeen P (codes "yes" ++ more)
       by Done e = decided (subst IsDecided (sym e) tt)
       by (No kind test place) e = decided (subst IsDecided (sym e) tt)
       by Words e = hindered (inl e)

@@ -7,13 +7,14 @@ ghost use Rattle.limits.specs.declared.TheConstants.{MOST_WINNERS};
 ghost use Rattle.auction_rules.specs.Terms.{Terms};
 ghost use Rattle.auction_rules.specs.declared.Event.{Event};
 ghost use Rattle.core_laws.specs.Winners.{winners_in};
-ghost use Rattle.cca_cli.specs.Command.{audit, award, check, form_with, place, place_check, price, weigh, weigh_check};
+ghost use Rattle.cca_cli.specs.Command.{audit, award, check, form_with, place, place_check, price, review, weigh, weigh_check};
 ghost use Rattle.cca_cli.specs.Outcome.{Outcome};
 ghost use Rattle.cca_cli.specs.declared.price_form.PriceForm.{PriceForm};
 ghost use Rattle.cca_cli.specs.declared.status.Status.TheVariants.{Done};
 ghost use Rattle.cca_commands.specs.Gives.{FilesGive, Gives, cert_file, ones};
 ghost use Rattle.cca_run.specs.Headline.{CanBeAwarded, IsAuction, IsAudited, IsAwarded, IsDoneOrLimited};
 ghost use Rattle.cca_run.specs.Later.{HoldsCert};
+ghost use Rattle.cca_run.specs.Verdicts.{IsChecked, IsPlaceChecked, IsPlaced, IsPriced, IsReviewed, IsWeighChecked, IsWeighed};
 
 use cca_commands::{
     bidders_of_book, bids_of_book, book_in_order, book_market, book_of_award, core_outcome,
@@ -139,6 +140,35 @@ pub fn headline()
     packages_of_log();
     book_of_award();
     short_text();
+}
+
+/// What a run of each other command that is done shows of its files, by definitions alone: a checker, that what the certificate shows is
+/// right; a command that prices, that the appended text is that of a certificate for which all tests hold; a review, the winners after
+/// each edit.
+pub fn verdicts()
+    ensures checked { (file : List ℕ → Option (List ℕ)) (book cert : List ℕ) (o : Outcome)
+        → FilesGive (check book cert) file o → o.status ≡ Done
+        → IsChecked file book cert o.printed }
+    ensures weigh_checked { (file : List ℕ → Option (List ℕ)) (book weights cert : List ℕ) (o : Outcome)
+        → FilesGive (weigh_check book weights cert) file o → o.status ≡ Done
+        → IsWeighChecked file book weights cert o.printed }
+    ensures place_checked { (file : List ℕ → Option (List ℕ)) (slots cert : List ℕ) (o : Outcome)
+        → FilesGive (place_check slots cert) file o → o.status ≡ Done
+        → IsPlaceChecked file slots cert o.printed }
+    ensures priced { (file : List ℕ → Option (List ℕ)) (book cert : List ℕ) (form : PriceForm) (o : Outcome)
+        → FilesGive (price book cert form) file o → o.status ≡ Done
+        → (text : List ℕ) × IsPriced file book text × (o.appended ≡ cert_file text ∷ []) }
+    ensures weighed { (file : List ℕ → Option (List ℕ)) (book weights cert : List ℕ) (form : PriceForm) (o : Outcome)
+        → FilesGive (weigh book weights cert form) file o → o.status ≡ Done
+        → (text : List ℕ) × IsWeighed file book weights text × (o.appended ≡ cert_file text ∷ []) }
+    ensures placed { (file : List ℕ → Option (List ℕ)) (slots cert : List ℕ) (rounds : Bool) (o : Outcome)
+        → FilesGive (place slots cert rounds) file o → o.status ≡ Done
+        → (text : List ℕ) × IsPlaced file slots text × (o.appended ≡ cert_file text ∷ []) }
+    ensures reviewed { (file : List ℕ → Option (List ℕ)) (book edits : List ℕ) (o : Outcome)
+        → FilesGive (review book edits) file o → o.status ≡ Done
+        → IsReviewed file book edits o.printed }
+{
+    plain_outcome();
 }
 
 /// What `award` writes, `audit` accepts. Where the file of the certificate held nothing before and holds the text that `award` appended, and

@@ -7,10 +7,10 @@ mod laws;
 mod print;
 mod top;
 
-pub use auction_laws::one_auction;
+pub use auction_laws::{made_auction, one_auction};
 pub use cca_commands::{CertKind, FileKind, Status};
 pub use laws::{
     awarded_cert_passes, complete_log_ends, complete_log_is_awarded, headline, limit_of_ones,
-    one_outcome, placed_cert_passes, weighed_cert_passes, written_cert_passes,
+    one_outcome, placed_cert_passes, verdicts, weighed_cert_passes, written_cert_passes,
 };
 pub use top::run;

@@ -1,10 +1,10 @@
 // The top call.
-ghost use Rattle.std.specs.Prelude.{◌++◌, codes, take, ◌≡◌, ◌⊎◌, ◌≤◌, ◌<◌, ◌∷◌, ℕ, List, [], length, map, string_bytes, All, IfOk, IsTrue, Option, Some, None};
+ghost use Rattle.std.specs.Prelude.{◌++◌, codes, take, ◌≡◌, ◌⊎◌, ◌≤◌, ◌<◌, ◌∷◌, ℕ, List, [], length, map, string_bytes, All, Bool, IfOk, IsTrue, Option, Some, None};
 ghost use Rattle.auction_rules.specs.Terms.{Terms};
 ghost use Rattle.auction_rules.specs.declared.Event.{Event};
 ghost use Rattle.cca_base.specs.Files.{Agrees, KeepsFiles};
 ghost use Rattle.cca_base.specs.Sink.{Puts};
-ghost use Rattle.cca_cli.specs.Command.{audit, award, command_of};
+ghost use Rattle.cca_cli.specs.Command.{audit, award, check, command_of, place, place_check, price, review, weigh, weigh_check};
 ghost use Rattle.cca_cli.specs.Outcome.{Outcome};
 ghost use Rattle.cca_cli.specs.StatusLine.{status_line};
 ghost use Rattle.cca_cli.specs.Statuses.{IsDecided, IsHindered, KeepsAll};
@@ -17,13 +17,16 @@ ghost use Rattle.cca_run.specs.Headline.{CanBeAwarded, IsAuction, IsAudited, IsA
 ghost use Rattle.cca_run.specs.Later.{HoldsCert, HoldsNothing, after};
 ghost use Rattle.cca_run.specs.Rooms.{HasRooms};
 ghost use Rattle.cca_run.specs.Runs.{Runs};
+ghost use Rattle.cca_run.specs.Verdicts.{IsChecked, IsPlaceChecked, IsPlaced, IsPriced, IsReviewed, IsWeighChecked, IsWeighed};
 ghost use Rattle.cca_commands.specs.ReadFaults.{CountsAmong, Loaded};
 ghost use Rattle.cca_run.specs.Run.{Appended, AppendsAll, Changes, HasNoFault, IsDue, IsReadFault, IsWriteFault, inputs, outputs};
 ghost use Rattle.cca_commands.specs.Works.{AreOutputs};
 ghost use Rattle.cca_run.specs.Ends.{CommandEnds, FinishEnds, RunEnds};
 
 use crate::append::append_all;
-use crate::laws::{awarded_cert_passes, complete_log_ends, complete_log_is_awarded, headline};
+use crate::laws::{
+    awarded_cert_passes, complete_log_ends, complete_log_is_awarded, headline, verdicts,
+};
 use crate::print::{print, print_stop};
 use crate::{FileKind, Status};
 use cca_base::{Files, Sink};
@@ -88,6 +91,7 @@ fn ran<F: Files, O: Sink>(alloc: Global, words: &[String], files: &mut F, out: &
     complete_log_ends();
     complete_log_is_awarded();
     awarded_cert_passes();
+    verdicts();
     match read_command(words) {
         Some(command) => {
             let worked = work_out(alloc, files, command);
@@ -139,14 +143,53 @@ pub fn run<F: Files, O: Sink>(alloc: Global, words: &[String], files: &mut F, ou
     // So it is, whatever the status, where what was printed begins with `yes`.
     ensures seen { (terms log cert : List ℕ) → command_of (map string_bytes words.now) ≡ Some (audit terms log cert)
         → (given : List ℕ → Option (List ℕ)) → Agrees given (F.folder files.old) (F.folder files.new)
-        → (more : List ℕ) → (O.output out.new).bytes ≡ (O.output out.old).bytes ++ (codes "yes\n" ++ more)
+        → (more : List ℕ) → (O.output out.new).bytes ≡ (O.output out.old).bytes ++ (codes "yes" ++ more)
         → (text : List ℕ) × IsAudited given terms log cert text
-        × ((n : ℕ) × (codes "yes\n" ++ more ≡ take n text)) }
+        × ((n : ℕ) × (codes "yes" ++ more ≡ take n text)) }
     ensures award { (terms log cert : List ℕ) (form : PriceForm)
         → command_of (map string_bytes words.now) ≡ Some (award terms log cert form)
         → (given : List ℕ → Option (List ℕ)) → Agrees given (F.folder files.old) (F.folder files.new)
         → result ≡ Status.Done → (text : List ℕ) × IsAwarded given terms log text
         × AppendsAll (award terms log cert form) (cert_file text ∷ []) (F.folder files.old) (F.folder files.new) }
+
+    // What the other checkers accept is right too, and what the commands that price append has been tested. So are the winners of a review.
+    ensures checked { (book cert : List ℕ) → command_of (map string_bytes words.now) ≡ Some (check book cert)
+        → (given : List ℕ → Option (List ℕ)) → Agrees given (F.folder files.old) (F.folder files.new)
+        → result ≡ Status.Done → (text : List ℕ) × IsChecked given book cert text × Puts (O.output out.old) (O.output out.new) text (length text) }
+    ensures check_seen { (book cert : List ℕ) → command_of (map string_bytes words.now) ≡ Some (check book cert)
+        → (given : List ℕ → Option (List ℕ)) → Agrees given (F.folder files.old) (F.folder files.new)
+        → (more : List ℕ) → (O.output out.new).bytes ≡ (O.output out.old).bytes ++ (codes "yes" ++ more)
+        → (text : List ℕ) × IsChecked given book cert text × ((n : ℕ) × (codes "yes" ++ more ≡ take n text)) }
+    ensures weigh_checked { (book weights cert : List ℕ) → command_of (map string_bytes words.now) ≡ Some (weigh_check book weights cert)
+        → (given : List ℕ → Option (List ℕ)) → Agrees given (F.folder files.old) (F.folder files.new)
+        → result ≡ Status.Done → (text : List ℕ) × IsWeighChecked given book weights cert text × Puts (O.output out.old) (O.output out.new) text (length text) }
+    ensures weigh_check_seen { (book weights cert : List ℕ) → command_of (map string_bytes words.now) ≡ Some (weigh_check book weights cert)
+        → (given : List ℕ → Option (List ℕ)) → Agrees given (F.folder files.old) (F.folder files.new)
+        → (more : List ℕ) → (O.output out.new).bytes ≡ (O.output out.old).bytes ++ (codes "yes" ++ more)
+        → (text : List ℕ) × IsWeighChecked given book weights cert text × ((n : ℕ) × (codes "yes" ++ more ≡ take n text)) }
+    ensures place_checked { (slots cert : List ℕ) → command_of (map string_bytes words.now) ≡ Some (place_check slots cert)
+        → (given : List ℕ → Option (List ℕ)) → Agrees given (F.folder files.old) (F.folder files.new)
+        → result ≡ Status.Done → (text : List ℕ) × IsPlaceChecked given slots cert text × Puts (O.output out.old) (O.output out.new) text (length text) }
+    ensures place_check_seen { (slots cert : List ℕ) → command_of (map string_bytes words.now) ≡ Some (place_check slots cert)
+        → (given : List ℕ → Option (List ℕ)) → Agrees given (F.folder files.old) (F.folder files.new)
+        → (more : List ℕ) → (O.output out.new).bytes ≡ (O.output out.old).bytes ++ (codes "yes" ++ more)
+        → (text : List ℕ) × IsPlaceChecked given slots cert text × ((n : ℕ) × (codes "yes" ++ more ≡ take n text)) }
+    ensures priced { (book cert : List ℕ) (form : PriceForm) → command_of (map string_bytes words.now) ≡ Some (price book cert form)
+        → (given : List ℕ → Option (List ℕ)) → Agrees given (F.folder files.old) (F.folder files.new)
+        → result ≡ Status.Done → (text : List ℕ) × IsPriced given book text
+        × AppendsAll (price book cert form) (cert_file text ∷ []) (F.folder files.old) (F.folder files.new) }
+    ensures weighed { (book weights cert : List ℕ) (form : PriceForm) → command_of (map string_bytes words.now) ≡ Some (weigh book weights cert form)
+        → (given : List ℕ → Option (List ℕ)) → Agrees given (F.folder files.old) (F.folder files.new)
+        → result ≡ Status.Done → (text : List ℕ) × IsWeighed given book weights text
+        × AppendsAll (weigh book weights cert form) (cert_file text ∷ []) (F.folder files.old) (F.folder files.new) }
+    ensures placed { (slots cert : List ℕ) (rounds : Bool) → command_of (map string_bytes words.now) ≡ Some (place slots cert rounds)
+        → (given : List ℕ → Option (List ℕ)) → Agrees given (F.folder files.old) (F.folder files.new)
+        → result ≡ Status.Done → (text : List ℕ) × IsPlaced given slots text
+        × AppendsAll (place slots cert rounds) (cert_file text ∷ []) (F.folder files.old) (F.folder files.new) }
+    ensures reviewed { (book edits : List ℕ) → command_of (map string_bytes words.now) ≡ Some (review book edits)
+        → (given : List ℕ → Option (List ℕ)) → Agrees given (F.folder files.old) (F.folder files.new)
+        → result ≡ Status.Done → (text : List ℕ) × IsReviewed given book edits text
+        × Puts (O.output out.old) (O.output out.new) text (length text) }
 
     // For every complete log `award` is done, with such a certificate, or stopped by a limit; except for a fault that was counted, and want of
     // memory.
@@ -231,6 +274,9 @@ pub fn run<F: Files, O: Sink>(alloc: Global, words: &[String], files: &mut F, ou
     // file changes.
     ensures kept { KeepsAll result → KeepsFiles (F.folder files.old) (F.folder files.new) }
     ensures files { Changes (command_of (map string_bytes words.now)) (F.folder files.old) (F.folder files.new) }
+
+    // The files know the same names, so that another run may follow.
+    ensures knows { (F.folder files.new).knows ≡ (F.folder files.old).knows }
 
     // No count falls, and only those of the files that the command reads and appends to may rise.
     ensures loads { CountsAmong (inputs (command_of (map string_bytes words.now))) (F.folder files.old).load_faults

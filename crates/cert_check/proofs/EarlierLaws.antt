@@ -13,6 +13,7 @@ use Rattle.cert_grammar.specs.Certificate.{CertValue}
 use Rattle.cert_soundness.specs.Tests.{NoEarlier, bidders_of, left_after, states}
 use Rattle.cert_soundness.proofs.Bounds.{First, first_of_fitting}
 use Rattle.cert_check.specs.EarlierBids.{StaysBelow, AllStayBelow, NoneEarlier, IsLeft}
+use Rattle.limits.specs.declared.TheConstants.{MOST_AMOUNT}
 use Rattle.wide_num.specs.Sums.{nth}
 
 module _ (book : Book) (choice : List ℕ) (value : ℤ) (length_is : length choice ≡ bidders_of book) where
@@ -51,7 +52,7 @@ module _ (book : Book) (choice : List ℕ) (value : ℤ) (length_is : length cho
   -- one bidder more
   pub left-next : (k rest j number next : ℕ) (bound net : ℤ) → k < bidders_of book → IsLeft book choice value k rest bound → j ≡ suc k
       → number ≡ number_of choice j
-      → next ≡ place_of book.supply (less (left_at book.supply rest) (lots_of book j number)) → net ≡ net_of book j number → unsigned_abs net ≤ 2 ^ 42
+      → next ≡ place_of book.supply (less (left_at book.supply rest) (lots_of book j number)) → net ≡ net_of book j number → unsigned_abs net ≤ MOST_AMOUNT
       → IsLeft book choice value (k + 1) next (bound -ℤ net)
   left-next k rest j number next bound net inside so j_is number_is next_is net_is small =
       let up : suc k ≡ k + 1 = omega arith in

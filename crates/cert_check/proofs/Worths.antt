@@ -9,9 +9,10 @@ use Rattle.auction_model.specs.Menu.{Menu}
 use Rattle.auction_model.proofs.ListLaws.{zeros-at}
 use Rattle.bid_book.specs.Kept.{IsBidBook}
 use Rattle.cert_grammar.specs.Certificate.{CertValue}
-use Rattle.cert_soundness.specs.Tests.{Obeys, ObeysAt, bidders_of, lowered_net}
+use Rattle.cert_soundness.specs.Tests.{ObeysAt, bidders_of, lowered_net}
 use Rattle.table_check.specs.LineTests.{TableAt}
 use Rattle.cert_check.specs.Places.{IsFirstFailing}
+use Rattle.limits.specs.declared.TheConstants.{MOST_AMOUNT}
 use Rattle.table_check.specs.Worths.{worth_with, HasSmallWorths}
 use Rattle.cert_check.specs.Gains.{CanLower, gain_of}
 use Rattle.cert_check.proofs.Gains.{gain-small}
@@ -24,7 +25,7 @@ no-gain gains n j is = rw is (zeros-at n (j - 1))
 pub once : (net gain : ℤ) → gain ≡ pos 0 → (pos 1 *ℤ net) -ℤ gain ≡ net
 once net gain none = omega (arith, ints, none)
 
-once-small : (net : ℤ) → pos 0 ≤ℤ net → net ≤ℤ pos (2 ^ 42) → unsigned_abs (pos 1 *ℤ net) < 2 ^ 120
+once-small : (net : ℤ) → pos 0 ≤ℤ net → net ≤ℤ pos MOST_AMOUNT → unsigned_abs (pos 1 *ℤ net) < 2 ^ 120
 once-small net least most = omega (arith, ints, least, most)
 
 -- with a denominator of 1 and no gains, bids are worth their net amounts

@@ -7,6 +7,7 @@ use Rattle.auction_model.specs.Book.{Book, bids_of, lots_of, menu_of, net_of}
 use Rattle.cert_grammar.specs.Certificate.{CertValue}
 use Rattle.auction_model.specs.Menu.{fits_after}
 use Rattle.cert_soundness.specs.Tests.{NoEarlier, bidders_of, left_after, states, worth_before}
+use Rattle.limits.specs.declared.TheConstants.{MOST_AMOUNT}
 use Rattle.wide_num.specs.Sums.{nth}
 
 -- where bid i of bidder j fits what a place leaves, its net amount with the line's entry for the rest is below a bound
@@ -32,4 +33,4 @@ pub record IsLeft (book : Book) (choice : List ℕ) (value : ℤ) (k rest : ℕ)
   pub left : left_at book.supply rest ≡ left_after (menu_of book) book.supply choice k
   pub fits : IsTrue (fits_after (menu_of book) k (left_at book.supply rest) (drop k choice))
   pub bound_is : bound ≡ value -ℤ worth_before (net_of book) choice k
-  pub size : unsigned_abs bound ≤ 2 ^ 120 + k * 2 ^ 42
+  pub size : unsigned_abs bound ≤ 2 ^ 120 + k * MOST_AMOUNT

@@ -1,17 +1,12 @@
-// The multipliers of rows as numbers.
-ghost use Rattle.std.specs.Prelude.{ℕ, ◌≡◌, ◌≤◌, ◌<◌, ◌*◌, ◌^◌, length, map, pos, unsigned_abs, ◌+ℤ◌, if◌then◌else◌};
+// A multiplier of all rows, row by row and summed for each bidder.
+ghost use Rattle.std.specs.Prelude.{ℕ, ◌≡◌, ◌≤◌, ◌<◌, ◌*◌, ◌^◌, length, pos, unsigned_abs, ◌+ℤ◌, if◌then◌else◌};
 ghost use Rattle.auction_model.specs.Lowered.{of_bidder};
-ghost use Rattle.cert_check.specs.Columns.{AreMultipliers, AreSums};
-ghost use Rattle.cert_grammar.specs.CertText.{AreRows};
 ghost use Rattle.cert_grammar.specs.Certificate.{is_member};
-ghost use Rattle.cert_text.specs.Parts.{row_value};
 ghost use Rattle.limits.specs.declared.TheConstants.{MOST_BIDDERS};
 ghost use Rattle.wide_num.specs.Sums.{nth};
 
 use crate::sums::amounts::counted;
 use crate::sums::members::is_among;
-use crate::sums::{Multiplier, picked, sum_of};
-use cert_text::CertRow;
 
 /// One of the multipliers of all rows.
 #[derive(Drop)]
@@ -20,29 +15,6 @@ pub struct MultiplierColumn<'a> {
     pub numbers: &'a [i128],
     /// For each bidder the sum over the rows that hold it.
     pub sums: &'a [i128],
-}
-
-/// Writes a multiplier of each row.
-pub(crate) fn put_multipliers(rows: &[CertRow], which: Multiplier, numbers: &mut [i128])
-    requires { length numbers.old ≡ length rows.now }
-    ensures { AreMultipliers which (map row_value rows.now) numbers.new }
-{
-    for (r, row) in rows.iter().enumerate() {
-        numbers[r] = picked(row, which);
-    }
-}
-
-/// Writes for each bidder the sum of a multiplier over the rows that hold it.
-pub(crate) fn put_sums(rows: &[CertRow], which: Multiplier, sums: &mut [i128])
-    requires few { length rows.now ≤ 10 }
-    requires rows { (bidders : ℕ) × AreRows bidders (map row_value rows.now) }
-    requires room { length sums.old ≤ MOST_BIDDERS }
-    ensures room { length sums.new ≡ length sums.old }
-    ensures sums { AreSums which (length sums.old) (map row_value rows.now) sums.new }
-{
-    for k in 0..sums.len() {
-        sums[k] = sum_of(rows, k as u16 + 1, which);
-    }
 }
 
 /// Adds a multiplier of one more row to the sums of its members. Each sum is that of fewer than 16 rows.

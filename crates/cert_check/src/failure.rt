@@ -33,7 +33,7 @@ pub fn failure_of(test: u8, found: Option<u64>) -> Option<Failure>
 }
 
 /// What fails first after a table, once all its rules were tested: what was found early comes after the rules.
-pub fn behind_table(
+pub fn after_table(
     failed: Option<Failure>,
     test: u8,
     base: u64,

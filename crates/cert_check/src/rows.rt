@@ -1,38 +1,20 @@
 // C6: the rows.
-ghost use Rattle.std.specs.Prelude.{IsTrue, length, map, not, [], ◌*ℤ◌, ◌-ℤ◌, ◌≡◌, ◌↔◌};
+ghost use Rattle.std.specs.Prelude.{IsTrue, length, not, [], ◌*ℤ◌, ◌-ℤ◌, ◌≡◌, ◌↔◌};
 ghost use Rattle.auction_model.specs.Book.{market_of};
 ghost use Rattle.auction_model.specs.Lowered.{of_bidder};
 ghost use Rattle.auction_model.specs.Market.{value_of, worth_in};
 ghost use Rattle.auction_model.specs.Prices.{sum_over};
 ghost use Rattle.cert_check.specs.Fields.{IsOf, cert_with, row_with};
-ghost use Rattle.cert_check.specs.Places.{IsFirstFailing};
-ghost use Rattle.cert_grammar.specs.CertText.{AllInRange, AreMembers, AreRows};
+ghost use Rattle.cert_grammar.specs.CertText.{AllInRange, AreMembers};
 ghost use Rattle.cert_grammar.specs.Certificate.{CertValue, RowValue, is_member};
-ghost use Rattle.cert_soundness.specs.Tests.{C6, IsTightRow, bidders_of};
-ghost use Rattle.cert_text.specs.Parts.{row_value};
+ghost use Rattle.cert_soundness.specs.Tests.{IsTightRow, bidders_of};
 
 use crate::claim::Claim;
 use crate::judging::is_allowed;
 use crate::sums::amounts::times;
 use crate::sums::members::{uses_all, uses_none};
 use crate::sums::{paid_by, won_beside};
-use cert_text::CertRow;
 use choices::value_among;
-
-/// The first place at which C6 fails of a certificate with these payments and rows.
-pub(crate) fn rows_test(claim: &Claim, pay: &[i128], rows: &[CertRow]) -> Option<u64>
-    requires pay { (length pay.now ≡ bidders_of claim.now.book.now) × AllInRange pay.now }
-    requires rows { AreRows (bidders_of claim.now.book.now) (map row_value rows.now) }
-    ensures { (c : CertValue) → IsOf claim.now c → c.pay ≡ pay.now → c.rows ≡ map row_value rows.now
-        → IsFirstFailing (C6 claim.now.book.now c) result }
-{
-    for (r, row) in rows.iter().enumerate() {
-        if !row_holds(claim, pay, row.members.items(), row.choice.numbers()) {
-            return Some(r as u64 + 1);
-        }
-    }
-    None
-}
 
 /// Whether the members of a row win, its choice fits and uses none of them, and they pay just what it asks of them.
 pub fn row_holds(claim: &Claim, pay: &[i128], members: &[u16], choice: &[u16]) -> bool

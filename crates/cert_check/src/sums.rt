@@ -6,11 +6,9 @@ ghost use Rattle.auction_model.specs.Market.{worth_in};
 ghost use Rattle.auction_model.specs.Menu.{is_known_after};
 ghost use Rattle.auction_model.specs.Prices.{sum_over};
 ghost use Rattle.bid_book.specs.Kept.{IsBidBook};
-ghost use Rattle.cert_check.specs.Multipliers.{multiplier_of};
-ghost use Rattle.cert_grammar.specs.CertText.{AllInRange, AreRows};
+ghost use Rattle.cert_grammar.specs.CertText.{AllInRange};
 ghost use Rattle.cert_grammar.specs.Certificate.{is_member};
-ghost use Rattle.cert_soundness.specs.Tests.{bidders_of, sum_holding};
-ghost use Rattle.cert_text.specs.Parts.{row_value};
+ghost use Rattle.cert_soundness.specs.Tests.{bidders_of};
 ghost use Rattle.limits.specs.declared.TheConstants.{MOST_BIDDERS};
 
 pub mod amounts;
@@ -19,7 +17,6 @@ pub mod members;
 use crate::sums::amounts::{counted, won};
 use crate::sums::members::is_among;
 use bid_book::BidBook;
-use cert_text::CertRow;
 
 /// One of the two multipliers of a row.
 #[derive(Clone, Copy)]
@@ -57,27 +54,4 @@ pub(crate) fn won_beside(book: &BidBook, choice: &[u16], members: &[u16]) -> i12
         sum += counted(!is_among(members, j), won(book, choice, j));
     }
     sum
-}
-
-/// The sum of the multipliers of the rows that hold bidder `j`.
-pub(crate) fn sum_of(rows: &[CertRow], j: u16, which: Multiplier) -> i128
-    requires count { length rows.now ≤ 10 }
-    requires range { (bidders : ℕ) × AreRows bidders (map row_value rows.now) }
-    ensures { result ≡ sum_holding (map row_value rows.now) j (multiplier_of which) (length rows.now) }
-{
-    let mut sum = 0i128;
-    for row in rows {
-        sum += counted(is_among(row.members.items(), j), picked(row, which));
-    }
-    sum
-}
-
-/// A multiplier of a row.
-pub(crate) fn picked(row: &CertRow, which: Multiplier) -> i128
-    ensures { result ≡ multiplier_of which (row_value row.now) }
-{
-    match which {
-        Multiplier::First => row.first,
-        Multiplier::Second => row.second,
-    }
 }

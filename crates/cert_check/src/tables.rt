@@ -1,90 +1,20 @@
-// The tests C3 and C9: the tables of the net amounts and of the lowered ones.
-ghost use Rattle.std.specs.Prelude.{◌≡◌, ℕ, ◌^◌, ◌<◌, ◌≤◌, IsTrue, length, unsigned_abs};
-ghost use Rattle.auction_model.specs.Book.{market_of};
+// What the tests of the tables share: the room for a line, and the sum of the payments.
+ghost use Rattle.std.specs.Prelude.{◌≡◌, ◌≤◌, length};
 ghost use Rattle.auction_model.specs.Lowered.{of_bidder};
 ghost use Rattle.auction_model.specs.Prices.{everyone, sum_over};
-ghost use Rattle.cert_grammar.specs.CertText.{AllInRange, IsTable};
-ghost use Rattle.cert_grammar.specs.Certificate.{CertValue};
-ghost use Rattle.cert_soundness.specs.Tests.{C3, C9, bidders_of, states};
-ghost use Rattle.cert_check.specs.Fields.{IsOf, cert_headed};
-ghost use Rattle.cert_check.specs.Places.{IsFirstFailing};
+ghost use Rattle.cert_grammar.specs.CertText.{AllInRange};
 ghost use Rattle.limits.specs.declared.TheConstants.{MOST_BIDDERS};
 
 pub(crate) mod earlier;
 pub(crate) mod gains;
-pub(crate) mod grids;
 
-use crate::claim::Claim;
-use crate::tables::earlier::earlier_fault;
-use crate::tables::gains::put_gains;
-use crate::tables::grids::table_test;
-use bid_book::BidBook;
-use choices::Grid;
 use limits::{MOST_BIDDERS, MOST_STATES};
-use table_check::TestedBids;
 
 /// Room for a number of each bidder.
 pub const BIDDER_ROOM: usize = MOST_BIDDERS as usize;
 
 /// Room for a number of each state.
 pub(crate) const STATE_ROOM: usize = MOST_STATES as usize;
-
-/// The first place at which the table of net amounts doesn't show the choice to be the winning one, once it is known, fits and
-/// has the value. With `S` states and `B` bidders, `k * S + s` is the place of line `k` at place `s` of the supply, `(B + 1) * S`
-/// that of the value, and `(B + 1) * S + j` that of the bids of bidder `j` which come before its number in the choice.
-pub(crate) fn value_test(book: &BidBook, choice: &[u16], value: i128, table: &Grid) -> Option<u64>
-    requires allowed { IsTrue ((market_of book.now).allowed choice.now) }
-    requires value { unsigned_abs value < 2 ^ 120 }
-    requires table { IsTable (bidders_of book.now) (states book.now) table.now }
-    ensures { (c : CertValue) → c.choice ≡ choice.now → c.value ≡ value → c.table ≡ table.now
-        → IsFirstFailing (C3 book.now c) result }
-{
-    value_fault(book, choice, value, table)
-}
-
-/// Where the value fails its test, for the certificate of these numbers alone.
-fn value_fault(book: &BidBook, choice: &[u16], value: i128, table: &Grid) -> Option<u64>
-    requires allowed { IsTrue ((market_of book.now).allowed choice.now) }
-    requires value { unsigned_abs value < 2 ^ 120 }
-    requires table { IsTable (bidders_of book.now) (states book.now) table.now }
-    ensures { IsFirstFailing (C3 book.now (cert_headed value choice.now table.now)) result }
-{
-    let bidders = book.bidders();
-    let gains = [0i128; BIDDER_ROOM];
-    let offers = TestedBids {
-        book,
-        skip: 0,
-        den: 1,
-        gains: &gains,
-    };
-    if let Some(place) = table_test(&offers, table, value) {
-        return Some(place);
-    }
-    let last = (bidders + 1) * book.supply().states();
-    let bidder = earlier_fault(book, choice, value, table)?;
-    Some(last as u64 + bidder)
-}
-
-/// The first place at which the table of lowered amounts doesn't show the payments to be in the core. The places are those of the
-/// table in `value_test`, and `(B + 1) * S` is that of the sum of the payments.
-pub(crate) fn lowered_test(claim: &Claim, pay: &[i128], table: &Grid) -> Option<u64>
-    requires pay { (length pay.now ≡ bidders_of claim.now.book.now) × AllInRange pay.now }
-    requires table { IsTable (bidders_of claim.now.book.now) (states claim.now.book.now) table.now }
-    ensures { (c : CertValue) → IsOf claim.now c → c.pay ≡ pay.now → c.lowered ≡ table.now
-        → IsFirstFailing (C9 claim.now.book.now c) result }
-{
-    claim.book.kept();
-    let paid = sum_paid(pay);
-    let mut gains = [0i128; BIDDER_ROOM];
-    put_gains(claim, pay, &mut gains);
-    let offers = TestedBids {
-        book: claim.book,
-        skip: 0,
-        den: claim.den,
-        gains: &gains,
-    };
-    table_test(&offers, table, paid)
-}
 
 /// The sum of all payments.
 pub fn sum_paid(payments: &[i128]) -> i128

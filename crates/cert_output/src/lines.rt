@@ -9,7 +9,7 @@ ghost use Rattle.cert_output.specs.Writes.{TakesText};
 
 use crate::CutShort;
 use crate::outbox::add_bytes;
-use crate::spelling::{FIELD, count_of, part_of, spell};
+use crate::spelling::{FIELD, part_of, spell};
 use cca_base::Files;
 use choices::{Grid, LineNumbers};
 
@@ -93,7 +93,7 @@ fn add_numbers<F: Files>(
     ensures { TakesText name.now (F.folder files.old) (F.folder files.new) (take begun room.old) room.new
         (numbers_text (numbers_of numbers.entry)) result }
 {
-    let count = count_of(numbers);
+    let count = numbers.count();
     let mut waiting = begun;
     let mut done = 0;
     while done < count {

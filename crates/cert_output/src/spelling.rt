@@ -13,16 +13,6 @@ use itoa::{Buffer, write_digits};
 /// A space and a number of the range have at most that many bytes.
 pub(crate) const FIELD: usize = 41;
 
-/// How many numbers there are.
-pub(crate) fn count_of(numbers: LineNumbers<'_>) -> usize
-    ensures { result ≡ length (numbers_of numbers.entry) }
-{
-    match numbers {
-        LineNumbers::Short(short) => short.len(),
-        LineNumbers::Wide(wide) => wide.len(),
-    }
-}
-
 /// The numbers from one place to before another.
 pub(crate) fn part_of<'a>(numbers: LineNumbers<'a>, from: usize, to: usize) -> LineNumbers<'a>
     requires { (from ≤ to) × (to ≤ length (numbers_of numbers)) }

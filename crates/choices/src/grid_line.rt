@@ -24,6 +24,18 @@ pub enum LineNumbers<'a> {
     Wide(&'a [i128]),
 }
 
+impl LineNumbers<'_> {
+    /// How many numbers there are.
+    pub fn count(&self) -> usize
+        ensures { result ≡ length (numbers_of self.now) }
+    {
+        match self {
+            LineNumbers::Short(numbers) => numbers.len(),
+            LineNumbers::Wide(numbers) => numbers.len(),
+        }
+    }
+}
+
 impl GridLine {
     /// How many numbers there are.
     pub(crate) fn len(&self) -> usize

@@ -1,14 +1,12 @@
 -- Sums of packages, and packages without a lot.
-use Rattle.std.proofs.Common.{List, [], add-one, ap, arith, drop, get_or, length, map, refl, suc, sym, take, zero, ℕ, ◌%◌, ◌*◌, ◌++◌, ◌+◌, ◌-◌, ◌/◌}
+use Rattle.std.proofs.Common.{List, [], add-one, ap, arith, drop, get_or, length, map, refl, suc, sym, take, zero, ℕ, ◌*◌, ◌++◌, ◌+◌, ◌-◌}
 use Rattle.std.proofs.Common.{◌<◌, ◌∙◌, ◌∷◌, ◌≡◌, ◌≤◌}
-use Rattle.std.specs.Prelude.{sum, replicate, ◌==◌}
+use Rattle.std.specs.Prelude.{sum, replicate}
 use Rattle.std.specs.List.{All, AllByRecursion}
 use Rattle.std.proofs.lemmas.List.{replicate_more, take-append-le, take_all, get_or_default}
 use Rattle.std.proofs.lemmas.List.Sums.{sum_by-cons}
 use Rattle.std.proofs.lemmas.List.Elements.{All-from_recursion, recursion_from_All}
 use Rattle.auction_model.specs.Package.{together}
-use Rattle.auction_model.specs.Place.{left_at, states_of}
-use Rattle.auction_model.proofs.PlaceLaws.{states-positive}
 use Rattle.auction_rules.specs.Rounds.{listing, sum_of}
 
 -- two packages of as many categories have as many together
@@ -39,15 +37,6 @@ added-most demand p k e few low =
     let more : 40 * k + 40 ≡ 40 * (k + 1) = omega arith in
     All-from_recursion (λ n. n ≤ 40 * (k + 1)) (together demand p)
     (rw more at (sums-low demand p (40 * k) 40 e (recursion_from_All (λ n. n ≤ 40 * k) demand low) (counts-low p 40 few)))
-
--- the package of place 0 has no lot
-pub left_at-zero : (supply : List ℕ) → left_at supply 0 ≡ map {A = ℕ} {B = ℕ} (λ n. 0) supply
-left_at-zero [] = refl
-left_at-zero (s ∷ supply) =
-    let some = states-positive supply in
-    let none : 0 / states_of supply ≡ 0 = omega arith in
-    let rest : 0 % states_of supply ≡ 0 = omega arith in
-    rw (none, rest) (ap (λ (p : List ℕ). 0 ∷ p) (left_at-zero supply))
 
 -- a package without a lot has 0 lots in sum
 pub zeros-sum : (supply : List ℕ) → sum (map {A = ℕ} {B = ℕ} (λ n. 0) supply) ≡ 0

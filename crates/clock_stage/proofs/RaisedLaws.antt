@@ -1,5 +1,5 @@
 -- What a price rises by has the properties of a raise.
-use Rattle.std.proofs.Common.{◌≡◌, ℕ, ◌+◌, ◌*◌, ◌≤◌, List, [], ◌∷◌, subst, sym}
+use Rattle.std.proofs.Common.{◌≡◌, ℕ, ◌*◌, ◌≤◌, List, [], ◌∷◌, subst, sym}
 use Rattle.award_file.specs.Award.{Steps, IsSteps, AreThresholds, RiseAbove}
 use Rattle.auction_rules.specs.Step.{AreRisingFrom, IsRaise, IsReachedShare, permille_at, stepped, ticks_of}
 use Rattle.clock_stage.specs.Raised.{IsRaisedPrice}

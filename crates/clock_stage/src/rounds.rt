@@ -5,6 +5,7 @@ ghost use Rattle.auction_model.specs.Package.{cost_of};
 ghost use Rattle.clock_stage.specs.Kept.{IsHeld, IsHistory, IsRound, bidders_in, categories_in, closed_round};
 ghost use Rattle.clock_stage.specs.Rounds.{round_value};
 
+use limits::MOST_CATEGORIES;
 use lots::{Package, Supply};
 use std::alloc::{AllocError, Global};
 use std::marker::Model;
@@ -41,9 +42,17 @@ fn packages_copied(alloc: Global, packages: &[Package]) -> Result<Vec<Package>, 
 {
     let mut copies = Vec::with_capacity(alloc, packages.len())?;
     for package in packages {
-        copies.push(package.copied(alloc)?)?;
+        copies.push(package.copied())?;
     }
     Ok(copies)
+}
+
+/// The package without a lot.
+fn empty_package(supply: &Supply) -> Package
+    ensures { result ≡ map (λ n. 0) supply.now }
+{
+    let counts = [0; MOST_CATEGORIES];
+    Package::of_counts(&counts[..supply.categories()])
 }
 
 /// That many packages without a lot.
@@ -54,9 +63,10 @@ pub fn empty_packages(
 ) -> Result<Vec<Package>, AllocError>
     ensures { IfOk result (λ v. v.items ≡ replicate count (map (λ n. 0) supply.now)) }
 {
+    let empty = empty_package(supply);
     let mut packages = Vec::with_capacity(alloc, count)?;
     for _ in 0..count {
-        packages.push(supply.package_at(alloc, 0)?)?;
+        packages.push(empty.copied())?;
     }
     Ok(packages)
 }

@@ -42,12 +42,12 @@ pub use weights::many_win;
 ///
 /// `singles` are all winners in order, each with its Vickrey price and its best choice. `weights` has one weight of 1 to 20
 /// for each bidder; distances are by squares, each divided by the bidder's weight. There are at most 64 bidders, and the
-/// winning choice is worth at most 2^42 times the number of winners.
+/// winning choice is worth at most `MOST_AMOUNT` times the number of winners.
 ///
 /// # Errors
 ///
-/// `Winners` exactly where more than six win, or more than four that don't all weigh 1, with their number; `Memory` for want of
-/// memory.
+/// `Winners` exactly where more than `MOST_WINNERS` win, or more than `MOST_WEIGHTED_WINNERS` that don't all weigh 1, with their
+/// number; `Memory` for want of memory.
 ///
 /// The rule is that of Day and Cramton (Quadratic core-selecting payment rules for combinatorial auctions, Operations
 /// Research 60, 2012), the turns are those of Day and Raghavan (Fair payments for efficient allocations in public sector
@@ -73,11 +73,11 @@ pub fn price<C: Chooser>(
     if many_win(singles.len(), chooser.winners(), weights) {
         return Err(PriceStop::Winners(singles.len() as u64));
     }
-    Ok(price_at_most_six(alloc, chooser, singles, weights)?)
+    Ok(price_by_rows(alloc, chooser, singles, weights)?)
 }
 
-// The prices of so few winners.
-fn price_at_most_six<C: Chooser>(
+// The prices by rows, where no more win than can be priced.
+fn price_by_rows<C: Chooser>(
     alloc: Global,
     chooser: &C,
     singles: &[Single],

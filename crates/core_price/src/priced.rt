@@ -52,7 +52,7 @@ pub struct Priced<T> {
 /// Why there are no prices.
 #[derive(Clone, Copy, Debug, Drop, PartialEq, Eq)]
 pub enum PriceStop {
-    /// More than six win, or more than four that don't all weigh 1: that many.
+    /// More than `MOST_WINNERS` win, or more than `MOST_WEIGHTED_WINNERS` that don't all weigh 1: that many.
     Winners(u64),
     /// There was no memory.
     Memory,

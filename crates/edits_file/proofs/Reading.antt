@@ -1,5 +1,5 @@
 -- The reader's stages with the edits as their lines name them. These stages read the form of a file of edits.
-use Rattle.std.proofs.Common.{List, None, Option, Some, [], ap, append_assoc, arith, inl, inr, length, length-append, refl, subst, sym, take, ℕ, ◌++◌}
+use Rattle.std.proofs.Common.{List, None, Option, Some, [], ap, append_assoc, arith, inl, inr, length, length-append, refl, subst, sym, ℕ, ◌++◌}
 use Rattle.std.proofs.Common.{◌+◌, ◌<◌, ◌∙◌, ◌∷◌, ◌≡◌, ◌≤◌, ◌⊎◌}
 use Rattle.std.specs.Prelude.{codes}
 use Rattle.std.specs.List.{AllByRecursion}
@@ -114,6 +114,13 @@ many_edits had e many = over (length (had ++ e ∷ [])) (omega (arith, many, len
   where
     over : (n : ℕ) → 1000 < n → edit_excess n ≡ Some (Records, 1001)
     over n lt = grind (arith, nat_tests)
+
+-- an edit more where there may be one
+pub few_edits : (had : List Edit) (e : Edit) → length had < 1000 → edit_excess (length (had ++ e ∷ [])) ≡ None
+few_edits had e few = under (length (had ++ e ∷ [])) (omega (arith, few, length-append had (e ∷ [])))
+  where
+    under : (n : ℕ) → n ≤ 1000 → edit_excess n ≡ None
+    under n le = grind (arith, nat_tests)
 
 abbrev pub begin : NamedStage
 begin = beginning

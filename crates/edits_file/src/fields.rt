@@ -1,70 +1,48 @@
 // The fields of a line that states an edit.
-ghost use Rattle.std.specs.Prelude.{IfNone, IfOk, IfSome, List, [], length, ℕ, ◌++◌, ◌≡◌, ◌≢◌};
+ghost use Rattle.std.specs.Prelude.{IfNone, IfSome, List, [], length, ℕ, ◌++◌, ◌<◌, ◌≡◌, ◌≢◌, ◌≤◌};
+ghost use Rattle.limits.specs.declared.TheConstants.{MOST_CATEGORIES};
 ghost use Rattle.line_format.specs.Fields.{FieldEnds};
 ghost use Rattle.book_grammar.specs.BookForm.{IsName};
 ghost use Rattle.edits_file.specs.EditsForm.{number_among};
 ghost use Rattle.edits_file.specs.Stages.{BeginsWithCounts, BeginsWithNumber, IsHead, StatesBid, StatesPackage};
 
-use crate::LimitKind;
-use bid_book::{BidBook, Excess, is_name};
-use limits::{MOST_STATED_AMOUNT, MOST_STATED_COUNT};
-use line_format::{LineStop, field_len, read_at_most};
+use bid_book::{BidBook, is_name};
+use limits::{MOST_CATEGORIES, MOST_STATED_AMOUNT, MOST_STATED_COUNT};
+use line_format::{field_len, read_at_most};
 use lots::Package;
-use std::alloc::{AllocError, Global};
 
 /// The bidder, the package and the amount that a line states after its word. Bidder 0 is one that the book doesn't have.
-pub fn read_bid(
-    alloc: Global,
-    book: &BidBook,
-    fields: &[u8],
-) -> Result<(u16, Package, u64), LineStop<Excess>>
-    ensures ok { IfOk result (λ b. StatesBid book.now fields.now b.0 b.1 b.2) }
-    ensures form { result ≡ Err LineStop.Form → (bidder : ℕ) (lots : List ℕ) (amount : ℕ)
-        → StatesBid book.now fields.now bidder lots amount → ⊥ }
-    ensures no_limit { (kind : LimitKind) (count : ℕ) → result ≡ Err (LineStop.Limit (kind, count)) → ⊥ }
+pub fn read_bid(book: &BidBook, fields: &[u8]) -> Option<(u16, Package, u64)>
+    ensures found { IfSome result (λ b. StatesBid book.now fields.now b.0 b.1 b.2) }
+    ensures none { IfNone result ((bidder : ℕ) (lots : List ℕ) (amount : ℕ)
+        → StatesBid book.now fields.now bidder lots amount → ⊥) }
 {
-    let (bidder, package, rest) = read_head(alloc, book, fields)?;
-    let Some(amount) = last_number(rest, MOST_STATED_AMOUNT) else {
-        return Err(LineStop::Form);
-    };
-    Ok((bidder, package, amount))
+    let (bidder, package, rest) = read_head(book, fields)?;
+    let amount = last_number(rest, MOST_STATED_AMOUNT)?;
+    Some((bidder, package, amount))
 }
 
 /// The bidder and the package that a line states after its word.
-pub fn read_package(
-    alloc: Global,
-    book: &BidBook,
-    fields: &[u8],
-) -> Result<(u16, Package), LineStop<Excess>>
-    ensures ok { IfOk result (λ p. StatesPackage book.now fields.now p.0 p.1) }
-    ensures form { result ≡ Err LineStop.Form → (bidder : ℕ) (lots : List ℕ)
-        → StatesPackage book.now fields.now bidder lots → ⊥ }
-    ensures no_limit { (kind : LimitKind) (count : ℕ) → result ≡ Err (LineStop.Limit (kind, count)) → ⊥ }
+pub fn read_package(book: &BidBook, fields: &[u8]) -> Option<(u16, Package)>
+    ensures found { IfSome result (λ p. StatesPackage book.now fields.now p.0 p.1) }
+    ensures none { IfNone result ((bidder : ℕ) (lots : List ℕ) → StatesPackage book.now fields.now bidder lots → ⊥) }
 {
-    let (bidder, package, rest) = read_head(alloc, book, fields)?;
+    let (bidder, package, rest) = read_head(book, fields)?;
     if !rest.is_empty() {
-        return Err(LineStop::Form);
+        return None;
     }
-    Ok((bidder, package))
+    Some((bidder, package))
 }
 
 /// The bidder and the package at the start of the fields, and what follows them.
-fn read_head<'a>(
-    alloc: Global,
-    book: &BidBook,
-    fields: &'a [u8],
-) -> Result<(u16, Package, &'a [u8]), LineStop<Excess>>
-    ensures ok { IfOk result (λ h. IsHead book.now fields.now h.0 h.1 h.2.now) }
-    ensures form { result ≡ Err LineStop.Form → (bidder : ℕ) (lots rest : List ℕ)
-        → IsHead book.now fields.now bidder lots rest → ⊥ }
-    ensures no_limit { (kind : LimitKind) (count : ℕ) → result ≡ Err (LineStop.Limit (kind, count)) → ⊥ }
+fn read_head<'a>(book: &BidBook, fields: &'a [u8]) -> Option<(u16, Package, &'a [u8])>
+    ensures found { IfSome result (λ h. IsHead book.now fields.now h.0 h.1 h.2.now) }
+    ensures none { IfNone result ((bidder : ℕ) (lots rest : List ℕ)
+        → IsHead book.now fields.now bidder lots rest → ⊥) }
 {
-    let Some((bidder, behind)) = read_bidder(book, fields) else {
-        return Err(LineStop::Form);
-    };
-    let (counts, rest) = read_counts(alloc, behind, book.supply().categories())?;
-    let package = package_of(alloc, &counts)?;
-    Ok((bidder, package, rest))
+    let (bidder, more) = read_bidder(book, fields)?;
+    let (package, rest) = read_counts(more, book.supply().categories())?;
+    Some((bidder, package, rest))
 }
 
 /// The bidder of the name at the start of a text, and what follows the name.
@@ -93,38 +71,21 @@ fn bidder_named(book: &BidBook, name: &[u8]) -> u16
     0
 }
 
-/// The counts of that many categories at the start of a text, each after one space, and what follows them.
-fn read_counts<'a>(
-    alloc: Global,
-    text: &'a [u8],
-    categories: usize,
-) -> Result<(Vec<u16>, &'a [u8]), LineStop<Excess>>
-    requires { FieldEnds text.now }
-    ensures ok { IfOk result (λ p. BeginsWithCounts categories text.now p.0.items p.1.now) }
-    ensures form { result ≡ Err LineStop.Form → (lots rest : List ℕ) → BeginsWithCounts categories text.now lots rest
-        → ⊥ }
-    ensures no_limit { (kind : LimitKind) (count : ℕ) → result ≡ Err (LineStop.Limit (kind, count)) → ⊥ }
+/// The package of that many counts at the start of a text, each after one space, and what follows them.
+fn read_counts(text: &[u8], categories: usize) -> Option<(Package, &[u8])>
+    requires text { FieldEnds text.now }
+    requires categories { (0 < categories) × (categories ≤ MOST_CATEGORIES) }
+    ensures found { IfSome result (λ p. BeginsWithCounts categories text.now p.0 p.1.now) }
+    ensures none { IfNone result ((lots rest : List ℕ) → BeginsWithCounts categories text.now lots rest → ⊥) }
 {
-    let mut counts = Vec::with_capacity(alloc, categories)?;
+    let mut counts = [0; MOST_CATEGORIES];
     let mut rest = text;
-    for _category in 0..categories {
-        let Some((count, more)) = first_number(rest, MOST_STATED_COUNT) else {
-            return Err(LineStop::Form);
-        };
-        counts.push(count as u16)?;
+    for i in 0..categories {
+        let (count, more) = first_number(rest, MOST_STATED_COUNT)?;
+        counts[i] = count as u16;
         rest = more;
     }
-    Ok((counts, rest))
-}
-
-/// The package of these counts, of which there are as many as a supply may have categories. So it can want nothing but memory.
-fn package_of(alloc: Global, counts: &[u16]) -> Result<Package, AllocError>
-    ensures { IfOk result (λ p. p ≡ counts.now) }
-{
-    match Package::new(alloc, counts) {
-        Ok(package) => Ok(package),
-        Err(_) => Err(AllocError),
-    }
+    Some((Package::of_counts(&counts[..categories]), rest))
 }
 
 /// The number at the start of a text, after one space, and what follows it.

@@ -1,41 +1,34 @@
 // The line of an edit.
-ghost use Rattle.std.specs.Prelude.{IfOk, ℕ, ◌≡◌};
+ghost use Rattle.std.specs.Prelude.{IfNone, IfSome, ◌≡◌};
 ghost use Rattle.edits_file.specs.EditsForm.{NamedEdit};
 ghost use Rattle.edits_file.specs.Stages.{States};
 
-use crate::LimitKind;
 use crate::fields::{read_bid, read_package};
-use bid_book::{BidBook, Excess};
-use line_format::LineStop;
+use bid_book::BidBook;
 use review::Edit;
-use std::alloc::Global;
 
-/// The edit of the book that a line states.
-pub fn read_edit(alloc: Global, book: &BidBook, line: &[u8]) -> Result<Edit, LineStop<Excess>>
-    ensures ok { IfOk result (λ edit. (named : NamedEdit) × States book.now line.now named edit) }
-    ensures form { result ≡ Err LineStop.Form → (named : NamedEdit) (edit : Edit)
-        → States book.now line.now named edit → ⊥ }
-    ensures no_limit { (kind : LimitKind) (count : ℕ) → result ≡ Err (LineStop.Limit (kind, count)) → ⊥ }
+/// The edit of the book that a line states. It takes no memory, so a line of no form is found without any.
+pub fn read_edit(book: &BidBook, line: &[u8]) -> Option<Edit>
+    ensures found { IfSome result (λ edit. (named : NamedEdit) × States book.now line.now named edit) }
+    ensures none { IfNone result ((named : NamedEdit) (edit : Edit) → States book.now line.now named edit → ⊥) }
 {
     if let Some(fields) = line.strip_prefix(b"add ") {
-        let (bidder, package, amount) = read_bid(alloc, book, fields)?;
-        return Ok(Edit::Add {
+        let (bidder, package, amount) = read_bid(book, fields)?;
+        return Some(Edit::Add {
             bidder,
             package,
             amount,
         });
     }
     if let Some(fields) = line.strip_prefix(b"raise ") {
-        let (bidder, package, amount) = read_bid(alloc, book, fields)?;
-        return Ok(Edit::Raise {
+        let (bidder, package, amount) = read_bid(book, fields)?;
+        return Some(Edit::Raise {
             bidder,
             package,
             amount,
         });
     }
-    let Some(fields) = line.strip_prefix(b"drop ") else {
-        return Err(LineStop::Form);
-    };
-    let (bidder, package) = read_package(alloc, book, fields)?;
-    Ok(Edit::Remove { bidder, package })
+    let fields = line.strip_prefix(b"drop ")?;
+    let (bidder, package) = read_package(book, fields)?;
+    Some(Edit::Remove { bidder, package })
 }

@@ -1,5 +1,5 @@
 // The reader of a file of edits.
-ghost use Rattle.std.specs.Prelude.{Err, IfOk, IsTrue, List, None, Some, length, ℕ, ◌↔◌, ◌≡◌, ◌≤◌};
+ghost use Rattle.std.specs.Prelude.{Err, IfNone, IfOk, IfSome, IsTrue, List, None, Some, [], codes, length, ℕ, ◌↔◌, ◌≡◌, ◌≢◌, ◌≤◌};
 ghost use Rattle.std.specs.List.{AllByRecursion};
 ghost use Rattle.limits.specs.declared.TheConstants.{MOST_EDITS};
 ghost use Rattle.line_format.specs.LineText.{beyond, faulty, stated};
@@ -90,42 +90,41 @@ fn take_line(
     ensures form { result ≡ Err LineStop.Form → (t : Stage) → Step book.now stage line.now t → ⊥ }
     ensures limit { (kind : LimitKind) (count : ℕ) → result ≡ Err (LineStop.Limit (kind, count))
         → (t : Stage) × Step book.now stage line.now t × (excess t ≡ Some (kind, count)) }
+    ensures memory { result ≡ Err LineStop.Memory → (t : Stage) × Step book.now stage line.now t × (excess t ≡ None) }
 {
     match stage {
-        Stage::Start => take_first(alloc, book, line),
-        Stage::Listing(edits) => take_listed(alloc, edits, book, line),
+        Stage::Start => take_first(alloc, line).ok_or(LineStop::Form),
+        Stage::Listing(edits) => take_listed(edits, book, line),
         Stage::Ended(_) => Err(LineStop::Form),
     }
 }
 
-/// Takes the first line.
-fn take_first(alloc: Global, book: &BidBook, line: &[u8]) -> Result<Stage, LineStop<Excess>>
-    ensures ok { IfOk result (λ next. Step book.now Stage.Start line.now next × (excess next ≡ None)) }
-    ensures form { result ≡ Err LineStop.Form → (t : Stage) → Step book.now Stage.Start line.now t → ⊥ }
-    ensures no_limit { (kind : LimitKind) (count : ℕ) → result ≡ Err (LineStop.Limit (kind, count)) → ⊥ }
+/// Takes the first line. It takes no memory.
+fn take_first(alloc: Global, line: &[u8]) -> Option<Stage>
+    ensures found { IfSome result (λ next. (line.now ≡ codes "edits 1") × (next ≡ Stage.Listing [])) }
+    ensures none { IfNone result (line.now ≢ codes "edits 1") }
 {
     if line != b"edits 1".as_slice() {
-        return Err(LineStop::Form);
+        return None;
     }
-    Ok(Stage::Listing(Edits::new(alloc)))
+    Some(Stage::Listing(Edits::new(alloc)))
 }
 
-/// Takes the line of an edit, or the last line.
-fn take_listed(
-    alloc: Global,
-    mut edits: Edits,
-    book: &BidBook,
-    line: &[u8],
-) -> Result<Stage, LineStop<Excess>>
+/// Takes the line of an edit, or the last line. Memory is asked for only after the line was found right.
+fn take_listed(mut edits: Edits, book: &BidBook, line: &[u8]) -> Result<Stage, LineStop<Excess>>
     ensures ok { IfOk result (λ next. Step book.now (Stage.Listing edits) line.now next × (excess next ≡ None)) }
     ensures form { result ≡ Err LineStop.Form → (t : Stage) → Step book.now (Stage.Listing edits) line.now t → ⊥ }
     ensures limit { (kind : LimitKind) (count : ℕ) → result ≡ Err (LineStop.Limit (kind, count))
         → (t : Stage) × Step book.now (Stage.Listing edits) line.now t × (excess t ≡ Some (kind, count)) }
+    ensures memory { result ≡ Err LineStop.Memory
+        → (t : Stage) × Step book.now (Stage.Listing edits) line.now t × (excess t ≡ None) }
 {
     if line == b"end".as_slice() {
         return Ok(Stage::Ended(edits));
     }
-    let edit = read_edit(alloc, book, line)?;
+    let Some(edit) = read_edit(book, line) else {
+        return Err(LineStop::Form);
+    };
     if is_full(&edits) {
         return Err(LineStop::Limit((LimitKind::Records, MOST_EDITS + 1)));
     }

@@ -1,6 +1,32 @@
 //! Every limit of an auction and of its files, each once, by name; and the names by which a quantity above its limit is reported.
 //!
-//! Clauses, definitions and bodies cite these constants, so a limit is changed here alone.
+//! Clauses, definitions and bodies cite these constants. Some proofs write a limit in digits: after a change, the check names them.
+//! Each crate that cites the limit, and each crate above it, is proved again.
+//!
+//! # What follows from a limit
+//!
+//! The numbers of pricing have to stay below 2^120 in size. The bounds that show this follow from a few limits, and are
+//! written by hand in the crates that are named. After a change of such a limit, choose these bounds again.
+//!
+//! | Bound | Of what | Follows from | Written in |
+//! |---|---|---|---|
+//! | `MOST_VALUE` 2^46 | a choice's value, a bound of a row, the sum of all prices | bidders * amount | here |
+//! | `MOST_WEIGHTED_VALUE` 2^45 | the same where not all weights are 1 | 2 * weighted winners * amount | here |
+//! | 6, 80 | an entry of a system, without weights and with them | winners, weighted winners * weight | `lin_solve` |
+//! | 36, 320 | the sum of a line of a system | winners * entry | `lin_solve` |
+//! | 2^32, 320^4 | a denominator | line ^ winners | `lin_solve`, `nearest_point`, `core_price` |
+//! | 2^106 | a part of a multiplier of a system | denominator * winners * line ^ (winners - 1) * value | `lin_solve`, `nearest_point` |
+//! | 120 | a far part of a right side | winners * weight | `nearest_point` |
+//! | 2^113 | a part of a point | winners * weight * 2^106 | `nearest_point` |
+//! | 2^109 | a payment, a row's multiplier | winners * 2^106 | `nearest_point`, `core_price`, `book_price` |
+//! | 2^80 | the excess of a block | denominator * value | `core_price` |
+//! | 2^110 | a lowered worth | 2^109 + 2^80 | `core_price` |
+//! | 2^47, 2^48 | a Vickrey price, net and with its reserve | value | `cert_summary`, `outcome` |
+//! | 232,792,560 | the least number that each weight divides | weight | `auction_model` and what cites `share` |
+//! | `PRICED_CERT_BYTES` | the bytes of a certificate that pricing writes | bidders, states, amount, winners | `cert_soundness` |
+//!
+//! So six winners are the most that this method can price in 128 bits: with seven the bound of 2^106 would be 2^122. A set of winners
+//! is the bits of a `u16`, so there are at most 16 bidders.
 #![tactic(auto)]
 
 /// A quantity that has a limit. It is printed in lower case.
@@ -130,6 +156,12 @@ pub const MOST_WINNERS: usize = 6;
 /// The most winners that are priced where their weights aren't all 1.
 pub const MOST_WEIGHTED_WINNERS: usize = 4;
 
+/// The greatest value of a choice, at which each bidder wins the greatest amount: 2^46.
+pub const MOST_VALUE: u64 = MOST_BIDDERS as u64 * MOST_AMOUNT;
+
+/// The greatest value of a choice that is priced where the winners' weights aren't all 1, with room to spare: 2^45.
+pub const MOST_WEIGHTED_VALUE: u64 = 2 * MOST_WEIGHTED_WINNERS as u64 * MOST_AMOUNT;
+
 /// The most rows of a certificate.
 pub const MOST_ROWS: usize = 10;
 
@@ -144,3 +176,15 @@ pub const FIRST_VERSION_BIDDERS: usize = 12;
 
 /// The most states of a certificate whose text is of the first version.
 pub const FIRST_VERSION_STATES: u64 = 4_096;
+
+// A package costs no more than the greatest amount at the greatest prices.
+const _: () = prove!(MOST_LOTS * MOST_PRICE <= MOST_AMOUNT);
+
+// All bidders of a band can win, and all winners are bidders.
+const _: () = prove!(MOST_PLACED <= MOST_WINNERS && MOST_WINNERS <= MOST_BIDDERS);
+
+// Pricing keeps at most one row for each winner.
+const _: () = prove!(MOST_WINNERS <= MOST_ROWS);
+
+// A set of bidders is the bits of a `u16`.
+const _: () = prove!(MOST_BIDDERS <= 16);

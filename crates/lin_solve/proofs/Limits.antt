@@ -4,11 +4,12 @@ use Rattle.std.proofs.Common.{◌≡◌, ◌≤ℤ◌, ◌≤◌, ◌⊎◌}
 use Rattle.std.proofs.lemmas.Int.{ints}
 use Rattle.std.proofs.Math.Nat.{mul-le-mul, pow-le-pow_right, le_refl, le_trans, lt_of_le_of_lt}
 use Rattle.far_num.specs.declared.Far.{Far}
+use Rattle.limits.specs.declared.TheConstants.{MOST_VALUE, MOST_WEIGHT, MOST_WEIGHTED_VALUE, MOST_WEIGHTED_WINNERS, MOST_WINNERS}
 use Rattle.lin_solve.specs.declared.solved.Solved.{Solved}
 use Rattle.lin_solve.specs.declared.solved.Solved.TheVariants.{One, Dependent}
 use Rattle.lin_solve.specs.Matrix.{row}
 use Rattle.lin_solve.specs.Bounds.{size, bound, IsWithin}
-use Rattle.lin_solve.specs.Solved.{IsSmallSystem, IsSystem, IsWithinLimits, AreParts, IsSmallAnswer, most}
+use Rattle.lin_solve.specs.Solved.{AreParts, IsPlainSystem, IsSmallAnswer, IsSmallSystem, IsSystem, IsWeightedSystem, IsWithinLimits, most}
 use Rattle.far_num.specs.Pairs.{far_at, near_at}
 use Rattle.lin_solve.specs.Elimination.{IsKernelRow}
 use Rattle.wide_num.specs.Sums.{nth}
@@ -63,13 +64,12 @@ module _ (count top edge : ℕ) (m : List (List ℤ)) (right : List Far) (ys zs 
   }
 
 -- a system of either case
-pub system_of : (m : List (List ℤ)) (right : List Far) (ys zs : List ℤ) → length right ≡ length m → IsSmallSystem 6 6 (2 ^ 46) m right
-    ⊎ IsSmallSystem 4 80 (2 ^ 45) m right
+pub system_of : (m : List (List ℤ)) (right : List Far) (ys zs : List ℤ) → length right ≡ length m → IsPlainSystem m right ⊎ IsWeightedSystem m right
     → ((k : ℕ) → k < length m → length (slice_index_or m k []) ≡ length m) → AreParts (length right) (far_at right) ys
     → AreParts (length right) (near_at right) zs → IsSystem m ys zs
-system_of m right ys zs long (inl s) square py pz = is_system 6 6 (2 ^ 46) m right ys zs long s square py pz (omega arith) (omega arith) (omega arith)
+system_of m right ys zs long (inl s) square py pz = is_system MOST_WINNERS MOST_WINNERS MOST_VALUE m right ys zs long s square py pz (omega arith) (omega arith) (omega arith)
     (omega arith)
-system_of m right ys zs long (inr s) square py pz = is_system 4 80 (2 ^ 45) m right ys zs long s square py pz (omega arith) (omega arith) (omega arith)
+system_of m right ys zs long (inr s) square py pz = is_system MOST_WEIGHTED_WINNERS (MOST_WEIGHTED_WINNERS * MOST_WEIGHT) MOST_WEIGHTED_VALUE m right ys zs long s square py pz (omega arith) (omega arith) (omega arith)
     (omega arith)
 
 -- wider bounds of an answer
@@ -107,11 +107,11 @@ module _ (m : List (List ℤ)) (right : List Far) (ys zs : List ℤ) (long : len
     (square : (k : ℕ) → k < length m → length (slice_index_or m k []) ≡ length m)
     (py : AreParts (length right) (far_at right) ys) (pz : AreParts (length right) (near_at right) zs) (s : Solved)
     (small : (limit edge : ℕ) → IsWithinLimits limit edge m ys zs → IsSmallAnswer (limit ^ length m + 1) (most limit edge (length m) + 1) s) where
-  -- with up to six lines and entries up to 6, the answer is small by the bounds 2^32 and 2^106
-  pub first_case : IsSmallSystem 6 6 (2 ^ 46) m right → IsSmallAnswer (2 ^ 32) (2 ^ 106) s
-  first_case sys = small_of 6 6 (2 ^ 46) m right ys zs long sys square py pz (omega arith) s small (2 ^ 32) (2 ^ 106) (omega arith) (omega arith)
+  -- where all winners weigh 1, the answer is small by the bounds 2^32 and 2^106
+  pub first_case : IsPlainSystem m right → IsSmallAnswer (2 ^ 32) (2 ^ 106) s
+  first_case sys = small_of MOST_WINNERS MOST_WINNERS MOST_VALUE m right ys zs long sys square py pz (omega arith) s small (2 ^ 32) (2 ^ 106) (omega arith) (omega arith)
 
   -- in each of the two cases the answer is small by the bounds 320^4 + 1 and 2^106
-  pub either_case : IsSmallSystem 6 6 (2 ^ 46) m right ⊎ IsSmallSystem 4 80 (2 ^ 45) m right → IsSmallAnswer (320 ^ 4 + 1) (2 ^ 106) s
+  pub either_case : IsPlainSystem m right ⊎ IsWeightedSystem m right → IsSmallAnswer (320 ^ 4 + 1) (2 ^ 106) s
   either_case (inl sys) = wider_answer (2 ^ 32) (320 ^ 4 + 1) (2 ^ 106) (2 ^ 106) s (omega arith) (omega arith) (first_case sys)
-  either_case (inr sys) = small_of 4 80 (2 ^ 45) m right ys zs long sys square py pz (omega arith) s small (320 ^ 4 + 1) (2 ^ 106) (omega arith) (omega arith)
+  either_case (inr sys) = small_of MOST_WEIGHTED_WINNERS (MOST_WEIGHTED_WINNERS * MOST_WEIGHT) MOST_WEIGHTED_VALUE m right ys zs long sys square py pz (omega arith) s small (320 ^ 4 + 1) (2 ^ 106) (omega arith) (omega arith)

@@ -1,4 +1,5 @@
 -- Square matrices, and what they send to 0.
+use Rattle.limits.specs.declared.TheConstants.{MOST_WINNERS}
 use Rattle.std.specs.Prelude.{List, [], length, pos, slice_index_or, ℕ, ℤ, ◌<◌, ◌≡◌, ◌≤◌}
 use Rattle.wide_num.specs.Sums.{dot, nth}
 
@@ -6,10 +7,10 @@ use Rattle.wide_num.specs.Sums.{dot, nth}
 abbrev pub row : List (List ℤ) → ℕ → ℕ → ℤ
 row vs j i = nth (slice_index_or vs j []) i
 
--- 1 to 6 lines, each with as many numbers
+-- 1 to MOST_WINNERS lines, each with as many numbers
 pub record IsSquare (m : List (List ℤ)) : Type 0 where
   pub some : 1 ≤ length m
-  pub few : length m ≤ 6
+  pub few : length m ≤ MOST_WINNERS
   pub wide : (k : ℕ) → k < length m → length (slice_index_or m k []) ≡ length m
 
 -- z is sent to 0 by the first k lines

@@ -1,6 +1,7 @@
 -- What the answers of a linear system say.
 use Rattle.std.specs.Prelude.{◌≡◌, ◌≢◌, ℕ, ◌*◌, ◌≤◌, ◌<◌, ◌^◌, ℤ, pos, ◌*ℤ◌, ◌≤ℤ◌, unsigned_abs, List, [], length, slice_index_or}
 use Rattle.far_num.specs.declared.Far.{Far}
+use Rattle.limits.specs.declared.TheConstants.{MOST_VALUE, MOST_WEIGHT, MOST_WEIGHTED_VALUE, MOST_WEIGHTED_WINNERS, MOST_WINNERS}
 use Rattle.lin_solve.specs.declared.solved.Solved.{Solved}
 use Rattle.lin_solve.specs.declared.solved.Solved.TheVariants.{One, Dependent}
 use Rattle.lin_solve.specs.Matrix.{row, IsCleared}
@@ -51,6 +52,14 @@ pub record IsSmallSystem (size top edge : ℕ) (m : List (List ℤ)) (right : Li
   pub entries : (k i : ℕ) → k < length m → i < length m → unsigned_abs (row m k i) ≤ top
   pub fars : (k : ℕ) → k < length m → unsigned_abs (far_at right k) ≤ edge
   pub nears : (k : ℕ) → k < length m → unsigned_abs (near_at right k) ≤ edge
+
+-- the system of winners who all weigh 1
+abbrev pub IsPlainSystem : List (List ℤ) → List Far → Type 0
+IsPlainSystem m right = IsSmallSystem MOST_WINNERS MOST_WINNERS MOST_VALUE m right
+
+-- the system of winners with any weights
+abbrev pub IsWeightedSystem : List (List ℤ) → List Far → Type 0
+IsWeightedSystem m right = IsSmallSystem MOST_WEIGHTED_WINNERS (MOST_WEIGHTED_WINNERS * MOST_WEIGHT) MOST_WEIGHTED_VALUE m right
 
 -- y has one part of each pair
 pub record AreParts (n : ℕ) (parts : ℕ → ℤ) (y : List ℤ) : Type 0 where

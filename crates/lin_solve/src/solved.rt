@@ -1,5 +1,5 @@
 ghost use Rattle.far_num.specs.Pairs.{far_at, near_at};
-ghost use Rattle.lin_solve.specs.Solved.{AreParts, IsAnswer, IsSmallAnswer, IsSmallSystem, IsSystem, IsWithinLimits, most};
+ghost use Rattle.lin_solve.specs.Solved.{AreParts, IsAnswer, IsPlainSystem, IsSmallAnswer, IsSystem, IsWeightedSystem, IsWithinLimits, most};
 ghost use Rattle.lin_solve.specs.Matrix.{OnlyZero};
 ghost use Rattle.std.specs.Prelude.{IfOk, length, ℕ, ◌+◌, ◌^◌, ◌≡◌, ◌⊎◌};
 ghost use Rattle.wide_num.specs.Sums.{nth};
@@ -82,15 +82,14 @@ fn near_parts(alloc: Global, right: &[Far]) -> Result<NumList, AllocError>
 /// Where the only row that the matrix sends to 0 is 0 itself, the answer is the only solution, and else a row other
 /// than 0 that the matrix sends to 0. The method and its bounds are reported at the head of this crate.
 ///
-/// The entries aren't negative. Either there are at most six lines with entries up to 6 and a right side up to 2^46 in
-/// size, or at most four lines with entries up to 80 and a right side up to 2^45.
+/// The entries aren't negative. The system is that of at most `MOST_WINNERS` winners who all weigh 1, or of at most
+/// `MOST_WEIGHTED_WINNERS` winners with any weights. `limits` lists how large its numbers are.
 pub fn solve(alloc: Global, matrix: &Square, right: &[Far]) -> Result<Solved, AllocError>
     requires long { length right.now ≡ length matrix.now }
-    requires small { IsSmallSystem 6 6 (2 ^ 46) matrix.now right.now
-        ⊎ IsSmallSystem 4 80 (2 ^ 45) matrix.now right.now }
+    requires small { IsPlainSystem matrix.now right.now ⊎ IsWeightedSystem matrix.now right.now }
     ensures answer { IfOk result (λ s. IsAnswer matrix.now (far_at right.now) (near_at right.now) s) }
     ensures bounds { IfOk result (λ s. IsSmallAnswer (320 ^ 4 + 1) (2 ^ 106) s) }
-    ensures smaller { IsSmallSystem 6 6 (2 ^ 46) matrix.now right.now
+    ensures smaller { IsPlainSystem matrix.now right.now
         → IfOk result (λ s. IsSmallAnswer (2 ^ 32) (2 ^ 106) s) }
 {
     let fars = far_parts(alloc, right)?;

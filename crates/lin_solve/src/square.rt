@@ -1,3 +1,4 @@
+ghost use Rattle.limits.specs.declared.TheConstants.{MOST_WINNERS};
 ghost use Rattle.lin_solve.specs.Matrix.{IsSquare, row};
 ghost use Rattle.std.specs.Prelude.{IfOk, List, length, ℕ, ℤ, ◌*◌, ◌+◌, ◌<◌, ◌≡◌, ◌≤◌};
 ghost use Rattle.wide_num.specs.Sums.{nth};
@@ -6,7 +7,7 @@ use std::alloc::{AllocError, Global};
 use std::marker::Model;
 use wide_num::NumList;
 
-/// A square matrix of whole numbers with 1 to 6 lines. Contracts see it as the list of its lines.
+/// A square matrix of whole numbers with 1 to `MOST_WINNERS` lines. Contracts see it as the list of its lines.
 #[derive(Debug, Drop)]
 pub struct Square {
     lines: Vec<NumList>,
@@ -23,7 +24,7 @@ impl Model for Square {
 impl Square {
     /// The matrix of this size whose lines, one after the other, are the entries.
     pub fn new(alloc: Global, size: usize, entries: &[i128]) -> Result<Square, AllocError>
-        requires size { (1 ≤ size) × (size ≤ 6) }
+        requires size { (1 ≤ size) × (size ≤ MOST_WINNERS) }
         requires entries { length entries.now ≡ size * size }
         ensures square { IfOk result (λ m. IsSquare m) }
         ensures long { IfOk result (λ m. length m ≡ size) }

@@ -13,7 +13,7 @@ mod stop;
 mod write;
 
 pub use fields::{field_len, read_at_most};
-pub use line::numbers_behind;
+pub use line::numbers_after;
 pub use next::line_len;
 pub use numbers::{NumbersStop, read_numbers, short_field};
 pub use reader::{LineReader, read_lines};

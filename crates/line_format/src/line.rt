@@ -6,7 +6,7 @@ ghost use Rattle.line_format.specs.Fields.{HasLine};
 use crate::numbers::{NumbersStop, read_numbers};
 
 /// Appends to an empty list the numbers after the word of a line, as `read_numbers` does. The line stands without its line feed.
-pub fn numbers_behind(line: &[u8], word: &[u8], out: &mut Vec<i128>) -> Result<bool, NumbersStop>
+pub fn numbers_after(line: &[u8], word: &[u8], out: &mut Vec<i128>) -> Result<bool, NumbersStop>
     requires { out.old.items ≡ [] }
     ensures ok { IfOk result (HasLine line.now word.now out.new.items) }
     ensures form { result ≡ Err NumbersStop.Form → (ns : List ℤ) → line.now ≡ word.now ++ numbers_text ns → ⊥ }

@@ -1,5 +1,5 @@
 -- How far a text is read.
-use Rattle.std.proofs.Common.{◌≡◌, ◌⊎◌, ◌<◌, ◌≤◌, ◌+◌, ◌-◌, ℕ, zero, suc, List, [], ◌∷◌, ◌++◌, length, take, drop, take-append-drop, get_or, Bool, true, false, Option, Some, None, refl, sym, ap, subst, ◌∙◌, inl, inr, arith, append_assoc, length-append}
+use Rattle.std.proofs.Common.{◌≡◌, ◌⊎◌, ◌<◌, ◌≤◌, ◌+◌, ◌-◌, ℕ, zero, suc, List, [], ◌∷◌, ◌++◌, length, take, drop, take-append-drop, get_or, Bool, true, false, Some, refl, sym, ap, subst, ◌∙◌, inl, inr, arith, append_assoc, length-append}
 use Rattle.std.proofs.lemmas.Bool.{cases_Bool, false≢true}
 use Rattle.std.proofs.lemmas.List.{append-nil, length-drop, take_all}
 use Rattle.csv.specs.Machine.{Read, ends_at_end, field_after, fields_after, is_end, next_record, step}
@@ -10,7 +10,7 @@ use Rattle.csv.specs.declared.parser.Action.{Action}
 use Rattle.csv.specs.declared.parser.Action.TheVariants as act
 use Rattle.log_file.specs.WideRecords.{At, Ends, ReadsAlike, SameToWide, count_after}
 use Rattle.log_file.specs.declared.wide.Place.{Place}
-use Rattle.log_file.specs.declared.wide.Place.TheVariants.{Between, Start, Plain, Quoted, Closed}
+use Rattle.log_file.specs.declared.wide.Place.TheVariants.{Between}
 use Rattle.log_file.specs.declared.wide.Ended.{Ended}
 use Rattle.log_file.specs.declared.wide.Ended.TheVariants.{Nothing, Field, Record}
 

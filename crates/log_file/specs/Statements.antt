@@ -1,25 +1,13 @@
--- What the reader has of a record: the event that it states, or why it isn't taken.
+-- Why a record isn't taken.
 use Rattle.std.specs.Prelude.{◌≡◌, ℕ, suc, ◌<◌, List}
 use Rattle.limits.specs.declared.TheConstants.{MOST_RECORDS}
 use Rattle.limits.specs.declared.LimitKind.TheVariants.{Records}
 use Rattle.auction_rules.specs.Terms.{Terms}
-use Rattle.auction_rules.specs.declared.Event.{Event}
-use Rattle.auction_rules.specs.declared.Event.TheVariants as event
 use Rattle.log_file.specs.declared.LogStop.{LogStop}
 use Rattle.log_file.specs.declared.LogStop.TheVariants as stop
 use Rattle.log_file.specs.declared.read.RecordFault.{RecordFault}
 use Rattle.log_file.specs.declared.read.RecordFault.TheVariants.{NoEvent, TooMany}
-use Rattle.log_file.specs.declared.record.LogRecord.{LogRecord}
-use Rattle.log_file.specs.declared.record.LogRecord.TheVariants.{Bid, Draft, Drop, Submit, Close}
 use Rattle.log_file.specs.LogForm.{StatesNone}
-
--- the event that is stated
-abbrev pub event_stated : LogRecord → Event
-event_stated (Bid bidder counts) = event.Bid bidder counts.items
-event_stated (Draft bidder counts amount) = event.Draft bidder counts.items amount
-event_stated (Drop bidder counts) = event.Drop bidder counts.items
-event_stated (Submit bidder) = event.Submit bidder
-event_stated Close = event.Close
 
 -- the record with these fields, after that many that state events, isn't taken for this reason
 abbrev pub IsUntaken : Terms → List (List ℕ) → ℕ → RecordFault → Type 0

@@ -10,9 +10,10 @@ use award_file::Award;
 use bid_book::name_text;
 use limits::{MOST_CATEGORIES, MOST_STATED_AMOUNT, MOST_STATED_COUNT};
 use line_format::{field_len, read_at_most};
+use lots::Package;
 
-/// The counts of a package, which take no memory.
-pub type Counts = ArrayVec<u16, MOST_CATEGORIES>;
+/// The counts of a package.
+type Counts = ArrayVec<u16, MOST_CATEGORIES>;
 
 /// The number of the bidder that a field names, 0 for a stranger, and None where the field is no name.
 pub fn read_bidder(award: &Award, field: &[u8]) -> Option<u16>
@@ -33,10 +34,10 @@ pub fn read_amount(field: &[u8]) -> Option<u64>
     read_at_most(field, MOST_STATED_AMOUNT)
 }
 
-/// The counts that a field spells, one for each category of the award, and None where it spells none.
-pub fn read_counts(award: &Award, field: &[u8]) -> Option<Counts>
+/// The package that a field spells by its counts, one for each category of the award, and None where it spells none.
+pub fn read_package(award: &Award, field: &[u8]) -> Option<Package>
     ensures found { IfSome result
-        (λ counts. AreCounts (length award.now.supply) counts.items × (field.now ≡ counts_text counts.items)) }
+        (λ lots. AreCounts (length award.now.supply) lots × (field.now ≡ counts_text lots)) }
     ensures none { IfNone result
         ((ns : List ℕ) → AreCounts (length award.now.supply) ns → field.now ≡ counts_text ns → ⊥) }
 {
@@ -44,7 +45,7 @@ pub fn read_counts(award: &Award, field: &[u8]) -> Option<Counts>
     if !add_counts(&mut counts, categories(award), field) {
         return None;
     }
-    Some(counts)
+    Some(Package::of_counts(counts.as_slice()))
 }
 
 /// How many categories the award has.

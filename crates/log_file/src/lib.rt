@@ -17,7 +17,7 @@ pub use events::Events;
 pub use laws::{one_reading, packages_of_log, written_log};
 pub use limits::LimitKind;
 pub use read::read_log;
-pub use reply::reply_line;
+pub use reply::{add_reply_line, reply_line};
 use std::alloc::{AllocError, AllocFailed};
 
 /// Why bytes are no log.

@@ -6,11 +6,12 @@ ghost use Rattle.csv.specs.Records.{fields_of};
 ghost use Rattle.log_file.specs.LogForm.{States};
 ghost use Rattle.log_file.specs.LogReading.{AreLog, IsStop, log_records};
 ghost use Rattle.log_file.specs.RecordsLeft.{HasLeft, Takes};
-ghost use Rattle.log_file.specs.Statements.{IsUntaken, event_stated, untaken_stop};
+ghost use Rattle.log_file.specs.Statements.{IsUntaken, untaken_stop};
 
-use crate::record::{LogRecord, read_statement};
+use crate::record::read_event;
 use crate::wide::up_to_wide_record;
 use crate::{Events, LimitKind, LogStop};
+use auction_rules::Event;
 use award_file::Award;
 use csv::{ByteRecord, Error, ErrorKind, Reader, ReaderBuilder};
 use limits::MOST_RECORDS;
@@ -82,32 +83,31 @@ fn read_records(
         → IsStop award.now rows stop) }
 {
     let mut row = ByteRecord::new(alloc);
-    while take_record(reader, &mut row, number_behind(events))? {
-        let statement = statement_behind(events.items().len() as u64, award, &row)?;
-        let event = statement.event(alloc)?;
+    while take_record(reader, &mut row, number_after(events))? {
+        let event = event_after(events.items().len() as u64, award, &row)?;
         events.push(event)?;
     }
     Ok(())
 }
 
-/// What a record states after that many that state events.
-fn statement_behind(before: u64, award: &Award, row: &ByteRecord) -> Result<LogRecord, RecordFault>
+/// The event that a record states after that many that state events. It takes no memory, so out of memory hides no fault of a record.
+fn event_after(before: u64, award: &Award, row: &ByteRecord) -> Result<Event, RecordFault>
     requires { before ≤ MOST_RECORDS }
     ensures ok { IfOk result
-        (λ statement. (before < MOST_RECORDS) × States award.now (fields_of row.now) (event_stated statement)) }
+        (λ event. (before < MOST_RECORDS) × States award.now (fields_of row.now) event) }
     ensures err { IfErr result (IsUntaken award.now (fields_of row.now) before) }
 {
     if before == MOST_RECORDS {
         return Err(RecordFault::TooMany);
     }
-    match read_statement(award, row) {
-        Some(statement) => Ok(statement),
+    match read_event(award, row) {
+        Some(event) => Ok(event),
         None => Err(RecordFault::NoEvent(before + 1)),
     }
 }
 
 /// The number of the record that follows those of these events.
-fn number_behind(events: &Events) -> u64
+fn number_after(events: &Events) -> u64
     ensures { result ≡ suc (length events.now) }
 {
     events.items().len() as u64 + 1

@@ -1,85 +1,12 @@
 // What a record states.
-ghost use Rattle.std.specs.Prelude.{◌≡◌, ◌≢◌, ◌<◌, Some, true, false, length, codes, option_map, IfNone, IfOk, IfSome};
+ghost use Rattle.std.specs.Prelude.{◌≡◌, ◌≢◌, ◌<◌, Some, true, false, length, codes, IfNone, IfSome};
 ghost use Rattle.csv.specs.Records.{field_at, fields_of};
 ghost use Rattle.log_file.specs.LogForm.{ReadsAs, four};
-ghost use Rattle.log_file.specs.Statements.{event_stated};
 
-use crate::fields::{Counts, read_amount, read_bidder, read_counts};
+use crate::fields::{read_amount, read_bidder, read_package};
 use auction_rules::Event;
 use award_file::Award;
 use csv::ByteRecord;
-use lots::Package;
-use std::alloc::{AllocError, Global};
-
-/// What a record states: an event whose package has no memory yet. So whether a record states an event doesn't depend on memory.
-#[derive(Drop)]
-pub enum LogRecord {
-    Bid {
-        bidder: u16,
-        counts: Counts,
-    },
-    Draft {
-        bidder: u16,
-        counts: Counts,
-        amount: u64,
-    },
-    Drop {
-        bidder: u16,
-        counts: Counts,
-    },
-    Submit {
-        bidder: u16,
-    },
-    Close,
-}
-
-impl LogRecord {
-    /// The event that is stated. The only error is out of memory.
-    pub fn event(&self, alloc: Global) -> Result<Event, AllocError>
-        ensures { IfOk result (λ event. event ≡ event_stated self.now) }
-    {
-        match self {
-            LogRecord::Bid { bidder, counts } => {
-                let package = package_of(alloc, counts.as_slice())?;
-                Ok(Event::Bid {
-                    bidder: *bidder,
-                    package,
-                })
-            }
-            LogRecord::Draft {
-                bidder,
-                counts,
-                amount,
-            } => {
-                let package = package_of(alloc, counts.as_slice())?;
-                Ok(Event::Draft {
-                    bidder: *bidder,
-                    package,
-                    amount: *amount,
-                })
-            }
-            LogRecord::Drop { bidder, counts } => {
-                let package = package_of(alloc, counts.as_slice())?;
-                Ok(Event::Drop {
-                    bidder: *bidder,
-                    package,
-                })
-            }
-            LogRecord::Submit { bidder } => Ok(Event::Submit { bidder: *bidder }),
-            LogRecord::Close => Ok(Event::Close),
-        }
-    }
-}
-
-/// The package of these counts, of which there are as many as an award has categories. So it can want nothing but memory.
-fn package_of(alloc: Global, counts: &[u16]) -> Result<Package, AllocError>
-    ensures { IfOk result (λ made. made ≡ counts.now) }
-{
-    match Package::new(alloc, counts) {
-        Ok(package) => Ok(package),
-        Err(_stop) => Err(AllocError),
-    }
-}
 
 /// The four fields of a record.
 #[derive(Clone, Copy)]
@@ -90,12 +17,12 @@ struct Fields<'a> {
     amount: &'a [u8],
 }
 
-/// What a record states, and None where it states no event.
-pub fn read_statement(award: &Award, row: &ByteRecord) -> Option<LogRecord>
-    ensures { ReadsAs award.now (fields_of row.now) (option_map event_stated result) }
+/// The event that a record states, and None where it states none. It takes no memory.
+pub fn read_event(award: &Award, row: &ByteRecord) -> Option<Event>
+    ensures { ReadsAs award.now (fields_of row.now) result }
 {
     match four_fields(row) {
-        Some(fields) => statement_of(award, fields),
+        Some(fields) => event_of(award, fields),
         None => None,
     }
 }
@@ -125,10 +52,10 @@ fn field(row: &ByteRecord, i: usize) -> &[u8]
 }
 
 /// What these fields state.
-fn statement_of(award: &Award, fields: Fields<'_>) -> Option<LogRecord>
+fn event_of(award: &Award, fields: Fields<'_>) -> Option<Event>
     ensures { ReadsAs award.now
         (four fields.entry.kind.now fields.entry.bidder.now fields.entry.lots.now fields.entry.amount.now)
-        (option_map event_stated result) }
+        result }
 {
     if is_word(fields.kind, b"bid") {
         return bid_of(award, fields.bidder, fields.lots, fields.amount);
@@ -157,8 +84,8 @@ fn is_word(field: &[u8], word: &[u8]) -> bool
 }
 
 /// The clock bid that these fields state.
-fn bid_of(award: &Award, bidder: &[u8], lots: &[u8], amount: &[u8]) -> Option<LogRecord>
-    ensures { ReadsAs award.now (four (codes "bid") bidder.now lots.now amount.now) (option_map event_stated result) }
+fn bid_of(award: &Award, bidder: &[u8], lots: &[u8], amount: &[u8]) -> Option<Event>
+    ensures { ReadsAs award.now (four (codes "bid") bidder.now lots.now amount.now) result }
 {
     if !amount.is_empty() {
         return None;
@@ -166,16 +93,16 @@ fn bid_of(award: &Award, bidder: &[u8], lots: &[u8], amount: &[u8]) -> Option<Lo
     let Some(bidder) = read_bidder(award, bidder) else {
         return None;
     };
-    match read_counts(award, lots) {
-        Some(counts) => Some(LogRecord::Bid { bidder, counts }),
+    match read_package(award, lots) {
+        Some(package) => Some(Event::Bid { bidder, package }),
         None => None,
     }
 }
 
 /// The draft that these fields state.
-fn draft_of(award: &Award, bidder: &[u8], lots: &[u8], amount: &[u8]) -> Option<LogRecord>
+fn draft_of(award: &Award, bidder: &[u8], lots: &[u8], amount: &[u8]) -> Option<Event>
     ensures { ReadsAs award.now (four (codes "draft") bidder.now lots.now amount.now)
-        (option_map event_stated result) }
+        result }
 {
     let Some(number) = read_amount(amount) else {
         return None;
@@ -183,10 +110,10 @@ fn draft_of(award: &Award, bidder: &[u8], lots: &[u8], amount: &[u8]) -> Option<
     let Some(bidder) = read_bidder(award, bidder) else {
         return None;
     };
-    match read_counts(award, lots) {
-        Some(counts) => Some(LogRecord::Draft {
+    match read_package(award, lots) {
+        Some(package) => Some(Event::Draft {
             bidder,
-            counts,
+            package,
             amount: number,
         }),
         None => None,
@@ -194,9 +121,9 @@ fn draft_of(award: &Award, bidder: &[u8], lots: &[u8], amount: &[u8]) -> Option<
 }
 
 /// The drop that these fields state.
-fn drop_of(award: &Award, bidder: &[u8], lots: &[u8], amount: &[u8]) -> Option<LogRecord>
+fn drop_of(award: &Award, bidder: &[u8], lots: &[u8], amount: &[u8]) -> Option<Event>
     ensures { ReadsAs award.now (four (codes "drop") bidder.now lots.now amount.now)
-        (option_map event_stated result) }
+        result }
 {
     if !amount.is_empty() {
         return None;
@@ -204,33 +131,33 @@ fn drop_of(award: &Award, bidder: &[u8], lots: &[u8], amount: &[u8]) -> Option<L
     let Some(bidder) = read_bidder(award, bidder) else {
         return None;
     };
-    match read_counts(award, lots) {
-        Some(counts) => Some(LogRecord::Drop { bidder, counts }),
+    match read_package(award, lots) {
+        Some(package) => Some(Event::Drop { bidder, package }),
         None => None,
     }
 }
 
 /// The submission that these fields state.
-fn submit_of(award: &Award, bidder: &[u8], lots: &[u8], amount: &[u8]) -> Option<LogRecord>
+fn submit_of(award: &Award, bidder: &[u8], lots: &[u8], amount: &[u8]) -> Option<Event>
     ensures { ReadsAs award.now (four (codes "submit") bidder.now lots.now amount.now)
-        (option_map event_stated result) }
+        result }
 {
     if !lots.is_empty() || !amount.is_empty() {
         return None;
     }
     match read_bidder(award, bidder) {
-        Some(bidder) => Some(LogRecord::Submit { bidder }),
+        Some(bidder) => Some(Event::Submit { bidder }),
         None => None,
     }
 }
 
 /// The close that these fields state.
-fn close_of(award: &Award, bidder: &[u8], lots: &[u8], amount: &[u8]) -> Option<LogRecord>
+fn close_of(award: &Award, bidder: &[u8], lots: &[u8], amount: &[u8]) -> Option<Event>
     ensures { ReadsAs award.now (four (codes "close") bidder.now lots.now amount.now)
-        (option_map event_stated result) }
+        result }
 {
     if !bidder.is_empty() || !lots.is_empty() || !amount.is_empty() {
         return None;
     }
-    Some(LogRecord::Close)
+    Some(Event::Close)
 }

@@ -10,10 +10,7 @@ use line_format::{add_decimal, add_number};
 use std::alloc::{AllocError, Global};
 use wide_num::Text;
 
-/// The line of the reply to the record of this number, counted from 1.
-///
-/// `done` says what the close did where the record is a close that was admitted, and is None else. `prices` are those that are
-/// posted after the record, by categories, and are printed of a new round alone. The only error is out of memory.
+/// The line of the reply to the record of this number, as `add_reply_line` adds it. The only error is out of memory.
 pub fn reply_line(
     alloc: Global,
     number: u64,
@@ -24,11 +21,28 @@ pub fn reply_line(
     ensures { IfOk result (λ text. text ≡ reply_line number reply.now done prices.now) }
 {
     let mut text = Text::new(alloc);
-    add_decimal(&mut text, number as u128)?;
-    text.push(b' ')?;
-    add_reply(&mut text, *reply, done, prices)?;
-    text.push(b'\n')?;
+    add_reply_line(&mut text, number, reply, done, prices)?;
     Ok(text)
+}
+
+/// Adds the line of the reply to the record of this number, counted from 1.
+///
+/// `done` says what the close did where the record is a close that was admitted, and is None else. `prices` are those that are
+/// posted after the record, by categories, and are printed of a new round alone. The only error is out of memory.
+pub fn add_reply_line(
+    text: &mut Text,
+    number: u64,
+    reply: &Reply,
+    done: Option<CloseDone>,
+    prices: &[u64],
+) -> Result<(), AllocError>
+    ensures { OnOk result (text.new ≡ text.old ++ reply_line number reply.now done prices.now) }
+{
+    add_decimal(text, number as u128)?;
+    text.push(b' ')?;
+    add_reply(text, *reply, done, prices)?;
+    text.push(b'\n')?;
+    Ok(())
 }
 
 /// Adds the text of a reply.

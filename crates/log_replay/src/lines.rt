@@ -4,7 +4,7 @@ ghost use Rattle.std.specs.Option.{option_or};
 ghost use Rattle.auction_rules.specs.Lawful.{HasCategories};
 ghost use Rattle.auction_rules.specs.State.{reply_in, round_in};
 ghost use Rattle.bid_desk.specs.Reached.{MayLack};
-ghost use Rattle.log_replay.specs.Course.{Answers, IsCourse, TakesLine, line_at};
+ghost use Rattle.log_replay.specs.Course.{Answers, IsCourse, TakesLine};
 ghost use Rattle.log_replay.specs.ReplyLines.{done_at, done_by, refusal_of};
 
 use crate::ReplayStop;
@@ -12,7 +12,7 @@ use auction_rules::{Event, Reply, Stage};
 use award_file::Award;
 use bid_desk::Desk;
 use limits::MOST_ROUNDS;
-use log_file::{CloseDone, reply_line};
+use log_file::{CloseDone, add_reply_line};
 use std::alloc::{AllocError, Global};
 use wide_num::Text;
 
@@ -47,8 +47,14 @@ pub fn take_line(
     ensures { OnOk result (TakesLine course.old number line.now course.new) }
 {
     let reply = answer(alloc, &mut course.desk, line)?;
-    let text = text_of(alloc, &course.desk, number, line, reply)?;
-    course.replies.add(text.items())?;
+    let done = done_by(&course.desk, line, reply);
+    add_reply_line(
+        &mut course.replies,
+        number,
+        &reply,
+        done,
+        course.desk.prices(),
+    )?;
     course.stop = course.stop.or(refusal_of(line, reply));
     Ok(())
 }
@@ -63,26 +69,6 @@ fn answer(alloc: Global, desk: &mut Desk, line: &Event) -> Result<Reply, AllocEr
         Reply::Memory => Err(AllocError),
         reply => Ok(reply),
     }
-}
-
-/// The line that is printed of a line that got this reply and led to this desk.
-fn text_of(
-    alloc: Global,
-    desk: &Desk,
-    number: u64,
-    line: &Event,
-    reply: Reply,
-) -> Result<Text, AllocError>
-    ensures { IfOk result (λ text. text ≡ line_at number line.now reply desk.now) }
-{
-    let text = reply_line(
-        alloc,
-        number,
-        &reply,
-        done_by(desk, line, reply),
-        desk.prices(),
-    )?;
-    Ok(text)
 }
 
 /// What the line did that led to this desk, where it is an admitted close.

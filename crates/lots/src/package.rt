@@ -1,5 +1,5 @@
 // Packages and bids.
-ghost use Rattle.std.specs.Prelude.{◌≡◌, ◌⊎◌, ℕ, ◌≤◌, ◌<◌, [], length, All, IfNone, IfOk, IfSome, None, Some, slice_index, take};
+ghost use Rattle.std.specs.Prelude.{◌≡◌, ℕ, ◌≤◌, ◌<◌, [], length, All, IfNone, IfOk, IfSome, None, Some, slice_index, take};
 ghost use Rattle.auction_model.specs.Package.{is_within, cost_of};
 ghost use Rattle.auction_model.specs.PackageTests.{first_over};
 ghost use Rattle.limits.specs.declared.TheConstants.{MOST_CATEGORIES, MOST_COUNT, MOST_POINTS, MOST_PRICE};
@@ -10,7 +10,7 @@ use crate::counts::{
 };
 use crate::{LotStop, Supply};
 use limits::{MOST_CATEGORIES, MOST_COUNT};
-use std::alloc::{AllocError, Global};
+use std::alloc::Global;
 use std::marker::Model;
 
 /// A count of lots for each of 1 to 6 categories. It holds them itself, so it takes no memory.
@@ -40,11 +40,10 @@ pub struct Bid {
 }
 
 impl Package {
-    /// The package of these counts. It stops at a number of categories that isn't 1 to 6.
+    /// The package of these counts. It stops at a number of categories that isn't 1 to 6. It takes no memory.
     pub fn new(_alloc: Global, counts: &[u16]) -> Result<Package, LotStop>
         ensures made { IfOk result (λ p. (p ≡ counts.now) × (categories_stop counts.now ≡ None)) }
-        ensures stopped { (stop : LotStop) → result ≡ Err stop
-            → (stop ≡ LotStop.Memory) ⊎ (categories_stop counts.now ≡ Some stop) }
+        ensures stopped { (stop : LotStop) → result ≡ Err stop → categories_stop counts.now ≡ Some stop }
     {
         check_categories(counts)?;
         Ok(Package::of_counts(counts))
@@ -69,8 +68,8 @@ impl Package {
         })
     }
 
-    /// The package of these counts, of which there are 1 to 6.
-    pub(crate) fn of_counts(counts: &[u16]) -> Package
+    /// The package of these counts. It can't fail: the caller knows that there are 1 to 6.
+    pub fn of_counts(counts: &[u16]) -> Package
         requires { IsPackage counts.now }
         ensures { result ≡ counts.now }
     {
@@ -81,13 +80,13 @@ impl Package {
     }
 
     /// A copy of the package.
-    pub fn copied(&self, _alloc: Global) -> Result<Package, AllocError>
-        ensures { IfOk result (λ p. p ≡ self.now) }
+    pub fn copied(&self) -> Package
+        ensures { result ≡ self.now }
     {
-        Ok(Package {
+        Package {
             counts: self.counts,
             categories: self.categories,
-        })
+        }
     }
 
     /// Takes over the counts of another package of as many categories. It takes no memory.

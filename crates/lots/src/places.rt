@@ -1,9 +1,10 @@
 // Places in mixed radix, over counts.
-ghost use Rattle.std.specs.Prelude.{◌≡◌, ◌≤◌, ◌<◌, length, IfOk, IfSome, IfNone, IsTrue, IsFalse};
+ghost use Rattle.std.specs.Prelude.{◌≡◌, ◌≤◌, ◌<◌, length, take, IfOk, IfSome, IfNone, IsTrue, IsFalse};
 ghost use Rattle.auction_model.specs.Package.{is_within, less};
 ghost use Rattle.auction_model.specs.Place.{states_of, place_of, left_at, widths_of};
-ghost use Rattle.limits.specs.declared.TheConstants.{MOST_STATES};
+ghost use Rattle.limits.specs.declared.TheConstants.{MOST_CATEGORIES, MOST_STATES};
 
+use limits::MOST_CATEGORIES;
 use std::alloc::{AllocError, Global};
 
 /// The place of `counts` in mixed radix.
@@ -73,26 +74,21 @@ pub fn widths_among(alloc: Global, supply: &[u16], states: usize) -> Result<Vec<
     Ok(widths)
 }
 
-/// The counts of the remaining supply of a place.
-pub fn counts_at(
-    alloc: Global,
-    supply: &[u16],
-    states: usize,
-    place: usize,
-) -> Result<Vec<u16>, AllocError>
+/// The counts of the remaining supply of a place, and zeros after them.
+pub fn counts_at(supply: &[u16], states: usize, place: usize) -> [u16; MOST_CATEGORIES]
+    requires categories { length supply.now ≤ MOST_CATEGORIES }
     requires states { states ≡ states_of supply.now }
     requires most { states ≤ MOST_STATES }
     requires place { place < states }
-    ensures items { IfOk result (λ v. v.items ≡ left_at supply.now place) }
-    ensures categories { IfOk result (λ v. length v.items ≡ length supply.now) }
+    ensures { take (length supply.now) result ≡ left_at supply.now place }
 {
-    let mut counts = Vec::with_capacity(alloc, supply.len())?;
+    let mut counts = [0; MOST_CATEGORIES];
     let mut weight = states;
     let mut rest = place;
     for i in 0..supply.len() {
         weight /= supply[i] as usize + 1;
-        counts.push((rest / weight) as u16)?;
+        counts[i] = (rest / weight) as u16;
         rest %= weight;
     }
-    Ok(counts)
+    counts
 }

@@ -1,5 +1,5 @@
 // Supplies.
-ghost use Rattle.std.specs.Prelude.{◌≡◌, ◌⊎◌, ℕ, ◌+◌, ◌≤◌, ◌<◌, length, IfOk, IfSome, IfNone, IsTrue, IsFalse, None, Some, slice_index};
+ghost use Rattle.std.specs.Prelude.{◌≡◌, ◌⊎◌, ℕ, ◌+◌, ◌≤◌, ◌<◌, length, IfOk, IfSome, IfNone, IsTrue, IsFalse, None, Ok, Some, slice_index};
 ghost use Rattle.auction_model.specs.Package.{is_within, less};
 ghost use Rattle.auction_model.specs.Place.{states_of, place_of, left_at, widths_of};
 ghost use Rattle.limits.specs.declared.TheConstants.{MOST_STATES};
@@ -111,15 +111,15 @@ impl Supply {
         place_among(&self.counts, package.counts())
     }
 
-    /// The package of a place: its remaining supply.
-    pub fn package_at(&self, alloc: Global, place: usize) -> Result<Package, AllocError>
+    /// The package of a place: its remaining supply. It takes no memory, so it always succeeds.
+    pub fn package_at(&self, _alloc: Global, place: usize) -> Result<Package, AllocError>
         requires { place < states_of self.now }
-        ensures package { IfOk result (λ p. p ≡ left_at self.now place) }
+        ensures package { result ≡ Ok (left_at self.now place) }
         ensures fits { IfOk result (λ p. IsTrue (is_within p self.now)) }
         ensures place { IfOk result (λ p. place_of self.now p ≡ place) }
     {
-        let counts = counts_at(alloc, &self.counts, self.states, place)?;
-        Ok(Package::of_counts(&counts))
+        let counts = counts_at(&self.counts, self.states, place);
+        Ok(Package::of_counts(&counts[..self.counts.len()]))
     }
 
     /// The place of what the package leaves of the supply of a place, or None where the package exceeds that.

@@ -1,5 +1,6 @@
 -- What the search holds: a point and its multipliers by parts, the rows that made it, and their sizes.
 use Rattle.far_num.specs.declared.Row.{Row}
+use Rattle.limits.specs.declared.TheConstants.{MOST_WINNERS}
 use Rattle.nearest_point.specs.Numbers.{AreBelow, at_t, large, place}
 use Rattle.auction_model.specs.Ones.{AreOnes}
 use Rattle.nearest_point.specs.Problem.{bounds, coefficients, weight_at}
@@ -104,9 +105,9 @@ pub record IsSettledFor (target : List ℤ) (weights : List ℕ) (rows : List Ro
   pub near : IsNear target weights rows forced (length rows) h
   pub parts : HasParts target weights rows h
 
--- a point of at most six coordinates with small parts, and two small parts of a multiplier for each of its rows
+-- a point of few coordinates with small parts, and two small parts of a multiplier for each of its rows
 pub record IsSized (h : Held) : Type 0 where
-  pub few : length h.far.items ≤ 6
+  pub few : length h.far.items ≤ MOST_WINNERS
   pub long_near : length h.near.items ≡ length h.far.items
   pub long_first : length h.first.items ≡ length h.rows.items
   pub long_second : length h.second.items ≡ length h.rows.items

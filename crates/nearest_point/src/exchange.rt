@@ -1,3 +1,4 @@
+ghost use Rattle.limits.specs.declared.TheConstants.{MOST_WEIGHT, MOST_WINNERS};
 ghost use Rattle.nearest_point.specs.Found.{AreWithin, IsBelowBy};
 ghost use Rattle.nearest_point.specs.Problem.{IsProblem};
 ghost use Rattle.std.specs.Prelude.{IfOk, length, ◌<◌, ◌≡◌, ◌≤◌};
@@ -78,10 +79,10 @@ fn factors(
 
 // The numbers of the members, and 0 for the others.
 fn shared_part(alloc: Global, members: u16, lowered: &[i128]) -> Result<Vec<i128>, AllocError>
-    requires few { length lowered.now ≤ 6 }
-    requires lowered { IsBelowBy 20 lowered.now }
+    requires few { length lowered.now ≤ MOST_WINNERS }
+    requires lowered { IsBelowBy MOST_WEIGHT lowered.now }
     ensures long { IfOk result (λ v. length v.items ≡ length lowered.now) }
-    ensures small { IfOk result (λ v. IsBelowBy 20 v.items) }
+    ensures small { IfOk result (λ v. IsBelowBy MOST_WEIGHT v.items) }
 {
     let mut out = Vec::with_capacity(alloc, lowered.len())?;
     for (j, x) in lowered.iter().enumerate() {

@@ -40,11 +40,11 @@ use spread::spread_out;
 /// The point of least sum that meets all rows, and of these the nearest to the target by the sum of squares, each divided
 /// by its weight; with one first and one second multiplier for each row.
 ///
-/// `target` and `weights` have one number for each of 1 to 6 coordinates, and each weight is 1 to 20. Bit `j` of the
-/// members of a row stands for coordinate `j`. Each row has a member, and each single coordinate is a row, so a point
-/// exists. No target and no bound is negative, and neither the sum of the targets nor a bound is above 2^46. Where a
-/// weight isn't 1, there are at most four coordinates, and neither that sum nor a bound is above 2^45. The only error is
-/// out of memory.
+/// `target` and `weights` have one number for each of 1 to `MOST_WINNERS` coordinates, and each weight is 1 to `MOST_WEIGHT`.
+/// Bit `j` of the members of a row stands for coordinate `j`. Each row has a member, and each single coordinate is a row, so
+/// a point exists. No target and no bound is negative, and neither the sum of the targets nor a bound is above `MOST_VALUE`.
+/// Where a weight isn't 1, there are at most `MOST_WEIGHTED_WINNERS` coordinates, and neither that sum nor a bound is above
+/// `MOST_WEIGHTED_VALUE`. The only error is out of memory.
 ///
 /// The rule is that of Day and Cramton (Quadratic core-selecting payment rules for combinatorial auctions, Operations
 /// Research 60, 2012).

@@ -1,4 +1,5 @@
 ghost use Rattle.far_num.specs.Members.{holds};
+ghost use Rattle.limits.specs.declared.TheConstants.{MOST_VALUE, MOST_WINNERS};
 ghost use Rattle.nearest_point.specs.Numbers.{AreBelow, at_t, large};
 ghost use Rattle.std.specs.Prelude.{IsTrue, if◌then◌else◌, length, not, pos, unsigned_abs, ◌*ℤ◌, ◌*◌, ◌+ℤ◌, ◌<ℤ◌, ◌<◌, ◌^◌, ◌≡◌, ◌≤ℤ◌, ◌≤◌, ◌⊎◌};
 ghost use Rattle.wide_num.specs.Sums.{dot, nth};
@@ -23,10 +24,10 @@ pub(crate) fn member_part(members: u16, j: usize, x: i128) -> i128
 
 /// The sum of the numbers of the members.
 pub(crate) fn sum_over(members: u16, list: &[i128]) -> i128
-    requires few { length list.now ≤ 6 }
+    requires few { length list.now ≤ MOST_WINNERS }
     requires small { AreBelow (2 ^ 113) list.now }
     ensures value { result ≡ dot (length list.now) (holds members) (nth list.now) }
-    ensures small { unsigned_abs result ≤ 6 * 2 ^ 113 }
+    ensures small { unsigned_abs result ≤ MOST_WINNERS * 2 ^ 113 }
 {
     let mut sum: i128 = 0;
     for (j, x) in list.iter().enumerate() {
@@ -37,11 +38,11 @@ pub(crate) fn sum_over(members: u16, list: &[i128]) -> i128
 
 /// Whether the sum over the row is below its bound times the denominator, the far parts compared first.
 pub(crate) fn is_below(far: &[i128], near: &[i128], den: i128, row: Row) -> bool
-    requires few { (length far.now ≤ 6) × (length near.now ≡ length far.now) }
+    requires few { (length far.now ≤ MOST_WINNERS) × (length near.now ≡ length far.now) }
     requires far { AreBelow (2 ^ 113) far.now }
     requires near { AreBelow (2 ^ 113) near.now }
     requires den { (pos 0 <ℤ den) × (den ≤ℤ pos (320 ^ 4)) }
-    requires bound { (pos 0 ≤ℤ row.bound) × (row.bound ≤ℤ pos (2 ^ 46)) }
+    requires bound { (pos 0 ≤ℤ row.bound) × (row.bound ≤ℤ pos MOST_VALUE) }
     ensures below { IsTrue result
         → dot (length far.now) (holds row.members) (at_t large (nth far.now) (nth near.now)) <ℤ (den *ℤ row.bound) }
     ensures above { IsTrue (not result)

@@ -1,3 +1,4 @@
+ghost use Rattle.limits.specs.declared.TheConstants.{MOST_VALUE, MOST_WEIGHT, MOST_WINNERS};
 ghost use Rattle.nearest_point.specs.Found.{AreDependent, AreWithin, HasParts, IsLowered, IsNear, IsPart, IsSettledFor, IsSolved, point_at, row_of};
 ghost use Rattle.nearest_point.specs.Numbers.{AreBelow};
 ghost use Rattle.auction_model.specs.Prices.{AreWeights};
@@ -27,11 +28,11 @@ pub(crate) struct Held {
 /// Whether the point is below the bound of row `k`.
 pub(crate) fn is_violated(held: &Held, rows: &[Row], k: usize) -> bool
     requires k { k < length rows.now }
-    requires few { (length held.now.far.items ≤ 6) × (length held.now.near.items ≡ length held.now.far.items) }
+    requires few { (length held.now.far.items ≤ MOST_WINNERS) × (length held.now.near.items ≡ length held.now.far.items) }
     requires far { AreBelow (2 ^ 113) held.now.far.items }
     requires near { AreBelow (2 ^ 113) held.now.near.items }
     requires den { (pos 0 <ℤ held.now.den) × (held.now.den ≤ℤ pos (320 ^ 4)) }
-    requires bound { (pos 0 ≤ℤ bounds rows.now k) × (bounds rows.now k ≤ℤ pos (2 ^ 46)) }
+    requires bound { (pos 0 ≤ℤ bounds rows.now k) × (bounds rows.now k ≤ℤ pos MOST_VALUE) }
     ensures below { IsTrue result
         → dot (length held.now.far.items) (coefficients rows.now k) (point_at held.now)
         <ℤ (held.now.den *ℤ bounds rows.now k) }
@@ -198,11 +199,11 @@ fn point_part(
     forced: &[usize],
     multipliers: &[i128],
 ) -> Result<Vec<i128>, AllocError>
-    requires few { (length target.now ≤ 6) × (length forced.now ≤ 6) × (length multipliers.now ≡ length forced.now) }
+    requires few { (length target.now ≤ MOST_WINNERS) × (length forced.now ≤ MOST_WINNERS) × (length multipliers.now ≡ length forced.now) }
     requires weights { AreWeights (length target.now) weights.now }
     requires within { AreWithin forced.now rows.now }
     requires den { (pos 0 <ℤ den) × (den ≤ℤ pos (320 ^ 4)) }
-    requires target { (j : ℕ) → j < length target.now → unsigned_abs (nth target.now j) ≤ 2 ^ 46 }
+    requires target { (j : ℕ) → j < length target.now → unsigned_abs (nth target.now j) ≤ MOST_VALUE }
     requires multipliers { AreBelow (2 ^ 106) multipliers.now }
     ensures part { IfOk result
         (λ v. IsPart rows.now forced.now (weight_at weights.now) den target.now multipliers.now v.items) }
@@ -218,9 +219,9 @@ fn point_part(
 
 fn coordinate(den: i128, aim: i128, weight: u32, moved: i128) -> i128
     requires den { (pos 0 <ℤ den) × (den ≤ℤ pos (320 ^ 4)) }
-    requires aim { unsigned_abs aim ≤ 2 ^ 46 }
-    requires weight { weight ≤ 20 }
-    requires moved { unsigned_abs moved ≤ 6 * 2 ^ 106 }
+    requires aim { unsigned_abs aim ≤ MOST_VALUE }
+    requires weight { weight ≤ MOST_WEIGHT }
+    requires moved { unsigned_abs moved ≤ MOST_WINNERS * 2 ^ 106 }
     ensures value { result ≡ (den *ℤ aim) +ℤ (pos weight *ℤ moved) }
     ensures small { unsigned_abs result < 2 ^ 113 }
 {
@@ -229,12 +230,12 @@ fn coordinate(den: i128, aim: i128, weight: u32, moved: i128) -> i128
 
 // The sum of the multipliers of the forced rows that have the member `j`.
 fn column(rows: &[Row], forced: &[usize], multipliers: &[i128], j: usize) -> i128
-    requires few { (length forced.now ≤ 6) × (length multipliers.now ≡ length forced.now) }
+    requires few { (length forced.now ≤ MOST_WINNERS) × (length multipliers.now ≡ length forced.now) }
     requires within { AreWithin forced.now rows.now }
     requires j { j < 16 }
     requires multipliers { AreBelow (2 ^ 106) multipliers.now }
     ensures value { result ≡ total (length forced.now) (λ i. nth multipliers.now i *ℤ row_of rows.now forced.now i j) }
-    ensures small { unsigned_abs result ≤ 6 * 2 ^ 106 }
+    ensures small { unsigned_abs result ≤ MOST_WINNERS * 2 ^ 106 }
 {
     let mut sum: i128 = 0;
     for (i, place) in forced.iter().enumerate() {

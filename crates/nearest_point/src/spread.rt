@@ -1,3 +1,4 @@
+ghost use Rattle.limits.specs.declared.TheConstants.{MOST_WINNERS};
 ghost use Rattle.nearest_point.specs.Numbers.{AreBelow, place, spread};
 ghost use Rattle.std.specs.Prelude.{IfOk, length, ℕ, ◌<◌, ◌^◌, ◌≡◌, ◌≤◌};
 ghost use Rattle.wide_num.specs.Sums.{nth};
@@ -11,7 +12,7 @@ pub(crate) fn spread_out(
     rows: &[usize],
     multipliers: &[i128],
 ) -> Result<Vec<i128>, AllocError>
-    requires few { (length rows.now ≤ 6) × (length multipliers.now ≡ length rows.now) }
+    requires few { (length rows.now ≤ MOST_WINNERS) × (length multipliers.now ≡ length rows.now) }
     requires within { (i : ℕ) → i < length rows.now → place rows.now i < count }
     requires small { AreBelow (2 ^ 106) multipliers.now }
     ensures lengths { IfOk result (λ v. length v.items ≡ count) }

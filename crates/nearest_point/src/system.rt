@@ -1,5 +1,6 @@
 ghost use Rattle.far_num.specs.Members.{holds};
 ghost use Rattle.far_num.specs.Pairs.{far_at, near_at};
+ghost use Rattle.limits.specs.declared.TheConstants.{MOST_VALUE, MOST_WEIGHT, MOST_WINNERS};
 ghost use Rattle.lin_solve.specs.Matrix.{row};
 ghost use Rattle.nearest_point.specs.Found.{AreWithin, IsBelowBy, IsEdge, common, row_of};
 ghost use Rattle.nearest_point.specs.Numbers.{place};
@@ -19,8 +20,8 @@ pub(crate) fn gram_matrix(
     rows: &[Row],
     forced: &[usize],
 ) -> Result<Square, AllocError>
-    requires few { (length lowered.now ≤ 6) × (1 ≤ length forced.now) × (length forced.now ≤ 6) }
-    requires lowered { IsBelowBy 20 lowered.now }
+    requires few { (length lowered.now ≤ MOST_WINNERS) × (1 ≤ length forced.now) × (length forced.now ≤ MOST_WINNERS) }
+    requires lowered { IsBelowBy MOST_WEIGHT lowered.now }
     requires within { AreWithin forced.now rows.now }
     ensures long { IfOk result (λ m. length m ≡ length forced.now) }
     ensures entries { IfOk result (λ m. (i k : ℕ) → i < length forced.now → k < length forced.now
@@ -42,8 +43,8 @@ pub(crate) fn gram_matrix(
 
 // What the common members weigh.
 fn common_weight(one: Row, other: Row, lowered: &[i128]) -> i128
-    requires few { length lowered.now ≤ 6 }
-    requires lowered { IsBelowBy 20 lowered.now }
+    requires few { length lowered.now ≤ MOST_WINNERS }
+    requires lowered { IsBelowBy MOST_WEIGHT lowered.now }
     ensures value { result ≡ common (length lowered.now) (holds one.members) (holds other.members) (nth lowered.now) }
     ensures small { (top : ℕ) → IsBelowBy top lowered.now
         → (pos 0 ≤ℤ result) × (result ≤ℤ pos (length lowered.now * top)) }
@@ -59,8 +60,8 @@ pub(crate) fn right_sides(
     rows: &[Row],
     forced: &[usize],
 ) -> Result<FarList, AllocError>
-    requires few { (length target.now ≤ 6) × (length lowered.now ≡ length target.now) }
-    requires lowered { IsBelowBy 20 lowered.now }
+    requires few { (length target.now ≤ MOST_WINNERS) × (length lowered.now ≡ length target.now) }
+    requires lowered { IsBelowBy MOST_WEIGHT lowered.now }
     requires target { AreTargets target.now }
     requires bounds { AreBounds rows.now }
     requires within { AreWithin forced.now rows.now }
@@ -72,7 +73,7 @@ pub(crate) fn right_sides(
         (λ y. (i : ℕ) → i < length forced.now
         → near_at y i ≡ bounds rows.now (place forced.now i)
         -ℤ dot (length target.now) (row_of rows.now forced.now i) (nth target.now)) }
-    ensures small_far { IfOk result (λ y. (i : ℕ) → i < length forced.now → unsigned_abs (far_at y i) ≤ 120) }
+    ensures small_far { IfOk result (λ y. (i : ℕ) → i < length forced.now → unsigned_abs (far_at y i) ≤ MOST_WINNERS * MOST_WEIGHT) }
     ensures small_near { IfOk result
         (λ y. (edge i : ℕ) → IsEdge edge target.now rows.now → i < length forced.now
         → unsigned_abs (near_at y i) ≤ edge) }
@@ -86,13 +87,13 @@ pub(crate) fn right_sides(
 
 // What one row asks for beyond the lowered target.
 fn right_side(lowered: &[i128], target: &[i128], row: Row) -> Far
-    requires few { (length target.now ≤ 6) × (length lowered.now ≡ length target.now) }
-    requires lowered { IsBelowBy 20 lowered.now }
+    requires few { (length target.now ≤ MOST_WINNERS) × (length lowered.now ≡ length target.now) }
+    requires lowered { IsBelowBy MOST_WEIGHT lowered.now }
     requires target { AreTargets target.now }
-    requires bound { (pos 0 ≤ℤ row.bound) × (row.bound ≤ℤ pos (2 ^ 46)) }
+    requires bound { (pos 0 ≤ℤ row.bound) × (row.bound ≤ℤ pos MOST_VALUE) }
     ensures far { result.far ≡ pos 0 -ℤ dot (length target.now) (holds row.members) (nth lowered.now) }
     ensures near { result.near ≡ row.bound -ℤ dot (length target.now) (holds row.members) (nth target.now) }
-    ensures small_far { unsigned_abs result.far ≤ 120 }
+    ensures small_far { unsigned_abs result.far ≤ MOST_WINNERS * MOST_WEIGHT }
     ensures small_near { (edge : ℕ) → total (length target.now) (nth target.now) ≤ℤ pos edge → row.bound ≤ℤ pos edge
         → unsigned_abs result.near ≤ edge }
 {

@@ -167,7 +167,7 @@ fn appends_while_locked(rt: HostRuntime, name: &str) -> Result<bool, Fail> {
 }
 
 // Asserts that an append to this name is done only once its file is locked no more.
-fn appends_behind_a_lock(abort: &impl Abort, rt: HostRuntime, name: &str) -> Result<(), Fail> {
+fn appends_after_a_lock(abort: &impl Abort, rt: HostRuntime, name: &str) -> Result<(), Fail> {
     assert!(abort; !appends_while_locked(rt, name)?);
     assert!(abort; appends(rt, name)?);
     assert!(abort; holds(rt, name, b"abc")?);
@@ -177,7 +177,7 @@ fn appends_behind_a_lock(abort: &impl Abort, rt: HostRuntime, name: &str) -> Res
 #[test]
 fn appends_nothing_to_a_file_that_is_locked(rt: HostRuntime) -> Result<(), Fail> {
     let name = new_name(rt, "locked")?;
-    appends_behind_a_lock(&rt, rt, name.as_str())
+    appends_after_a_lock(&rt, rt, name.as_str())
 }
 
 // Whether someone holds the lock of this file.

@@ -1,5 +1,5 @@
 use line_format::{
-    NumbersStop, add_numbers, add_signed_numbers, field_len, numbers_behind, read_at_most,
+    NumbersStop, add_numbers, add_signed_numbers, field_len, numbers_after, read_at_most,
 };
 use std::alloc::{AllocError, Global};
 use std::process::Abort;
@@ -15,13 +15,13 @@ fn add_line(text: &mut Text) -> Result<(), AllocError> {
 /// Whether a number after the word "t" of this line is out of range, or why they aren't read.
 fn read_line(alloc: Global, line: &[u8]) -> Result<bool, NumbersStop> {
     let mut numbers = Vec::new(alloc);
-    numbers_behind(line, b"t", &mut numbers)
+    numbers_after(line, b"t", &mut numbers)
 }
 
 /// Asserts which numbers follow the word "t" of this line.
 fn has_numbers(rt: &impl Abort, alloc: Global, line: &[u8], numbers: &[i128]) {
     let mut read = Vec::new(alloc);
-    if numbers_behind(line, b"t", &mut read) != Ok(false) {
+    if numbers_after(line, b"t", &mut read) != Ok(false) {
         panic!(rt; "numbers in the range");
     }
     assert!(rt; read.as_slice() == numbers);
@@ -70,7 +70,7 @@ fn reads_a_field_up_to_a_limit(rt: HostRuntime) {
 }
 
 #[test]
-fn writes_numbers_behind_one_space_each(rt: HostRuntime) -> Result<(), Fail> {
+fn writes_numbers_after_one_space_each(rt: HostRuntime) -> Result<(), Fail> {
     let mut text = Text::new(rt.alloc());
     add_numbers(&mut text, &[0, 12, 65535])?;
     assert!(rt; text.items() == b" 0 12 65535".as_slice());

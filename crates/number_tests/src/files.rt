@@ -206,7 +206,7 @@ fn writes_twice(rt: &impl Abort, files: &mut MemFiles, name: &str) -> Result<(),
 }
 
 #[test]
-fn writes_behind_what_a_file_holds(rt: HostRuntime) -> Result<(), Fail> {
+fn writes_after_what_a_file_holds(rt: HostRuntime) -> Result<(), Fail> {
     let mut files = mem_files(rt.alloc(), "cert", "cert", 3)?;
     writes_twice(&rt, &mut files, "cert")
 }

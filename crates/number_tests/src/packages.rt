@@ -106,10 +106,8 @@ fn fits(rt: &impl Abort, package: &Package, supply: &Supply) -> bool {
 }
 
 /// Asserts that a copy of a package has its counts, and takes over those of another one.
-fn is_copied(rt: &impl Abort, alloc: Global, package: &Package, other: &Package) {
-    let Ok(mut copy) = package.copied(alloc) else {
-        panic!(rt; "there is memory");
-    };
+fn is_copied(rt: &impl Abort, package: &Package, other: &Package) {
+    let mut copy = package.copied();
     assert!(rt; copy.counts() == package.counts());
     assert_eq!(rt; copy.categories(), other.categories());
     copy.copy_from(other);
@@ -130,5 +128,5 @@ fn packages_tell_what_they_hold(rt: HostRuntime) {
     assert!(rt; !package.is_empty());
     let supply = supply_of(&rt, rt.alloc(), &[1, 1]);
     assert!(rt; !fits(&rt, &package, &supply));
-    is_copied(&rt, rt.alloc(), &none, &package);
+    is_copied(&rt, &none, &package);
 }

@@ -120,7 +120,7 @@ fn keeps_bid(offers: &TestedBids, table: &Grid, set: usize, j: u16, i: u16) -> b
         (worth_with offers.now.slots.now offers.now.den offers.now.gains.now) table.now set j i }
 {
     offers.slots.kept();
-    if !starts_behind(offers, set, j, i) {
+    if !starts_after(offers, set, j, i) {
         return true;
     }
     let behind = table.entry(0, set + weight(j));
@@ -128,13 +128,13 @@ fn keeps_bid(offers: &TestedBids, table: &Grid, set: usize, j: u16, i: u16) -> b
 }
 
 /// Whether a bid is for the first slot after a set.
-fn starts_behind(offers: &TestedBids, set: usize, j: u16, i: u16) -> bool
+fn starts_after(offers: &TestedBids, set: usize, j: u16, i: u16) -> bool
     requires bidder { (0 < j) × (j ≤ length offers.now.slots.now.bidders) }
     requires bid { (0 < i) × (i ≤ (board_without offers.now.slots.now offers.now.skip).bids j) }
     ensures { result ≡ (board_without offers.now.slots.now offers.now.skip).may (holds set) j i }
 {
     let place = offers.slots.place(j, i);
-    place.start == offers.slots.start_behind(set)
+    place.start == offers.slots.start_after(set)
 }
 
 /// Whether a bid and an entry come to no more than another entry.

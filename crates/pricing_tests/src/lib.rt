@@ -8,6 +8,8 @@ mod pieces;
 #[cfg(test)]
 mod place_texts;
 #[cfg(test)]
+mod places;
+#[cfg(test)]
 mod prices;
 #[cfg(test)]
 mod read_texts;

@@ -7,8 +7,9 @@ ghost use Rattle.stream_check.specs.Standing.{HasTaken};
 use crate::samples::{DAY_CRAMTON_CERT, day_cramton};
 use bid_book::BidBook;
 use cert_check::Verdict;
-use cert_stream::TextStop;
+use cert_stream::{TextStop, rows_start};
 use cert_summary::CertFacts;
+use cert_text::Shape;
 use choices::Single;
 use limits::CERT_BYTES;
 use std::alloc::{AllocError, Global};
@@ -119,4 +120,14 @@ fn tells_the_facts_of_a_certificate(rt: HostRuntime) -> Result<(), Fail> {
         tells_them(&rt, rt.alloc(), &book, more)?;
     }
     Ok(())
+}
+
+#[test]
+fn the_rows_of_five_bidders_have_their_place(rt: HostRuntime) {
+    // Before them are a choice, two single numbers, the denominator, the value, the payments, five choices, and a row's members and choice.
+    let shape = Shape {
+        bidders: 5,
+        states: 4,
+    };
+    assert_eq!(rt; rows_start(shape), 5 + 2 + 1 + 1 + 5 + 25 + 5 + 5);
 }

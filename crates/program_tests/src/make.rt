@@ -117,7 +117,7 @@ fn keeps_the_order_of_appends_after_a_fault(rt: HostRuntime) -> Result<(), Fail>
 }
 
 #[test]
-fn tells_a_fault_of_the_output_behind_both_files(rt: HostRuntime) -> Result<(), Fail> {
+fn reports_a_fault_of_the_output_after_both_files(rt: HostRuntime) -> Result<(), Fail> {
     let ended = run_make(rt.alloc(), SEVEN, 0, 2)?;
     ends(&rt, &ended, FileKind::Out, "made ");
     assert_eq!(rt; ended.award.len(), 836);

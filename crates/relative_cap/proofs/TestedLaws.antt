@@ -1,9 +1,9 @@
 -- The highest amounts over the entries that are tested, and the caps that these say.
-use Rattle.std.proofs.Common.{Bool, List, None, Option, Some, [], ap, arith, drop, false, get_or, inl, inr, length, map, max, min, refl, set, subst}
-use Rattle.std.proofs.Common.{suc, sym, take, true, zero, ℕ, ◌++◌, ◌+◌, ◌-◌, ◌<◌, ◌^◌, ◌∙◌, ◌∷◌, ◌≡◌, ◌≤◌, ◌⊎◌}
+use Rattle.std.proofs.Common.{Bool, List, None, [], ap, arith, drop, false, get_or, inl, inr, length, map, max, min, refl, set, subst}
+use Rattle.std.proofs.Common.{suc, sym, take, true, ℕ, ◌++◌, ◌+◌, ◌-◌, ◌<◌, ◌∙◌, ◌∷◌, ◌≡◌, ◌≤◌}
 use Rattle.std.specs.Prelude.{if◌then◌else◌, nat_lt, slice_index}
 use Rattle.std.specs.List.{All, insert, remove}
-use Rattle.std.proofs.lemmas.Bool.{cases_Bool, cases_order, cond-true, cond-false, ltb-true, ltb-false, false≢true}
+use Rattle.std.proofs.lemmas.Bool.{cases_Bool, cond-true, cond-false, ltb-false, false≢true}
 use Rattle.std.proofs.lemmas.List.{append_assoc, get_or-map, get_or-set_other, get_or-set_same, length-append, length-map, length-set, length-take}
 use Rattle.std.proofs.lemmas.List.{length-take-le, map-append, map-set, take-map, take_all, take_at, take_more, take_more_set}
 use Rattle.std.proofs.lemmas.List.Edits.{length-remove}
@@ -12,7 +12,7 @@ use Rattle.auction_model.specs.Book.{BookBid}
 use Rattle.auction_model.specs.Package.{cost_of}
 use Rattle.auction_model.specs.PackageTests.{is_empty, is_same}
 use Rattle.auction_rules.specs.Rounds.{OwnRound}
-use Rattle.auction_rules.specs.State.{Round, own_of}
+use Rattle.auction_rules.specs.State.{Round}
 use Rattle.auction_rules.specs.Caps.{cap_among, cap_by, cap_of, clock_bid, greatest, highest, last_round}
 use Rattle.auction_model.proofs.PackageTestLaws.{is_same-refl, is_same-true}
 use Rattle.auction_rules.proofs.BookCaps.{greatest-append}
@@ -20,12 +20,12 @@ use Rattle.lots.specs.declared.«package».Bid.{Bid}
 use Rattle.relative_cap.specs.declared.terms.RoundTerms.{RoundTerms}
 use Rattle.relative_cap.specs.declared.terms.PackageTerms.{PackageTerms}
 use Rattle.relative_cap.specs.declared.entries.TestedEntry.{TestedEntry}
-use Rattle.relative_cap.specs.OwnRounds.{amount_for, bid_value, rounds_of, own_in, IsConstraining}
+use Rattle.relative_cap.specs.OwnRounds.{amount_for, bid_value, rounds_of, own_in}
 use Rattle.relative_cap.specs.Levels.{AreHighsFrom}
 use Rattle.relative_cap.specs.RoundsOfPackage.{IsRoundTerms, IsTerms, first_place, own_place}
 use Rattle.relative_cap.specs.Tested.{AreHighs, IsHighest, IsTested, FitsRound, FitsTerms, raised, round_cap, terms_cap, tested_bid, tested_lots}
 use Rattle.relative_cap.proofs.AmountLaws.{price-least}
-use Rattle.relative_cap.proofs.CapLaws.{last-held, cap-none, cap-some, cap-by_round, cap-by_final}
+use Rattle.relative_cap.proofs.CapLaws.{cap-none, cap-some, cap-by_round, cap-by_final}
 use Rattle.relative_cap.proofs.RoundLaws.{last_round-is}
 use Rattle.relative_cap.proofs.FirstPlace.{first-held, first-inside}
 

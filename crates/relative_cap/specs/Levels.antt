@@ -6,7 +6,7 @@ use Rattle.auction_model.specs.Book.{BookBid}
 use Rattle.auction_rules.specs.Rounds.{OwnRound}
 use Rattle.auction_rules.specs.State.{Round}
 use Rattle.auction_rules.specs.Caps.{highest}
-use Rattle.relative_cap.specs.OwnRounds.{rounds_of, own_in, eligibility_in}
+use Rattle.relative_cap.specs.OwnRounds.{rounds_of, own_in}
 
 -- the greatest eligibility
 abbrev pub peak_of : List OwnRound → ℕ

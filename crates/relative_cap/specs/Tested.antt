@@ -1,5 +1,5 @@
 -- The entries of a list that is tested, the highest amounts over them, and the caps that these say.
-use Rattle.std.specs.Prelude.{◌≡◌, ℕ, suc, ◌+◌, ◌-◌, ◌≤◌, ◌<◌, max, min, Bool, List, [], ◌∷◌, ◌++◌, Option, Some, None, length, map, nat_lt, slice_index, slice_set, take, if◌then◌else◌}
+use Rattle.std.specs.Prelude.{◌≡◌, ℕ, ◌+◌, ◌-◌, ◌≤◌, ◌<◌, max, min, Bool, List, [], ◌∷◌, ◌++◌, Option, Some, None, length, nat_lt, slice_index, slice_set, take, if◌then◌else◌}
 use Rattle.std.specs.List.{All}
 use Rattle.limits.specs.declared.TheConstants.{MOST_AMOUNT}
 use Rattle.auction_model.specs.Book.{BookBid}

@@ -12,7 +12,7 @@ ghost use Rattle.relative_cap.specs.OwnRounds.{entry_lots, bid_value, cap_at, el
 
 use crate::amounts::highest;
 use crate::answer::{Cap, OverCap};
-use crate::levels::{fill_levels, high_over, last_peak};
+use crate::levels::{RoundLevels, fill_levels, high_over, last_peak};
 use crate::packages::is_same;
 use crate::rounds::constraining_round;
 use clock_stage::History;
@@ -120,14 +120,13 @@ fn level_cap(
     points: &[u32],
     final_cap: bool,
     j: u16,
-    peaks: &[u64],
-    highs: &[u64],
+    levels: RoundLevels<'_>,
     list: &[Bid],
     package: &Package,
 ) -> Cap
     requires bidder { IsBidderOf history.now j }
     requires points { ArePoints history.now points.now }
-    requires levels { AreLevels history.now j peaks.now highs.now }
+    requires levels { AreLevels history.now j levels.peaks.now levels.highs.now }
     requires list { All (IsEntry (categories_in history.now)) list.now }
     requires order { InOrder (map entry_lots list.now) }
     requires categories { IsHeld (categories_in history.now) «package».now }
@@ -139,10 +138,10 @@ fn level_cap(
     if is_same(package, history.package(last, j)) {
         return Cap::NoCap;
     }
-    let r = last_peak(peaks, last, package.points(points));
-    let round_cap = level_cap_by(history, j, r, list, highs, package);
+    let r = last_peak(levels.peaks, last, package.points(points));
+    let round_cap = level_cap_by(history, j, r, list, levels.highs, package);
     if final_cap {
-        Cap::At(round_cap.min(level_cap_by(history, j, last, list, highs, package)))
+        Cap::At(round_cap.min(level_cap_by(history, j, last, list, levels.highs, package)))
     } else {
         Cap::At(round_cap)
     }
@@ -154,13 +153,12 @@ fn first_fault(
     points: &[u32],
     final_cap: bool,
     j: u16,
-    peaks: &[u64],
-    highs: &[u64],
+    levels: RoundLevels<'_>,
     list: &[Bid],
 ) -> Option<OverCap>
     requires bidder { IsBidderOf history.now j }
     requires points { ArePoints history.now points.now }
-    requires levels { AreLevels history.now j peaks.now highs.now }
+    requires levels { AreLevels history.now j levels.peaks.now levels.highs.now }
     requires list { All (IsEntry (categories_in history.now)) list.now }
     requires order { InOrder (map entry_lots list.now) }
     requires eligible { All (IsEligible points.now history.now j) list.now }
@@ -169,16 +167,7 @@ fn first_fault(
         ≡ list_fault final_cap points.now (rounds_of j history.now) (map bid_value list.now) }
 {
     for (index, bid) in list.iter().enumerate() {
-        let cap = level_cap(
-            history,
-            points,
-            final_cap,
-            j,
-            peaks,
-            highs,
-            list,
-            &bid.package,
-        );
+        let cap = level_cap(history, points, final_cap, j, levels, list, &bid.package);
         if let Some(limit) = excess(cap, bid.amount) {
             let entry = index as u32 + 1;
             return Some(OverCap { entry, limit });
@@ -212,5 +201,9 @@ pub fn list_fault(
     let mut peaks = [0; ROUNDS];
     let mut highs = [0; ROUNDS];
     fill_levels(history, history.rounds(), j, &mut peaks, &mut highs);
-    first_fault(history, points, final_cap, j, &peaks, &highs, list)
+    let levels = RoundLevels {
+        peaks: &peaks,
+        highs: &highs,
+    };
+    first_fault(history, points, final_cap, j, levels, list)
 }

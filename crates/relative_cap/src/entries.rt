@@ -1,5 +1,5 @@
 // The entries of a list that was tested.
-ghost use Rattle.std.specs.Prelude.{◌≡◌, ◌≤◌, ◌<◌, [], All, IfOk, OnOk, length, map, slice_index_or, take, true};
+ghost use Rattle.std.specs.Prelude.{◌≡◌, ◌≤◌, ◌<◌, [], All, OnOk, length, map, slice_index_or, take, true};
 ghost use Rattle.limits.specs.declared.TheConstants.{MOST_AMOUNT};
 ghost use Rattle.clock_stage.specs.Kept.{categories_in};
 ghost use Rattle.relative_cap.specs.Asked.{ArePoints, IsBidderOf, IsEligible, IsEntry};
@@ -11,7 +11,7 @@ use crate::packages::{is_before, is_same};
 use crate::terms::{PackageTerms, package_terms};
 use clock_stage::History;
 use lots::{Bid, Package};
-use std::alloc::{AllocError, Global};
+use std::alloc::AllocError;
 
 /// An entry of a list with what the closed rounds say of the cap of its package.
 #[derive(Drop)]
@@ -23,31 +23,24 @@ pub struct TestedEntry {
 }
 
 /// A copy of an entry of bidder `j` with what the closed rounds say of its package.
-fn entry_for(
-    alloc: Global,
-    history: &History,
-    points: &[u32],
-    j: u16,
-    peaks: &[u64],
-    bid: &Bid,
-) -> Result<TestedEntry, AllocError>
+fn entry_for(history: &History, points: &[u32], j: u16, peaks: &[u64], bid: &Bid) -> TestedEntry
     requires bidder { IsBidderOf history.now j }
     requires points { ArePoints history.now points.now }
     requires peaks { ArePeaks history.now j peaks.now }
     requires entry { IsEntry (categories_in history.now) bid.now }
     requires eligible { IsEligible points.now history.now j bid.now }
-    ensures tested { IfOk result (λ e. IsTested history.now points.now j e) }
-    ensures bid { IfOk result (λ e. tested_bid e ≡ bid_value bid.now) }
+    ensures tested { IsTested history.now points.now j result }
+    ensures bid { tested_bid result ≡ bid_value bid.now }
 {
-    let package = bid.package.copied(alloc)?;
+    let package = bid.package.copied();
     let terms = package_terms(history, points, j, peaks, &package);
-    Ok(TestedEntry {
+    TestedEntry {
         bid: Bid {
             package,
             amount: bid.amount,
         },
         terms,
-    })
+    }
 }
 
 /// Whether there is an entry at the place whose package comes before this one.
@@ -70,7 +63,6 @@ fn stands_at(entries: &[TestedEntry], place: usize, package: &Package) -> bool
 /// Puts an entry of bidder `j` at the place after those before it. Entries that are there with packages that come earlier are
 /// taken out, and one for the package itself keeps what the rounds say.
 fn put_among(
-    alloc: Global,
     history: &History,
     points: &[u32],
     j: u16,
@@ -97,7 +89,7 @@ fn put_among(
         entries[place].bid.amount = bid.amount;
         return Ok(());
     }
-    let entry = entry_for(alloc, history, points, j, peaks, bid)?;
+    let entry = entry_for(history, points, j, peaks, bid);
     entries.insert(place, entry)?;
     Ok(())
 }
@@ -105,7 +97,6 @@ fn put_among(
 /// Puts an entry of bidder `j` at the place, as `put_among` does. Most lists differ from the last one in few entries, so it is asked
 /// first whether the entry there is one for the package.
 fn put_at(
-    alloc: Global,
     history: &History,
     points: &[u32],
     j: u16,
@@ -129,13 +120,12 @@ fn put_at(
         entries[place].bid.amount = bid.amount;
         return Ok(());
     }
-    put_among(alloc, history, points, j, peaks, bid, place, entries)
+    put_among(history, points, j, peaks, bid, place, entries)
 }
 
 /// Makes the entries those of the list of bidder `j`. What the rounds say of a package is computed only where the entries don't have
 /// it yet. If memory runs out, they are those of another list.
 pub fn follow(
-    alloc: Global,
     history: &History,
     points: &[u32],
     j: u16,
@@ -153,7 +143,7 @@ pub fn follow(
     ensures list { OnOk result (map tested_bid entries.new.items ≡ map bid_value list.now) }
 {
     for (place, bid) in list.iter().enumerate() {
-        put_at(alloc, history, points, j, peaks, bid, place, entries)?;
+        put_at(history, points, j, peaks, bid, place, entries)?;
     }
     entries.truncate(list.len());
     Ok(())

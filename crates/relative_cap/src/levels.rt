@@ -10,6 +10,14 @@ use crate::amounts::{amount_listed, highest};
 use clock_stage::History;
 use lots::Bid;
 
+/// The levels of a bidder, with a number for each round: the greatest eligibility from the round on, and the greatest clock bid for
+/// what the bidder held in the round.
+#[derive(Clone, Copy)]
+pub struct RoundLevels<'a> {
+    pub peaks: &'a [u64],
+    pub highs: &'a [u64],
+}
+
 /// Works out the levels of bidder `j`, from the last round to the first: the greatest eligibility from each round on, and for each
 /// round the greatest clock bid for what the bidder held in it.
 pub fn fill_levels(history: &History, rounds: u32, j: u16, peaks: &mut [u64], highs: &mut [u64])

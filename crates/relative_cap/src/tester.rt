@@ -81,15 +81,7 @@ impl ListTester {
             ≡ list_fault final_cap points.now (rounds_of j history.now) (map bid_value list.now)) }
         ensures tester { IsTester history.now points.now j self.new }
     {
-        follow(
-            alloc,
-            history,
-            points,
-            j,
-            &self.peaks,
-            list,
-            &mut self.entries,
-        )?;
+        follow(history, points, j, &self.peaks, list, &mut self.entries)?;
         let highs = highs_over(alloc, &self.clock, &self.entries)?;
         Ok(first_fault(final_cap, &highs, &self.entries))
     }

@@ -1,10 +1,11 @@
 -- What is read of the lines of both sides, and its size.
-use Rattle.std.specs.Prelude.{◌≡◌, ℕ, ◌-◌, ◌^◌, ◌≤◌, ◌<◌, true, List, length, get_or, ℤ, pos, unsigned_abs}
+use Rattle.std.specs.Prelude.{◌≡◌, ℕ, ◌-◌, ◌≤◌, ◌<◌, true, List, length, get_or, ℤ, pos, unsigned_abs}
 use Rattle.std.proofs.Common.{sym, ◌∙◌, subst, arith, Vec, Global}
 use Rattle.auction_model.specs.Book.{Book, menu_of, net_of}
 use Rattle.auction_model.proofs.BoundLaws.{line-sizes}
 use Rattle.auction_model.proofs.PlainLaws.{sum_to-at_most}
 use Rattle.bid_book.specs.Kept.{IsBidBook}
+use Rattle.limits.specs.declared.TheConstants.{MOST_AMOUNT, MOST_VALUE}
 use Rattle.value_table.specs.SideLines.{IsLeftLine, IsRightLine}
 use Rattle.value_table.specs.Turned.{bidder_at, in_order, worths_in_order}
 use Rattle.value_table.proofs.LineLaws.{line-turned}
@@ -15,24 +16,24 @@ use Rattle.review.proofs.LineSets.{count-of, read-own}
 
 module _ (book : Book) (k : ℕ) (line : List ℤ) (kept : IsBidBook book) where
   -- no number of a line is above that of all bidders at the greatest amount
-  pub right-small : IsRightLine book k line → (s : ℕ) → unsigned_abs (get_or line s (pos 0)) ≤ 2 ^ 46
+  pub right-small : IsRightLine book k line → (s : ℕ) → unsigned_abs (get_or line s (pos 0)) ≤ MOST_VALUE
   right-small is s =
       omega (
         arith,
         kept.bidders,
-        sum_to-at_most (λ _. 2 ^ 42) (length book.bidders) (2 ^ 42) (λ _. omega arith),
-        line-sizes (menu_of book) (net_of book) book.supply k line (λ _. 2 ^ 42) (λ j i known. net-small book j i kept known) is s,
+        sum_to-at_most (λ _. MOST_AMOUNT) (length book.bidders) MOST_AMOUNT (λ _. omega arith),
+        line-sizes (menu_of book) (net_of book) book.supply k line (λ _. MOST_AMOUNT) (λ j i known. net-small book j i kept known) is s,
       )
 
-  pub left-small : k ≤ length book.bidders → IsLeftLine book k line → (s : ℕ) → unsigned_abs (get_or line s (pos 0)) ≤ 2 ^ 46
+  pub left-small : k ≤ length book.bidders → IsLeftLine book k line → (s : ℕ) → unsigned_abs (get_or line s (pos 0)) ≤ MOST_VALUE
   left-small inside is s =
       let n = length book.bidders in
       omega (
         arith,
         kept.bidders,
-        sum_to-at_most (λ _. 2 ^ 42) n (2 ^ 42) (λ _. omega arith),
+        sum_to-at_most (λ _. MOST_AMOUNT) n MOST_AMOUNT (λ _. omega arith),
         line-sizes (in_order true (menu_of book))
-            (worths_in_order true n (net_of book)) book.supply (n - k) line (λ _. 2 ^ 42) (λ j i known. net-small book (bidder_at true n j) i kept known)
+            (worths_in_order true n (net_of book)) book.supply (n - k) line (λ _. MOST_AMOUNT) (λ j i known. net-small book (bidder_at true n j) i kept known)
             (line-turned book k line inside is) s,
       )
 

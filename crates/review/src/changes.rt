@@ -71,7 +71,7 @@ fn add(
 {
     book.kept();
     let beaten = is_beaten(alloc, book, lines, choice, j, wanted, amount);
-    put(alloc, book, j, wanted, amount)?;
+    put(book, j, wanted, amount)?;
     lines.mark(j);
     match bid_for(book, j, wanted) {
         Some(number) if beaten => move_up(choice, j, number),
@@ -98,7 +98,7 @@ fn raise(
     ensures unchanged { OnErr result ((book.new ≡ book.old) × (choice.new ≡ choice.old)) }
 {
     let stays = stays_raised(alloc, book, lines, choice, j, wanted, amount);
-    put(alloc, book, j, wanted, amount)?;
+    put(book, j, wanted, amount)?;
     lines.mark(j);
     if !stays {
         retrace(alloc, book, lines, choice);
@@ -134,20 +134,14 @@ fn stays_raised(
 }
 
 /// Puts a bid for a copy of the package into a book.
-fn put(
-    alloc: Global,
-    book: &mut BidBook,
-    j: u16,
-    wanted: &Package,
-    amount: u64,
-) -> Result<(), AllocError>
+fn put(book: &mut BidBook, j: u16, wanted: &Package, amount: u64) -> Result<(), AllocError>
     requires { CanPut book.old j (record { lots = wanted.now; amount = amount }) }
     ensures put { OnOk result (book.new ≡ with_put book.old j (record { lots = wanted.now; amount = amount })) }
     ensures unchanged { OnErr result (book.new ≡ book.old) }
 {
     rules_with_bid();
     book.kept();
-    let package = wanted.copied(alloc)?;
+    let package = wanted.copied();
     book.put_bid(j, Bid { package, amount })?;
     Ok(())
 }

@@ -6,6 +6,7 @@ ghost use Rattle.auction_model.specs.Menu.{is_known_after};
 ghost use Rattle.auction_model.specs.Package.{cost_of, is_within};
 ghost use Rattle.auction_model.specs.Place.{place_of, states_of};
 ghost use Rattle.bid_book.specs.Changes.{CanPut};
+ghost use Rattle.limits.specs.declared.TheConstants.{MOST_VALUE};
 ghost use Rattle.review.specs.Reviewed.{AreBelow, AreSideLines, IsBeaten, IsBelowAt, IsReviewed, moved_down, moved_up};
 
 use crate::lines::SideLines;
@@ -66,8 +67,8 @@ fn are_below(
     requires fits { IsTrue (is_within «package».now supply.now) }
     requires before { length before.now ≡ states_of supply.now }
     requires after { length after.now ≡ states_of supply.now }
-    requires before_sizes { (s : ℕ) → unsigned_abs (slice_index_or before.now s (pos 0)) ≤ 2 ^ 46 }
-    requires after_sizes { (s : ℕ) → unsigned_abs (slice_index_or after.now s (pos 0)) ≤ 2 ^ 46 }
+    requires before_sizes { (s : ℕ) → unsigned_abs (slice_index_or before.now s (pos 0)) ≤ MOST_VALUE }
+    requires after_sizes { (s : ℕ) → unsigned_abs (slice_index_or after.now s (pos 0)) ≤ MOST_VALUE }
     ensures { IsTrue result → AreBelow supply.now «package».now before.now after.now limit }
 {
     let first = supply.place(package);
@@ -92,8 +93,8 @@ fn is_below_at(
     requires categories { length «package».now ≡ length supply.now }
     requires before { length before.now ≡ states_of supply.now }
     requires after { length after.now ≡ states_of supply.now }
-    requires before_sizes { (s : ℕ) → unsigned_abs (slice_index_or before.now s (pos 0)) ≤ 2 ^ 46 }
-    requires after_sizes { (s : ℕ) → unsigned_abs (slice_index_or after.now s (pos 0)) ≤ 2 ^ 46 }
+    requires before_sizes { (s : ℕ) → unsigned_abs (slice_index_or before.now s (pos 0)) ≤ MOST_VALUE }
+    requires after_sizes { (s : ℕ) → unsigned_abs (slice_index_or after.now s (pos 0)) ≤ MOST_VALUE }
     requires place { place < states_of supply.now }
     requires first { (first ≡ place_of supply.now «package».now) × (first ≤ place) }
     ensures { IsTrue result → IsBelowAt supply.now «package».now before.now after.now limit place }

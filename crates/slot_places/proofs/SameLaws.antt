@@ -5,7 +5,7 @@ use Rattle.auction_model.specs.Market.{number_of}
 use Rattle.auction_model.specs.Lowered.{sum_to}
 use Rattle.auction_model.proofs.PlainLaws.{IsFirstGreatest-same}
 use Rattle.slot_places.specs.Slots.{SlotList, width_of}
-use Rattle.slot_places.specs.Board.{Board, joined, some_of, outside, is_known, can_place, start_behind, starts_at, board_without}
+use Rattle.slot_places.specs.Board.{Board, joined, some_of, outside, is_known, can_place, start_after, starts_at, board_without}
 use Rattle.slot_places.specs.SetTable.{is_idle_in, fits_behind, counts_outside, sum_outside, IsSetBest}
 use Rattle.slot_places.proofs.StepLaws.{sum-same}
 
@@ -41,7 +41,7 @@ widths-same slots s t zero same = refl
 widths-same slots s t (suc n) same = rw (widths-same slots s t n same, same (suc n) (omega arith)) refl
 
 -- the first slot after the one is that after the other
-pub start-same : (slots : SlotList) (s t : ℕ → Bool) → IsSame s t → start_behind slots s ≡ start_behind slots t
+pub start-same : (slots : SlotList) (s t : ℕ → Bool) → IsSame s t → start_after slots s ≡ start_after slots t
 start-same slots s t same = ap (λ w. 1 + w) (widths-same slots s t (length slots.bidders) same)
 
 -- what a bidder of slots can be given depends on the bidders of the set alone

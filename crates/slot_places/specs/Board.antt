@@ -47,8 +47,8 @@ abbrev pub is_placed : Board → List ℕ → Bool
 is_placed b c = is_known b c && can_place b c b.bidders nobody
 
 -- the first slot after the bidders of a set, which are laid side by side from slot 1 upwards
-abbrev pub start_behind : SlotList → (ℕ → Bool) → ℕ
-start_behind slots s = 1 + sum_to (λ j. if s j then width_of slots j else 0) (length slots.bidders)
+abbrev pub start_after : SlotList → (ℕ → Bool) → ℕ
+start_after slots s = 1 + sum_to (λ j. if s j then width_of slots j else 0) (length slots.bidders)
 
 -- none, or a bid for just that start
 abbrev pub starts_at : SlotList → ℕ → ℕ → ℕ → Bool
@@ -59,7 +59,7 @@ abbrev pub board_of : SlotList → Board
 board_of slots = record {
   bidders = length slots.bidders;
   bids = λ j. length (bids_of slots j);
-  may = λ s. starts_at slots (start_behind slots s);
+  may = λ s. starts_at slots (start_after slots s);
 }
 
 -- the same, but bidder `skipped` has no bids
@@ -67,7 +67,7 @@ abbrev pub board_without : SlotList → ℕ → Board
 board_without slots skipped = record {
   bidders = length slots.bidders;
   bids = λ j. if j == skipped then 0 else length (bids_of slots j);
-  may = λ s. starts_at slots (start_behind slots s);
+  may = λ s. starts_at slots (start_after slots s);
 }
 
 -- The market of slots: a choice is allowed when some order of all bidders gives each bidder with a number other than 0 the start

@@ -129,7 +129,7 @@ fn outside_bidder(search: &Search, set: usize) -> u16
 }
 
 /// The best choice after a set, from those after all greater sets.
-fn best_behind(
+fn best_after(
     alloc: Global,
     search: &Search,
     set: usize,
@@ -185,7 +185,7 @@ pub fn all_bests(alloc: Global, search: &Search) -> Result<Vec<Best>, AllocError
     let last = last_best(alloc, search)?;
     bests.push(last)?;
     for set in (0..count - 1).rev() {
-        let best = best_behind(alloc, search, set, &bests)?;
+        let best = best_after(alloc, search, set, &bests)?;
         bests.insert(0, best)?;
     }
     Ok(bests)

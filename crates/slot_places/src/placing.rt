@@ -1,7 +1,7 @@
 // Orders that allow a choice, and the first of them.
 ghost use Rattle.std.specs.Prelude.{◌≡◌, ◌+◌, ◌^◌, ◌<◌, ◌≤◌, ◌↔◌, IsTrue, IsFalse, IfOk, IfSome, IfNone, length};
 ghost use Rattle.slot_places.specs.Slots.{bids_of};
-ghost use Rattle.slot_places.specs.Board.{board_of, market_of_slots, start_behind, starts_at, is_known, can_place};
+ghost use Rattle.slot_places.specs.Board.{board_of, market_of_slots, start_after, starts_at, is_known, can_place};
 ghost use Rattle.slot_places.specs.SetTable.{holds};
 ghost use Rattle.slot_places.specs.Orders.{allows, IsPlacement};
 ghost use Rattle.slot_places.specs.Steps.{CanFollow, IsFirstNext};
@@ -140,18 +140,18 @@ impl Slots {
     fn may_start(&self, set: usize, j: u16, i: u16) -> bool
         requires bidder { (0 < j) × (j ≤ length self.now.bidders) }
         requires bid { i ≤ length (bids_of self.now j) }
-        ensures { result ≡ starts_at self.now (start_behind self.now (holds set)) j i }
+        ensures { result ≡ starts_at self.now (start_after self.now (holds set)) j i }
     {
         if i == 0 {
             return true;
         }
         let place = self.place(j, i);
-        place.start == self.start_behind(set)
+        place.start == self.start_after(set)
     }
 
     /// The first slot after the bidders of a set.
-    pub fn start_behind(&self, set: usize) -> u16
-        ensures { result ≡ start_behind self.now (holds set) }
+    pub fn start_after(&self, set: usize) -> u16
+        ensures { result ≡ start_after self.now (holds set) }
     {
         let mut start: u16 = 1;
         for k in 0..self.bidders() {

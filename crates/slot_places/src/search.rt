@@ -4,7 +4,7 @@ ghost use Rattle.std.specs.Int.{int_max};
 ghost use Rattle.auction_model.specs.Lowered.{of_bidder};
 ghost use Rattle.limits.specs.declared.TheConstants.{MOST_LOTS};
 ghost use Rattle.slot_places.specs.Slots.{amount_of};
-ghost use Rattle.slot_places.specs.Board.{board_without, start_behind};
+ghost use Rattle.slot_places.specs.Board.{board_without, start_after};
 ghost use Rattle.slot_places.specs.SetTable.{holds, StaysInRange};
 
 use crate::Slots;
@@ -56,9 +56,9 @@ impl<'a> Search<'a> {
 
     /// The first slot after the bidders of a set.
     pub fn start(&self, set: usize) -> u16
-        ensures { result ≡ start_behind self.now.slots.now (holds set) }
+        ensures { result ≡ start_after self.now.slots.now (holds set) }
     {
-        self.slots.start_behind(set)
+        self.slots.start_after(set)
     }
 }
 

@@ -1,5 +1,5 @@
 -- What a line has whose tests need the first three.
-use Rattle.std.proofs.Common.{◌≡◌, ℕ, suc, ◌<◌, ◌≤◌, List, [], ◌∷◌, inl, refl, sym, subst, arith}
+use Rattle.std.proofs.Common.{◌≡◌, ℕ, suc, ◌<◌, ◌≤◌, List, [], ◌∷◌, inl, inr, refl, sym, subst, arith}
 use Rattle.std.specs.Prelude.{ℤ, Option, None, IsTrue}
 use Rattle.auction_model.specs.Book.{Book}
 use Rattle.auction_model.specs.Prices.{weight_of}
@@ -14,15 +14,16 @@ use Rattle.cert_check.specs.declared.failure.Failure.{Failure}
 use Rattle.cert_check.specs.Partway.{HoldsTo, IsJudged}
 use Rattle.cert_check.proofs.HeadLaws.{head-shown}
 use Rattle.cert_stream.specs.declared.due.NextLine.{NextLine}
-use Rattle.cert_stream.specs.declared.due.NextLine.TheVariants.{Choice, Den, End, Entries, Limits, Members, Multipliers, Nothing, PartChoice, Payments}
-use Rattle.cert_stream.specs.declared.due.NextLine.TheVariants.{RowChoice, Rows, Title, Value, Version, Without}
-use Rattle.cert_stream.specs.declared.due.Table.TheVariants.{Head, Part, Lowered}
+use Rattle.cert_stream.specs.declared.due.NextLine.TheVariants.{Choice, Den, PartChoice, Payments, Rows, Value}
 use Rattle.cert_stream.specs.Rooms.{segment}
 use Rattle.stream_check.specs.declared.moment.LineContext.{LineContext}
+use Rattle.stream_check.specs.ClaimLines.{due_of}
+use Rattle.stream_check.specs.declared.judging.claims.ClaimLine.{ClaimLine}
+use Rattle.stream_check.specs.declared.judging.claims.ClaimLine.TheVariants as claim
 use Rattle.stream_check.specs.InRoom.{fields_come, parts_come}
 use Rattle.stream_check.specs.Lines.{IsNext}
 use Rattle.stream_check.specs.Moments.{IsAt, IsClaimOf}
-use Rattle.stream_check.specs.Tests.{IsClaimed, IsFound, IsRowsEnd, test_due}
+use Rattle.stream_check.specs.Tests.{IsFound, IsRowsEnd, test_due}
 use Rattle.stream_check.proofs.NextLaws.{at-due, next-due, found-by, found-next, part-choice}
 
 -- the head and its choice have come, and the first four tests are made
@@ -30,44 +31,16 @@ record IsLater (due : NextLine) : Type 0 where
   fields : 3 ≤ fields_come due
   tests : 5 ≤ test_due due
 
-later : (due : NextLine) → IsClaimed due → IsLater due
-later Version is = absurd is
-later Limits is = absurd is
-later Den is = absurd is
-later Value is = absurd is
-later Choice is = absurd is
-later (Title table) is = absurd is
-later (Entries Head k) is = absurd is
-later (Entries (Part j) k) is = absurd is
-later (Entries Lowered k) is = record { fields = omega arith; tests = omega arith }
-later (Without j) is = absurd is
-later (PartChoice j) is = absurd is
-later Payments is = record { fields = omega arith; tests = omega arith }
-later Rows is = record { fields = omega arith; tests = omega arith }
-later (Members r) is = absurd is
-later (Multipliers r) is = absurd is
-later (RowChoice r) is = record { fields = omega arith; tests = omega arith }
-later End is = absurd is
-later Nothing is = absurd is
+later : (line : ClaimLine) → IsLater (due_of line)
+later claim.Payments = record { fields = omega arith; tests = omega arith }
+later claim.Rows = record { fields = omega arith; tests = omega arith }
+later (claim.Row left) = record { fields = omega arith; tests = omega arith }
+later (claim.Lowered k) = record { fields = omega arith; tests = omega arith }
 
--- so is a line with which the rows may end
-pub ends-claimed : (due : NextLine) → IsRowsEnd due → IsClaimed due
-ends-claimed Version is = absurd is
-ends-claimed Limits is = absurd is
-ends-claimed Den is = absurd is
-ends-claimed Value is = absurd is
-ends-claimed Choice is = absurd is
-ends-claimed (Title table) is = absurd is
-ends-claimed (Entries table k) is = absurd is
-ends-claimed (Without j) is = absurd is
-ends-claimed (PartChoice j) is = absurd is
-ends-claimed Payments is = absurd is
-ends-claimed Rows is = tt
-ends-claimed (Members r) is = absurd is
-ends-claimed (Multipliers r) is = absurd is
-ends-claimed (RowChoice r) is = tt
-ends-claimed End is = absurd is
-ends-claimed Nothing is = absurd is
+-- with which the rows may end
+pub ends-claimed : (due : NextLine) → IsRowsEnd due → (line : ClaimLine) × (due ≡ due_of line)
+ends-claimed due (inl is) = (claim.Rows, is)
+ends-claimed due (inr (left, is)) = (claim.Row left, is)
 
 -- and all parts and the payments have come before it
 record IsBehindParts (b : ℕ) (due : NextLine) : Type 0 where
@@ -76,22 +49,8 @@ record IsBehindParts (b : ℕ) (due : NextLine) : Type 0 where
   place : test_due due ≡ 6
 
 ends-behind : (b : ℕ) (due : NextLine) → IsRowsEnd due → IsBehindParts b due
-ends-behind b Version is = absurd is
-ends-behind b Limits is = absurd is
-ends-behind b Den is = absurd is
-ends-behind b Value is = absurd is
-ends-behind b Choice is = absurd is
-ends-behind b (Title table) is = absurd is
-ends-behind b (Entries table k) is = absurd is
-ends-behind b (Without j) is = absurd is
-ends-behind b (PartChoice j) is = absurd is
-ends-behind b Payments is = absurd is
-ends-behind b Rows is = record { paid = omega arith; come = omega arith; place = refl }
-ends-behind b (Members r) is = absurd is
-ends-behind b (Multipliers r) is = absurd is
-ends-behind b (RowChoice r) is = record { paid = omega arith; come = omega arith; place = refl }
-ends-behind b End is = absurd is
-ends-behind b Nothing is = absurd is
+ends-behind b due (inl is) = subst (IsBehindParts b) (sym is) (record { paid = omega arith; come = omega arith; place = refl })
+ends-behind b due (inr (left, is)) = subst (IsBehindParts b) (sym is) (record { paid = omega arith; come = omega arith; place = refl })
 
 module _ (at : LineContext) (c : CertValue) (is : IsAt at c) (line : IsRowsEnd at.due) where
   -- the room has the payments
@@ -103,21 +62,24 @@ module _ (at : LineContext) (c : CertValue) (is : IsAt at c) (line : IsRowsEnd a
       (PartChoice j) at.room.now ≡ as_numbers (part_of c.withouts j).choice
   part-known j some inside wins = is.known.in_room.parts j some inside (omega (arith, inside, (ends-behind (bidders_of at.book.now) at.due line).come)) wins
 
-module _ (at : LineContext) (c : CertValue) (is : IsAt at c) (due : IsClaimed at.due) where
+module _ (at : LineContext) (c : CertValue) (is : IsAt at c) (line : ClaimLine) (due : at.due ≡ due_of line) where
+  here : IsLater at.due
+  here = subst IsLater (sym due) (later line)
+
   -- the room has the denominator
   pub den-there : segment (bidders_of at.book.now) (states at.book.now) Den at.room.now ≡ c.den ∷ []
-  den-there = is.known.in_room.den (omega (arith, (later at.due due).fields))
+  den-there = is.known.in_room.den (omega (arith, here.fields))
 
   -- the room has the value
   pub value-there : segment (bidders_of at.book.now) (states at.book.now) Value at.room.now ≡ c.value ∷ []
-  value-there = is.known.in_room.value (omega (arith, (later at.due due).fields))
+  value-there = is.known.in_room.value (omega (arith, here.fields))
 
   -- the room has the head's choice
   pub choice-there : segment (bidders_of at.book.now) (states at.book.now) Choice at.room.now ≡ as_numbers c.choice
-  choice-there = is.known.in_room.choice (omega (arith, (later at.due due).fields))
+  choice-there = is.known.in_room.choice (omega (arith, here.fields))
 
   held : (t place : ℕ) → t < 5 → Asks at.book.now (weight_of at.weights.now) c t place
-  held t place low = is.known.tested.holds t place (inl (omega (arith, low, (later at.due due).tests)))
+  held t place low = is.known.tested.holds t place (inl (omega (arith, low, here.tests)))
 
   -- the first three tests hold
   pub head-holds : HeadHolds at.book.now c
@@ -146,11 +108,11 @@ pub part-whole : (at : LineContext) (c : CertValue) (is : IsAt at c) (j : ℕ) �
 part-whole at c is = part-choice (bidders_of at.book.now) (states at.book.now) c is.kept
 
 -- in the words of the claim
-pub parts_of-claim : (at : LineContext) (c : CertValue) (is : IsAt at c) (due : IsClaimed at.due) (a : Claim) → IsClaimOf at a → (j : ℕ) → 0 < j
+pub parts_of-claim : (at : LineContext) (c : CertValue) (is : IsAt at c) (line : ClaimLine) (due : at.due ≡ due_of line) (a : Claim) → IsClaimOf at a → (j : ℕ) → 0 < j
     → j ≤ bidders_of a.book.now → IsTrue (uses a.choice.now j) → IsPart a.book.now j (part_of c.withouts j)
-parts_of-claim at c is due a claim =
+parts_of-claim at c is line due a claim =
     subst (λ (b : Book). (j : ℕ) → 0 < j → j ≤ bidders_of b → IsTrue (uses a.choice.now j) → IsPart b j (part_of c.withouts j)) (sym claim.book)
-    (λ j some inside wins. (parts-hold at c is due j).part some inside (subst (λ (l : List ℕ). IsTrue (uses l j)) (sym (claim.each c is).choice_is) wins))
+    (λ j some inside wins. (parts-hold at c is line due j).part some inside (subst (λ (l : List ℕ). IsTrue (uses l j)) (sym (claim.each c is).choice_is) wins))
 
 module _ (at : LineContext) (c : CertValue) (is : IsAt at c) (due : at.due ≡ Payments) where
   -- the room has the payments, whose line has come

@@ -58,11 +58,6 @@ module _ (at : LineContext) (c : CertValue) (is : IsAt at c) (r : ℕ) (due : at
   pub pair-inside : length c.rows - r < length c.rows
   pair-inside = (let here = at-due at c (Multipliers r) due is in omega (arith, here.known.named.0, here.known.has))
 
--- the line is one of members
-abbrev pub IsMembers : NextLine → Type 0
-IsMembers (Members r) = Unit {0}
-IsMembers due = ⊥
-
 -- no row is read after the parts
 part-members : (b s n : ℕ) (c : CertValue) (choice : List ℤ) (j : ℕ) (next : NextLine) (room : List ℤ) → IsPartNext b choice j next → HasMembers b s c next n room
 part-members b s n c choice j Version room is = absurd is
@@ -88,7 +83,7 @@ row-members b s n zero c next room is = subst (λ (d : NextLine). HasMembers b s
 row-members b s n (suc m) c next room is = subst (λ (d : NextLine). HasMembers b s c d n room) (sym is) tt
 
 -- another line leaves the count of members as it is
-pub members-next : (book : Book) (c : CertValue) (due next : NextLine) (n : ℕ) (room : List ℤ) → (IsMembers due → ⊥) → length c.rows ≤ 10 → IsNext book c due next
+pub members-next : (book : Book) (c : CertValue) (due next : NextLine) (n : ℕ) (room : List ℤ) → ((r : ℕ) → due ≡ Members r → ⊥) → length c.rows ≤ 10 → IsNext book c due next
     → HasMembers (bidders_of book) (states book) c due n room → HasMembers (bidders_of book) (states book) c next n room
 members-next book c Version next n room other few is has = elim is [
   | inl e ↦ subst (λ (d : NextLine). HasMembers (bidders_of book) (states book) c d n room) (sym e) tt
@@ -115,7 +110,7 @@ members-next book c (Without j) next n room other few is has = subst (λ (d : Ne
 members-next book c (PartChoice j) next n room other few is has = subst (λ (d : NextLine). HasMembers (bidders_of book) (states book) c d n room) (sym is) tt
 members-next book c Payments next n room other few is has = subst (λ (d : NextLine). HasMembers (bidders_of book) (states book) c d n room) (sym is) tt
 members-next book c Rows next n room other few is has = row-members (bidders_of book) (states book) n (length c.rows) c next room (is (length c.rows) refl few)
-members-next book c (Members r) next n room other few is has = absurd (other tt)
+members-next book c (Members r) next n room other few is has = absurd (other r refl)
 members-next book c (Multipliers r) next n room other few is has = subst (λ (d : NextLine). HasMembers (bidders_of book) (states book) c d n room) (sym is) has
 members-next book c (RowChoice r) next n room other few is has = row-members (bidders_of book) (states book) n (r - 1) c next room is
 members-next book c End next n room other few is has = subst (λ (d : NextLine). HasMembers (bidders_of book) (states book) c d n room) (sym is) tt

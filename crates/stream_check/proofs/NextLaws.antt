@@ -16,6 +16,7 @@ use Rattle.cert_check.proofs.PartwayLaws.{holds-further, holds-whole}
 use Rattle.cert_stream.specs.declared.due.NextLine.{NextLine}
 use Rattle.cert_stream.specs.declared.due.NextLine.TheVariants.{Choice, Den, End, Entries, Limits, Members, Multipliers, Nothing, PartChoice, Payments}
 use Rattle.cert_stream.specs.declared.due.NextLine.TheVariants.{RowChoice, Rows, Title, Value, Version, Without}
+use Rattle.cert_stream.specs.declared.due.Table.{Table}
 use Rattle.cert_stream.specs.declared.due.Table.TheVariants.{Head, Part, Lowered}
 use Rattle.cert_stream.specs.Order.{IsPartNext, NoneFrom}
 use Rattle.cert_stream.proofs.Comings.{finds, number_at}
@@ -146,3 +147,23 @@ module _ (book : Book) (w : ℕ → ℕ) (c : CertValue) where
   plain (RowChoice r) next late p is t = absurd p
   plain End next late p is t = subst (λ (d : NextLine). IsTestedTo book w c d None) (sym is) (record { holds = t.holds; early = refl; part = tt })
   plain Nothing next late p is t = subst (λ (d : NextLine). IsTestedTo book w c d None) (sym is) (record { holds = t.holds; early = refl; part = tt })
+
+-- no test waits for a line that is none of these
+pub plain-else : (due : NextLine) → (due ≡ Value → ⊥) → (due ≡ Choice → ⊥) → ((table : Table) (k : ℕ) → due ≡ Entries table k → ⊥)
+    → ((j : ℕ) → due ≡ PartChoice j → ⊥) → (due ≡ Payments → ⊥) → (due ≡ Rows → ⊥) → ((r : ℕ) → due ≡ RowChoice r → ⊥) → IsPlain due
+plain-else Version value choice entries part payments rows row = tt
+plain-else Limits value choice entries part payments rows row = tt
+plain-else Den value choice entries part payments rows row = tt
+plain-else Value value choice entries part payments rows row = absurd (value refl)
+plain-else Choice value choice entries part payments rows row = absurd (choice refl)
+plain-else (Title table) value choice entries part payments rows row = tt
+plain-else (Entries table k) value choice entries part payments rows row = absurd (entries table k refl)
+plain-else (Without j) value choice entries part payments rows row = tt
+plain-else (PartChoice j) value choice entries part payments rows row = absurd (part j refl)
+plain-else Payments value choice entries part payments rows row = absurd (payments refl)
+plain-else Rows value choice entries part payments rows row = absurd (rows refl)
+plain-else (Members r) value choice entries part payments rows row = tt
+plain-else (Multipliers r) value choice entries part payments rows row = tt
+plain-else (RowChoice r) value choice entries part payments rows row = absurd (row r refl)
+plain-else End value choice entries part payments rows row = tt
+plain-else Nothing value choice entries part payments rows row = tt

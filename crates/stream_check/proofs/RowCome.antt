@@ -64,13 +64,8 @@ row-totals : (c : CertValue) (n : ℕ) (next : NextLine) (t : RowTotals) → IsR
 row-totals c zero next t is are = subst (λ (d : NextLine). HasTotals c d t) (sym is) tt
 row-totals c (suc r) next t is are = subst (λ (d : NextLine). HasTotals c d t) (sym is) are
 
--- the line is one of multipliers
-abbrev pub IsPair : NextLine → Type 0
-IsPair (Multipliers r) = Unit {0}
-IsPair due = ⊥
-
 -- another line leaves the totals as they are
-pub totals-next : (book : Book) (c : CertValue) (due next : NextLine) (t : RowTotals) → (IsPair due → ⊥) →
+pub totals-next : (book : Book) (c : CertValue) (due next : NextLine) (t : RowTotals) → ((r : ℕ) → due ≡ Multipliers r → ⊥) →
     ((r : ℕ) → due ≡ RowChoice r → (0 < r) × (r ≤ length c.rows)) → length c.rows ≤ 10 → IsNext book c due next → HasTotals c due t → HasTotals c next t
 totals-next book c Version next t other rows few is has = elim is [
   | inl e ↦ subst (λ (d : NextLine). HasTotals c d t) (sym e) has
@@ -101,7 +96,7 @@ totals-next book c Payments next t other rows few is has = subst (λ (d : NextLi
 totals-next book c Rows next t other rows few is has = row-totals c (length c.rows) next t (is (length c.rows) refl few)
     (as-many c 0 (length c.rows - length c.rows) t (omega arith) has)
 totals-next book c (Members r) next t other rows few is has = subst (λ (d : NextLine). HasTotals c d t) (sym is) has
-totals-next book c (Multipliers r) next t other rows few is has = absurd (other tt)
+totals-next book c (Multipliers r) next t other rows few is has = absurd (other r refl)
 totals-next book c (RowChoice r) next t other rows few is has = (let in_rows = rows r refl in row-totals c (r - 1) next t is
     (as-many c (suc (length c.rows - r)) (length c.rows - (r - 1)) t (omega (arith, in_rows.0, in_rows.1)) has))
 totals-next book c End next t other rows few is has = subst (λ (d : NextLine). HasTotals c d t) (sym is) tt

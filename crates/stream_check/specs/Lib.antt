@@ -7,3 +7,4 @@ pub mod Lines
 pub mod Moments
 pub mod Standing
 pub mod WholeRoom
+pub mod ClaimLines

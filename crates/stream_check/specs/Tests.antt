@@ -1,5 +1,5 @@
 -- How far the tests of a certificate are, by the line that is due.
-use Rattle.std.specs.Prelude.{◌≡◌, ℕ, zero, suc, ◌+◌, ◌-◌, ◌*◌, ◌<◌, IsTrue, length, Option, Some, None, ◌≤ℤ◌}
+use Rattle.std.specs.Prelude.{◌≡◌, ℕ, zero, suc, ◌+◌, ◌-◌, ◌*◌, ◌<◌, ◌⊎◌, IsTrue, length, Option, Some, None, ◌≤ℤ◌}
 use Rattle.auction_model.specs.Book.{Book, market_of, menu_of, net_of}
 use Rattle.auction_model.specs.Market.{number_of, uses, value_of}
 use Rattle.auction_model.specs.Menu.{without}
@@ -107,16 +107,6 @@ IsPlain End = Unit {0}
 IsPlain Nothing = Unit {0}
 IsPlain due = ⊥
 
--- the tests of the line need what the first three have shown
-abbrev pub IsClaimed : NextLine → Type 0
-IsClaimed Payments = Unit {0}
-IsClaimed Rows = Unit {0}
-IsClaimed (RowChoice r) = Unit {0}
-IsClaimed (Entries Lowered k) = Unit {0}
-IsClaimed due = ⊥
-
 -- the rows may end with the line
 abbrev pub IsRowsEnd : NextLine → Type 0
-IsRowsEnd Rows = Unit {0}
-IsRowsEnd (RowChoice r) = Unit {0}
-IsRowsEnd due = ⊥
+IsRowsEnd due = (due ≡ Rows) ⊎ ((r : ℕ) × (due ≡ RowChoice r))

@@ -15,7 +15,7 @@ ghost use Rattle.cert_stream.specs.Stops.{SaysStop};
 
 use crate::facts::facts_in;
 use crate::judging::judged;
-use crate::kept::{members_behind, totals_behind};
+use crate::kept::{members_after, totals_after};
 use crate::moment::LineContext;
 use crate::row_totals::{RowTotals, no_totals};
 use bid_book::BidBook;
@@ -192,8 +192,8 @@ impl<'a> StreamCheck<'a> {
             totals: &self.totals,
         };
         let found = judged(&at);
-        let members = members_behind(&at);
-        let totals = totals_behind(&at);
+        let members = members_after(&at);
+        let totals = totals_after(&at);
         self.failed = found.failed;
         self.late = found.late;
         self.members = members;

@@ -11,9 +11,8 @@ ghost use Rattle.cert_stream.specs.Dues.{IsDue};
 ghost use Rattle.cert_stream.specs.Rooms.{room_size, segment};
 ghost use Rattle.stream_check.specs.WholeRoom.{HasAll, single_at};
 
-use crate::room::{number_in, numbers_in, put_choice};
+use crate::room::{choice_in, number_in, numbers_in};
 use bid_book::BidBook;
-use cert_check::BIDDER_ROOM;
 use cert_stream::NextLine;
 use cert_summary::{CertFacts, Singles};
 use choices::{Choice, Single, value_among, worth};
@@ -30,7 +29,7 @@ pub(crate) fn facts_in(
     requires some { (c : CertValue) × HasAll book.now c room.now }
     ensures { (c : CertValue) → HasAll book.now c room.now → IfOk result (AreFacts book.now c) }
 {
-    let choice = choice_in(alloc, book, NextLine::Choice, room)?;
+    let choice = read_choice(alloc, book, NextLine::Choice, room)?;
     let singles = singles_in(alloc, book, room, choice.numbers())?;
     let pay = Vec::from_slice(alloc, numbers_in(book, NextLine::Payments, room))?;
     Ok(CertFacts {
@@ -81,7 +80,7 @@ fn single_in(
     ensures { (c : CertValue) → HasAll book.now c room.now → number_of c.choice j ≡ number
         → IfOk result (λ single. single ≡ single_at book.now c j) }
 {
-    let choice = choice_in(alloc, book, NextLine::PartChoice(j), room)?;
+    let choice = read_choice(alloc, book, NextLine::PartChoice(j), room)?;
     let value = number_in(book, NextLine::Value, room);
     Ok(Single {
         winner: j,
@@ -102,8 +101,8 @@ fn price(book: &BidBook, value: i128, without: &[u16], j: u16, i: u16) -> i128
     value_among(book, without) - value + worth(book, j, i)
 }
 
-/// The choice whose numbers are in the room as those of a line.
-fn choice_in(
+/// A copy of the choice whose numbers are in the room as those of a line.
+fn read_choice(
     alloc: Global,
     book: &BidBook,
     due: NextLine,
@@ -116,8 +115,6 @@ fn choice_in(
     ensures { (ns : List ℕ) → segment (bidders_of book.now) (states book.now) due room.now ≡ as_numbers ns
         → IfOk result (λ choice. choice ≡ ns) }
 {
-    let mut numbers = [0u16; BIDDER_ROOM];
-    let bidders = book.bidders();
-    put_choice(book, due, room, &mut numbers);
-    Choice::from_slice(alloc, &numbers[..bidders])
+    let numbers = choice_in(book, due, room);
+    Choice::from_slice(alloc, numbers.as_slice())
 }

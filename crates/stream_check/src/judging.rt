@@ -11,7 +11,7 @@ mod rows;
 mod rules;
 mod tables;
 
-use crate::judging::claims::claim_line;
+use crate::judging::claims::{ClaimLine, claim_line};
 use crate::judging::finding::Finding;
 use crate::judging::heads::{choice_line, value_line};
 use crate::judging::parts::{part_choice, part_line};
@@ -25,22 +25,14 @@ pub(crate) fn judged(at: &LineContext) -> Finding
     ensures { Shows at.now result }
 {
     match at.due {
-        NextLine::Version => no_finding(at),
-        NextLine::Limits => no_finding(at),
-        NextLine::Den => no_finding(at),
         NextLine::Value => value_line(at),
         NextLine::Choice => choice_line(at),
-        NextLine::Title(_) => no_finding(at),
         NextLine::Entries(table, k) => table_line(at, table, k),
-        NextLine::Without(_) => no_finding(at),
         NextLine::PartChoice(j) => part_choice(at, j),
-        NextLine::Payments => claim_line(at),
-        NextLine::Rows => claim_line(at),
-        NextLine::Members(_) => no_finding(at),
-        NextLine::Multipliers(_) => no_finding(at),
-        NextLine::RowChoice(_) => claim_line(at),
-        NextLine::End => no_finding(at),
-        NextLine::Nothing => no_finding(at),
+        NextLine::Payments => claim_line(at, ClaimLine::Payments),
+        NextLine::Rows => claim_line(at, ClaimLine::Rows),
+        NextLine::RowChoice(left) => claim_line(at, ClaimLine::Row(left)),
+        _ => no_finding(at),
     }
 }
 
@@ -53,7 +45,7 @@ fn table_line(at: &LineContext, table: Table, k: u16) -> Finding
     match table {
         Table::Head => head_line(at, k),
         Table::Part(j) => part_line(at, j, k),
-        Table::Lowered => claim_line(at),
+        Table::Lowered => claim_line(at, ClaimLine::Lowered(k)),
     }
 }
 
@@ -62,9 +54,5 @@ fn no_finding(at: &LineContext) -> Finding
     requires { IsPlain at.now.due }
     ensures { Shows at.now result }
 {
-    Finding {
-        failed: None,
-        late: None,
-        grows: false,
-    }
+    Finding::of(None)
 }

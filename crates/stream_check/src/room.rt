@@ -1,13 +1,16 @@
 // Numbers of the room.
-ghost use Rattle.std.specs.Prelude.{◌≡◌, ◌≤◌, ℕ, List, [], ◌∷◌, length, take, ℤ, pos};
+ghost use Rattle.std.specs.Prelude.{◌≡◌, ◌≤◌, ℕ, List, [], ◌∷◌, length, ℤ, pos};
 ghost use Rattle.cert_grammar.specs.CertText.{AtMost, IsChoice, as_numbers};
 ghost use Rattle.cert_soundness.specs.Tests.{bidders_of, states};
 ghost use Rattle.cert_stream.specs.Dues.{IsDue};
 ghost use Rattle.cert_stream.specs.Rooms.{room_size, segment};
+ghost use Rattle.limits.specs.declared.TheConstants.{MOST_BIDDERS};
 
 use bid_book::BidBook;
+use cert_check::BIDDER_ROOM;
 use cert_stream::{NextLine, numbers_span};
 use cert_text::Shape;
+use std::marker::Model;
 
 /// The numbers of the room that belong to a line, as many as it may have.
 pub(crate) fn numbers_in<'a>(book: &BidBook, due: NextLine, room: &'a [i128]) -> &'a [i128]
@@ -30,23 +33,61 @@ pub(crate) fn number_in(book: &BidBook, due: NextLine, room: &[i128]) -> i128
     numbers[0]
 }
 
-/// Copies the numbers of a choice, which are in the room as those of a line.
-pub(crate) fn put_choice(book: &BidBook, due: NextLine, room: &[i128], to: &mut [u16])
+/// Up to one number of at most 65,535 for each bidder, copied from the room: a choice, or the members of a row.
+#[derive(Drop)]
+pub(crate) struct BidderNumbers {
+    numbers: [u16; BIDDER_ROOM],
+    count: usize,
+}
+
+impl Model for BidderNumbers {
+    ghost use Rattle.std.specs.Prelude.{◌≡◌, ◌≤◌, List, ℕ, length, take};
+    ghost use Rattle.limits.specs.declared.TheConstants.{MOST_BIDDERS};
+
+    ghost Value = { List ℕ };
+
+    ghost view = { λ b. take b.count b.numbers };
+
+    ghost invariant = { λ b. (b.count ≤ MOST_BIDDERS) × (length b.numbers ≡ MOST_BIDDERS) };
+}
+
+impl BidderNumbers {
+    /// These numbers.
+    pub(crate) fn of(from: &[i128]) -> BidderNumbers
+        requires few { length from.now ≤ MOST_BIDDERS }
+        requires numbers { (ns : List ℕ) × (from.now ≡ as_numbers ns) × AtMost 65535 ns }
+        ensures { (ns : List ℕ) → from.now ≡ as_numbers ns → result ≡ ns }
+    {
+        let mut numbers = [0; BIDDER_ROOM];
+        let count = from.len();
+        put_numbers(from, &mut numbers[..count]);
+        BidderNumbers { numbers, count }
+    }
+
+    /// The numbers, bidder by bidder or member by member.
+    pub(crate) fn as_slice(&self) -> &[u16]
+        ensures { result.now ≡ self.now }
+    {
+        &self.numbers[..self.count]
+    }
+}
+
+/// The choice whose numbers are in the room as those of a line.
+pub(crate) fn choice_in(book: &BidBook, due: NextLine, room: &[i128]) -> BidderNumbers
     requires due { IsDue (bidders_of book.now) due }
     requires room { length room.now ≡ room_size (bidders_of book.now) (states book.now) }
-    requires to { bidders_of book.now ≤ length to.old }
     requires choice { (ns : List ℕ) × (segment (bidders_of book.now) (states book.now) due room.now ≡ as_numbers ns)
         × IsChoice (bidders_of book.now) ns }
     ensures choice { (ns : List ℕ) → segment (bidders_of book.now) (states book.now) due room.now ≡ as_numbers ns
-        → take (bidders_of book.now) to.new ≡ ns }
-    ensures to { length to.new ≡ length to.old }
+        → result ≡ ns }
+    ensures count { length result ≡ bidders_of book.now }
 {
-    let bidders = book.bidders();
-    put_numbers(numbers_in(book, due, room), &mut to[..bidders]);
+    book.kept();
+    BidderNumbers::of(numbers_in(book, due, room))
 }
 
 /// Copies numbers of at most 65,535.
-pub(crate) fn put_numbers(from: &[i128], to: &mut [u16])
+fn put_numbers(from: &[i128], to: &mut [u16])
     requires count { length to.old ≡ length from.now }
     requires numbers { (ns : List ℕ) × (from.now ≡ as_numbers ns) × AtMost 65535 ns }
     ensures numbers { (ns : List ℕ) → from.now ≡ as_numbers ns → to.new ≡ ns }

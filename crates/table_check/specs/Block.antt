@@ -5,7 +5,7 @@ use Rattle.auction_model.specs.Place.{place_of, states_of, widths_of}
 use Rattle.limits.specs.declared.TheConstants.{MOST_STATES}
 
 -- the supply of some categories, of which a lot spans that many places, and the lots of a package of the first of these, which fit
--- and have the place `first`
+-- and have the place `first`. `value_table` has the same record on purpose, since a checker shares no code with what it checks.
 pub record IsBlock (supply spans lots : List ℕ) (first : ℕ) : Type 0 where
   pub widths : spans ≡ widths_of supply
   pub some : 0 < length lots

@@ -3,6 +3,7 @@
 //! Line `k` of a table has for each place of a remaining supply the most that the bidders after `k` can reach within it. So it is
 //! nowhere below the line below it, and for each bid of its bidder at least what the bid is worth and what the line below has for
 //! the rest. Anyone who tests a table tests it two lines at a time.
+//! What is alike here and in `value_table` (`Block`, `IsBlock`, `place-one`) is double on purpose: a checker shares no code with pricing.
 #![tactic(auto)]
 
 mod block;

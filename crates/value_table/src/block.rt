@@ -1,4 +1,5 @@
 // The blocks in which a bid is counted. In one category, block `q` of a line has the places with `q` lots of that category left.
+// `table_check` has blocks of its own on purpose: a checker uses no crate that prices.
 ghost use Rattle.std.specs.Prelude.{◌≡◌, ◌<◌, IsTrue, drop, length, take};
 ghost use Rattle.auction_model.specs.Package.{IsNothingFrom, is_within};
 ghost use Rattle.value_table.specs.Block.{IsBlock};

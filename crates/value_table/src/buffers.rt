@@ -5,14 +5,19 @@ ghost use Rattle.value_table.specs.LineBuffers.{HasRoom};
 
 use std::alloc::{AllocError, Global};
 
+/// A line and the line after it, in numbers of one width.
+#[derive(Drop)]
+pub struct WidthBuffers<C> {
+    pub below: Vec<C>,
+    pub line: Vec<C>,
+}
+
 /// Buffers in which a line is computed from the one after it, in 32 bits where both are so small and else in 64, and in which both may
 /// be put in 16 bits.
 #[derive(Drop)]
 pub struct LineBuffers {
-    pub short_below: Vec<u32>,
-    pub short_line: Vec<u32>,
-    pub below: Vec<i64>,
-    pub line: Vec<i64>,
+    pub short: WidthBuffers<u32>,
+    pub wide: WidthBuffers<i64>,
     pub low: Vec<u16>,
     pub high: Vec<u16>,
 }
@@ -23,17 +28,17 @@ impl LineBuffers {
         requires { states ≤ MOST_STATES }
         ensures { IfOk result (λ buffers. HasRoom states buffers) }
     {
-        let short_below = vec![in alloc; 0u32; states]?;
-        let short_line = vec![in alloc; 0u32; states]?;
+        let below = vec![in alloc; 0u32; states]?;
+        let line = vec![in alloc; 0u32; states]?;
+        let short = WidthBuffers { below, line };
         let below = vec![in alloc; 0i64; states]?;
         let line = vec![in alloc; 0i64; states]?;
+        let wide = WidthBuffers { below, line };
         let low = vec![in alloc; 0u16; states]?;
         let high = vec![in alloc; 0u16; states]?;
         Ok(LineBuffers {
-            short_below,
-            short_line,
-            below,
-            line,
+            short,
+            wide,
             low,
             high,
         })

@@ -6,9 +6,10 @@ ghost use Rattle.choices.specs.Lines.{width_of};
 ghost use Rattle.limits.specs.declared.TheConstants.{MOST_STATES};
 ghost use Rattle.value_table.specs.Counted.{counted_bids, counted, IsWithin, IsLineWithin, IsCountedLine, AreCountedLines, IsCountedTable, IsWholeTable};
 
+use crate::buffers::WidthBuffers;
 use crate::cell::Cell;
 use crate::lowered_bids::LoweredBids;
-use crate::tested::add_bid;
+use crate::tested::{CellBid, add_bid};
 use crate::tracing::line_at;
 use crate::units::{put_units, shift_after};
 use crate::widths::{narrow_into, widen_into};
@@ -59,17 +60,10 @@ fn count_bids<C: Cell>(
             continue;
         }
         let worth = C::narrowed(lowered.worth(j, i + 1));
-        let bid = lowered.bid(j, i + 1);
-        let more = add_bid(
-            lowered.book.supply(),
-            line,
-            below,
-            &bid.package,
-            worth,
-            shift,
-            low,
-            high,
-        );
+        let own = lowered.bid(j, i + 1);
+        let lots = &own.package;
+        let bid = CellBid { lots, worth };
+        let more = add_bid(lowered.book.supply(), &bid, line, below, shift, low, high);
         bids = bids.saturating_add(1);
         covered = covered.saturating_add(more);
         shift = shift_after(shift, bids, covered);
@@ -95,15 +89,14 @@ pub fn turn_line<C: Cell>(
     count_bids(lowered, j, line, below, low, high);
 }
 
-/// Makes `line` line `j - 1`, from line `j`, computed in lists of numbers of one width, with two lists in which the lines may be put
-/// in 16 bits. It takes no memory.
+/// Makes `line` line `j - 1`, from line `j`, computed in buffers of one width, with two lists in which the lines may be put in 16 bits.
+/// It takes no memory.
 pub fn put_line<C: Cell>(
     lowered: &LoweredBids,
     j: u16,
     below: &[i128],
     line: &mut [i128],
-    own_below: &mut [C],
-    own_line: &mut [C],
+    buffers: &mut WidthBuffers<C>,
     low: &mut [u16],
     high: &mut [u16],
 )
@@ -111,10 +104,14 @@ pub fn put_line<C: Cell>(
     requires range { IsLineWithin lowered.now C.most j below.now }
     requires below { IsCountedLine lowered.now j below.now }
     requires places { length line.old ≡ length below.now }
-    requires own_below { length own_below.old ≡ length below.now }
-    requires own_line { length own_line.old ≡ length below.now }
-    ensures { IsCountedLine lowered.now (j - 1) line.new }
+    requires own_below { length buffers.old.below.items ≡ length below.now }
+    requires own_line { length buffers.old.line.items ≡ length below.now }
+    ensures line { IsCountedLine lowered.now (j - 1) line.new }
+    ensures own_below { length buffers.new.below.items ≡ length below.now }
+    ensures own_line { length buffers.new.line.items ≡ length below.now }
 {
+    let own_below = buffers.below.as_mut_slice();
+    let own_line = buffers.line.as_mut_slice();
     narrow_into(own_below, below);
     own_line.copy_from_slice(own_below);
     turn_line(lowered, j, own_below, own_line, low, high);

@@ -118,8 +118,7 @@ fn side_line(
             j,
             below,
             line,
-            &mut buffers.short_below,
-            &mut buffers.short_line,
+            &mut buffers.short,
             &mut buffers.low,
             &mut buffers.high,
         );
@@ -129,8 +128,7 @@ fn side_line(
             j,
             below,
             line,
-            &mut buffers.below,
-            &mut buffers.line,
+            &mut buffers.wide,
             &mut buffers.low,
             &mut buffers.high,
         );

@@ -145,27 +145,33 @@ fn raise_lots<C: Cell>(
     }
 }
 
+/// The lots of a bid, and its worth in the width of a line.
+#[derive(Drop)]
+pub struct CellBid<'a, C> {
+    pub lots: &'a Package,
+    pub worth: C,
+}
+
 /// Counts one more bid that fits in each entry of the line. Neither line falls where more is left. Where there is a shift both are
 /// in units of `2^shift` too.
 pub fn add_bid<C: Cell>(
     supply: &Supply,
+    bid: &CellBid<'_, C>,
     line: &mut [C],
     below: &[C],
-    lots: &Package,
-    worth: C,
     shift: Option<u32>,
     low: &mut [u16],
     high: &[u16],
 ) -> u32
-    requires lines { CanRaise C.number C.most (states_of supply.now) line.old below.now worth }
-    requires categories { length lots.now ≡ length supply.now }
-    requires fits { IsTrue (is_within lots.now supply.now) }
+    requires lines { CanRaise C.number C.most (states_of supply.now) line.old below.now bid.now.worth }
+    requires categories { length bid.now.lots.now ≡ length supply.now }
+    requires fits { IsTrue (is_within bid.now.lots.now supply.now) }
     requires below_grows { Grows supply.now (map C.number below.now) }
     requires line_grows { Grows supply.now (map C.number line.old) }
     requires units { MayBeInUnits C.number shift line.old below.now low.old high.now }
-    ensures line { IsRaisedBy C.number supply.now lots.now below.now worth line.old line.new }
+    ensures line { IsRaisedBy C.number supply.now bid.now.lots.now below.now bid.now.worth line.old line.new }
     ensures units { MayBeInUnits C.number shift line.new below.now low.new high.now }
 {
-    let block = Block::whole(supply, lots);
-    raise_lots(shift, &block, line, below, low, high, worth)
+    let block = Block::whole(supply, bid.lots);
+    raise_lots(shift, &block, line, below, low, high, bid.worth)
 }

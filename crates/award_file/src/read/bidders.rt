@@ -8,6 +8,7 @@ ghost use Rattle.award_file.specs.Walk as walk;
 
 use crate::entrants::Entrants;
 use crate::read::AwardStop;
+use crate::read::field_numbers::{BIDDER_NAME, BIDDERS, ELIGIBILITY, HOLDING, OTHER_KEY};
 use crate::read::fields::{
     broken, broken_top, has_other, list_at, name_at, number_at, row_of, value_at,
 };
@@ -30,7 +31,7 @@ pub fn read_bidders(alloc: Global, table: &Table, categories: usize) -> Result<E
     ensures err { IfErr result (IsFault (walk.bidders_fault categories (table_view table.now))) }
 {
     let Some(tables) = list_at(table, "bidder") else {
-        return Err(broken_top(8));
+        return Err(broken_top(BIDDERS));
     };
     read_listed(alloc, tables, categories)
 }
@@ -68,19 +69,19 @@ fn take_bidder(
 {
     let before = bidders.count();
     let Some(name) = name_at(table) else {
-        return Err(broken(9, before));
+        return Err(broken(BIDDER_NAME, before));
     };
     if bidders.contains(name) {
-        return Err(broken(9, before));
+        return Err(broken(BIDDER_NAME, before));
     }
     let Some(eligibility) = number_at(table, "eligibility", 0, MOST_ELIGIBILITY) else {
-        return Err(broken(10, before));
+        return Err(broken(ELIGIBILITY, before));
     };
     let Some(holding) = holding_at(alloc, table, categories)? else {
-        return Err(broken(11, before));
+        return Err(broken(HOLDING, before));
     };
     if has_other(table, &BIDDER_KEYS) {
-        return Err(broken(18, before));
+        return Err(broken(OTHER_KEY, before));
     }
     let name = String::from_str(alloc, name)?;
     bidders.push(name, eligibility, holding)?;

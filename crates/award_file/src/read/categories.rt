@@ -9,6 +9,7 @@ ghost use Rattle.award_file.specs.Stated as stated;
 ghost use Rattle.award_file.specs.Walk as walk;
 
 use crate::read::AwardStop;
+use crate::read::field_numbers::{CATEGORIES, CATEGORY_NAME, OTHER_KEY, POINTS, RESERVE, SUPPLY};
 use crate::read::fields::{broken, broken_top, has_other, list_at, name_at, number_at};
 use limits::{MOST_COUNT, MOST_POINTS, MOST_PRICE};
 use std::alloc::Global;
@@ -39,10 +40,10 @@ pub fn read_categories(alloc: Global, table: &Table) -> Result<Vec<Category>, Aw
     ensures err { IfErr result (IsFault (walk.categories_fault (table_view table.now))) }
 {
     let Some(tables) = list_at(table, "category") else {
-        return Err(broken_top(3));
+        return Err(broken_top(CATEGORIES));
     };
     if tables.is_empty() {
-        return Err(broken_top(3));
+        return Err(broken_top(CATEGORIES));
     }
     read_listed(alloc, tables)
 }
@@ -76,22 +77,22 @@ fn read_category(alloc: Global, table: &Table, before: &[Category]) -> Result<Ca
     ensures err { IfErr result (IsFault (walk.category_fault (category_names before.now) (table_view table.now))) }
 {
     let Some(name) = name_at(table) else {
-        return Err(broken(4, before.len()));
+        return Err(broken(CATEGORY_NAME, before.len()));
     };
     if has_name(before, name) {
-        return Err(broken(4, before.len()));
+        return Err(broken(CATEGORY_NAME, before.len()));
     }
     let Some(supply) = number_at(table, "supply", 1, MOST_COUNT) else {
-        return Err(broken(5, before.len()));
+        return Err(broken(SUPPLY, before.len()));
     };
     let Some(points) = number_at(table, "points", 0, MOST_POINTS) else {
-        return Err(broken(6, before.len()));
+        return Err(broken(POINTS, before.len()));
     };
     let Some(reserve) = number_at(table, "reserve", 0, MOST_PRICE) else {
-        return Err(broken(7, before.len()));
+        return Err(broken(RESERVE, before.len()));
     };
     if has_other(table, &CATEGORY_KEYS) {
-        return Err(broken(18, before.len()));
+        return Err(broken(OTHER_KEY, before.len()));
     }
     let name = String::from_str(alloc, name)?;
     Ok(Category {

@@ -6,7 +6,7 @@ ghost use Rattle.toml.specs.Data.{get_member};
 ghost use Rattle.toml.specs.Text.{are_tables};
 ghost use Rattle.toml.specs.View.{items_view, table_view, view};
 ghost use Rattle.award_file.specs.Stated as spec;
-ghost use Rattle.award_file.specs.Walk.{entry_behind};
+ghost use Rattle.award_file.specs.Walk.{entry_after};
 ghost use Rattle.award_file.specs.declared.read.AwardStop.TheVariants.{Field};
 
 use crate::read::AwardStop;
@@ -178,7 +178,7 @@ pub fn has_other(table: &Table, keys: &[&str]) -> bool
 
 /// The stop at a field of the table after that many.
 pub fn broken(number: u8, before: usize) -> AwardStop
-    ensures { result ≡ Field number (entry_behind before) }
+    ensures { result ≡ Field number (entry_after before) }
 {
     let entry = u32::try_from(before).unwrap_or(u32::MAX).saturating_add(1);
     AwardStop::Field { number, entry }

@@ -7,6 +7,7 @@ ghost use Rattle.award_file.specs.Stated as stated;
 ghost use Rattle.award_file.specs.Walk as walk;
 
 use crate::read::AwardStop;
+use crate::read::field_numbers::{EXCESS, OTHER_KEY, PERMILLE, STEPS};
 use crate::read::fields::{broken, broken_top, has_other, list_at, number_at};
 use limits::{MOST_EXCESS, MOST_PERMILLE, MOST_STEPS};
 use std::alloc::Global;
@@ -24,10 +25,10 @@ pub fn read_steps(alloc: Global, table: &Table) -> Result<Vec<(u64, u64)>, Award
     ensures err { IfErr result (IsFault (walk.steps_fault (table_view table.now))) }
 {
     let Some(tables) = list_at(table, "step") else {
-        return Err(broken_top(12));
+        return Err(broken_top(STEPS));
     };
     if tables.is_empty() || tables.len() > MOST_STEPS {
-        return Err(broken_top(12));
+        return Err(broken_top(STEPS));
     }
     read_listed(alloc, tables)
 }
@@ -61,16 +62,16 @@ fn read_step(table: &Table, before: &[(u64, u64)]) -> Result<(u64, u64), AwardSt
     ensures err { IfErr result (IsFault (walk.step_fault (excesses before.now) (table_view table.now))) }
 {
     let Some(excess) = number_at(table, "excess", 1, MOST_EXCESS) else {
-        return Err(broken(13, before.len()));
+        return Err(broken(EXCESS, before.len()));
     };
     if !comes_next(before, excess) {
-        return Err(broken(13, before.len()));
+        return Err(broken(EXCESS, before.len()));
     }
     let Some(permille) = number_at(table, "permille", 1, MOST_PERMILLE) else {
-        return Err(broken(14, before.len()));
+        return Err(broken(PERMILLE, before.len()));
     };
     if has_other(table, &STEP_KEYS) {
-        return Err(broken(18, before.len()));
+        return Err(broken(OTHER_KEY, before.len()));
     }
     Ok((excess, permille))
 }

@@ -9,6 +9,7 @@ ghost use Rattle.award_file.specs.Walk as walk;
 
 use crate::caps::SpectrumCap;
 use crate::read::AwardStop;
+use crate::read::field_numbers::{CAP_LIMIT, CAP_WEIGHTS, CAPS, OTHER_KEY};
 use crate::read::fields::{broken, broken_top, has_other, list_at, number_at, row_of, value_at};
 use limits::{MOST_CAP_LIMIT, MOST_CAP_WEIGHT, MOST_CAPS};
 use std::alloc::{AllocError, Global};
@@ -30,10 +31,10 @@ pub fn read_caps(
     ensures err { IfErr result (IsFault (walk.caps_fault categories (table_view table.now))) }
 {
     let Some(tables) = list_at(table, "cap") else {
-        return Err(broken_top(15));
+        return Err(broken_top(CAPS));
     };
     if tables.len() > MOST_CAPS {
-        return Err(broken_top(15));
+        return Err(broken_top(CAPS));
     }
     read_listed(alloc, tables, categories)
 }
@@ -76,13 +77,13 @@ fn read_cap(
     ensures err { IfErr result (IsFault (walk.cap_fault categories (limits before.now) (table_view table.now))) }
 {
     let Some(weights) = weights_at(alloc, table, categories)? else {
-        return Err(broken(16, before.len()));
+        return Err(broken(CAP_WEIGHTS, before.len()));
     };
     let Some(limit) = number_at(table, "limit", 0, MOST_CAP_LIMIT) else {
-        return Err(broken(17, before.len()));
+        return Err(broken(CAP_LIMIT, before.len()));
     };
     if has_other(table, &CAP_KEYS) {
-        return Err(broken(18, before.len()));
+        return Err(broken(OTHER_KEY, before.len()));
     }
     Ok(SpectrumCap { weights, limit })
 }

@@ -28,6 +28,17 @@ returns g c = record {
     files = c.run.ensures.files;
     loads = c.run.ensures.loads;
     appends = c.run.ensures.appends;
+    checked = c.run.ensures.checked;
+    check_seen = c.run.ensures.check_seen;
+    weigh_checked = c.run.ensures.weigh_checked;
+    weigh_check_seen = c.run.ensures.weigh_check_seen;
+    place_checked = c.run.ensures.place_checked;
+    place_check_seen = c.run.ensures.place_check_seen;
+    priced = c.run.ensures.priced;
+    weighed = c.run.ensures.weighed;
+    placed = c.run.ensures.placed;
+    reviewed = c.run.ensures.reviewed;
+    knows = c.run.ensures.knows;
     faults = c.run.ensures.faults;
   };
   is = c.exit_of.ensures;

@@ -1,4 +1,8 @@
-// One file of the system, known by its name.
+// Files of the system, known by their names.
+ghost use Rattle.std.specs.Prelude.{◌≡◌, ℕ, All, List, string_bytes, IfOk};
+ghost use Rattle.std.specs.List.{list_any};
+ghost use Rattle.std.specs.Str.{bytes_eq};
+
 use crate::named::Named;
 use std::alloc::{AllocError, Global};
 
@@ -47,4 +51,20 @@ impl Named for KnownFile {
             append_faults: 0,
         })
     }
+}
+
+// A file of each name, in the order of the names, on which no call was made. Of files of one name the first counts. No name is looked for
+// among the others, so many words of a command take no more time than to copy them.
+pub(crate) fn known_files(alloc: Global, names: &[String]) -> Result<Vec<KnownFile>, AllocError>
+    ensures names { IfOk result (λ files. (name : List ℕ)
+        → list_any (λ f. bytes_eq (string_bytes f.name) name) files.items
+        ≡ list_any (λ s. bytes_eq (string_bytes s) name) names.now) }
+    ensures fresh { IfOk result (λ files. All (λ f. (f.load_faults ≡ 0) × (f.append_faults ≡ 0)) files.items) }
+{
+    let mut files = Vec::new(alloc);
+    for name in names {
+        let name = String::from_str(alloc, name.as_str())?;
+        files.push(KnownFile::with_name(alloc, name, 0)?)?;
+    }
+    Ok(files)
 }

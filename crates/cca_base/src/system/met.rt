@@ -1,15 +1,25 @@
 // Which file each name has shown to be, and what follows from it. Nothing here calls the system.
-ghost use Rattle.std.specs.Prelude.{◌≡◌, ◌≢◌, ◌↔◌, ◌+◌, ◌≤◌, ◌^◌, ℕ, Some, None, OnOk, IsTrue};
+ghost use Rattle.std.specs.Prelude.{◌≡◌, ◌≢◌, ◌↔◌, ◌+◌, ◌≤◌, ◌^◌, ℕ, Some, None, OnOk, IfSome, IsTrue};
 ghost use Rattle.std.specs.List.{Any};
 
 use std::alloc::AllocError;
 
-// A file of the system, by its device and by its number there. Two names are one file exactly where these are the same,
-// whatever the names are.
+// A file of the system, by its device and by its number there. Two names mean one file exactly if these are equal, whatever the names are.
+// That is believed, and no system promises it everywhere: two mounts of one folder may show one file under two devices, and a network file
+// system may renumber its files. Overlayfs gives a file another number when it is first opened for writing, so an append looks at a name
+// both before and after it opens the file.
 #[derive(Clone, Copy, PartialEq, Eq)]
 pub(crate) struct FileIdentity {
     pub device: u64,
     pub inode: u64,
+}
+
+// What the system tells of a file.
+#[derive(Clone, Copy, PartialEq, Eq)]
+pub(crate) struct Told {
+    pub file: FileIdentity,
+    pub is_regular: bool,
+    pub is_link: bool,
 }
 
 // What the name at this place among the known ones has shown to be.
@@ -36,6 +46,25 @@ pub(crate) fn may_take(met: &[Met], seen: Met, output: Option<FileIdentity>) -> 
     output != Some(seen.file) && !is_met_elsewhere(met, seen.place, seen.file)
 }
 
+// Whether a name may be opened to append to that means this file, or no file yet.
+pub(crate) fn may_open(
+    met: &[Met],
+    place: usize,
+    before: Option<FileIdentity>,
+    output: Option<FileIdentity>,
+) -> bool
+    ensures apart { IsTrue result → IfSome before (λ file. Any (λ m. (m.place ≢ place) × (m.file ≡ file)) met.now → ⊥) }
+    ensures no_output { IsTrue result → IfSome before (λ file. output ≢ Some file) }
+    ensures new { before ≡ None → IsTrue result }
+    ensures taken { (file : FileIdentity) → before ≡ Some file → (Any (λ m. (m.place ≢ place) × (m.file ≡ file)) met.now → ⊥)
+        → output ≢ Some file → IsTrue result }
+{
+    match before {
+        Some(file) => may_take(met, Met { place, file }, output),
+        None => true,
+    }
+}
+
 // Whether any file was met under this name.
 pub(crate) fn is_met(met: &[Met], place: usize) -> bool
     ensures { IsTrue result ↔ Any (λ m. m.place ≡ place) met.now }
@@ -53,7 +82,7 @@ pub(crate) fn first_position(met: &[Met], place: usize) -> Option<u64>
 }
 
 // Where a plain read goes on that gave that many bytes from this place.
-pub(crate) fn position_behind(at: u64, read: usize) -> Option<u64>
+pub(crate) fn position_after(at: u64, read: usize) -> Option<u64>
     ensures some { (n : ℕ) → result ≡ Some n → n ≡ at + read }
     ensures none { result ≡ None → 2 ^ 64 ≤ at + read }
 {
@@ -70,4 +99,19 @@ pub(crate) fn note(met: &mut Vec<Met>, seen: Met) -> Result<(), AllocError>
     }
     met.push(seen)?;
     Ok(())
+}
+
+// Notes what the name at this place meant before it was opened, if it meant a file.
+pub(crate) fn note_before(
+    met: &mut Vec<Met>,
+    place: usize,
+    before: Option<FileIdentity>,
+) -> Result<(), AllocError>
+    ensures noted { OnOk result (IfSome before (λ file. Any (λ m. (m.place ≡ place) × (m.file ≡ file)) met.new.items)) }
+    ensures kept { (m : Met) → Any (λ old. old ≡ m) met.old.items → Any (λ new. new ≡ m) met.new.items }
+{
+    match before {
+        Some(file) => note(met, Met { place, file }),
+        None => Ok(()),
+    }
 }

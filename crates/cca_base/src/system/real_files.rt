@@ -5,11 +5,10 @@ ghost use Rattle.std.specs.Str.{bytes_eq};
 ghost use Rattle.cca_base.specs.RealFiles.{real_folder, real_seen, known};
 ghost use Rattle.cca_base.specs.Entries.{roomy_by, with_calls};
 
-use crate::named::{
-    append_faults_of, count_append_fault, count_load_fault, load_faults_of, new_files,
-};
-use crate::system::calls::{FileCalls, SystemFiles};
-use crate::system::known_file::KnownFile;
+use crate::named::{append_faults_of, count_append_fault, count_load_fault, load_faults_of};
+use crate::system::calls::System;
+use crate::system::known_file::{KnownFile, known_files};
+use crate::system::system_files::{FileCalls, SystemFiles};
 use crate::{Failed, Files};
 use std::alloc::{AllocError, Global};
 use std::fs::File;
@@ -67,11 +66,11 @@ impl<C: FileCalls> Files for CountedFiles<C> {
 /// call that takes nothing of a piece that isn't empty.
 #[derive(Drop)]
 pub struct RealFiles<R: Drop> {
-    counted: CountedFiles<SystemFiles<R>>,
+    counted: CountedFiles<SystemFiles<System<R>>>,
 }
 
 impl<R: rt::Files<File = File> + Drop> RealFiles<R> {
-    /// Files of exactly these names, all counts 0. A name that is given twice is known once.
+    /// Files of exactly these names, all counts 0. A name that is given twice is one file.
     ///
     /// # Errors
     ///
@@ -86,8 +85,8 @@ impl<R: rt::Files<File = File> + Drop> RealFiles<R> {
             → ((⟦<RealFiles<R> as Files>⟧.folder files).load_faults name ≡ 0)
             × ((⟦<RealFiles<R> as Files>⟧.folder files).append_faults name ≡ 0)) }
     {
-        let files = new_files(alloc, names, 0)?;
-        let calls = SystemFiles::new(alloc, rt, files.len())?;
+        let files = known_files(alloc, names)?;
+        let calls = SystemFiles::new(alloc, System::new(rt), files.len())?;
         Ok(RealFiles {
             counted: CountedFiles { calls, files },
         })
@@ -95,7 +94,7 @@ impl<R: rt::Files<File = File> + Drop> RealFiles<R> {
 }
 
 impl<R: rt::Files<File = File> + Drop> Files for RealFiles<R> {
-    ghost folder = { λ s. ⟦<CountedFiles<SystemFiles<R>> as Files>⟧.folder s.counted };
+    ghost folder = { λ s. ⟦<CountedFiles<SystemFiles<System<R>>> as Files>⟧.folder s.counted };
 
     fn load(&mut self, name: &str, at: u64, buf: &mut [u8]) -> Result<usize, Failed> {
         self.counted.load(name, at, buf)

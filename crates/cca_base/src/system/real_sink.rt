@@ -2,8 +2,9 @@
 ghost use Rattle.std.specs.Prelude.{◌≡◌, [], None};
 ghost use Rattle.cca_base.specs.Given.{all_bytes};
 
-use crate::system::calls::{OutputCalls, SystemOutput};
+use crate::system::system_output::{OutputCalls, SystemOutput};
 use crate::{Failed, Sink};
+use std::fs::File;
 use std::rt;
 
 // An output over calls of which no more is known than their clauses say. It took what the calls were answered.
@@ -35,7 +36,7 @@ pub struct RealSink<R: Print + Drop> {
     counted: CountedSink<SystemOutput<R>>,
 }
 
-impl<R: Print + rt::Files + rt::Env + Alloc + Drop> RealSink<R> {
+impl<R: Print + rt::Files<File = File> + rt::Env + Alloc + Drop> RealSink<R> {
     /// The standard output of this runtime, which has taken nothing and has no fault yet. Where it goes to a regular file that a word after
     /// the command names, each put fails and takes nothing.
     pub fn new(rt: R) -> Self

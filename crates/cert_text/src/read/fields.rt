@@ -6,7 +6,7 @@ ghost use Rattle.cert_grammar.specs.CertText.{line, as_numbers, IsChoice, AreMem
 ghost use Rattle.cert_text.specs.Readers.{IsLineAt, Leads, Halts, LeadsLike, HaltsLike, LeadsChosen, HaltsChosen, LeadsCounted, HaltsCounted, HaltsSmall, IsCount, IsNoCount, AreSmall, AreNotSmall};
 
 use crate::CertStop;
-use crate::read::lines::{LineNumbers, take_line};
+use crate::read::lines::{LineRead, take_line};
 use choices::{Choice, Numbers};
 use limits::{MOST_CHOSEN, MOST_ROWS};
 use std::alloc::{AllocError, Global};
@@ -115,7 +115,7 @@ pub fn take_signed(
 }
 
 /// Whether the line has just these numbers, all in range.
-fn is_just(line: &LineNumbers, numbers: &[i128]) -> bool
+fn is_just(line: &LineRead, numbers: &[i128]) -> bool
     ensures { IsTrue result ↔ ((line.now.beyond ≡ false) × (line.now.numbers ≡ numbers.now)) }
 {
     if line.beyond {

@@ -5,13 +5,13 @@ ghost use Rattle.cert_text.specs.Readers.{IsLineAt, IsRefused};
 ghost use Rattle.line_format.specs.Fields.{HasLine};
 
 use crate::CertStop;
-use line_format::{NumbersStop, line_len, numbers_behind};
+use line_format::{NumbersStop, line_len, numbers_after};
 use std::alloc::Global;
 use wide_num::NumList;
 
 /// The numbers of a line, and where the next line begins. Where one is out of range the list has only as many numbers.
 #[derive(Drop)]
-pub(crate) struct LineNumbers {
+pub(crate) struct LineRead {
     pub(crate) numbers: NumList,
     /// Whether a number is out of range.
     pub(crate) beyond: bool,
@@ -25,7 +25,7 @@ pub(crate) fn take_line(
     place: usize,
     word: &[u8],
     count: usize,
-) -> Result<LineNumbers, CertStop>
+) -> Result<LineRead, CertStop>
     requires { place ≤ length bytes.now }
     ensures line { IfOk result (λ l. IsLineAt bytes.now place word.now l.numbers l.beyond l.next) }
     ensures within { IfOk result (λ l. l.next ≤ length bytes.now) }
@@ -35,8 +35,8 @@ pub(crate) fn take_line(
         None => Err(CertStop::Form(place as u64)),
         Some(len) => {
             let mut numbers = Vec::with_capacity(alloc, count)?;
-            match numbers_behind(&bytes[place..][..len], word, &mut numbers) {
-                Ok(beyond) => Ok(LineNumbers {
+            match numbers_after(&bytes[place..][..len], word, &mut numbers) {
+                Ok(beyond) => Ok(LineRead {
                     numbers: NumList::from_vec(numbers),
                     beyond,
                     next: place + len + 1,

@@ -30,14 +30,14 @@ returns-then-many_win-clause-stops g c =
     let win = g.met.C.Chooser.winning c.args.chooser.now in
     (rw c.winners.ensures at (c.many_win.ensures.many c.if-many_win.true), count m lawful z win c.args.singles.now c.requires.singles)
 
-pub price_at_most_six-requires-clause-few : goal.price_at_most_six-requires-clause-few
-price_at_most_six-requires-clause-few g c = rw c.winners.ensures at (c.many_win.ensures.few (not_from_false c.many_win.result c.if-many_win.false))
+pub price_by_rows-requires-clause-few : goal.price_by_rows-requires-clause-few
+price_by_rows-requires-clause-few g c = rw c.winners.ensures at (c.many_win.ensures.few (not_from_false c.many_win.result c.if-many_win.false))
 
 pub returns-clause-few : goal.returns-clause-few
 returns-clause-few g c = rw c.winners.ensures at (c.many_win.ensures.few (not_from_false c.many_win.result c.if-many_win.false))
 
-pub returns-in_err-price_at_most_six-clause-stops : goal.returns-in_err-price_at_most_six-clause-stops
-returns-in_err-price_at_most_six-clause-stops g c =
+pub returns-in_err-price_by_rows-clause-stops : goal.returns-in_err-price_by_rows-clause-stops
+returns-in_err-price_by_rows-clause-stops g c =
     let z = g.C.Chooser.chosen c.args.chooser.now in
     let few : FewWin z c.args.weights.now = rw c.winners.ensures at (c.many_win.ensures.few (not_from_false c.many_win.result c.if-many_win.false)) in
     memory-stop c.from_residual.result z c.args.weights.now c.from_residual.ensures.1 few

@@ -8,55 +8,61 @@ ghost use Rattle.cert_stream.specs.Rooms.{segment};
 ghost use Rattle.cert_check.specs.Partway.{IsJudged, IsLate};
 ghost use Rattle.stream_check.specs.Moments.{AreLowered, IsAt, IsPossible, IsClaimOf, Shows};
 ghost use Rattle.stream_check.specs.Rules.{lines_tested};
-ghost use Rattle.stream_check.specs.Tests.{IsClaimed};
+ghost use Rattle.stream_check.specs.ClaimLines.{due_of};
 
 use crate::judging::finding::{Finding, RulesJudged};
 use crate::judging::rows::{row_line, rows_line};
 use crate::judging::rules::rules_found;
-use crate::judging::tables::{behind_entries, is_at_most};
+use crate::judging::tables::{after_entries, is_at_most};
 use crate::moment::LineContext;
-use crate::room::{number_in, numbers_in, put_choice};
+use crate::room::{choice_in, number_in, numbers_in};
 use cert_check::{
     BIDDER_ROOM, Claim, TestedBids, failure_of, merge_early, payments_test, put_gains, sum_paid,
 };
 use cert_stream::{NextLine, Table};
 
-/// What a line shows whose tests need what the first three have shown.
-pub(crate) fn claim_line(at: &LineContext) -> Finding
-    requires due { IsClaimed at.now.due }
+/// A line whose tests need what the first three have shown.
+#[derive(Clone, Copy)]
+pub(crate) enum ClaimLine {
+    /// The payments.
+    Payments,
+    /// The count of rows.
+    Rows,
+    /// The choice of a row, of which that many are to come with it.
+    Row(u16),
+    /// The line of this number of the lowered table.
+    Lowered(u16),
+}
+
+/// What such a line shows.
+pub(crate) fn claim_line(at: &LineContext, line: ClaimLine) -> Finding
+    requires due { at.now.due ≡ due_of line }
     requires some { IsPossible at.now }
     ensures { Shows at.now result }
 {
-    let mut numbers = [0u16; BIDDER_ROOM];
-    let bidders = at.book.bidders();
-    put_choice(at.book, NextLine::Choice, at.room, &mut numbers);
-    let choice = &numbers[..bidders];
+    at.book.kept();
+    let choice = choice_in(at.book, NextLine::Choice, at.room);
     let claim = Claim {
         book: at.book,
         den: number_in(at.book, NextLine::Den, at.room),
         value: number_in(at.book, NextLine::Value, at.room),
-        choice,
+        choice: choice.as_slice(),
     };
-    shown(at, &claim)
+    shown(at, &claim, line)
 }
 
 /// The finding on a line, for the claim of the certificate.
-fn shown(at: &LineContext, claim: &Claim) -> Finding
-    requires due { IsClaimed at.now.due }
+fn shown(at: &LineContext, claim: &Claim, line: ClaimLine) -> Finding
+    requires due { at.now.due ≡ due_of line }
     requires some { IsPossible at.now }
     requires claim { IsClaimOf at.now claim.now }
     ensures { Shows at.now result }
 {
-    match at.due {
-        NextLine::Payments => payments_line(at, claim),
-        NextLine::Rows => rows_line(at, claim),
-        NextLine::RowChoice(left) => row_line(at, claim, left),
-        NextLine::Entries(_, k) => lowered_line(at, claim, k),
-        _ => Finding {
-            failed: None,
-            late: None,
-            grows: false,
-        },
+    match line {
+        ClaimLine::Payments => payments_line(at, claim),
+        ClaimLine::Rows => rows_line(at, claim),
+        ClaimLine::Row(left) => row_line(at, claim, left),
+        ClaimLine::Lowered(k) => lowered_line(at, claim, k),
     }
 }
 
@@ -68,11 +74,7 @@ fn payments_line(at: &LineContext, claim: &Claim) -> Finding
     ensures { Shows at.now result }
 {
     let pay = numbers_in(at.book, NextLine::Payments, at.room);
-    Finding {
-        failed: failure_of(5, payments_test(claim, pay)),
-        late: None,
-        grows: false,
-    }
+    Finding::of(failure_of(5, payments_test(claim, pay)))
 }
 
 /// What line `k` of the lowered table shows: the ninth test, as far as it is known then.
@@ -96,7 +98,7 @@ fn lowered_line(at: &LineContext, claim: &Claim, k: u16) -> Finding
         gains: &gains,
     };
     let rules = lowered_rules(at, &offers, k);
-    behind_entries(at.book, 9, k, &rules, late_sum(at, k))
+    after_entries(at.book, 9, k, &rules, late_sum(at, k))
 }
 
 /// What line `k` of the lowered table shows of the rules.

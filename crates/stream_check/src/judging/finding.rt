@@ -1,4 +1,5 @@
 // What a line shows.
+ghost use Rattle.std.specs.Prelude.{◌≡◌, None, false};
 
 use cert_check::Failure;
 
@@ -9,6 +10,19 @@ pub(crate) struct Finding {
     pub(crate) failed: Option<Failure>,
     pub(crate) late: Option<u64>,
     pub(crate) grows: bool,
+}
+
+impl Finding {
+    /// The finding on a line outside the tables: what fails first, and nothing that was found early.
+    pub(crate) fn of(failed: Option<Failure>) -> Finding
+        ensures { result ≡ record { failed = failed; late = None; grows = false } }
+    {
+        Finding {
+            failed,
+            late: None,
+            grows: false,
+        }
+    }
 }
 
 /// What fails first of the rules that a line of a table makes known, and whether the line is seen never to fall.

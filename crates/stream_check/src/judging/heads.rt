@@ -4,8 +4,8 @@ ghost use Rattle.stream_check.specs.Moments.{IsPossible, Shows};
 
 use crate::judging::finding::Finding;
 use crate::moment::LineContext;
-use crate::room::{number_in, numbers_in, put_choice};
-use cert_check::{BIDDER_ROOM, choice_test, failure_of, sizes_test};
+use crate::room::{choice_in, number_in};
+use cert_check::{choice_test, failure_of, sizes_test};
 use cert_stream::NextLine;
 
 /// What the value shows, with the denominator before it: the first test.
@@ -16,11 +16,7 @@ pub(crate) fn value_line(at: &LineContext) -> Finding
 {
     let den = number_in(at.book, NextLine::Den, at.room);
     let value = number_in(at.book, NextLine::Value, at.room);
-    Finding {
-        failed: failure_of(1, sizes_test(den, value)),
-        late: None,
-        grows: false,
-    }
+    Finding::of(failure_of(1, sizes_test(den, value)))
 }
 
 /// What the head's choice shows: the second test.
@@ -30,13 +26,6 @@ pub(crate) fn choice_line(at: &LineContext) -> Finding
     ensures { Shows at.now result }
 {
     let value = number_in(at.book, NextLine::Value, at.room);
-    let mut numbers = [0u16; BIDDER_ROOM];
-    let bidders = at.book.bidders();
-    put_choice(at.book, NextLine::Choice, at.room, &mut numbers);
-    let choice = &numbers[..bidders];
-    Finding {
-        failed: failure_of(2, choice_test(at.book, choice, value)),
-        late: None,
-        grows: false,
-    }
+    let choice = choice_in(at.book, NextLine::Choice, at.room);
+    Finding::of(failure_of(2, choice_test(at.book, choice.as_slice(), value)))
 }

@@ -12,7 +12,7 @@ use crate::judging::finding::Finding;
 use crate::judging::rules::rules_found;
 use crate::judging::tables::is_at_most;
 use crate::moment::LineContext;
-use crate::room::{numbers_in, put_choice};
+use crate::room::{choice_in, numbers_in};
 use cert_check::{BIDDER_ROOM, Failure, TestedBids, is_allowed_without};
 use cert_stream::{NextLine, Table};
 use choices::value_among;
@@ -23,11 +23,8 @@ pub(crate) fn part_choice(at: &LineContext, j: u16) -> Finding
     requires some { IsPossible at.now }
     ensures { Shows at.now result }
 {
-    let mut numbers = [0u16; BIDDER_ROOM];
-    let bidders = at.book.bidders();
-    put_choice(at.book, NextLine::PartChoice(j), at.room, &mut numbers);
-    let choice = &numbers[..bidders];
-    part_found(j, is_allowed_without(at.book, choice, j), false)
+    let choice = choice_in(at.book, NextLine::PartChoice(j), at.room);
+    part_found(j, is_allowed_without(at.book, choice.as_slice(), j), false)
 }
 
 /// A part whose line keeps what is asked, or doesn't, and of which it is said whether it is seen never to fall.
@@ -96,13 +93,10 @@ fn keeps_top(at: &LineContext, j: u16, k: u16) -> bool
     if k != 0 {
         return true;
     }
-    let mut numbers = [0u16; BIDDER_ROOM];
-    let bidders = at.book.bidders();
-    put_choice(at.book, NextLine::PartChoice(j), at.room, &mut numbers);
-    let choice = &numbers[..bidders];
+    let choice = choice_in(at.book, NextLine::PartChoice(j), at.room);
     let line = numbers_in(at.book, NextLine::Entries(Table::Part(j), k), at.room);
     is_at_most(
         line[at.book.supply().states() - 1],
-        value_among(at.book, choice),
+        value_among(at.book, choice.as_slice()),
     )
 }

@@ -11,9 +11,9 @@ ghost use Rattle.stream_check.specs.Moments.{HasAllRows, IsAt, IsPossible, IsCla
 ghost use Rattle.stream_check.specs.Totals.{AreTotals};
 
 use crate::judging::finding::Finding;
-use crate::kept::put_members;
+use crate::kept::members_in;
 use crate::moment::LineContext;
-use crate::room::{number_in, numbers_in, put_choice};
+use crate::room::{choice_in, number_in, numbers_in};
 use cert_check::{
     BIDDER_ROOM, Claim, Failure, MultiplierColumn, failure_of, first_test, row_holds, second_test,
 };
@@ -28,17 +28,9 @@ pub(crate) fn rows_line(at: &LineContext, claim: &Claim) -> Finding
     ensures { Shows at.now result }
 {
     if !is_zero(number_in(at.book, NextLine::Rows, at.room)) {
-        return Finding {
-            failed: None,
-            late: None,
-            grows: false,
-        };
+        return Finding::of(None);
     }
-    Finding {
-        failed: last_tests(at, claim),
-        late: None,
-        grows: false,
-    }
+    Finding::of(last_tests(at, claim))
 }
 
 /// What the choice of a row shows, of which that many are to come with it: the sixth test of this row, and after the last row the tests
@@ -50,27 +42,15 @@ pub(crate) fn row_line(at: &LineContext, claim: &Claim, left: u16) -> Finding
     ensures { Shows at.now result }
 {
     if !keeps_row(at, claim, left) {
-        return Finding {
-            failed: Some(Failure {
-                test: 6,
-                place: at.totals.count as u64,
-            }),
-            late: None,
-            grows: false,
-        };
+        return Finding::of(Some(Failure {
+            test: 6,
+            place: at.totals.count as u64,
+        }));
     }
     if left != 1 {
-        return Finding {
-            failed: None,
-            late: None,
-            grows: false,
-        };
+        return Finding::of(None);
     }
-    Finding {
-        failed: last_tests(at, claim),
-        late: None,
-        grows: false,
-    }
+    Finding::of(last_tests(at, claim))
 }
 
 /// Whether the row that has come is one that the payments meet.
@@ -81,14 +61,9 @@ fn keeps_row(at: &LineContext, claim: &Claim, left: u16) -> bool
     ensures { (c : CertValue) → IsAt at.now c → IsTrue result ↔ IsTightRow at.now.book.now c (row_at c left) }
 {
     let pay = numbers_in(at.book, NextLine::Payments, at.room);
-    let mut chosen = [0u16; BIDDER_ROOM];
-    let bidders = at.book.bidders();
-    put_choice(at.book, NextLine::RowChoice(left), at.room, &mut chosen);
-    let choice = &chosen[..bidders];
-    let mut numbers = [0u16; BIDDER_ROOM];
-    let count = put_members(at, left, &mut numbers);
-    let members = &numbers[..count];
-    row_holds(claim, pay, members, choice)
+    let choice = choice_in(at.book, NextLine::RowChoice(left), at.room);
+    let members = members_in(at, left);
+    row_holds(claim, pay, members.as_slice(), choice.as_slice())
 }
 
 /// What fails first of the tests of the multipliers, the seventh and the eighth.
@@ -154,11 +129,8 @@ fn part_value(at: &LineContext, claim: &Claim, j: u16) -> i128
     if claim.number(j) == 0 {
         return 0;
     }
-    let mut numbers = [0u16; BIDDER_ROOM];
-    let bidders = at.book.bidders();
-    put_choice(at.book, NextLine::PartChoice(j), at.room, &mut numbers);
-    let choice = &numbers[..bidders];
-    value_among(at.book, choice)
+    let choice = choice_in(at.book, NextLine::PartChoice(j), at.room);
+    value_among(at.book, choice.as_slice())
 }
 
 fn is_zero(number: i128) -> bool

@@ -12,9 +12,9 @@ ghost use Rattle.stream_check.specs.Rules.{lines_tested};
 use crate::judging::finding::{Finding, RulesJudged};
 use crate::judging::rules::rules_found;
 use crate::moment::LineContext;
-use crate::room::{number_in, numbers_in, put_choice};
+use crate::room::{choice_in, number_in, numbers_in};
 use bid_book::BidBook;
-use cert_check::{BIDDER_ROOM, TestedBids, behind_table, failure_of, merge_early, none_earlier};
+use cert_check::{BIDDER_ROOM, TestedBids, after_table, failure_of, merge_early, none_earlier};
 use cert_stream::{NextLine, Table};
 
 /// What line `k` of the head's table shows: the third test, as far as it is known then.
@@ -33,7 +33,7 @@ pub(crate) fn head_line(at: &LineContext, k: u16) -> Finding
     };
     let rules = head_rules(at, &offers, k);
     let late = merge_early(at.late, k as u64, keeps_value(at, k));
-    behind_entries(at.book, 3, k, &rules, late)
+    after_entries(at.book, 3, k, &rules, late)
 }
 
 /// What line `k` of the head's table shows of the rules.
@@ -69,11 +69,8 @@ fn keeps_value(at: &LineContext, k: u16) -> bool
     if k == 0 {
         return is_at_most(line[at.book.supply().states() - 1], value);
     }
-    let mut numbers = [0u16; BIDDER_ROOM];
-    let bidders = at.book.bidders();
-    put_choice(at.book, NextLine::Choice, at.room, &mut numbers);
-    let choice = &numbers[..bidders];
-    none_earlier(at.book, choice, value, line, k)
+    let choice = choice_in(at.book, NextLine::Choice, at.room);
+    none_earlier(at.book, choice.as_slice(), value, line, k)
 }
 
 pub(crate) fn is_at_most(number: i128, most: i128) -> bool
@@ -83,7 +80,7 @@ pub(crate) fn is_at_most(number: i128, most: i128) -> bool
 }
 
 /// What is found after line `k` of a table. After its last line what was found early counts too.
-pub(crate) fn behind_entries(
+pub(crate) fn after_entries(
     book: &BidBook,
     test: u8,
     k: u16,
@@ -111,7 +108,7 @@ pub(crate) fn behind_entries(
     }
     let base = (bidders + 1) * book.supply().states();
     Finding {
-        failed: behind_table(rules.failed, test, base as u64, late),
+        failed: after_table(rules.failed, test, base as u64, late),
         late: None,
         grows: rules.grows,
     }

@@ -1,6 +1,5 @@
 -- What is known of two lists once an amount is set in the first.
-use Rattle.std.proofs.Common.{◌≡◌, ◌∙◌, ℕ, List, Some, ap, sym, subst}
-use Rattle.auction_model.specs.Book.{BookBid}
+use Rattle.std.proofs.Common.{◌∙◌, ℕ, Some, ap, sym, subst}
 use Rattle.bid_desk.specs.Differences.{Differs, IsSameButAt}
 use Rattle.bid_desk.specs.declared.difference.Difference.{Difference}
 use Rattle.bid_desk.proofs.DifferenceLaws.{same-set, but-again}

@@ -12,5 +12,5 @@ returns-then-categories c =
 pub returns : goal.returns
 returns c =
     copied-behind c.args.list.now.items c.truncate.new.self.items c.push.new.self.items c.args.place
-    (bid_of c.in_ok-package.package c.args.bid.now.amount) c.args.bid.now c.requires
-    c.truncate.ensures.items c.in_ok-push.ensures.items (bid-same c.in_ok-package.package c.args.bid.now c.in_ok-package.ensures)
+    (bid_of c.copied.result c.args.bid.now.amount) c.args.bid.now c.requires
+    c.truncate.ensures.items c.in_ok-push.ensures.items (bid-same c.copied.result c.args.bid.now c.copied.ensures)

@@ -27,6 +27,6 @@ returns-in-Taken-clause-set c = λ place is.
 pub returns-in_ok-insert-in-Free-clause-put : goal.returns-in_ok-insert-in-Free-clause-put
 returns-in_ok-insert-in-Free-clause-put c =
     ap (map bid_value) c.in_ok-insert-in-Free.ensures.items
-    ∙ put-free c.args.list.now.items c.args.«package».now c.in_ok-package-in-Free.«package» c.args.amount c.in-Free.place
+    ∙ put-free c.args.list.now.items c.args.«package».now c.copied-package.result c.args.amount c.in-Free.place
     (subst (λ (xs : List Bid). IsFreeAt (map bid_value xs) c.args.«package».now c.in-Free.place) c.deref.ensures.value c.in-Free.ensures)
-    c.in_ok-package-in-Free.ensures
+    c.copied-package.ensures

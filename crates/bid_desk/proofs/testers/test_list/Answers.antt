@@ -1,5 +1,5 @@
 -- The tester is taken out of its place, and put back.
-use Rattle.std.proofs.Common.{ap, sym, ◌∙◌}
+use Rattle.std.proofs.Common.{◌∙◌}
 use Rattle.bid_desk.proofs.TesterLaws.{tester-taken, testers-back}
 use Rattle.bid_desk.proofs.testers.test_list.Goals as goal
 

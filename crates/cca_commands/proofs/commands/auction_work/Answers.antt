@@ -29,19 +29,19 @@ returns g c = λ book.
     let command = auction c.args.award.now log book in
     let old = g.F.Files.folder c.args.files.now in
     let mid = g.F.Files.folder c.read_input.new.files in
-    let new = g.F.Files.folder c.replayed_behind.new.files in
+    let new = g.F.Files.folder c.replayed_after.new.files in
     let read = c.in_ok-award.ensures.value in
     let terms = c.in_ok-award.award in
     let at = reads-next command old old mid [] Award AWARD_BYTES AwardAnswers (λ contents terms. LogGives terms (contents Log) (AuctionGives terms))
     c.args.award.now refl (0, omega arith, refl) refl (begins command old)
     c.in_ok-award.ensures.loads terms read.bytes read.short read.says read.here in
-    let loads = c.replayed_behind.ensures.loads in
-    elim c.replayed_behind.ensures.out [
+    let loads = c.replayed_after.ensures.loads in
+    elim c.replayed_after.ensures.out [
       | inl x ↦ subst (Works command old new) (sym x.1) (stops-next command old mid new (Award ∷ []) Log LOG_BYTES (LogAnswers terms)
           (λ contents. AuctionGives terms) log refl (1, omega arith, refl) refl at loads (λ bytes s. LogAnswers terms bytes (stops s)) (λ bytes s h. h)
           (λ files. refl) (λ files. (refl, tt)) x.0 x.2)
       | inr x ↦ (let stated = x.1 in
           works command old new _ _ (reads-next command old mid new (Award ∷ []) Log LOG_BYTES (LogAnswers terms) (λ contents. AuctionGives terms) log refl
-          (1, omega arith, refl) refl at loads x.0 stated.bytes stated.short stated.says stated.here) (file_kind.Book ∷ []) (refl, tt) c.replayed_behind.result
+          (1, omega arith, refl) refl at loads x.0 stated.bytes stated.short stated.says stated.here) (file_kind.Book ∷ []) (refl, tt) c.replayed_after.result
           (λ files. x.2))
     ]

@@ -17,8 +17,8 @@ pub returns : goal.returns
 returns g c =
     let old = g.F.Files.folder c.args.files.now in
     let mid = g.F.Files.folder c.read_input.new.files in
-    let new = g.F.Files.folder c.logged_behind.new.files in
-    elim c.logged_behind.ensures.out [
+    let new = g.F.Files.folder c.logged_after.new.files in
+    elim c.logged_after.ensures.out [
       | inl x ↦ subst (HasLogged c.args.terms.now c.args.log.now old new) (sym x.1) (inr (inl (record {
         mid = mid;
         terms = c.in_ok-award.award;
@@ -26,12 +26,12 @@ returns g c =
         status = x.0;
         is = refl;
         why = x.2;
-        loads = c.logged_behind.ensures.loads;
+        loads = c.logged_after.ensures.loads;
       })))
       | inr x ↦ has-logged c.args.terms.now c.args.log.now old new c.in_ok-award.award x.0 (record {
         mid = mid;
         first = record { value = c.in_ok-award.ensures.value; loads = c.in_ok-award.ensures.loads };
         value = x.1;
-        loads = c.logged_behind.ensures.loads;
-      }) c.logged_behind.result x.2
+        loads = c.logged_after.ensures.loads;
+      }) c.logged_after.result x.2
     ]

@@ -2,5 +2,5 @@ use Rattle.std.proofs.lemmas.Result.{IfOk-weaker}
 use Rattle.cca_commands.proofs.verdict.yes_text.Goals as goal
 
 pub returns : goal.returns
-returns c = λ cert are. IfOk-weaker c.behind_yes.result _ _ (λ text whole. (c.in_ok-outcome.outcome, c.in_ok-outcome.ensures cert are, whole))
-    c.behind_yes.ensures
+returns c = λ cert are. IfOk-weaker c.after_yes.result _ _ (λ text whole. (c.in_ok-outcome.outcome, c.in_ok-outcome.ensures cert are, whole))
+    c.after_yes.ensures

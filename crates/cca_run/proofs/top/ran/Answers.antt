@@ -32,7 +32,7 @@ returns-in-Some g c =
     (command-ends (command_value c.in-Some.command) old mid new before now c.work_out-worked.result c.end_command.result c.work_out-worked.ensures
     c.end_command.ensures.ends) in
     runs c.headline.ensures.audit c.headline.ensures.award c.complete_log_ends.ensures c.complete_log_is_awarded.ensures.done
-    c.awarded_cert_passes.ensures.passes
+    c.awarded_cert_passes.ensures.passes (record { checked = c.verdicts.ensures.checked; weigh_checked = c.verdicts.ensures.weigh_checked; place_checked = c.verdicts.ensures.place_checked; priced = c.verdicts.ensures.priced; weighed = c.verdicts.ensures.weighed; placed = c.verdicts.ensures.placed; reviewed = c.verdicts.ensures.reviewed })
     said old new before now c.end_command.result ends
     (λ none. absurd (let e = c.in-Some.ensures.command ∙ none in cc)) c.end_command.ensures.faults
 
@@ -44,5 +44,5 @@ returns-in-None g c =
     (g.O.Sink.output c.tell_words.new.out) c.tell_words.result)
     c.in-None.ensures.command c.tell_words.ensures.ends in
     runs c.headline.ensures.audit c.headline.ensures.award c.complete_log_ends.ensures c.complete_log_is_awarded.ensures.done
-    c.awarded_cert_passes.ensures.passes
+    c.awarded_cert_passes.ensures.passes (record { checked = c.verdicts.ensures.checked; weigh_checked = c.verdicts.ensures.weigh_checked; place_checked = c.verdicts.ensures.place_checked; priced = c.verdicts.ensures.priced; weighed = c.verdicts.ensures.weighed; placed = c.verdicts.ensures.placed; reviewed = c.verdicts.ensures.reviewed })
     said folder folder _ _ c.tell_words.result ends (λ none. c.tell_words.ensures.words) c.tell_words.ensures.faults

@@ -44,3 +44,33 @@ returns-clause-loaded g c = c.ran.ensures.loaded
 
 pub returns-clause-seen : goal.returns-clause-seen
 returns-clause-seen g c = c.ran.ensures.seen
+
+pub returns-clause-checked : goal.returns-clause-checked
+returns-clause-checked g c = c.ran.ensures.checked
+
+pub returns-clause-check_seen : goal.returns-clause-check_seen
+returns-clause-check_seen g c = c.ran.ensures.check_seen
+
+pub returns-clause-weigh_checked : goal.returns-clause-weigh_checked
+returns-clause-weigh_checked g c = c.ran.ensures.weigh_checked
+
+pub returns-clause-weigh_check_seen : goal.returns-clause-weigh_check_seen
+returns-clause-weigh_check_seen g c = c.ran.ensures.weigh_check_seen
+
+pub returns-clause-place_checked : goal.returns-clause-place_checked
+returns-clause-place_checked g c = c.ran.ensures.place_checked
+
+pub returns-clause-place_check_seen : goal.returns-clause-place_check_seen
+returns-clause-place_check_seen g c = c.ran.ensures.place_check_seen
+
+pub returns-clause-priced : goal.returns-clause-priced
+returns-clause-priced g c = c.ran.ensures.priced
+
+pub returns-clause-weighed : goal.returns-clause-weighed
+returns-clause-weighed g c = c.ran.ensures.weighed
+
+pub returns-clause-placed : goal.returns-clause-placed
+returns-clause-placed g c = c.ran.ensures.placed
+
+pub returns-clause-reviewed : goal.returns-clause-reviewed
+returns-clause-reviewed g c = c.ran.ensures.reviewed

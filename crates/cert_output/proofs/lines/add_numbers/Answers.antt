@@ -13,7 +13,7 @@ loop-done-init g c = record {
   so_far = so-far-begins c.args.name.now (g.F.Files.folder c.args.files.now) c.args.room.now c.args.begun
       (numbers_text (numbers_of c.args.numbers)) c.requires.known c.requires.waiting;
   inside = omega arith;
-  count = c.count_of-count.ensures;
+  count = c.count-count.ensures;
 }
 
 pub add_piece-requires-clause-known : goal.add_piece-requires-clause-known

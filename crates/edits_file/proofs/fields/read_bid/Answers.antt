@@ -1,22 +1,22 @@
-use Rattle.std.proofs.Common.{◌≡◌, ◌∷◌, Err, ap}
+use Rattle.std.proofs.Common.{◌∷◌}
 use Rattle.std.specs.Fmt.{decimal}
-use Rattle.std.proofs.lemmas.Result.{err_from_is_err_and}
-use Rattle.line_format.specs.declared.stop.LineStop.TheVariants.{Form}
+use Rattle.line_format.proofs.Lines.{none-so}
 use Rattle.edits_file.proofs.FieldLaws.{bid_head, made_bid, no_bid}
 use Rattle.edits_file.proofs.fields.read_bid.Goals as goal
 
-pub returns-in_err-bidder-clause-form : goal.returns-in_err-bidder-clause-form
-returns-in_err-bidder-clause-form c = λ err bidder lots amount is.
-    let p = err_from_is_err_and c.from_residual.result c.from_residual.ensures.1 in
-    let form : c.in_err-bidder.field-0.0 ≡ Form = cc (p.1, p.2, err) in
-    c.in_err-bidder.ensures.form (ap Err form) bidder lots (32 ∷ decimal amount) (bid_head c.args.book.now c.args.fields.now bidder lots amount is)
+pub returns-in_err-bidder-clause-none : goal.returns-in_err-bidder-clause-none
+returns-in_err-bidder-clause-none c =
+    none-so c.from_residual.result _
+    (λ bidder lots amount is.
+    c.in_err-bidder.ensures.none bidder lots (32 ∷ decimal amount) (bid_head c.args.book.now c.args.fields.now bidder lots amount is))
 
-pub returns-in_default-clause-form : goal.returns-in_default-clause-form
-returns-in_default-clause-form c = λ err bidder lots amount is.
-    no_bid c.args.book.now c.args.fields.now c.in_ok-bidder.bidder c.in_ok-bidder.package c.in_ok-bidder.rest.now c.in_ok-bidder.ensures.ok
-    c.in_default.ensures.none bidder lots amount is
+pub returns-in_err-amount-clause-none : goal.returns-in_err-amount-clause-none
+returns-in_err-amount-clause-none c =
+    none-so c.from_residual-in_err-amount.result _
+    (no_bid c.args.book.now c.args.fields.now c.in_ok-bidder.bidder c.in_ok-bidder.package c.in_ok-bidder.rest.now c.in_ok-bidder.ensures.found
+    c.in_err-amount.ensures.none)
 
-pub returns-clause-ok : goal.returns-clause-ok
-returns-clause-ok c =
-    made_bid c.args.book.now c.args.fields.now c.in_ok-bidder.bidder c.in_ok-bidder.package c.in_ok-bidder.rest.now c.in-Some.amount c.in_ok-bidder.ensures.ok
-    c.in-Some.ensures.found
+pub returns-clause-found : goal.returns-clause-found
+returns-clause-found c =
+    made_bid c.args.book.now c.args.fields.now c.in_ok-bidder.bidder c.in_ok-bidder.package c.in_ok-bidder.rest.now c.in_ok-amount.amount
+    c.in_ok-bidder.ensures.found c.in_ok-amount.ensures.found

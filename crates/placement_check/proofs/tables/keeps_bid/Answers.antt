@@ -31,7 +31,7 @@ returns c =
     let behind = c.entry-behind.ensures ∙ ap (λ (n : ℕ). entry_at c.args.table.now 0 (c.args.set + n)) c.weight.ensures in
     let worth = c.worth.ensures.worth in
     let own = c.entry.ensures in
-    let may = sym c.starts_behind.ensures ∙ c.if-not-starts_behind.false in (
+    let may = sym c.starts_after.ensures ∙ c.if-not-starts_after.false in (
       λ t _. (let h = test.0 t in omega (arith, ints, h, behind, worth, own)),
       λ keeps. test.1 (let h = keeps may in omega (arith, ints, h, behind, worth, own)),
     )

@@ -15,24 +15,24 @@ returns-then-is_same c =
 
 pub level_cap_by-round_cap-requires-clause-round : goal.level_cap_by-round_cap-requires-clause-round
 level_cap_by-round_cap-requires-clause-round c =
-    let found = constraining-by_peaks c.args.history.now c.args.j c.points.result c.args.peaks.now c.rounds-last.result c.last_peak-r.result
+    let found = constraining-by_peaks c.args.history.now c.args.j c.points.result c.args.levels.peaks.now c.rounds-last.result c.last_peak-r.result
     c.rounds-last.ensures.rounds c.requires.levels.each_peak c.last_peak-r.ensures in
     (found.first, found.last)
 
 pub level_cap_by-round_cap-requires-clause-high : goal.level_cap_by-round_cap-requires-clause-high
 level_cap_by-round_cap-requires-clause-high c =
-    let found = constraining-by_peaks c.args.history.now c.args.j c.points.result c.args.peaks.now c.rounds-last.result c.last_peak-r.result
+    let found = constraining-by_peaks c.args.history.now c.args.j c.points.result c.args.levels.peaks.now c.rounds-last.result c.last_peak-r.result
     c.rounds-last.ensures.rounds c.requires.levels.each_peak c.last_peak-r.ensures in
-    level-high c.args.history.now c.args.j c.args.peaks.now c.args.highs.now c.last_peak-r.result c.requires.levels found.first found.last
+    level-high c.args.history.now c.args.j c.args.levels.peaks.now c.args.levels.highs.now c.last_peak-r.result c.requires.levels found.first found.last
 
 pub level_cap_by-requires-clause-high : goal.level_cap_by-requires-clause-high
 level_cap_by-requires-clause-high c =
-    level-high c.args.history.now c.args.j c.args.peaks.now c.args.highs.now c.rounds-last.result c.requires.levels
+    level-high c.args.history.now c.args.j c.args.levels.peaks.now c.args.levels.highs.now c.rounds-last.result c.requires.levels
     (omega (arith, c.rounds-last.ensures.rounds, c.requires.bidder.some)) (omega (arith, c.rounds-last.ensures.rounds))
 
 pub returns-then-final_cap : goal.returns-then-final_cap
 returns-then-final_cap c =
-    let found = constraining-by_peaks c.args.history.now c.args.j c.points.result c.args.peaks.now c.rounds-last.result c.last_peak-r.result
+    let found = constraining-by_peaks c.args.history.now c.args.j c.points.result c.args.levels.peaks.now c.rounds-last.result c.last_peak-r.result
     c.rounds-last.ensures.rounds c.requires.levels.each_peak c.last_peak-r.ensures in
     cap-some c.args.final_cap c.args.points.now (rounds_of c.args.j c.args.history.now) (map bid_value c.args.list.now) c.args.«package».now
     c.package.result.now c.min.result
@@ -47,7 +47,7 @@ returns-then-final_cap c =
 
 pub returns-else-final_cap : goal.returns-else-final_cap
 returns-else-final_cap c =
-    let found = constraining-by_peaks c.args.history.now c.args.j c.points.result c.args.peaks.now c.rounds-last.result c.last_peak-r.result
+    let found = constraining-by_peaks c.args.history.now c.args.j c.points.result c.args.levels.peaks.now c.rounds-last.result c.last_peak-r.result
     c.rounds-last.ensures.rounds c.requires.levels.each_peak c.last_peak-r.ensures in
     cap-some c.args.final_cap c.args.points.now (rounds_of c.args.j c.args.history.now) (map bid_value c.args.list.now) c.args.«package».now
     c.package.result.now c.level_cap_by-round_cap.result

@@ -1,6 +1,5 @@
 -- What is put in or overwritten follows the entries that stay.
-use Rattle.std.proofs.Common.{◌≡◌, ◌<◌, List, length, map, take, ap, sym, refl, subst, ◌∙◌, arith}
-use Rattle.auction_model.specs.Book.{BookBid}
+use Rattle.std.proofs.Common.{◌<◌, List, length, map, take, ap, refl, arith}
 use Rattle.relative_cap.specs.declared.entries.TestedEntry.{TestedEntry}
 use Rattle.relative_cap.specs.Tested.{tested_bid}
 use Rattle.relative_cap.proofs.TestedLaws.{front-removed, front-inserted, front-set, inserted-each, bid-there}
@@ -36,10 +35,10 @@ pub returns-clause-entries : goal.returns-clause-entries
 returns-clause-entries c =
     inserted-each c.args.history.now c.args.points.now c.args.j c.args.place (take c.args.place (map tested_bid c.args.entries.now.items))
     c.loop-entries.entries.items c.insert.new.self.items
-    c.in_ok-entry.entry c.loop-entries.invariant c.in_ok-insert.ensures.items c.in_ok-entry.ensures.tested
+    c.entry_for-entry.result c.loop-entries.invariant c.in_ok-insert.ensures.items c.entry_for-entry.ensures.tested
 
 pub returns-clause-put : goal.returns-clause-put
 returns-clause-put c =
     front-inserted c.args.history.now c.args.points.now c.args.j c.args.place (take c.args.place (map tested_bid c.args.entries.now.items))
     c.loop-entries.entries.items c.insert.new.self.items
-    c.in_ok-entry.entry _ c.loop-entries.invariant c.in_ok-insert.ensures.items c.in_ok-entry.ensures.bid
+    c.entry_for-entry.result _ c.loop-entries.invariant c.in_ok-insert.ensures.items c.entry_for-entry.ensures.bid

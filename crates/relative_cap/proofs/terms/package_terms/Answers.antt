@@ -1,5 +1,5 @@
 -- The greatest eligibilities give the constraining round.
-use Rattle.std.proofs.Common.{sym, subst, ap, ◌∙◌}
+use Rattle.std.proofs.Common.{subst, ap, ◌∙◌}
 use Rattle.auction_model.specs.PackageTests.{is_same}
 use Rattle.relative_cap.specs.OwnRounds.{own_in, IsConstraining}
 use Rattle.relative_cap.specs.RoundsOfPackage.{IsRoundTerms}

@@ -1,11 +1,7 @@
 -- One entry more.
-use Rattle.std.proofs.Common.{◌≡◌, ◌+◌, ◌++◌, [], ◌∷◌, List, map, take, subst, sym, ap, ◌∙◌, refl}
-use Rattle.std.proofs.lemmas.List.{take_more, take_all, map-append}
-use Rattle.std.proofs.lemmas.List.Elements.{All-get_or}
-use Rattle.auction_model.specs.Book.{BookBid}
-use Rattle.relative_cap.specs.declared.entries.TestedEntry.{TestedEntry}
-use Rattle.relative_cap.specs.Tested.{AreHighs, IsTested, raised, tested_bid}
-use Rattle.relative_cap.proofs.TestedLaws.{highs-more, entries-more, entries-all}
+use Rattle.std.proofs.Common.{[], subst, sym}
+use Rattle.relative_cap.specs.Tested.{AreHighs}
+use Rattle.relative_cap.proofs.TestedLaws.{entries-more, entries-all}
 use Rattle.relative_cap.proofs.tester.highs_over.Goals as goal
 
 pub loop-entry-init : goal.loop-entry-init

@@ -1,7 +1,7 @@
 use Rattle.std.proofs.Common.{◌≡◌, ◌∙◌, ◌+◌, sym, arith, subst, inl, inr, IsTrue}
 use Rattle.std.proofs.lemmas.Bool.{cases_eq}
 use Rattle.auction_model.specs.Market.{number_of}
-use Rattle.slot_places.specs.Board.{start_behind, starts_at}
+use Rattle.slot_places.specs.Board.{start_after, starts_at}
 use Rattle.slot_places.specs.SetTable.{holds, sum_outside}
 use Rattle.slot_places.specs.Steps.{searched, counted}
 use Rattle.slot_places.proofs.NumberLaws.{fits-trans, starts-from, starts-says}
@@ -26,7 +26,7 @@ loop-i-init c =
 pub with_number-requires-then-place-start-clause-may : goal.with_number-requires-then-place-start-clause-may
 with_number-requires-then-place-start-clause-may c =
     let slots = c.args.search.now.slots.now in
-    starts-from slots (start_behind slots (holds c.args.set)) c.args.j c.loop-i.i
+    starts-from slots (start_after slots (holds c.args.set)) c.args.j c.loop-i.i
     (sym c.place-place.ensures.start ∙ (c.if-place-start.true ∙ c.start-start.ensures))
 
 pub loop-i-preserved : goal.loop-i-preserved
@@ -61,10 +61,10 @@ loop-i-preserved c =
             best = λ x t n low.
                 elim (cases_eq (number_of x j) (i + 1)) [
                   | inl same ↦
-                      let may : IsTrue (starts_at slots (start_behind slots s) j (i + 1)) = subst (λ h. IsTrue (starts_at slots (start_behind slots s) j h))
+                      let may : IsTrue (starts_at slots (start_after slots s) j (i + 1)) = subst (λ h. IsTrue (starts_at slots (start_after slots s) j h))
                       same n.may in
                       absurd (w.if-place-start.false (c.place-place.ensures.start
-                      ∙ (starts-says slots (start_behind slots s) j i may ∙ sym c.start-start.ensures)))
+                      ∙ (starts-says slots (start_after slots s) j i may ∙ sym c.start-start.ensures)))
                   | inr other ↦ was.best x t n (omega (arith, low, other))
                 ];
           })

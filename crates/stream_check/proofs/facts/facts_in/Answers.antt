@@ -4,8 +4,8 @@ use mir.Val.{SFits}
 use mir.Syntax.{w128}
 use Rattle.stream_check.proofs.facts.facts_in.Goals as goal
 
-pub choice_in-requires-clause-choice : goal.choice_in-requires-clause-choice
-choice_in-requires-clause-choice c = let (cert, all) = c.requires.some in (cert.choice, all.choice, all.of.certificate.choice)
+pub read_choice-requires-clause-choice : goal.read_choice-requires-clause-choice
+read_choice-requires-clause-choice c = let (cert, all) = c.requires.some in (cert.choice, all.choice, all.of.certificate.choice)
 
 pub singles_in-requires-clause-some : goal.singles_in-requires-clause-some
 singles_in-requires-clause-some c = let (cert, all) = c.requires.some in (cert, all, sym (c.numbers.ensures ∙ c.in_ok-choice.ensures cert.choice all.choice))

@@ -15,8 +15,8 @@ use Rattle.choices.specs.declared.chooser.Single.{Single}
 use Rattle.stream_check.proofs.NextLaws.{part-choice}
 use Rattle.stream_check.proofs.facts.single_in.Goals as goal
 
-pub choice_in-requires-clause-choice : goal.choice_in-requires-clause-choice
-choice_in-requires-clause-choice c =
+pub read_choice-requires-clause-choice : goal.read_choice-requires-clause-choice
+read_choice-requires-clause-choice c =
     let (cert, all, number_is) = c.requires.some in
     let wins = wins-some cert.choice c.args.j c.args.number (sym number_is) (λ none. omega (arith, none, c.requires.wins)) in (
       (part_of cert.withouts c.args.j).choice,

@@ -12,8 +12,8 @@ use Rattle.stream_check.proofs.NextLaws.{next-due}
 use Rattle.stream_check.proofs.RowCome.{pair-next, row-is}
 use Rattle.stream_check.proofs.kept.one_more.Goals as goal
 
-pub put_members-count-requires-clause-due : goal.put_members-count-requires-clause-due
-put_members-count-requires-clause-due c = inl c.requires.due
+pub members_in-members-requires-clause-due : goal.members_in-members-requires-clause-due
+members_in-members-requires-clause-due c = inl c.requires.due
 
 pub with_row-requires-clause-some : goal.with_row-requires-clause-some
 with_row-requires-clause-some c =
@@ -55,6 +55,6 @@ returns c = λ cert next is follows.
     let row = row-is cert c.args.left in
     pair-next c.args.at.now.book.now cert c.args.left next c.with_row.result (next-due c.args.at.now cert (Multipliers c.args.left) next c.requires.due follows)
     (c.with_row.ensures cert (length cert.rows - c.args.left) (pair-totals c.args.at.now cert is c.args.left c.requires.due)
-    (ap (λ (r : RowValue). r.members) (sym row) ∙ sym (c.put_members-count.ensures.members cert is))
+    (ap (λ (r : RowValue). r.members) (sym row) ∙ sym (c.as_slice.ensures ∙ c.members_in-members.ensures cert is))
     (ap (λ (r : RowValue). r.first) (sym row) ∙ sym first ∙ sym (to_z-of_z w128 (get_or c.numbers_in-pair.result.now 0 (pos 0)) first_fits))
     (ap (λ (r : RowValue). r.second) (sym row) ∙ sym second ∙ sym (to_z-of_z w128 (get_or c.numbers_in-pair.result.now 1 (pos 0)) second_fits)))

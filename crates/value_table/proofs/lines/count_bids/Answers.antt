@@ -54,7 +54,7 @@ loop-i-preserved g c =
           (omega (arith, c.loop-i-test.true, c.bids-i.ensures.bids)) (map number c.args.below.now)
           (map number c.loop-i.line) (map number made)
           c.requires.below c.loop-i.invariant.line places
-          (λ s h. rw up at (simp (c.supply.ensures.supply, c.bid-bid.ensures.lots, worth) at (c.add_bid-more.ensures.line s
+          (λ s h. rw up at (simp (c.supply.ensures.supply, c.bid-own.ensures.lots, worth) at (c.add_bid-more.ensures.line s
           (omega (arith, h, length-map c.loop-i.line number)))));
       units = units-kept number c.loop-i.shift c.shift_after-shift.result made c.args.below.now c.add_bid-more.new.low c.put_units-shift.new.high c.shift_after-shift.ensures
           c.add_bid-more.ensures.units;

@@ -63,11 +63,11 @@ returns-then-is_short-clause-line c =
     let book = c.args.book.now in
     let turned = c.args.turned in
     line-plain (in_order turned (menu_of book)) (worths_in_order turned (length book.bidders) (net_of book)) c.args.surplus.now book.supply
-    (c.args.j - 1) c.put_line.new.line (λ j. refl) c.requires.zeros c.put_line.ensures
+    (c.args.j - 1) c.put_line.new.line (λ j. refl) c.requires.zeros c.put_line.ensures.line
 
 pub returns-else-is_short-clause-line : goal.returns-else-is_short-clause-line
 returns-else-is_short-clause-line c =
     let book = c.args.book.now in
     let turned = c.args.turned in
     line-plain (in_order turned (menu_of book)) (worths_in_order turned (length book.bidders) (net_of book)) c.args.surplus.now book.supply
-    (c.args.j - 1) c.put_line-else-is_short.new.line (λ j. refl) c.requires.zeros c.put_line-else-is_short.ensures
+    (c.args.j - 1) c.put_line-else-is_short.new.line (λ j. refl) c.requires.zeros c.put_line-else-is_short.ensures.line

@@ -3,10 +3,9 @@ use Rattle.std.proofs.Common.{◌≡◌, ◌∙◌, ◌-◌, ◌<◌, List, leng
 use Rattle.auction_rules.specs.Replies.{is_clock}
 use Rattle.auction_rules.specs.State.{DeskState, Round, drafts_of}
 use Rattle.relative_cap.specs.OwnRounds.{bid_value, eligibility_in}
-use Rattle.bid_desk.proofs.DeskLaws.{sealed-stage}
 use Rattle.bid_desk.proofs.EntryLaws.{entries-of, order-of, points-of}
 use Rattle.bid_desk.proofs.SealedLaws.{known-place, sealed-clock, categories-known}
-use Rattle.bid_desk.proofs.TesterLaws.{drafts_of-read, testers-for, testers-in}
+use Rattle.bid_desk.proofs.TesterLaws.{drafts_of-read}
 use Rattle.bid_desk.proofs.desk.Desk.fault_of.Goals as goal
 
 pub test_list-requires-clause-list : goal.test_list-requires-clause-list

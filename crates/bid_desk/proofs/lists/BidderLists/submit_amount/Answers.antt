@@ -1,5 +1,5 @@
 -- The lists differ in the amount at the place alone.
-use Rattle.std.proofs.Common.{rules, ◌≡◌, ◌∙◌, ◌<◌, List, map, ap, set, sym, subst, arith, length}
+use Rattle.std.proofs.Common.{rules, ◌≡◌, ◌∙◌, List, map, ap, sym, subst, arith, length}
 use Rattle.std.specs.Vec.{vec_len}
 use Rattle.auction_model.specs.Book.{BookBid}
 use Rattle.relative_cap.specs.OwnRounds.{bid_value}

@@ -28,8 +28,8 @@ judged-found-requires c =
     (omega (arith, c.kept.ensures.bidders)) c.count-count.ensures none on c.end_line.ensures.shape ends known
     (c.end_line.ensures.beyond on) (c.end_line.ensures.next on) (c.end_line.ensures.order on) (c.end_line.ensures.stands text items ends)).possible
 
-pub totals_behind-totals-requires : goal.totals_behind-totals-requires
-totals_behind-totals-requires c =
+pub totals_after-totals-requires : goal.totals_after-totals-requires
+totals_after-totals-requires c =
     let text = c.requires.ends.0 in
     let items = c.requires.ends.1 in
     let (set, ends, known) = c.requires.ends.2 in
@@ -46,10 +46,10 @@ returns-clause-stands c = λ text items (set, ends, known).
     stands-next c.args.self.now set c.end_line.new.self c.args.room.now text items c.count-count.result
     (omega (arith, c.kept.ensures.bidders)) c.count-count.ensures none on c.end_line.ensures.shape ends known
     (c.end_line.ensures.beyond on) (c.end_line.ensures.next on) (c.end_line.ensures.order on) (c.end_line.ensures.stands text items ends)
-    c.judged-found.result.failed c.judged-found.result.late c.members_behind-members.result c.judged-found.result.grows c.totals_behind-totals.result
+    c.judged-found.result.failed c.judged-found.result.late c.members_after-members.result c.judged-found.result.grows c.totals_after-totals.result
     (λ cert at next. (
       (c.judged-found.ensures cert c.end_line.new.self.due at next).0,
-      c.members_behind-members.ensures cert c.end_line.new.self.due at next,
-      c.totals_behind-totals.ensures cert c.end_line.new.self.due at next,
+      c.members_after-members.ensures cert c.end_line.new.self.due at next,
+      c.totals_after-totals.ensures cert c.end_line.new.self.due at next,
       (c.judged-found.ensures cert c.end_line.new.self.due at next).1,
     ))

@@ -46,8 +46,8 @@ lowered_rules-rules-requires-clause-offers c =
           (c.numbers_in.ensures ∙ pay-there c.args.at.now cert is c.args.k c.requires.due) c.put_gains.ensures.gains;
     }
 
-pub behind_entries-requires-clause-late : goal.behind_entries-requires-clause-late
-behind_entries-requires-clause-late c =
+pub after_entries-requires-clause-late : goal.after_entries-requires-clause-late
+after_entries-requires-clause-late c =
     let at = c.args.at.now in
     let cert = c.requires.some.0 in
     late-small at.book.now (weight_of at.weights.now) cert 9 ((bidders_of at.book.now + 1) * states at.book.now) 1 c.late_sum.result (omega arith)
@@ -57,12 +57,12 @@ pub returns : goal.returns
 returns c = λ cert next is follows. (
   let at = c.args.at.now in
       let early = c.late_sum.ensures cert is in
-      lowered-shows c.args.at.now cert is c.args.k c.requires.due next c.lowered_rules-rules.result.failed c.behind_entries.result.failed c.late_sum.result
-      c.behind_entries.result.late follows (c.lowered_rules-rules.ensures.failed cert is) early
-      c.behind_entries.ensures.inside
-      (λ last j. c.behind_entries.ensures.whole last (weight_of at.weights.now) cert 1 j early
+      lowered-shows c.args.at.now cert is c.args.k c.requires.due next c.lowered_rules-rules.result.failed c.after_entries.result.failed c.late_sum.result
+      c.after_entries.result.late follows (c.lowered_rules-rules.ensures.failed cert is) early
+      c.after_entries.ensures.inside
+      (λ last j. c.after_entries.ensures.whole last (weight_of at.weights.now) cert 1 j early
       (λ q past. past-C9 at.book.now (weight_of at.weights.now) cert q past))
-      c.behind_entries.ensures.none,
-  grown-next c.args.at.now cert is Lowered c.args.k c.requires.due next c.behind_entries.result.grows follows
-      (λ seen. c.lowered_rules-rules.ensures.grows (subst IsTrue c.behind_entries.ensures.grows seen)),
+      c.after_entries.ensures.none,
+  grown-next c.args.at.now cert is Lowered c.args.k c.requires.due next c.after_entries.result.grows follows
+      (λ seen. c.lowered_rules-rules.ensures.grows (subst IsTrue c.after_entries.ensures.grows seen)),
 )

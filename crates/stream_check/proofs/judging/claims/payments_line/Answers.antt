@@ -6,6 +6,7 @@ use Rattle.cert_soundness.specs.Tests.{C5, bidders_of}
 use Rattle.cert_check.specs.Places.{IsFirstFailing}
 use Rattle.cert_check.proofs.VerdictLaws.{asks-C5}
 use Rattle.std.proofs.lemmas.Bool.{false≢true}
+use Rattle.stream_check.specs.Moments.{Shows}
 use Rattle.stream_check.proofs.ClaimCome.{pay-own, pay-holds, pay-shows}
 use Rattle.stream_check.proofs.judging.claims.payments_line.Goals as goal
 
@@ -16,7 +17,7 @@ payments_test-requires c = record {
 }
 
 pub returns : goal.returns
-returns c = λ cert next is follows. (
+returns c = subst (Shows c.args.at.now) (sym c.of.ensures) (λ cert next is follows. (
   let at = c.args.at.now in
       let first = subst (λ (b : Book). IsFirstFailing (C5 b cert) c.payments_test.result) c.requires.claim.book
       (c.payments_test.ensures cert (c.requires.claim.each cert is) (sym (c.numbers_in-pay.ensures ∙ pay-own c.args.at.now cert is c.requires.due))) in
@@ -24,4 +25,4 @@ returns c = λ cert next is follows. (
       (c.failure_of.ensures.judged at.book.now (weight_of at.weights.now) cert (pay-holds c.args.at.now cert is c.requires.due)
       (asks-C5 at.book.now (weight_of at.weights.now) cert 5 c.payments_test.result refl first)),
   λ seen. absurd (false≢true seen),
-)
+))

@@ -16,11 +16,11 @@ use Rattle.stream_check.proofs.judging.parts.keeps_top.Goals as goal
 pub returns-then-k-ne0 : goal.returns-then-k-ne0
 returns-then-k-ne0 c = λ cert is. (λ t first. absurd (c.if-k-ne0.true first), λ low. refl)
 
-pub put_choice-requires-clause-due : goal.put_choice-requires-clause-due
-put_choice-requires-clause-due c = lines-named c.args.at.now c.requires.some.0 c.requires.some.1 c.args.j c.args.k c.requires.due
+pub choice_in-choice-requires-clause-due : goal.choice_in-choice-requires-clause-due
+choice_in-choice-requires-clause-due c = lines-named c.args.at.now c.requires.some.0 c.requires.some.1 c.args.j c.args.k c.requires.due
 
-pub put_choice-requires-clause-choice : goal.put_choice-requires-clause-choice
-put_choice-requires-clause-choice c =
+pub choice_in-choice-requires-clause-choice : goal.choice_in-choice-requires-clause-choice
+choice_in-choice-requires-clause-choice c =
     let cert = c.requires.some.0 in
     let is = c.requires.some.1 in (
       (part_of cert.withouts c.args.j).choice,
@@ -39,7 +39,7 @@ value_among-requires c =
     let at = c.args.at.now in
     let cert = c.requires.some.0 in
     let is = c.requires.some.1 in
-    let choice_is = ap (λ (n : ℕ). take n c.put_choice.new.to) c.bidders-bidders.ensures.bidders ∙ c.put_choice.ensures.choice
+    let choice_is = c.as_slice.ensures ∙ c.choice_in-choice.ensures.choice
     (part_of cert.withouts c.args.j).choice (lines-choice c.args.at.now cert is c.args.j c.args.k c.requires.due) in
     fits-known (menu_of at.book.now) at.book.now.supply _ (subst (λ (l : List ℕ). IsTrue ((market_of at.book.now).allowed l)) (sym choice_is)
     (lines-part c.args.at.now cert is c.args.j c.args.k c.requires.due).allowed)
@@ -54,7 +54,7 @@ returns c = λ cert is.
     let entry : get_or c.numbers_in-line.result.now (c.states.result - 1) (pos 0) ≡ entry_at (part_of cert.withouts c.args.j).table 0 (full at.book.now) =
     ap (λ (l : List ℤ). get_or l (c.states.result - 1) (pos 0)) (line_is ∙ ap (λ (n : ℕ). slice_index_or (part_of cert.withouts c.args.j).table n [])
     c.if-k-ne0.false) ∙ ap (λ (n : ℕ). get_or (slice_index_or (part_of cert.withouts c.args.j).table 0 []) (n - 1) (pos 0)) same in
-    let choice_is = ap (λ (n : ℕ). take n c.put_choice.new.to) c.bidders-bidders.ensures.bidders ∙ c.put_choice.ensures.choice
+    let choice_is = c.as_slice.ensures ∙ c.choice_in-choice.ensures.choice
     (part_of cert.withouts c.args.j).choice (lines-choice c.args.at.now cert is c.args.j c.args.k c.requires.due) in
     let value : to_z w128 (of_z w128 c.value_among.result) ≡ value_of (market_of at.book.now) (part_of cert.withouts c.args.j).choice =
     to_z-of_z w128 c.value_among.result value_fits ∙ c.value_among.ensures.value ∙ ap (λ (l : List ℕ). value_of (market_of at.book.now) l) choice_is in

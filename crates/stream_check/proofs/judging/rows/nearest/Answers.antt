@@ -45,7 +45,7 @@ second_test-requires-clause-values c =
     (subst (λ (l : List ℕ). AreValuesWithout c.args.at.now.book.now l cert.withouts c.part_values-values.result) of.choice_is
     (c.part_values-values.ensures cert is)) in
     values-range c.args.claim.now (subst IsBidBook (sym c.requires.claim.book) c.kept.ensures) cert.withouts c.part_values-values.result
-    (parts_of-claim c.args.at.now cert is (ends-claimed c.args.at.now.due c.requires.rows.line) c.args.claim.now c.requires.claim)
+    (parts_of-claim c.args.at.now cert is (ends-claimed c.args.at.now.due c.requires.rows.line).0 (ends-claimed c.args.at.now.due c.requires.rows.line).1 c.args.claim.now c.requires.claim)
     values
 
 pub second_test-requires-clause-weights : goal.second_test-requires-clause-weights

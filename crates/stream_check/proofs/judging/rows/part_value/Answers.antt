@@ -22,8 +22,8 @@ returns-then-number-eq0 c = λ cert is.
     sym (cond-false (uses cert.choice c.args.j) (value_of (market_of c.args.at.now.book.now) (part_of cert.withouts c.args.j).choice) (pos 0)
     (ap not (eq-eqb (number_of cert.choice c.args.j) 0 (sym number_is ∙ c.if-number-eq0.true))))
 
-pub put_choice-requires-clause-choice : goal.put_choice-requires-clause-choice
-put_choice-requires-clause-choice c =
+pub choice_in-choice-requires-clause-choice : goal.choice_in-choice-requires-clause-choice
+choice_in-choice-requires-clause-choice c =
     let cert = c.requires.some.0 in
     let is = c.requires.some.1 in
     let number_is = c.number.ensures ∙ ap (λ (l : List ℕ). number_of l c.args.j) (sym (c.requires.claim.each cert is).choice_is) in
@@ -40,10 +40,10 @@ value_among-requires c =
     let is = c.requires.some.1 in
     let number_is = c.number.ensures ∙ ap (λ (l : List ℕ). number_of l c.args.j) (sym (c.requires.claim.each cert is).choice_is) in
     let wins = wins-some cert.choice c.args.j c.number.result number_is c.if-number-eq0.false in
-    let choice_is = ap (λ (n : ℕ). take n c.put_choice.new.to) c.bidders-bidders.ensures.bidders ∙ c.put_choice.ensures.choice
+    let choice_is = c.as_slice.ensures ∙ c.choice_in-choice.ensures.choice
     (part_of cert.withouts c.args.j).choice (part-known c.args.at.now cert is c.requires.rows.line c.args.j c.requires.bidder.0 c.requires.bidder.1 wins) in
     fits-known (menu_of at.book.now) at.book.now.supply _ (subst (λ (l : List ℕ). IsTrue ((market_of at.book.now).allowed l)) (sym choice_is)
-    ((parts-hold c.args.at.now cert is (ends-claimed c.args.at.now.due c.requires.rows.line) c.args.j).part c.requires.bidder.0 c.requires.bidder.1
+    ((parts-hold c.args.at.now cert is (ends-claimed c.args.at.now.due c.requires.rows.line).0 (ends-claimed c.args.at.now.due c.requires.rows.line).1 c.args.j).part c.requires.bidder.0 c.requires.bidder.1
     wins).allowed)
 
 pub returns : goal.returns
@@ -51,7 +51,7 @@ returns c = λ cert is.
     let value_fits : SFits w128 c.value_among.result = search rules in
     let number_is = c.number.ensures ∙ ap (λ (l : List ℕ). number_of l c.args.j) (sym (c.requires.claim.each cert is).choice_is) in
     let wins = wins-some cert.choice c.args.j c.number.result number_is c.if-number-eq0.false in
-    let choice_is = ap (λ (n : ℕ). take n c.put_choice.new.to) c.bidders-bidders.ensures.bidders ∙ c.put_choice.ensures.choice
+    let choice_is = c.as_slice.ensures ∙ c.choice_in-choice.ensures.choice
     (part_of cert.withouts c.args.j).choice (part-known c.args.at.now cert is c.requires.rows.line c.args.j c.requires.bidder.0 c.requires.bidder.1 wins) in
     to_z-of_z w128 c.value_among.result value_fits ∙ c.value_among.ensures.value ∙ ap (λ (l : List ℕ). value_of (market_of c.args.at.now.book.now) l) choice_is
     ∙ sym (cond-true (uses cert.choice c.args.j) (value_of (market_of c.args.at.now.book.now) (part_of cert.withouts c.args.j).choice) (pos 0) wins)

@@ -19,14 +19,14 @@ returns c = λ cert next is follows. (
   let at = c.args.at.now in
       let early = c.merge_early-late.ensures at.book.now (weight_of at.weights.now) cert 3 ((bidders_of at.book.now + 1) * states at.book.now)
       (head-late c.args.at.now cert is c.args.k c.requires.due) (λ none. c.keeps_value.ensures cert is) in
-      head-shows c.args.at.now cert is c.args.k c.requires.due next c.head_rules-rules.result.failed c.behind_entries.result.failed c.merge_early-late.result
-      c.behind_entries.result.late follows (c.head_rules-rules.ensures.failed cert is) early
-      c.behind_entries.ensures.inside
-      (λ last j. c.behind_entries.ensures.whole last (weight_of at.weights.now) cert (c.args.k + 1) j early
+      head-shows c.args.at.now cert is c.args.k c.requires.due next c.head_rules-rules.result.failed c.after_entries.result.failed c.merge_early-late.result
+      c.after_entries.result.late follows (c.head_rules-rules.ensures.failed cert is) early
+      c.after_entries.ensures.inside
+      (λ last j. c.after_entries.ensures.whole last (weight_of at.weights.now) cert (c.args.k + 1) j early
       (λ q past. past-C3 at.book.now (weight_of at.weights.now) cert q (omega (arith, past, last))))
-      c.behind_entries.ensures.none,
-  grown-next c.args.at.now cert is Head c.args.k c.requires.due next c.behind_entries.result.grows follows
-      (λ seen. c.head_rules-rules.ensures.grows (subst IsTrue c.behind_entries.ensures.grows seen)),
+      c.after_entries.ensures.none,
+  grown-next c.args.at.now cert is Head c.args.k c.requires.due next c.after_entries.result.grows follows
+      (λ seen. c.head_rules-rules.ensures.grows (subst IsTrue c.after_entries.ensures.grows seen)),
 )
 
 pub head_rules-rules-requires-clause-offers : goal.head_rules-rules-requires-clause-offers
@@ -37,8 +37,8 @@ head_rules-rules-requires-clause-offers c = record {
       (replicate 16 (pos 0)) 16 refl j i;
 }
 
-pub behind_entries-requires-clause-late : goal.behind_entries-requires-clause-late
-behind_entries-requires-clause-late c =
+pub after_entries-requires-clause-late : goal.after_entries-requires-clause-late
+after_entries-requires-clause-late c =
     let at = c.args.at.now in
     let cert = c.requires.some.0 in
     let is = c.requires.some.1 in

@@ -19,8 +19,8 @@ number_in-value-requires-clause-one c = (c.requires.some.0.value, value-there c.
 pub numbers_in-line-requires-clause-due : goal.numbers_in-line-requires-clause-due
 numbers_in-line-requires-clause-due c = (tt, line-inside c.args.at.now c.requires.some.0 c.requires.some.1 Head c.args.k c.requires.due)
 
-pub put_choice-requires-clause-choice : goal.put_choice-requires-clause-choice
-put_choice-requires-clause-choice c = (
+pub choice_in-choice-requires-clause-choice : goal.choice_in-choice-requires-clause-choice
+choice_in-choice-requires-clause-choice c = (
   c.requires.some.0.choice,
   choice-there c.args.at.now c.requires.some.0 c.requires.some.1 c.args.k c.requires.due,
   c.requires.some.1.kept.choice,
@@ -30,7 +30,7 @@ pub none_earlier-requires-clause-allowed : goal.none_earlier-requires-clause-all
 none_earlier-requires-clause-allowed c =
     let cert = c.requires.some.0 in
     let is = c.requires.some.1 in
-    let choice_is = ap (λ (n : ℕ). take n c.put_choice.new.to) c.bidders-bidders.ensures.bidders ∙ c.put_choice.ensures.choice cert.choice
+    let choice_is = c.as_slice.ensures ∙ c.choice_in-choice.ensures.choice cert.choice
     (choice-there c.args.at.now cert is c.args.k c.requires.due) in
     subst (λ (l : List ℕ). IsTrue ((market_of c.args.at.now.book.now).allowed l)) (sym choice_is) (choice-allowed c.args.at.now cert is c.args.k c.requires.due)
 
@@ -79,8 +79,7 @@ returns c = λ cert is.
     let value_fits : SFits w128 c.number_in-value.result = search rules in
     let value_is = sym (c.number_in-value.ensures cert.value (value-there c.args.at.now cert is c.args.k c.requires.due))
     ∙ sym (to_z-of_z w128 c.number_in-value.result value_fits) in
-    let choice_is = sym (ap (λ (n : ℕ). take n c.put_choice.new.to) c.bidders-bidders.ensures.bidders
-    ∙ c.put_choice.ensures.choice cert.choice (choice-there c.args.at.now cert is c.args.k c.requires.due)) in
+    let choice_is = sym (c.as_slice.ensures ∙ c.choice_in-choice.ensures.choice cert.choice (choice-there c.args.at.now cert is c.args.k c.requires.due)) in
     let line_is = sym (c.numbers_in-line.ensures ∙ line-there c.args.at.now cert is c.args.k c.requires.due) in
     keeps-none at.book.now (weight_of at.weights.now) cert c.args.k c.none_earlier.result (omega (arith, c.if-k-eq0.false))
     (line-inside c.args.at.now cert is Head c.args.k c.requires.due) (c.none_earlier.ensures cert choice_is value_is line_is)

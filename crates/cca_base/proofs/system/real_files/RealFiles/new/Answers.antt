@@ -1,5 +1,4 @@
-use Rattle.std.proofs.Common.{◌≡◌, ℕ, ◌∙◌, ap, None}
-use Rattle.cca_base.specs.Entries.{Seen}
+use Rattle.std.proofs.Common.{◌≡◌, ℕ, ◌∙◌}
 use Rattle.cca_base.specs.RealFiles.{real_seen}
 use Rattle.cca_base.specs.declared.system.known_file.KnownFile.{KnownFile}
 use Rattle.cca_base.proofs.Entries.{named, found_any}
@@ -8,16 +7,12 @@ use Rattle.cca_base.proofs.system.real_files.RealFiles.new.Goals as goal
 
 -- as each file is at first
 abbrev first : KnownFile → Type 0
-first f = real_seen f ≡ record { name = (real_seen f).name; file = None; load_faults = 0; append_faults = 0; room = None }
+first f = (f.load_faults ≡ 0) × (f.append_faults ≡ 0)
 
 pub returns-clause-names : goal.returns-clause-names
 returns-clause-names g c = λ name. found_any (named (name_by real_seen) name) c.in_ok-files.files.items ∙ c.in_ok-files.ensures.names name
 
 pub returns-clause-faults : goal.returns-clause-faults
 returns-clause-faults g c = λ name.
-    let none = λ (count : Seen → ℕ) (zero_at : (f : KnownFile) → first f → count (real_seen f) ≡ 0). fresh_count first (named (name_by real_seen) name)
-    (λ f. count (real_seen f)) zero_at c.in_ok-files.files.items c.in_ok-files.ensures.fresh in (
-      none (λ s. s.load_faults) (λ f fresh. ap (λ (s : Seen). s.load_faults) fresh),
-      none (λ s. s.append_faults)
-          (λ f fresh. ap (λ (s : Seen). s.append_faults) fresh),
-    )
+    let none = λ (count : KnownFile → ℕ) (zero_at : (f : KnownFile) → first f → count f ≡ 0). fresh_count first (named (name_by real_seen) name)
+    count zero_at c.in_ok-files.files.items c.in_ok-files.ensures.fresh in (none (λ f. f.load_faults) (λ f fresh. fresh.0), none (λ f. f.append_faults) (λ f fresh. fresh.1))
