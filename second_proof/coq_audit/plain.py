@@ -23,6 +23,10 @@ class NotPlain(Exception):
     """A text that has no plain spelling; the argument says why, in words for its reader."""
 
 
+class NotToml(NotPlain):
+    """An award that isn't TOML 1.0; it may be TOML 1.1."""
+
+
 def spelled(value: object) -> str:
     """A value of an award as it is written plainly."""
     if isinstance(value, str):
@@ -49,8 +53,9 @@ def table_lines(word: str, table: object) -> list[str]:
         raise NotPlain(f"{word!r} isn't a list of tables")
     known(table, TABLES[word], f"a {word}")
     written = {key: table[key] for key in TABLES[word] if key in table}
-    if not any(table.get("holding", [])):
-        written.pop("holding", None)
+    holding = written.get("holding")
+    if isinstance(holding, list) and not any(holding):
+        del written["holding"]
     return ["", f"[[{word}]]", *(f"{key} = {spelled(value)}" for key, value in written.items())]
 
 
@@ -61,9 +66,11 @@ def plain_award(file: bytes) -> bytes:
     written as TOML 1.0 first.
     """
     try:
-        award = tomllib.loads(file.decode())
+        award = tomllib.loads(file.decode().removeprefix("\ufeff"))
+    except UnicodeDecodeError as fault:
+        raise NotPlain("the award isn't UTF-8") from fault
     except (ValueError, RecursionError) as fault:
-        raise NotPlain(f"the award isn't TOML 1.0: {fault}") from fault
+        raise NotToml(f"the award isn't TOML 1.0, and may be TOML 1.1: {fault}") from fault
     known(award, TOP, "an award")
     lines = [f"{key} = {spelled(award[key])}" for key in ("version", "tick") if key in award]
     for word in TABLES:
@@ -74,8 +81,22 @@ def plain_award(file: bytes) -> bytes:
     return "".join(f"{line}\n" for line in lines).encode()
 
 
+def without_comments(file: bytes) -> bytes:
+    """An award without its comments, as Comments.v says; as it is where that has a control character."""
+    text, kept = file.decode(), []
+    if any(sign < " " and sign != "\n" or sign == "\x7f" for sign in text):
+        return file
+    for line in text.split("\n"):
+        before, mark, _ = f" {line}".partition(" #")
+        bare = before[1:].rstrip(" ") if mark else line
+        if bare or not mark:
+            kept.append(bare)
+    return "\n".join(kept).encode()
+
+
 def plain_log(file: bytes) -> bytes:
     """The plain spelling of a log: without a byte order mark, quotes, blank lines and other line ends."""
+    csv.field_size_limit(len(file) + 1)
     rows = csv.reader(io.StringIO(file.removeprefix(b"\xef\xbb\xbf").decode("latin-1"), newline=""))
     try:
         records = [row for row in rows if row]

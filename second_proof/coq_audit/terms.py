@@ -45,7 +45,7 @@ class Terms:
 
     def text(self, name: str, file: bytes, separator: str) -> None:
         """Defines the lines of fields of a file. A last line without its line feed gets one as a part of a field: no text has that."""
-        *lines, unended = file.decode("ascii").split("\n")
+        *lines, unended = file.decode().split("\n")
         lines += [unended + "\n"] if unended else []
         names = [self.line(line.split(separator)) for line in lines]
         self.definitions.append(f"Definition {name} : text := [{'; '.join(names)}].")
