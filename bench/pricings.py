@@ -1,6 +1,6 @@
 """What `cca price --rounds` prints, read again, for general solvers."""
 from fractions import Fraction
-from limit_books import RESERVE, SUPPLY
+from checks.cases.limit_books import RESERVE, SUPPLY
 
 
 def fraction(word):
@@ -9,7 +9,8 @@ def fraction(word):
 
 
 def prices_of(printed):
-    """The winners with their net amounts and Vickrey prices, the net value, and of each turn the point with the greatest lowered sum."""
+    """The winners with their net amounts and Vickrey prices, the net value, and of each turn the point with the
+    greatest lowered sum."""
     winners, turns, net = [], [], None
     for line in printed.splitlines():
         words = line.split()
@@ -18,7 +19,7 @@ def prices_of(printed):
             point = [fraction(w) for w in words[3:end]]
             turns.append((point, sum(point) + (fraction(words[-1]) if "row" in words else 0)))
         elif words[0] == "winner":
-            lots = tuple(map(int, words[2:2 + len(SUPPLY)]))
+            lots = tuple(map(int, words[2 : 2 + len(SUPPLY)]))
             cost = sum(n * r for n, r in zip(lots, RESERVE))
             at = words.index("bid")
             winners.append((int(words[1][1:]) - 1, int(words[at + 1]) - cost, int(words[at + 3]) - cost))

@@ -1,12 +1,15 @@
 """Winner determinations as integer programs, for the general solvers that are installed."""
-import os, re, shutil
-from limit_books import OUT, RESERVE, SUPPLY, timed
+import os
+import re
+import shutil
+from checks.cases.limit_books import OUT, RESERVE, SUPPLY, timed
 
 SOLVERS = tuple(solver for solver in ("cbc", "glpsol") if shutil.which(solver))
 
 
 def terms_of(book, surplus, skip):
-    """What each bid counts where its bidder's surplus is taken off, without one bidder, and the idle worths, which are a constant."""
+    """What each bid counts where its bidder's surplus is taken off, without one bidder, and the idle worths, which are
+    a constant."""
     terms, idle = [], 0.0
     for j, bids in enumerate(book):
         own = float(surplus.get(j, 0))
@@ -53,7 +56,8 @@ def optimum(solver, program, seconds):
 
 
 def beside(solver, book, wanted, seconds):
-    """The CPU time for these winner determinations, each with its surpluses, the bidder that is left out and the greatest sum that cca
+    """The CPU time for these winner determinations, each with its surpluses, the bidder that is left out and the
+    greatest sum that cca
     states; whether each was solved to its end, and whether all that were have that sum."""
     spent, whole, same = 0.0, True, True
     for surplus, skip, most in wanted:

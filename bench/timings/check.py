@@ -1,16 +1,21 @@
 """Times `cca win`, `cca price` and `cca check` on books at the limits, beside a plain Rust program and general solvers.
 
 The books are those of `price`. Printed is the median of the CPU times of whole runs in milliseconds, and whether both
-programs print the same, and how much memory `cca win` and `cca check` keep: the book is the same, so what `check` keeps beyond `win` is
-what it needs for the certificate. The plain program has the best loops known. Then some certificates are broken in one number, and both checkers have to give the same verdict. The solvers cbc and glpsol, where they
-are installed, solve again all winner determinations that the certificate shows, each for this many seconds at most: what has to be done
+programs print the same, and how much memory `cca win` and `cca check` keep: the book is the same, so what `check` keeps
+beyond `win` is
+what it needs for the certificate. The plain program has the best loops known. Then some certificates are broken in one
+number, and both checkers have to give the same verdict. The solvers cbc and glpsol, where they
+are installed, solve again all winner determinations that the certificate shows, each for this many seconds at most:
+what has to be done
 if there is no certificate. It needs rustc and python3.
 """
-import os, random, statistics
-from damage import broken
-from limit_books import CCA, KINDS, OUT, build_cca, build_plain, memory_of, price, priced_book, read, timed
-from pricings import wanted_of
-from solvers import SOLVERS, beside, told
+import os
+import random
+import statistics
+from checks.cases.damage import broken
+from checks.cases.limit_books import CCA, KINDS, OUT, build_cca, build_plain, memory_of, price, priced_book, read, timed
+from bench.pricings import wanted_of
+from bench.solvers import SOLVERS, beside, told
 
 BREAKS = 20
 SIGNED_LINES = ("den", "value", "t", "pay", "mult")
@@ -50,10 +55,16 @@ def compare(kind, plain, runs, seconds):
     ours["price"] = [price(book, cert, "--rounds") for _ in range(runs)]
     ours["check"] = [timed([CCA, "check", book, cert]) for _ in range(runs)]
     printed = ours["price"][0][1]
-    theirs = {word: [timed([plain, word, book, *[cert] * (word == "check")]) for _ in range(runs)] for word in ("win", "check")}
+    theirs = {
+        word: [timed([plain, word, book, *[cert] * (word == "check")]) for _ in range(runs)]
+        for word in ("win", "check")
+    }
     theirs["price"] = [price(book, plain_cert, "--rounds", program=plain) for _ in range(runs)]
     same = {"win": ours["win"][0][1] == theirs["win"][0][1], "price": read(cert) == read(plain_cert)}
-    same["check"] = ours["check"][0][1] == "yes\n" + printed[printed.index("winner "):] and theirs["check"][0][1] == ours["check"][0][1]
+    same["check"] = (
+        ours["check"][0][1] == "yes\n" + printed[printed.index("winner ") :]
+        and theirs["check"][0][1] == ours["check"][0][1]
+    )
     winners, turns = printed.count("winner "), printed.count("round ")
     print(f"{kind}: {winners} winners, {turns} turns, {os.path.getsize(cert):,} bytes of certificate")
     print(f"  {'':<7}{'cca':>11}{'plain':>11}{'factor':>7}  same")

@@ -1,17 +1,30 @@
 """Times `cca win`, `price` and `check` as a book grows to the limits, and draws docs/pictures/growth.svg.
 
-Bidders, bids of each bidder and states double one after the other, up to 16, 600 and 16,384, while the other two are at their
+Bidders, bids of each bidder and states double one after the other, up to 16, 600 and 16,384, while the other two are at
+their
 limit. At most five bidders win. Printed is the CPU time in milliseconds, the least of the runs, with the bytes of the
-certificate. Then an edit of `cca review` that raises a bid of a middle bidder by 1, in microseconds, and `price` on a book with six winners and as
-many turns as were found, whose points take the most work; more than a second is an error. And `place` and `place-check` on slots at their limits, a
+certificate. Then an edit of `cca review` that raises a bid of a middle bidder by 1, in microseconds, and `price` on a
+book with six winners and as
+many turns as were found, whose points take the most work; more than a second is an error. And `place` and `place-check`
+on slots at their limits, a
 band of 40 with a bid on each slot where a bidder may begin, as bidders grow to 6.
 """
-import itertools, math, os, random, sys
-from drawing import WIDTH, Drawing, keep
-from limit_books import CCA, OUT, build_cca, price, timed
+import itertools
+import math
+import os
+import random
+import sys
+from build.drawing import WIDTH, Drawing, keep
+from checks.cases.limit_books import CCA, OUT, build_cca, price, timed
 
 FEW, MANY = 10, 510
-SUPPLIES = {1024: (15, 3, 3, 3), 2048: (15, 7, 3, 3), 4096: (15, 7, 7, 3), 8192: (15, 7, 7, 3, 1), 16384: (15, 7, 7, 3, 3)}
+SUPPLIES = {
+    1024: (15, 3, 3, 3),
+    2048: (15, 7, 3, 3),
+    4096: (15, 7, 7, 3),
+    8192: (15, 7, 7, 3, 1),
+    16384: (15, 7, 7, 3, 3),
+}
 RESERVE = (1000, 300, 150, 60, 25)
 MOST = {"bidders": 16, "bids": 600, "states": 16384}
 STEPS = {"bidders": (2, 4, 8, 16), "bids": (75, 150, 300, 600), "states": tuple(SUPPLIES)}
@@ -23,7 +36,7 @@ def write_book(bidders, bids, states):
     """A book in which each package has at least three lots of the first category, so that at most five bidders win."""
     rng = random.Random(f"{bidders} {bids} {states}")
     supply = SUPPLIES[states]
-    reserve = RESERVE[:len(supply)]
+    reserve = RESERVE[: len(supply)]
     every = [p for p in itertools.product(*(range(s + 1) for s in supply)) if p[0] >= 3]
     lines = ["book 1", "supply " + " ".join(map(str, supply)), "reserve " + " ".join(map(str, reserve))]
     for j in range(1, bidders + 1):
@@ -51,14 +64,22 @@ def edits_file(book, bidder, count):
 
 def edit_time(book, bidder, runs):
     """The CPU time of an edit, in microseconds: that of many less that of few, by how many more they are."""
-    few, many = (min(timed([CCA, "review", book, edits_file(book, bidder, count)])[0] for _ in range(runs)) for count in (FEW, MANY))
+    few, many = (
+        min(timed([CCA, "review", book, edits_file(book, bidder, count)])[0] for _ in range(runs))
+        for count in (FEW, MANY)
+    )
     return 1000 * max(many - few, 0) / (MANY - FEW)
 
 
 def times_of(sizes, runs):
-    """The least CPU time of each command on a book of these sizes, the bytes of its certificate, and how many bidders win."""
+    """The least CPU time of each command on a book of these sizes, the bytes of its certificate, and how many bidders
+    win."""
     book, cert = write_book(**sizes), os.path.join(OUT, "growth.cert")
-    of = {"win": lambda: timed([CCA, "win", book]), "price": lambda: price(book, cert), "check": lambda: timed([CCA, "check", book, cert])}
+    of = {
+        "win": lambda: timed([CCA, "win", book]),
+        "price": lambda: price(book, cert),
+        "check": lambda: timed([CCA, "check", book, cert]),
+    }
     times = {command: min(of[command]()[0] for _ in range(runs)) for command in COMMANDS}
     return times, os.path.getsize(cert), of["win"]()[1].count("winner ")
 
@@ -89,7 +110,8 @@ def draw_kind(drawing, rows, kind, left, height):
 
 
 def write_turns():
-    """Six winners of a lot each, and a bidder with a bid for each set of their lots, nearly as high as the set is large.
+    """Six winners of a lot each, and a bidder with a bid for each set of their lots, nearly as high as the set is
+    large.
 
     Of 2,500 such books that were drawn this one has the most turns, so its points have to meet the most rows.
     """
@@ -110,13 +132,17 @@ def write_turns():
 
 
 def write_slots(bidders):
-    """A band of 40 slots in which all bidders have room, each with a bid on each slot where it may begin, worth more near a place of its own."""
+    """A band of 40 slots in which all bidders have room, each with a bid on each slot where it may begin, worth more
+    near a place of its own."""
     rng = random.Random(f"slots {bidders}")
     lines = ["slots 1", "band 40"]
     for j in range(1, bidders + 1):
         width, near = rng.randint(1, 40 // bidders), rng.randint(1, 40)
         lines.append(f"bidder b{j} {width}")
-        lines += [f"place {start} {1000000 - 10000 * abs(start - near) + rng.randint(0, 9999)}" for start in range(1, 42 - width)]
+        lines += [
+            f"place {start} {1000000 - 10000 * abs(start - near) + rng.randint(0, 9999)}"
+            for start in range(1, 42 - width)
+        ]
     name = os.path.join(OUT, "growth.slots")
     with open(name, "w") as f:
         f.write("\n".join(lines + ["end"]) + "\n")
@@ -145,7 +171,9 @@ def draw(rows):
     def height(time):
         return 250 - (math.log10(time) - low) / (high - low) * 198
 
-    for mark in [n * 10**power for power in range(-1, 5) for n in (1, 2, 5) if least / 2 <= n * 10**power <= 1.5 * most]:
+    for mark in [
+        n * 10**power for power in range(-1, 5) for n in (1, 2, 5) if least / 2 <= n * 10**power <= 1.5 * most
+    ]:
         drawing.line(60, height(mark), WIDTH - 8, height(mark), "rule", 1)
         drawing.text(54, height(mark) + 4, f"{mark:g}", side="end")
     for place, kind in enumerate(STEPS):
@@ -176,9 +204,16 @@ def main(runs):
                 known[key] = times_of(sizes, runs)
             times, length, winners = known[key]
             rows.append((grown, sizes, times, length, winners))
-            print("{bidders:8}{bids:6}{states:8}".format(**sizes) + "".join(f"{times[c]:9.0f}" for c in COMMANDS) + f"{length:13,}{winners:9}", flush=True)
+            print(
+                "{bidders:8}{bids:6}{states:8}".format(**sizes)
+                + "".join(f"{times[c]:9.0f}" for c in COMMANDS)
+                + f"{length:13,}{winners:9}",
+                flush=True,
+            )
     draw(rows)
-    print(f"an edit on the largest book: {edit_time(write_book(**MOST), (MOST['bidders'] + 1) // 2, runs):.0f} microseconds")
+    print(
+        f"an edit on the largest book: {edit_time(write_book(**MOST), (MOST['bidders'] + 1) // 2, runs):.0f} microseconds"
+    )
     book, cert = write_turns(), os.path.join(OUT, "turns.cert")
     turns = price(book, cert, "--rounds")[1].count("round ")
     time = min(price(book, cert)[0] for _ in range(runs))

@@ -1,13 +1,15 @@
 """Times `cca auction` on logs of 100,000 records, ordinary and hostile ones, in one run.
 
-Beside each log is the time of reading alone, as that of the same log whose last record is faulty, and how many times as long
-the whole run takes. A hostile log is to take at most about ten times as long as it takes to read. Printed is the median of the CPU
+Beside each log is the time of reading alone, as that of the same log whose last record is faulty, and how many times as
+long
+the whole run takes. A hostile log is to take at most about ten times as long as it takes to read. Printed is the median
+of the CPU
 times in milliseconds, less that of a start.
 """
-import os, statistics
-from hostile_logs import LOGS, award, text_of
-from limit_books import CCA, OUT, build_cca, timed
-
+import os
+import statistics
+from checks.cases.hostile_logs import LOGS, award, text_of
+from checks.cases.limit_books import CCA, OUT, build_cca, timed
 
 
 def file_of(name, text):

@@ -2,15 +2,17 @@
 
 Each book has 16 bidders with 600 bids each over 15,876 states, and at most six winners; each run of cca writes a fresh
 certificate. The solvers cbc and glpsol, where they are installed, get the same winner
-determinations, each as an integer program, for this many seconds at most: that of all bidders, one without each winner, and one with
-lowered bids for the point of each turn. The nearest point is left out on their side. Printed is the CPU time in milliseconds, the
-least of the runs, whether both certificates are the same, and whether each optimum is that which cca states. It needs rustc and python3.
+determinations, each as an integer program, for this many seconds at most: that of all bidders, one without each winner,
+and one with
+lowered bids for the point of each turn. The nearest point is left out on their side. Printed is the CPU time in
+milliseconds, the
+least of the runs, whether both certificates are the same, and whether each optimum is that which cca states. It needs
+rustc and python3.
 """
 import os
-from limit_books import KINDS, OUT, build_cca, build_plain, price, priced_book, read
-from pricings import wanted_of
-from solvers import SOLVERS, beside, told
-
+from checks.cases.limit_books import KINDS, OUT, build_cca, build_plain, price, priced_book, read
+from bench.pricings import wanted_of
+from bench.solvers import SOLVERS, beside, told
 
 
 def main(runs, seconds):
@@ -23,7 +25,10 @@ def main(runs, seconds):
         found = [price(name, cert, "--rounds") for _ in range(runs)]
         ours = min(spent for spent, _ in found)
         theirs = min(price(name, plain_cert, "--rounds", program=plain)[0] for _ in range(runs))
-        print(f"{kind:<8}{ours:>7.1f}ms{theirs:>7.1f}ms{ours / theirs:>8.2f}  {read(cert) == read(plain_cert)}", flush=True)
+        print(
+            f"{kind:<8}{ours:>7.1f}ms{theirs:>7.1f}ms{ours / theirs:>8.2f}  {read(cert) == read(plain_cert)}",
+            flush=True,
+        )
         wanted = wanted_of(found[0][1])
         for solver in SOLVERS:
             print(told(solver, ours, *beside(solver, book, wanted, seconds)), flush=True)

@@ -1,13 +1,14 @@
 """Times `cca win` on books at the limits, beside a plain Rust program with the best loop known and general solvers.
 
 The books are those of `price`, and two kinds whose bids nearly all matter. Printed is the least CPU time of the runs in
-milliseconds, less that of a start on the smallest book, and whether both programs print the same. The solvers cbc and glpsol, where
-they are installed, get the same winner determination as an integer program, for this many seconds at most. It needs rustc and python3.
+milliseconds, less that of a start on the smallest book, and whether both programs print the same. The solvers cbc and
+glpsol, where
+they are installed, get the same winner determination as an integer program, for this many seconds at most. It needs
+rustc and python3.
 """
 import os
-from limit_books import CCA, DENSE_KINDS, KINDS, OUT, build_cca, build_plain, priced_book, timed
-from solvers import SOLVERS, beside, told
-
+from checks.cases.limit_books import CCA, DENSE_KINDS, KINDS, OUT, build_cca, build_plain, priced_book, timed
+from bench.solvers import SOLVERS, beside, told
 
 
 def least_cpu(words, runs):

@@ -1,4 +1,4 @@
-"""`python3 -m cca_tools COMMAND ..`: the commands of the scripts in `tools/`."""
+"""`python3 -m cca_tools COMMAND ..`, and `cca-tools COMMAND ..` once it is installed: the commands of `tools/`."""
 
 from __future__ import annotations
 
@@ -8,8 +8,8 @@ import pathlib
 import sys
 from collections.abc import Sequence
 
-from cca_tools.command_line import HELP, VERSION
-from cca_tools.rules.stops import DONE, WORDS
+from cca_tools.command_line import HELP, INTERRUPTED, VERSION, say, written
+from cca_tools.rules.stops import DONE, WORDS, WRITE_FAULT
 from cca_tools.version import version_line
 
 FOLDER = pathlib.Path(__file__).parent / "commands"
@@ -22,17 +22,25 @@ USAGE = (
 def main(argv: Sequence[str]) -> int:
     """Runs the command that the first word names with the words after it, and gives its status."""
     if list(argv) in (*HELP, VERSION):
-        print(version_line("cca_tools") if list(argv) == VERSION else USAGE)
-        return DONE
+        text = version_line("cca_tools") if list(argv) == VERSION else USAGE
+        return DONE if written(sys.stdout, text) else WRITE_FAULT
     if not argv or argv[0] not in COMMANDS:
         near = difflib.get_close_matches(argv[0], COMMANDS, 1) if argv else []
         meant = f"\n`{argv[0]}` is no command; did you mean {near[0]}?" if near else ""
-        print(f"{USAGE}{meant}", file=sys.stderr)
+        say(f"{USAGE}{meant}")
         return WORDS
     command = importlib.import_module(f"cca_tools.commands.{argv[0].replace('-', '_')}")
     status: int = command.main(argv[1:])
     return status
 
 
+def script() -> int:
+    """The command `cca-tools` of an installed package."""
+    try:
+        return main(sys.argv[1:])
+    except KeyboardInterrupt:
+        return INTERRUPTED
+
+
 if __name__ == "__main__":
-    sys.exit(main(sys.argv[1:]))
+    sys.exit(script())

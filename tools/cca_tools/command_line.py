@@ -25,6 +25,7 @@ Run: TypeAlias = Callable[[argparse.Namespace], str]
 ColourOf: TypeAlias = Callable[[str], Colour | None]
 HELP = (["-h"], ["--help"])
 VERSION = ["--version"]
+INTERRUPTED = 130  # the status of a run that Ctrl-C stops
 
 
 class Alone(argparse.Action):
@@ -121,6 +122,8 @@ def run_command(parser: Parser, run: Run, argv: Sequence[str]) -> int:
         return stopped(parser, stop)
     except MemoryError:
         return stopped(parser, Stop("cca: memory", MEMORY, why="there isn't enough memory"))
+    except KeyboardInterrupt:
+        return INTERRUPTED
     except Exception:
         return crashed(parser)
 
@@ -170,7 +173,7 @@ def fault_lines(parser: Parser, stop: Stop) -> Iterator[str]:
 def crashed(parser: Parser) -> int:
     """Says that the command failed where it shouldn't, which is no answer about its files, and gives the status of
     that."""
-    traceback.print_exc()
+    say(traceback.format_exc().rstrip())
     say(f"{parser.prog}: this is a fault of the tool, and no answer. Please report it with the lines above.")
     return CRASH
 
@@ -185,7 +188,7 @@ def say(text: str, colour: Colour | None = None) -> None:
     written(sys.stderr, "\n".join(dressed(text, sys.stderr, lambda line: colour)))
 
 
-def dressed(text: str, stream: IO[str], colour_of: ColourOf) -> Iterator[str]:
+def dressed(text: str, stream: IO[str] | None, colour_of: ColourOf) -> Iterator[str]:
     """The lines of a text without control characters; on a screen they are broken at its width, and have their
     colours."""
     columns = screen(stream)
@@ -195,8 +198,10 @@ def dressed(text: str, stream: IO[str], colour_of: ColourOf) -> Iterator[str]:
         yield from (painted(part, colour, stream) if colour else part for part in parts)
 
 
-def written(stream: IO[str], text: str) -> bool:
-    """Whether the text and a line feed could be written, past the stream's own buffer."""
+def written(stream: IO[str] | None, text: str) -> bool:
+    """Whether the text and a line feed could be written, past the stream's own buffer. A closed stream is None."""
+    if stream is None:
+        return False
     try:
         stream.flush()
         with open(stream.fileno(), "wb", closefd=False) as out:

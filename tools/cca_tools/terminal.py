@@ -5,44 +5,51 @@ from __future__ import annotations
 import os
 import shutil
 import sys
-import textwrap
 import threading
+import unicodedata
 from types import TracebackType
 from typing import IO, Literal, TypeAlias
 
 Colour: TypeAlias = Literal["red", "green", "bold"]
 CODES: dict[Colour, str] = {"red": "31", "green": "32", "bold": "1"}
 NARROWEST = 40
+LONGEST = 6  # digits of a width that is believed
 SECONDS = 2.0  # so long nothing is said
 
 
-def is_terminal(stream: IO[str]) -> bool:
-    """Whether a stream goes to a terminal."""
-    return stream.isatty()
+def is_terminal(stream: IO[str] | None) -> bool:
+    """Whether a stream goes to a terminal; a stream that was closed is None, and goes nowhere."""
+    return stream is not None and stream.isatty()
 
 
-def width(stream: IO[str], most: int = 10_000) -> int:
+def width(stream: IO[str] | None, most: int = 10_000) -> int:
     """How many columns a text has: those of the terminal, at most this many; this many where it goes to a file."""
     return max(NARROWEST, min(most, shutil.get_terminal_size().columns)) if is_terminal(stream) else most
 
 
-def screen(stream: IO[str]) -> int | None:
+def given_width() -> int | None:
+    """How many columns the variable COLUMNS gives, None if it gives none."""
+    given = os.environ.get("COLUMNS", "")
+    is_number = given.isascii() and given.isdecimal() and len(given) <= LONGEST
+    return max(NARROWEST, int(given)) if is_number else None
+
+
+def screen(stream: IO[str] | None) -> int | None:
     """How many columns the screen has that a stream goes to: a terminal, or that of `watch --color`, which gives its
     width in COLUMNS; None where it goes to none."""
     if is_terminal(stream):
         return width(stream)
-    given = os.environ.get("COLUMNS", "")
-    return max(NARROWEST, int(given)) if os.environ.get("FORCE_COLOR") and given.isdecimal() else None
+    return given_width() if os.environ.get("FORCE_COLOR") else None
 
 
-def has_colours(stream: IO[str]) -> bool:
+def has_colours(stream: IO[str] | None) -> bool:
     """Whether a stream takes colours: a terminal, or where FORCE_COLOR is set, and never where NO_COLOR is."""
     if os.environ.get("NO_COLOR"):
         return False
     return bool(os.environ.get("FORCE_COLOR")) or is_terminal(stream) and os.environ.get("TERM") != "dumb"
 
 
-def painted(text: str, colour: Colour, stream: IO[str]) -> str:
+def painted(text: str, colour: Colour, stream: IO[str] | None) -> str:
     """The text in a colour, where the stream takes it."""
     if not has_colours(stream):
         return text
@@ -51,10 +58,23 @@ def painted(text: str, colour: Colour, stream: IO[str]) -> str:
 
 def broken(line: str, columns: int) -> list[str]:
     """The line in parts that have room, broken between words; all but the first are indented by two more than it."""
-    if len(line) <= columns:
+    if columns_of(line) <= columns:
         return [line]
-    indent = " " * (len(line) - len(line.lstrip()) + 2)
-    return textwrap.wrap(line, columns, subsequent_indent=indent, break_on_hyphens=False, break_long_words=False)
+    start = " " * (len(line) - len(line.lstrip()))
+    parts = [""]
+    for word in line.split():
+        longer = f"{parts[-1]} {word}" if parts[-1] else f"{start}{'  ' * (len(parts) > 1)}{word}"
+        if parts[-1] and columns_of(longer) > columns:
+            parts.append(f"{start}  {word}")
+        else:
+            parts[-1] = longer
+    return parts
+
+
+def columns_of(text: str) -> int:
+    """How many columns of a terminal a text takes: letters of East Asia take two, and marks over a letter none."""
+    wide = sum(unicodedata.east_asian_width(letter) in "WF" for letter in text)
+    return len(text) + wide - sum(unicodedata.combining(letter) > 0 for letter in text)
 
 
 class Progress:

@@ -2,6 +2,9 @@
 
 from __future__ import annotations
 
+import contextlib
+import importlib.metadata
+import os
 import pathlib
 import subprocess
 
@@ -11,20 +14,28 @@ UNKNOWN = "0+unknown"
 
 
 def version() -> str:
-    """The version by the file VERSION of the repository, or `UNKNOWN` where that isn't there."""
+    """The version by the file VERSION of the repository, else that of the installed package, else `UNKNOWN`."""
+    if (ROOT / "tools" / "cca_tools").is_dir():
+        with contextlib.suppress(OSError):
+            return (ROOT / "VERSION").read_text(encoding="utf-8").strip() or UNKNOWN
+    with contextlib.suppress(importlib.metadata.PackageNotFoundError):
+        return importlib.metadata.version("cca-tools")
+    return UNKNOWN
+
+
+def released_facts() -> dict[str, str]:
+    """What a release states about itself: `version`, `commit`, `kit`, `logic` and `program`; nothing if this isn't a
+    release."""
     try:
-        return (ROOT / "VERSION").read_text(encoding="utf-8").strip() or UNKNOWN
+        head = BUILDINFO.read_text(encoding="utf-8").partition("\n\n")[0]
     except OSError:
-        return UNKNOWN
+        return {}
+    return {name: value for name, _, value in (line.partition(" ") for line in head.splitlines())}
 
 
 def released() -> str | None:
     """The commit that this release was made of; None where this is no release."""
-    try:
-        head = BUILDINFO.read_text(encoding="utf-8").partition("\n\n")[0]
-    except OSError:
-        return None
-    return dict(line.split(" ", 1) for line in head.splitlines()).get("commit")
+    return released_facts().get("commit")
 
 
 def commit() -> str | None:
@@ -34,9 +45,12 @@ def commit() -> str | None:
         return is_of
     if not (ROOT / ".git").exists():
         return None
+    # (GIT_DIR, which git sets for its hooks, would name the commit of another repository)
+    variables = {name: it for name, it in os.environ.items() if not name.startswith("GIT_")}
     try:
         found = subprocess.run(
             ["git", "-C", str(ROOT), "describe", "--always", "--abbrev=40", "--dirty=-changed", "--exclude=*"],
+            env=variables,
             capture_output=True,
             text=True,
             check=True,

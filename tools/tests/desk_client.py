@@ -13,7 +13,7 @@ import shutil
 import tempfile
 import unittest
 
-from samples import EXAMPLES
+from checks.cases.samples import EXAMPLES
 
 try:
     import flask
@@ -82,7 +82,7 @@ class Client:
         kept = {name: value for name, value in headers.items() if value is not None}
         environ = {} if "Host" not in kept else {"HTTP_HOST": kept.pop("Host")}
         answer = self.client.open(path, method=method, data=form, headers=kept, environ_overrides=environ)
-        answer.text_ = answer.get_data(as_text=True)
+        answer.text_ = answer.get_data().decode(errors="replace")
         return answer
 
     def enter(self):
@@ -103,7 +103,11 @@ class Client:
         """The fields of the form on the page that is sent to this place and has these fields."""
         wanted = f"{self.guard.inside}/{action}"
         forms = [fields for place, fields in Reader(self.page).forms if place == wanted]
-        found = [fields for fields in forms if set(names) <= {*fields, "record", "mend", "count"}]
+        found = [
+            fields
+            for fields in forms
+            if set(names) <= {*fields, "record", "mend", "count", "good", "says", "whole", "submit"}
+        ]
         assert found, f"no form to {action} with {names} on the page: {words(self.page)}"
         return dict(found[0])
 

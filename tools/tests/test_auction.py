@@ -1,6 +1,6 @@
 """The replies to worked logs, the rounds, the caps and the book."""
 import unittest
-from samples import lines, sample
+from checks.cases.samples import lines, sample
 from cca_tools.rules.auction import replay
 from cca_tools.rules.award import read_award
 from cca_tools.rules.book import book_text

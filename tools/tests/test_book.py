@@ -1,8 +1,8 @@
 """Books: the faults of their form by the byte, their limits by the count, and what is printed again."""
 import itertools
 import unittest
-from samples import lines, said, sample
-from voices import check
+from checks.cases.samples import lines, said, sample
+from checks.cases.voices import check
 from cca_tools.rules.book import book_text, read_book
 from cca_tools.rules.stops import Stop
 

@@ -1,8 +1,8 @@
 """tools/caps while the clock runs, and the greatest list that is admitted."""
 import unittest
 
-from drawn import Drawing
-from samples import lines, said, sample, taking
+from checks.cases.drawn import Drawing
+from checks.cases.samples import lines, said, sample, taking
 from cca_tools.rules.auction import replay
 from cca_tools.rules.log import Line, read_log
 from cca_tools.rules.sealed import caps_if_ended
@@ -75,7 +75,7 @@ class Clock(unittest.TestCase):
 
 class Fit(unittest.TestCase):
     def test_the_sample(self):
-        """GUIDE computes the cap of 534800 for this list."""
+        """BIDDER computes the cap of 534800 for this list."""
         self.assertIn("package 2 0 4 0 listed 760000 above by 225200 least 506000 round 3", spectrum(32, "everest"))
         self.assertEqual(
             spectrum(32, "everest", "--fit").splitlines(),

@@ -1,8 +1,8 @@
 """tools/check: worked examples, each test failed once, faults of form by the byte, and limits by the count."""
 import re
 import unittest
-from samples import book_of, certificate_of, lines, said, sample, six_bidders
-from voices import check
+from checks.cases.samples import book_of, certificate_of, lines, said, sample, six_bidders
+from checks.cases.voices import check
 from cca_tools.rules.stops import Stop
 
 BOOK, CERT, WEIGHTS = sample("day-cramton.book"), sample("day-cramton.cert"), sample("day-cramton.weights")

@@ -6,20 +6,21 @@ import os
 import pathlib
 import random
 import shutil
+import signal
 import subprocess
 import sys
 import tempfile
 import unittest
 import unittest.mock
-from program import PROGRAM
-from samples import EXAMPLES, TOOLS, lines, sample
-from voices import AUDIT, CHECK, NO_VERDICT, is_alike, rules_answer
+from checks.cases.court_cases import answers, cases
+from checks.cases.program import PROGRAM
+from checks.cases.samples import EXAMPLES, TOOLS, lines, sample
+from checks.cases.second_auctions import drawn
+from checks.cases.voices import AUDIT, CHECK, NO_VERDICT, books, court_book, is_alike, rules_answer
 
-sys.path.append(os.path.join(TOOLS, "..", "bench"))
-from court_cases import answers, cases  # noqa: E402
-
-NUMBER, SEED = 500, 1
+NUMBER, BOOKS, SEED = 500, 600, 1
 AWARD = sample("sample.award")
+SPECTRUM = [os.path.join(EXAMPLES, f"spectrum.{kind}") for kind in ("award", "log", "cert")]
 
 # Awards that TOML 1.1 has and TOML 1.0 doesn't.
 NEWER = [
@@ -36,6 +37,20 @@ NEWER = [
     AWARD.replace(b"[[step]]\nexcess = 1\npermille = 200\n", b"").replace(
         b"version = 1", b"version = 1\nstep = [{ # the only one }\nexcess = 1, permille = 200}]"
     ),
+    *(
+        AWARD.replace(b"tick = 1", b"tick = " + value)
+        for value in (
+            b"1979-05-27T07:32Z",
+            b"1979-05-27T07:32",
+            b"1979-05-27 07:32-07:00",
+            b"1979-05-27T07:32:60Z",
+            b"23:59:60",
+            b"0000-01-01",
+            b"{a = {b = 1}, }",
+            b"{a = {b = 1},\n c = 2}",
+            b"[{a = 1}, {b = [2,\n3],\nc = 4}]",
+        )
+    ),
 ]
 # Awards that no TOML has, and such as keep a rule of TOML that Python doesn't ask for.
 REFUSED = [
@@ -49,6 +64,20 @@ REFUSED = [
     (AWARD.replace(b"version = 1", b"version = 1 # " + b"[" * 90 + b'\nx = "' + b"[" * 90 + b'"'), "18 0"),
     (AWARD.replace(b"version = 1", b"version = 1\nx = 1e400"), "0 0"),
     (AWARD.replace(b"version = 1", b"version = 1\nx = inf"), "18 0"),
+    (AWARD.replace(b"version = 1", b"version = 1\nx = inf\ny = 1e400"), "0 0"),
+    (AWARD.replace(b"version = 1", b"version = 1\ninf = -1e400"), "0 0"),
+    (AWARD.replace(b"version = 1", b"version = 1\nx = [-inf, +inf, nan, 1e308]"), "18 0"),
+    (AWARD.replace(b"version = 1", b"version = 1\n" + b"x" * 60_000 + b" = 1"), "18 0"),
+    (AWARD.replace(b"version = 1", b"version = 1\n" + b"x." * 30_000 + b"x = 1"), "0 0"),
+    (AWARD.replace(b"version = 1", b"version = 1\nx = 1" + b"0" * 60_000 + b".0"), "0 0"),
+    (AWARD.replace(b"version = 1", b"version = 1\n" + b'\\""" "' * 10_000 + b"\\"), "0 0"),
+    (
+        AWARD.replace(
+            b"version = 1", b"version = 1\nx = " + (b"{" + b".".join([b"x"] * 80) + b" = ") * 80 + b"1" + b"}" * 80
+        ),
+        "18 0",
+    ),
+    (AWARD.replace(b"tick = 1", b"tick = 07:32:00+24:00"), "0 0"),
     (AWARD.replace(b"version = 1", b"version = 1\nx = [{y = 9223372036854775808}]"), "0 0"),
     (AWARD.replace(b"version = 1", b"version = 1\nx = [{y = 9223372036854775807}]"), "18 0"),
     (AWARD + b"# \xff", "0 0"),
@@ -76,6 +105,20 @@ class BesideTheOthers(unittest.TestCase):
             *(f"cca: refused {kind}" for kind in ("award", "log", "book", "weights", "slots", "cert")),
         ):
             self.assertGreater(said[answer], 5, answer)
+
+    def test_drawn_books(self):
+        """tools/audit and the rules make the same book of an auction, which needs no certificate to be seen."""
+        rng, made = random.Random(SEED), 0
+        with tempfile.TemporaryDirectory() as folder:
+            names = [os.path.join(folder, kind) for kind in ("award", "log")]
+            for _ in range(BOOKS):
+                for name, text in zip(names, drawn(rng)):
+                    pathlib.Path(name).write_text(text)
+                court, rules = books(*names)
+                with self.subTest(award=names[0], log=names[1]):
+                    self.assertTrue(is_alike(court, rules), (court, rules))
+                made += court[1] == 0
+        self.assertGreater(made, BOOKS // 2)
 
 
 class Awards(unittest.TestCase):
@@ -139,7 +182,7 @@ class Files(unittest.TestCase):
                 self.assertEqual((ended.returncode, ended.stderr), (0, b""))
                 self.assertIn(f"tools/{name} ".encode(), ended.stdout)
                 self.assertIn(b"70 this program failed", ended.stdout)
-        self.assertIn(b"9 no verdict", run("audit", "--help").stdout)
+        self.assertRegex(run("audit", "--help").stdout, rb"9 no\s+verdict")
 
     def test_words(self):
         rows = [
@@ -180,7 +223,7 @@ class Files(unittest.TestCase):
             pathlib.Path(path).write_text(text)
             ended = subprocess.run([sys.executable, path, "a", "b", "c"], capture_output=True)
             self.assertEqual((ended.stdout, ended.returncode, b"\x1b" in ended.stderr), (b"", 70, False))
-            self.assertIn(b"ValueError: ?[2J", ended.stderr)
+            self.assertIn(rb"ValueError('\x1b[2J')", ended.stderr)
 
     def test_a_crash_of_an_import(self):
         """Python without a part of its library, or without memory for it, gives no answer: 1 would be `no`."""
@@ -235,22 +278,72 @@ class Files(unittest.TestCase):
             "submit,east,,",
             "close,,,",
         ]
-        text = lines(" / ".join(["close,,,", *drafts, *more]))
-        rules = rules_bids(award, text)
-        terms = AUDIT.Award(award)
-        rounds, sealed = AUDIT.rounds_of(terms, AUDIT.read_log(text, terms))
-        self.assertEqual(AUDIT.Bidder(terms, 0, rounds, sealed).bids(), rules)
-        self.assertEqual(len(rules), 300)
+        with tempfile.TemporaryDirectory() as folder:
+            names = [os.path.join(folder, kind) for kind in ("award", "log")]
+            pathlib.Path(names[0]).write_bytes(award)
+            pathlib.Path(names[1]).write_bytes(lines(" / ".join(["close,,,", *drafts, *more])))
+            court, rules = books(*names)
+        self.assertEqual(court, rules)
+        self.assertEqual(len(court[0][0]), 300)
 
+    def test_many_lines(self):
+        """At the limits of a log it takes seconds: each line is read once, and each package's cap is found once."""
+        award = AWARD.replace(b"supply = 3", b"supply = 39").replace(b"eligibility = 3", b"eligibility = 39")
+        drafts = [f"draft,east,{n},{10 * n}" for n in range(1, 40)]
+        low = ["draft,east,39,389", "draft,east,39,4398046511105", "drop,west,1,", "submit,east,,", "submit,west,,"]
+        for more in (["submit,east,,"], drafts, low):
+            text = ["close,,,", *drafts, *(more * (99_900 // len(more))), "close,,,"]
+            with tempfile.TemporaryDirectory() as folder:
+                names = [os.path.join(folder, kind) for kind in ("award", "log")]
+                pathlib.Path(names[0]).write_bytes(award)
+                pathlib.Path(names[1]).write_text("\n".join(text))
+                (bids, _), status = court_book(*names)
+            self.assertEqual((status, len(bids)), (0, 39 if more != drafts else 0))
 
-def rules_bids(award, log):
-    """The bids of the first bidder, by the rules of cca_tools."""
-    from cca_tools.rules.auction import replay
-    from cca_tools.rules.award import read_award
-    from cca_tools.rules.log import read_log
+    def test_streams_that_fail(self):
+        """Status 1 means `no`: closed or full streams, and a Python that is set up wrongly, end otherwise."""
+        wrong = [*SPECTRUM[:2], os.path.join(EXAMPLES, "tie.book")]
+        book = [os.path.join(EXAMPLES, f"day-cramton.{kind}") for kind in ("book", "weights")]
+        for name, words, status in (
+            ("audit", wrong, 3),
+            ("check", book, 3),
+            ("check-places", book, 3),
+            ("audit", [], 2),
+        ):
+            for streams, wanted, how in (
+                ("2>&-", status, {}),
+                ("2>/dev/full", status, {"PYTHONHOME": "/nothing"}),
+                ("<&- 2>&-", status, {"PYTHONPATH": "/nothing:"}),
+                (">&-", 5, {}),
+                (">/dev/full 2>/dev/full", 5, {}),
+            ):
+                with self.subTest(name=name, streams=streams):
+                    script = ["sh", "-c", f'"$0" "$@" {streams}', os.path.join(TOOLS, name), *words]
+                    ended = subprocess.run(script, capture_output=True, env={**os.environ, **how})
+                    self.assertEqual(ended.returncode, wanted, ended)
 
-    terms = read_award(award)
-    return replay(terms, read_log(log, terms)).need_book().bids[0]
+    def test_a_crash_without_a_stream(self):
+        """A crash ends with 70 also if its message can't be written."""
+        with tempfile.TemporaryDirectory() as folder:
+            for name in ("audit", "check"):
+                path = pathlib.Path(folder, name)
+                text = pathlib.Path(TOOLS, name).read_text()
+                path.write_text(text.replace("    try:\n        return ", "    try:\n        return 1 // 0, "))
+                for streams in ("2>&-", "2>/dev/full", "2>/dev/null", ">&- 2>&-"):
+                    script = ["sh", "-c", f'"$0" "$@" {streams}', sys.executable, path, "a", "b", "c"]
+                    self.assertEqual(subprocess.run(script, capture_output=True).returncode, 70, streams)
+
+    def test_interrupted(self):
+        """Ctrl-C ends with 130 and without a word."""
+        for name, count in (("audit", 3), ("check", 2), ("check-places", 2)):
+            with tempfile.TemporaryDirectory() as folder:
+                pipe = os.path.join(folder, "pipe")
+                os.mkfifo(pipe)
+                words = [os.path.join(TOOLS, name), pipe, *(os.path.join(folder, str(n)) for n in range(1, count))]
+                with subprocess.Popen(words, stdout=subprocess.PIPE, stderr=subprocess.PIPE) as child:
+                    with open(pipe, "wb"):  # the tool has opened it too, and waits for its bytes
+                        child.send_signal(signal.SIGINT)
+                        self.assertEqual((*child.communicate(), child.returncode), (b"", b"", 130))
 
 
 if __name__ == "__main__":

@@ -1,19 +1,23 @@
 """Bids of tables and of JSON as books, and prices as tables."""
 import csv
 import json
+import os
+import pathlib
+import re
 import subprocess
 import sys
 import unittest
 from decimal import Decimal
 from fractions import Fraction
 
-from program import with_program
-from samples import TOOLS, sample
+from checks.cases.program import PROGRAM, with_program
+from checks.cases.samples import TOOLS, sample
 
 import cca_tools
-from cca_tools.data.bids import Sold, csv_text, json_text, read_bids
-from cca_tools.data.numbers import amount_of, decimal, fraction_of
+from cca_tools.data.bids import csv_text, json_text, read_bids
+from cca_tools.data.numbers import amount_of, decimal, exact, fraction_of
 from cca_tools.data.prices import prices_of, stop_of
+from cca_tools.data.raw import Sold
 from cca_tools.rules.book import book_text
 from cca_tools.rules.stops import Stop
 
@@ -21,7 +25,14 @@ TWO = Sold((2, 6), (Decimal(10), Decimal("2.5")))
 # The longest field of csv in a process of its own; tools/audit, which other tests load, allows longer ones.
 FIELD = 131_072
 # A book of one winner more than is priced.
-SEVEN = "book 1\nsupply 7\nreserve 0\n" + "".join(f"bidder b{n}\nbid 1 5\n" for n in range(7)) + "end\n"
+# Seven of whom each wins a lot, and pays what an eighth offers for one.
+SEVEN = (
+    "book 1\nsupply 7\nreserve 0\n" + "".join(f"bidder b{n}\nbid 1 5\n" for n in range(7)) + "bidder b7\nbid 1 3\nend\n"
+)
+# Eleven of whom each needs a row of its own: two together are asked for less than twice the 4 that one is asked for.
+ELEVEN = SEVEN.replace("supply 7", "supply 11").replace(
+    "bidder b7\nbid 1 3", "".join(f"bidder c{n}\nbid 1 {5 if n < 4 else 8 - n}\n" for n in range(8)).strip()
+)
 
 
 def run(name, *words, **how):
@@ -81,7 +92,7 @@ class Bids(unittest.TestCase):
         sold = Sold((2, 6), (Decimal(0), Decimal(0)), ("low", "high"))
         lines, made = self.made("bidder,high,low,amount,city\na,4,1,7,Ulm\n", sold)
         self.assertEqual(lines, ["bidder a", "bid 1 4 7"])
-        self.assertEqual(made.changes, ["left out the columns city, which aren't categories of the award"])
+        self.assertEqual(made.changes, ["left out the columns city, since these aren't categories of the award"])
 
     def test_names(self):
         names = ["A-1", "A 1", "1st", "Ümlaut", "x" * 30]
@@ -90,15 +101,27 @@ class Bids(unittest.TestCase):
 
     def test_faults_name_the_row(self):
         self.addCleanup(csv.field_size_limit, csv.field_size_limit(FIELD))
+        number = "as the amount, which has to be a number from 0 on, such as 48000.50"
         for text, why in {
             "a,1,7,50": "row 1 asks for 7 lots of category 2, and 6 are sold",
             "a,1,0,50\na,1,0": "row 2 has 3 cells, and the first row has 4",
-            "bidder,x,y,amount\na,1,0,many": "row 2 has `many` as the amount, which is a number",
-            "a,1,0,12,5": "row 1 has a package of 3 counts, and 2 categories are sold",
-            "a,x,0,5": "row 1 has `x` as a count, which is a whole number",
+            "bidder,x,y,amount\na,1,0,many": f"row 2 has `many` in the column `amount` {number}",
+            "a,1,0,-5": f"row 1 has `-5` in column 4 {number}",
+            "a,1,0,12,5": "row 1 has 5 cells; without a head they are the bidder, 2 counts or one cell with them, and"
+            " the amount",
+            "a,1 0 3,5": "row 1 has `1 0 3` in column 2 as the package, which is 2 counts with spaces between them",
+            "a,x,0,5": "row 1 has `x` in column 2 as a count of lots, which is a whole number",
             "bidder,x,y,price\na,1,0,5": "the head has no column `amount`, and has bidder, x, y, price",
+            "bidder,x,y,bid,value\na,1,0,5,9": "the columns `bid` and `value` may each be the amount; leave out all but"
+            " one",
+            "bidder,x,note,y,amount\na,1,hi,0,5": "the columns `x`, `note` and `y` are taken as counts of lots, and 2"
+            " categories are sold; leave out what is no count",
+            "bidder,x,y,amount\n,1,0,5": "row 2 has nothing in the column `bidder`, which names the bidder",
+            "bidder,x,y,amount\na,1,0,$ 5\na,0,1,5 EUR": "row 2 has an amount in $, and row 3 one in EUR",
+            "bidder,x,y,amount": "the table has a head and no bids",
+            "bidder amount": "row 1 has one cell alone; a comma, a semicolon or a tab has to be between the columns",
             "": "the table has no rows",
-            "a;1;0;1.234,56": "row 1 has `1.234,56` as the amount, which is a number; is its decimal mark `,`? Then say"
+            "a;1;0;1.234,56": f"row 1 has `1.234,56` in column 4 {number}; is its decimal mark `,`? Then say"
             " --decimal ,",
         }.items():
             self.assertEqual(self.fault(text), why)
@@ -120,7 +143,18 @@ class Bids(unittest.TestCase):
         self.assertEqual(book_text(table.book), book_text(made.book))
         one = '{"bids": [{"bidder": "a", "package": %s, "amount": %s}]}'
         for bids, why in {
-            '{"bids": 3}': "`bids` is a list of objects with `bidder`, `package` and `amount`",
+            '{"bids": 3}': "`bids` is a list of objects with `bidder`, `package` and `amount`; a frame of pandas is"
+            ' written by to_json(orient="records")',
+            '{"supply": [2], "bids": []}': "the JSON has the supply [2], and the command states [2, 6]",
+            '{"reserve": [9, 2], "bids": []}': "the JSON has the reserves 9, 2, and the command states 10, 2.5",
+            '{"reserves": [9, 2], "bids": []}': "the JSON has the key `reserves`; its keys are `supply`, `reserve` and"
+            ' `bids`; a frame of pandas is written by to_json(orient="records")',
+            '{"bids": [], "bids": []}': "an object of the JSON has the key `bids` twice",
+            '{"bids": [{"bidder": null, "package": [1, 0], "amount": 5}]}': "bid 1 has no name of a bidder, which is a"
+            " text",
+            '[{"bidder": "a", "c1": 1, "c2": 0}]': "the head has no column `amount`, and has bidder, c1, c2",
+            '[{"name": "a", "c1": 1, "c2": 0, "bid": true}]': "record 1 has true in a cell, which is a number, a text"
+            " or a list of counts",
             '{"bids": [{"bidder": "a"}]}': "bid 1 is an object with `bidder`, `package` and `amount`",
             one % ("[1.5, 0]", "3"): "`package of bid 1` is a list of whole numbers",
             one % ("[1, 0]", "true"): "`amount of bid 1` is a list of numbers",
@@ -145,10 +179,22 @@ def bid(name, package, amount):
 
 class Numbers(unittest.TestCase):
     def test_amounts(self):
-        for text, amount in {"12": 12, "1,234.50": "1234.5", "1 234": 1234, "EUR 5": 5, "12'000": 12000}.items():
+        for text, amount in {
+            "12": 12,
+            "1,234.50": "1234.5",
+            "1 234": 1234,
+            "EUR 5": 5,
+            "12'000": 12000,
+            "1e+05": 100000,
+        }.items():
             self.assertEqual(amount_of(text), Decimal(amount))
-        for text in ("", "-3", "1,23", "1.2.3", "1e3", "٣", "nan"):
+        for text in ("", "-3", "1,23", "1.2.3", "1 4", "1,00,000", "1e", "٣", "nan"):
             self.assertIsNone(amount_of(text), text)
+
+    def test_what_is_exact(self):
+        """A decimal where one is exact; a third as the program prints it, which isn't a date to a spreadsheet."""
+        for value, text in {"41/2": "20.5", "20/3": "6+2/3", "7": "7", "1/8": "0.125", "-7/3": "-2-1/3"}.items():
+            self.assertEqual((exact(Fraction(value)), fraction_of(text)), (text, Fraction(value)))
 
     def test_fractions(self):
         self.assertEqual(fraction_of("20+1/2"), Fraction(41, 2))
@@ -175,6 +221,33 @@ class Prices(unittest.TestCase):
         self.assertEqual((found.net, found.revenue, len(found.rows)), (48, 32, 5))
 
     @with_program
+    def test_the_python_of_the_page(self):
+        """docs/ECONOMISTS.md, as it is shown."""
+        root = f"{TOOLS}/.."
+        (block,) = re.findall("```python\n(.*?)```", pathlib.Path(root, "docs/ECONOMISTS.md").read_text(), re.S)
+        env = {**os.environ, "PYTHONPATH": "tools", "CCA_PROGRAM": os.path.abspath(PROGRAM)}
+        made = subprocess.run([sys.executable, "-c", block], cwd=root, env=env, capture_output=True, text=True)
+        self.assertEqual(made.stderr, "")
+        first, ties = made.stdout.splitlines()
+        self.assertIn("('b1', Fraction(17, 1), Fraction(3, 1))", first)
+        self.assertEqual((first[-2:], ties), ("32", "[]"))
+
+    @with_program
+    def test_weights_and_faults_in_words(self):
+        """Weights of 1 and 3 share the 6 that the core raises as docs/CERTIFICATES.md has it."""
+        book = cca_tools.read_book(sample("day-cramton.book"))
+        weighed = cca_tools.price(book, weights={"b1": 1, "b2": 3}, program=os.path.abspath(PROGRAM))
+        self.assertEqual([it.pays for it in weighed.winners], [Fraction(31, 2), Fraction(33, 2)])
+        for call, why in (
+            (lambda: cca_tools.price(book, weights={"b9": 2}), "`b9` is no bidder of the book"),
+            (lambda: cca_tools.price(book, program="/nowhere/cca"), "`/nowhere/cca` can't be run"),
+            (lambda: cca_tools.price(cca_tools.Book((2,), (0,), ["a"], [[((2,), 5), ((1,), 3)]])), "package"),
+        ):
+            with self.assertRaises(Stop) as caught:
+                call()
+            self.assertIn(why, caught.exception.why)
+
+    @with_program
     def test_a_frame(self):
         try:
             import pandas  # noqa: F401
@@ -189,19 +262,41 @@ class Prices(unittest.TestCase):
         book = f"{TOOLS}/../examples/day-cramton.book"
         printed, status, said = run("prices", book, "--unit", "2")
         head, *rows = [line.split(",") for line in printed.splitlines()]
-        self.assertEqual((status, said, len(rows), len(head)), (0, "", 5, 13))
-        self.assertEqual(rows[0][1:], "b1,1 0,0,14,7,17/2,8.5,14,7,17/2,8.5,".split(","))
-        self.assertEqual(rows[4][1:], "b5,,0,0,0,0,0,0,0,0,0,".split(","))
+        self.assertEqual((status, said, len(rows), len(head)), (0, "", 5, 14))
+        self.assertEqual(rows[0][1:], "b1,1 0,0,14,7,8.5,8.5,14,7,8.5,8.5,cca,".split(","))
+        self.assertEqual(rows[4][1:], "b5,,0,0,0,0,0,0,0,0,0,cca,".split(","))
         printed, status, _ = run("prices", "--json", book)
         first, *_, last = map(json.loads, printed.splitlines())
-        self.assertEqual((first["package"], first["price"], first["price_decimal"]), ([1, 0], "17", 17.0))
+        self.assertEqual((first["package"], first["price"], first["price_decimal"]), ([1, 0], 17, 17))
         self.assertEqual((last["package"], last["bidder"]), (None, "b5"))
+        printed, _, _ = run("prices", "--decimal", ",", "--unit", "8", book)
+        self.assertEqual(printed.splitlines()[1].split(";")[1:7], ["b1", "1 0", "0", "3,5", "1,75", "2,125"])
 
     @with_program
-    def test_a_limit_is_the_program_s_own_stop(self):
+    def test_thirds(self):
+        """Three winners of 5 each against one bid of 10 for all: each pays a third of 10."""
+        lots = ("1 0 0", "0 1 0", "0 0 1")
+        bids = "".join(f"bidder b{n}\nbid {lot} 5\n" for n, lot in enumerate(lots))
+        book = f"book 1\nsupply 1 1 1\nreserve 0 0 0\n{bids}bidder g\nbid 1 1 1 10\nend\n"
+        self.assertEqual(
+            run("prices", "-", input=book)[0].splitlines()[1], "-,b0,1 0 0,0,5,0,3+1/3,3.333333,5,0,3+1/3,3.333333,cca,"
+        )
+        first = json.loads(run("prices", "--json", "-", input=book)[0].splitlines()[0])
+        self.assertEqual((first["bid"], first["price"], first["price_decimal"]), (5, "3+1/3", 3.333333))
+
+    @with_program
+    def test_a_limit_of_rows_is_a_stop(self):
         with self.assertRaises(Stop) as caught:
-            cca_tools.price(cca_tools.read_book(SEVEN.encode()))
-        self.assertEqual((caught.exception.line, caught.exception.status), ("cca: limit winners 7", 7))
+            cca_tools.price(cca_tools.read_book(ELEVEN.encode()))
+        self.assertEqual((caught.exception.line, caught.exception.status), ("cca: limit rows 11", 7))
+
+    @with_program
+    def test_more_winners_than_the_program_prices(self):
+        found = cca_tools.price(cca_tools.read_book(SEVEN.encode()))
+        self.assertEqual([row.pays for row in found.rows], [3] * 7 + [0])
+        self.assertEqual((found.found_by, len(found.winners), found.net), ("tools/price", 7, 35))
+        one = cca_tools.price(cca_tools.read_book(sample("tie.book")))
+        self.assertEqual(one.found_by, "cca")
 
     def test_a_program_that_a_signal_ends(self):
         stop = stop_of([], -9, "")
@@ -209,9 +304,15 @@ class Prices(unittest.TestCase):
 
     @with_program
     def test_a_book_beyond_a_limit_doesn_t_stop_the_others(self):
+        printed, status, _ = run("prices", "-", f"{TOOLS}/../examples/tie.book", input=ELEVEN)
+        rows = [line.split(",") for line in printed.splitlines()[1:]]
+        self.assertEqual((status, {row[-1] for row in rows[:15]}, rows[15][6]), (0, {"limit rows 11"}, "0"))
+
+    @with_program
+    def test_who_has_found_the_prices_is_a_column(self):
         printed, status, _ = run("prices", "-", f"{TOOLS}/../examples/tie.book", input=SEVEN)
         rows = [line.split(",") for line in printed.splitlines()[1:]]
-        self.assertEqual((status, {row[-1] for row in rows[:7]}, rows[7][6]), (0, {"limit winners 7"}, "0"))
+        self.assertEqual([row[-2:] for row in rows], [["tools/price", ""]] * 8 + [["cca", ""]] * 2)
 
     def test_without_a_program(self):
         made = run("prices", f"{TOOLS}/../examples/tie.book", env={"PATH": "/usr/bin:/bin", "CCA_PROGRAM": "/nowhere"})

@@ -5,9 +5,9 @@ import tempfile
 import unittest
 import unittest.mock
 
-from drawn import Drawing
-from program import PROGRAM, with_program
-from samples import lines, sample
+from checks.cases.drawn import Drawing
+from checks.cases.program import PROGRAM, with_program
+from checks.cases.samples import lines, sample
 
 from cca_tools.desk import answers, sealed_program
 from cca_tools.desk.answers import Answers, Differ, NoLine, NoProgram

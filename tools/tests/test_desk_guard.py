@@ -16,7 +16,7 @@ import unittest.mock
 import urllib.parse
 
 from desk_client import HAS_ALL, PORT, WHY, DeskTest, Reader, words
-from samples import EXAMPLES, TOOLS, taking
+from checks.cases.samples import EXAMPLES, TOOLS, taking
 
 from cca_tools.commands.desk import listener_on
 from cca_tools.rules.stops import CRASH, WORDS, Stop
@@ -88,7 +88,12 @@ class Requests(DeskTest):
             own + "/",
             None,
         ):
-            for path in (self.inside + "preview", self.inside + "write", self.inside + "close", "/"):
+            for path in (
+                self.inside + "preview",
+                self.inside + "write",
+                self.inside + "close",
+                "/",
+            ):
                 with self.subTest(origin=origin, path=path):
                     self.refuses(403, "POST", path, form, Origin=origin)
 
@@ -101,13 +106,36 @@ class Requests(DeskTest):
                 ("POST", "/"),
             ):
                 with self.subTest(site=site, path=path):
-                    self.refuses(403, method, path, {"token": self.guard.token}, Sec_Fetch_Site=site)
+                    self.refuses(
+                        403,
+                        method,
+                        path,
+                        {"token": self.guard.token},
+                        Sec_Fetch_Site=site,
+                    )
         for site in ("none", "same-origin"):
-            self.assertEqual(self.client.ask("GET", self.inside, Sec_Fetch_Site=site).status_code, 200)
+            self.assertEqual(
+                self.client.ask("GET", self.inside, Sec_Fetch_Site=site).status_code,
+                200,
+            )
 
     def test_each_form_has_the_token_of_this_start(self):
-        for token in ({}, {"token": ""}, {"token": "x"}, {"token": "\u00e9"}, {"token": self.guard.token[:-1]}):
-            for action in ("preview", "write", "close", "again", "mend", "waiting", "end/award"):
+        for token in (
+            {},
+            {"token": ""},
+            {"token": "x"},
+            {"token": "\u00e9"},
+            {"token": self.guard.token[:-1]},
+        ):
+            for action in (
+                "preview",
+                "write",
+                "close",
+                "again",
+                "mend",
+                "waiting",
+                "end/award",
+            ):
                 with self.subTest(token=token, action=action):
                     self.refuses(403, "POST", self.inside + action, {"raw": LINE, **token})
         for place in ("", "close", "again"):
@@ -125,26 +153,59 @@ class Requests(DeskTest):
             f"other={self.guard.session}",
             f"desk={self.guard.token}",
         ):
-            for place in ("", "close", "again", "bidder/everest", "bidder/everest/view", "lines/1-1", "nowhere"):
+            for place in (
+                "",
+                "close",
+                "again",
+                "bidder/everest",
+                "bidder/everest/view",
+                "lines/1-1",
+                "nowhere",
+            ):
                 with self.subTest(cookie=cookie, place=place):
                     self.refuses(403, "GET", self.inside + place, Cookie=cookie)
-            self.refuses(403, "POST", self.inside + "preview", {"token": self.guard.token, "raw": LINE}, Cookie=cookie)
+            self.refuses(
+                403,
+                "POST",
+                self.inside + "preview",
+                {"token": self.guard.token, "raw": LINE},
+                Cookie=cookie,
+            )
         self.refuses(403, "GET", "/desk-0000/", Cookie=None)
 
     def test_the_key_is_typed_and_nothing_else_opens(self):
         self.assertRegex(self.guard.key, r"^[a-hjkmnp-z2-9]{24}$")
-        for key in ("", "x", "\u00e9", self.guard.key[:-1], self.guard.key + "a", self.guard.token, self.guard.session):
+        for key in (
+            "",
+            "x",
+            "\u00e9",
+            self.guard.key[:-1],
+            self.guard.key + "a",
+            self.guard.token,
+            self.guard.session,
+        ):
             answer = self.client.ask("POST", "/", {"key": key}, Cookie=None)
             self.assertEqual((answer.status_code, answer.headers["Location"]), (303, "/?wrong"))
             self.assertNotIn("Set-Cookie", answer.headers)
         grouped = "-".join(re.findall("....", self.guard.key))
         for key in (self.guard.key, grouped, grouped.upper(), f" {grouped} "):
-            self.assertIn("Set-Cookie", self.client.ask("POST", "/", {"key": key}, Cookie=None).headers)
+            self.assertIn(
+                "Set-Cookie",
+                self.client.ask("POST", "/", {"key": key}, Cookie=None).headers,
+            )
 
     def test_the_cookie_goes_to_the_desk_s_own_path_alone(self):
         cookie = self.client.ask("POST", "/", {"key": self.guard.key}).headers["Set-Cookie"]
         parts = {part.strip() for part in cookie.split(";")}
-        self.assertEqual(parts, {f"desk={self.guard.session}", "HttpOnly", "SameSite=Strict", f"Path={self.inside}"})
+        self.assertEqual(
+            parts,
+            {
+                f"desk={self.guard.session}",
+                "HttpOnly",
+                "SameSite=Strict",
+                f"Path={self.inside}",
+            },
+        )
         self.assertRegex(self.inside, r"^/desk-[0-9a-f]{32}/$")
 
     def test_each_start_has_its_own_secrets(self):
@@ -167,15 +228,34 @@ class Requests(DeskTest):
             self.client.post("preview", raw="x" * (1 << 21)),
             self.client.ask("GET", self.inside + "bidder/everest/view"),
         ]
-        self.assertEqual([it.status_code for it in answers], [200, 404, 200, 200, 421, 405, 303, 413, 200])
+        self.assertEqual(
+            [it.status_code for it in answers],
+            [200, 404, 200, 200, 421, 405, 303, 413, 200],
+        )
         for answer in answers:
             self.assertEqual({name: answer.headers.get(name) for name in HEADERS}, HEADERS)
 
     def test_large_and_other_forms_are_refused(self):
-        self.refuses(413, "POST", self.inside + "preview", {"token": self.guard.token, "raw": "x" * (1 << 20)})
-        for kind in ("text/plain", "application/json", "multipart/form-data; boundary=x", ""):
+        self.refuses(
+            413,
+            "POST",
+            self.inside + "preview",
+            {"token": self.guard.token, "raw": "x" * (1 << 20)},
+        )
+        for kind in (
+            "text/plain",
+            "application/json",
+            "multipart/form-data; boundary=x",
+            "",
+        ):
             with self.subTest(kind):
-                self.refuses(415, "POST", self.inside + "preview", f"token={self.guard.token}", Content_Type=kind)
+                self.refuses(
+                    415,
+                    "POST",
+                    self.inside + "preview",
+                    f"token={self.guard.token}",
+                    Content_Type=kind,
+                )
 
     def test_paths_lead_to_no_other_file(self):
         for path in (
@@ -221,17 +301,32 @@ class Texts(DeskTest):
 
     def test_what_is_pasted_is_never_markup(self):
         client = self.open()
-        self.assertIn("/entry/", client.send("preview", raw="bid,<script>alert(1)</script>,1 0 0 0,"))
+        self.assertIn(
+            "/entry/",
+            client.send("preview", raw="bid,<script>alert(1)</script>,1 0 0 0,"),
+        )
         self.assertNotIn("<script", client.page)
         self.assertIn("&lt;script&gt;", client.page)
         self.assertEqual(self.log(), b"")
 
     def test_no_page_has_a_script_or_a_style_of_its_own(self):
         client = self.open(b"bid,everest,1 0 0 0,\nbid,tarn,9 0 0 0,\n")
-        for place in ("", "close", "again", "bidder/tarn", "lines/1-2", "/", "/posted", "nowhere"):
+        for place in (
+            "",
+            "close",
+            "again",
+            "bidder/tarn",
+            "lines/1-2",
+            "/",
+            "/posted",
+            "nowhere",
+        ):
             for tag, attrs in Reader(client.load(place).text_).tags:
                 self.assertNotIn(tag, ("script", "style", "iframe", "object", "base"), place)
-                self.assertFalse([name for name in attrs if name.startswith("on") or name == "style"], (place, tag))
+                self.assertFalse(
+                    [name for name in attrs if name.startswith("on") or name == "style"],
+                    (place, tag),
+                )
 
 
 class Room(DeskTest):
@@ -247,7 +342,10 @@ class Room(DeskTest):
         self.assertIn("Round 1 is open", first.text_)
         self.assertIn('http-equiv="refresh"', first.text_)
         client.write("bid,everest,2 0 4 0,\nbid,tarn,2 1 4 0,\nbid,tarn,4 1 0 0,")
-        self.assertEqual((self.page().data, dict(self.page().headers)), (first.data, dict(first.headers)))
+        self.assertEqual(
+            (self.page().data, dict(self.page().headers)),
+            (first.data, dict(first.headers)),
+        )
         client.write("bid,meridian,2 0 7 6,")
         client.close("1")
         second = self.page()
@@ -282,12 +380,21 @@ class AsProgram(unittest.TestCase):
         folder = tempfile.TemporaryDirectory()
         self.addCleanup(folder.cleanup)
         self.folder = pathlib.Path(folder.name)
-        self.words = [sys.executable, os.path.join(TOOLS, "desk"), os.path.join(EXAMPLES, "spectrum.award"), "day.log"]
+        self.words = [
+            sys.executable,
+            os.path.join(TOOLS, "desk"),
+            os.path.join(EXAMPLES, "spectrum.award"),
+            "day.log",
+        ]
 
     def start(self, *words):
         """Starts the desk, and gives its process with what it says."""
         made = subprocess.Popen(
-            [*self.words, *words], cwd=self.folder, stdout=subprocess.PIPE, stderr=subprocess.PIPE, text=True
+            [*self.words, *words],
+            cwd=self.folder,
+            stdout=subprocess.PIPE,
+            stderr=subprocess.PIPE,
+            text=True,
         )
         self.addCleanup(made.stderr.close)
         self.addCleanup(made.stdout.close)
@@ -296,7 +403,10 @@ class AsProgram(unittest.TestCase):
 
     def test_a_start_and_an_end(self):
         made, said = self.start()
-        found = re.fullmatch(r"desk  (http://127\.0\.0\.1:(\d+))/\nkey   ((?:\w{4}-){5}\w{4})\nroom  \1/posted\n", said)
+        found = re.fullmatch(
+            r"desk  (http://127\.0\.0\.1:(\d+))/\nkey   ((?:\w{4}-){5}\w{4})\nroom  \1/posted\n",
+            said,
+        )
         self.assertTrue(found, said or made.stderr.read())
         port, key = int(found[2]), found[3]
         if shutil.which("ss"):
@@ -304,13 +414,20 @@ class AsProgram(unittest.TestCase):
         self.assertFalse(in_processes(key) or in_processes(key.replace("-", "")))
         asked = http.client.HTTPConnection("127.0.0.1", port, timeout=20)
         form = urllib.parse.urlencode({"key": key})
-        headers = {"Origin": found[1], "Content-Type": "application/x-www-form-urlencoded"}
+        headers = {
+            "Origin": found[1],
+            "Content-Type": "application/x-www-form-urlencoded",
+        }
         asked.request("POST", "/", form, headers)
         answer = asked.getresponse()
         answer.read()
         self.assertEqual(answer.status, 303)
         self.assertIsNone(answer.headers["Server"])
-        asked.request("GET", answer.headers["Location"], headers={"Cookie": answer.headers["Set-Cookie"].split(";")[0]})
+        asked.request(
+            "GET",
+            answer.headers["Location"],
+            headers={"Cookie": answer.headers["Set-Cookie"].split(";")[0]},
+        )
         page = asked.getresponse()
         self.assertIn("Round 1 is open", page.read().decode())
         asked.close()
@@ -319,6 +436,34 @@ class AsProgram(unittest.TestCase):
         made.send_signal(signal.SIGINT)
         self.assertEqual(made.wait(20), 0)
         self.assertEqual(made.stdout.read(), "The desk is closed.\n")
+
+    def test_idle_connections_hold_nobody(self):
+        """More of them than a server takes by default; the room's screen is answered beside them."""
+        _, said = self.start()
+        port = int(re.search(r":(\d+)/posted", said)[1])
+        idle = [socket.create_connection(("127.0.0.1", port), timeout=20) for _ in range(150)]
+        self.addCleanup(lambda: [it.close() for it in idle])
+        for it in idle[:75]:
+            it.send(b"POST / HTTP/1.1\r\nHost: ")
+        asked = http.client.HTTPConnection("127.0.0.1", port, timeout=60)
+        asked.request("GET", "/posted")
+        self.assertIn("Round 1 is open", asked.getresponse().read().decode())
+        asked.close()
+
+    def test_two_people_have_two_keys(self):
+        made, said = self.start("--second")
+        said += made.stdout.readline()
+        keys = re.findall(r"(?:key|second) +((?:\w{4}-){5}\w{4})\n", said)
+        self.assertEqual((len(keys), len(set(keys))), (2, 2))
+
+    def test_a_log_has_one_address(self):
+        addresses = set()
+        for _ in range(2):
+            made, said = self.start()
+            addresses.add(re.search(r"room  (\S+)", said)[1])
+            made.kill()
+            made.wait(20)
+        self.assertEqual(len(addresses), 1)
 
     def refused(self, *words_):
         """Why a start fails, with its status. Nothing is made."""
@@ -339,14 +484,20 @@ class AsProgram(unittest.TestCase):
             with unittest.mock.patch.dict(sys.modules, {module: None}):
                 status, why = self.refused()
             self.assertEqual(status, CRASH)
-            self.assertIn(f"apt-get install python3-{module}, then /usr/bin/python3 tools/desk", why)
+            self.assertIn(
+                f"apt-get install python3-{module}, then /usr/bin/python3 tools/desk",
+                why,
+            )
 
     def test_wrong_words(self):
         for words_, why in (
             (("--port", "x"), "--port takes a number from 0 to 65535"),
             (("--port", "65536"), "--port takes a number"),
             (("--feed", "-"), "none is standard input"),
-            (("--feed", str(self.folder / "." / "other.log")), "--feed names LOG itself"),
+            (
+                ("--feed", str(self.folder / "." / "other.log")),
+                "--feed names LOG itself",
+            ),
             (("--key", "x"), "there is no option --key"),
         ):
             status, said = self.refused(*words_)

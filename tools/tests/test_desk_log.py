@@ -12,8 +12,8 @@ import tempfile
 import unittest
 import unittest.mock
 
-import desk_kills
-from desk_kills import FIRST, PINS, SECOND, THIRD, kept_beside, ok
+from checks.cases import desk_kills
+from checks.cases.desk_kills import FIRST, PINS, SECOND, THIRD, kept_beside, ok
 
 from cca_tools.desk import disk
 from cca_tools.desk.journal import Journal, replayed
@@ -175,7 +175,7 @@ class Lines(Case):
 class Starts(Case):
     def test_files(self):
         log = self.open()
-        self.assertEqual(set(self.files()), {"a.log", "a.log.desk", "a.log.key"})
+        self.assertEqual(set(self.files()), {"a.log", "a.log.desk", "a.log.key", "a.log.posted"})
         for file in self.folder.iterdir():
             self.assertEqual(file.stat().st_mode & 0o777, 0o600)
         self.assertRegex(log.key, rb"\A[0-9a-f]{64}\n\Z")
@@ -211,7 +211,7 @@ class Starts(Case):
                 file.write(torn)
             with unittest.mock.patch.object(os, "pwrite", wraps=os.pwrite) as pwrite:
                 self.is_whole(self.open(), FIRST + SECOND)
-            written = [call.args[1] for call in pwrite.call_args_list]
+            written = [call.args[1] for call in pwrite.call_args_list if not call.args[1].startswith(b"cca posted")]
             self.assertEqual(written, [entry + torn, SECOND] if not torn else [entry + torn])
             entry = self.beside("desk").read_bytes().splitlines(True)[-1]
 
@@ -278,7 +278,7 @@ class Starts(Case):
         self.write(log, FIRST, SECOND)
         text = self.beside("desk").read_bytes()
         self.beside("desk").write_bytes(text.replace(b"east,1 0", b"east,2 0"))
-        self.refused(Refused, "journal was changed by hand: its entry 2", self.open)
+        self.refused(Refused, "journal was changed by hand: its line 3", self.open)
         self.beside("desk").write_bytes(text)
         self.is_whole(self.open(), FIRST + SECOND)
 
@@ -547,7 +547,7 @@ class Faults(Case):
                     self.assertRegex(ended.said, "^Unsure: The disk doesn't say that it keeps")
                     names = [name for name, _ in ended.calls]
                     self.assertEqual(names.count("fsync"), number)
-                    noted = [words for name, words in ended.calls if name == "write" and r"{\"at\"" in words]
+                    noted = [words for name, words in ended.calls if name == "write" and r"{\"prev\"" in words]
                     self.assertEqual(len(noted), 0 if (scene, number) == (desk_kills.Write, 1) else 1)
 
     def test_a_copy_that_can_t_be_synced(self):
@@ -559,7 +559,7 @@ class Faults(Case):
 
     def test_a_first_start_that_can_t_be_synced(self):
         count = [name for name, _ in desk_kills.calls_of(desk_kills.Start)].count("fsync")
-        self.assertEqual(count, 6)
+        self.assertEqual(count, 9)
         for number in range(1, count + 1):
             for _, ended in self.failing(desk_kills.Start, f"fsync:error=EIO:when={number}"):
                 self.assertRegex(ended.said, "^(Refused|Unsure): ")

@@ -1,6 +1,4 @@
 """The pages of the desk: what is typed, answered, written, closed, held again, stopped and ended, through HTTP."""
-import hashlib
-import hmac
 import pathlib
 import re
 import shutil
@@ -9,7 +7,7 @@ import unittest
 import unittest.mock
 
 from desk_client import PROGRAM, DeskTest, Reader, files_of
-from samples import lines, sample, taking
+from checks.cases.samples import lines, sample, taking
 
 from cca_tools.desk.feed import Feed, missing
 from cca_tools.desk.lines import NotLines, Typed, agrees, need_alone, pasted, plain
@@ -109,7 +107,7 @@ class Line(DeskTest):
         self.assertEqual(client.heading(), "It would be refused")
         self.assertIn("3 x 20 + 1 x 40 = 100 points, and tarn is eligible for 96 in this round.", client.text())
         actions = re.findall(r'<a class="button main"[^>]*>(.*?)</a>|<button[^>]*>(.*?)</button>', client.page)
-        self.assertEqual(actions, [("Correct it", ""), ("", "The bidder sent this: write it")])
+        self.assertEqual(actions, [("", "Lock"), ("Correct it", ""), ("", "The bidder sent this: write it")])
         client.load(re.search(r'href="([^"]+/entry/[^"]+)">Correct it', client.page)[1])
         self.assertIn('<option value="tarn" selected>', client.page)
         self.assertIn('value="3  1 0 0"', client.page)
@@ -129,7 +127,7 @@ class Line(DeskTest):
             ("hello", "record has four fields"),
             ("bid,everest,1 0 0,", "a count for each category, here 4"),
             ("bid,everest,1 0 0 0,\n\nbid,tarn,1 0 0 0,", "Line 2 is blank"),
-            ("bid,everest,1 0 0 0,\nclose,,,", "A close is written alone"),
+            ("bid,everest,1 0 0 0,\nclose,,,", "a close is written alone"),
             ("\u201cbid\u201d,everest,1 0 0 0,", "U+201C"),
         ):
             self.assertRegex(client.send("preview", raw=raw), "^/entry/")
@@ -166,7 +164,8 @@ class Line(DeskTest):
                 client.send("preview", raw="\n".join(texts))
                 row = client.page.partition('<div class="row">')[2]
                 self.assertEqual(re.findall(r"<a[^>]*>(.*?)</a>", row.partition("</div>")[0]), links)
-                self.assertEqual(re.findall(r"<button[^>]*>(.*?)</button>", row), [button])
+                alone = ["Write only the 1 admitted line, keep the others in the form"] if texts == [one, above] else []
+                self.assertEqual(re.findall(r"<button[^>]*>(.*?)</button>", row), [button, *alone])
                 self.assertIn(warning, client.text())
                 self.assertEqual("stays in the log for ever" in client.text(), bool(warning))
         client.load("")
@@ -253,17 +252,19 @@ class Line(DeskTest):
             file.write(b"bid,tarn,1 0 0 0,\nbid,tarn,9 0 0 0,\n")
         client.load("")
         client.load("")
-        which, then = "Lines 2 to 3 of the log were", "Read the replies below, and say them to the bidders."
-        self.assertIn(f"{which} not written by this desk. {then}", client.text())
-        self.assertEqual(client.text().count("not by this desk"), 2)
+        which, then = "Lines 2 to 3 of the log had no answer yet.", "Tell the bidders the replies below."
+        self.assertIn(which, client.text())
+        self.assertIn(then, client.text())
+        self.assertRegex(client.page, '<p class="box warm" tabindex="-1" autofocus>Lines 2 to 3')
+        self.assertEqual(client.text().count("not answered when written"), 2)
         client.write("bid,niche,0 0 1 0,")
         client.load("")
-        self.assertNotIn("were not written by this desk", client.text())
+        self.assertNotIn("had no answer yet", client.text())
         with self.log_path.open("ab") as file:
             file.write(b"bid,niche,0 0 2 0,\n")
         client.load("")
-        words = "Line 5 of the log was not written by this desk. Read the reply below, and say it to the bidder."
-        self.assertIn(words, client.text())
+        self.assertIn("Line 5 of the log had no answer yet.", client.text())
+        self.assertIn("Tell the bidder the reply below.", client.text())
 
 
 class Closes(DeskTest):
@@ -303,15 +304,26 @@ class Closes(DeskTest):
         copies = self.folder / "copies"
         copies.mkdir()
         client = self.open(copies=copies)
-        client.write(ROUND)
-        self.assertEqual(list(copies.iterdir()), [])
-        client.close("1")
-        for kind in ("", ".desk", ".key"):
-            self.assertEqual((copies / f"day.log{kind}").read_bytes(), (self.folder / f"day.log{kind}").read_bytes())
+        for write in (lambda: client.write(ROUND), lambda: client.close("1")):
+            write()
+            self.need_copies(copies)
         shutil.rmtree(copies)
         client.close("end the clock")
-        self.assertIn("The close is written, and the copies aren't.", client.text())
+        self.assertIn("The log is written, and the copies aren't.", client.text())
         self.assertTrue(self.log().endswith(b"close,,,\nclose,,,\n"))
+        for place in ("", "close"):
+            client.load(place)
+            self.assertIn("The log is written, and the copies aren't.", client.text(), place)
+        copies.mkdir()
+        client.write("draft,tarn,1 0 0 0,1000000")
+        self.need_copies(copies)
+        client.load("")
+        self.assertNotIn("the copies aren't", client.text())
+
+    def need_copies(self, copies):
+        """The copies are the files."""
+        for kind in ("", ".desk", ".key", ".posted"):
+            self.assertEqual((copies / f"day.log{kind}").read_bytes(), (self.folder / f"day.log{kind}").read_bytes())
 
     def test_an_old_page_of_a_close_is_compared_with_what_it_does_now(self):
         client = self.open()
@@ -345,13 +357,15 @@ class Closes(DeskTest):
         client = self.open()
         client.write(ROUND)
         client.close("1")
-        key = bytes.fromhex((self.folder / "day.log.key").read_text().strip())
-        seal = hmac.new(key, self.log(), hashlib.sha256).hexdigest()
-        grouped = " ".join(seal[at : at + 4] for at in range(0, 64, 4))
-        self.assertIn(f"the seal of close 1, by the room's screen and with their replies: {grouped}", client.text())
+        line = (self.folder / "day.log.posted").read_text().splitlines()[3]
+        grouped = line.partition("close 1 ")[2]
+        self.assertRegex(line, r"\A1 \d{4}-\d\d-\d\dT\S+ close 1 ([0-9a-f]{4} ?){16}\Z")
+        self.assertIn(
+            f"the seal of close 1, which is on the room's screen and on each bidder's page: {grouped}", client.text()
+        )
         for place in ("", "bidder/everest", "/posted"):
             client.load(place)
-            self.assertIn(grouped, client.text(), place)
+            self.assertIn(line, client.text(), place)
 
 
 class Limits(DeskTest):
@@ -364,7 +378,8 @@ class Limits(DeskTest):
         client.load("close")
         self.assertEqual(client.heading(), "No close now")
         self.assertIn("A close must not be written now: a limit refuses it", client.text())
-        self.assertEqual([action for action, _ in Reader(client.page).forms], [])
+        self.assertEqual([it for it, _ in Reader(client.page).forms if not it.endswith("/leave")], [])
+        self.assertIn("Write no close.", client.text())
         log = self.log()
         answer = client.post("close", base=self.desk.log.base(log).text(), typed="1")
         client.load(answer.headers["Location"])
@@ -383,7 +398,7 @@ class Again(DeskTest):
         client.load("again")
         self.assertIn("Close 1, line 6: posted round 2 cuts 1 line: type cut after 6", client.text())
         for form, part in (
-            ({"record": "6", "why": "", "typed": "cut after 6"}, "say why"),
+            ({"record": "6", "why": "", "typed": "cut after 6"}, "give the reason"),
             ({"record": "6", "why": "twice", "typed": "cut after 7"}, "type cut after 6"),
             ({"record": "3", "why": "twice", "typed": "cut after 3"}, "choose the close"),
             ({"why": "twice", "typed": "cut after 6"}, "choose the close"),
@@ -395,7 +410,7 @@ class Again(DeskTest):
         self.assertRegex(client.send("again", record="6", why="closed twice", typed="cut after 6"), "^/cut/")
         self.assertEqual(self.log(), f"{ROUND}\nclose,,,\n".encode())
         self.assertEqual((self.folder / "day.log.cut-1").read_bytes(), long)
-        self.assertIn(f"The seal of the first close 2 is void: {void}", client.text())
+        self.assertIn(f"The posted line close 2 is void, with its seal {void}", client.text())
         self.assertIn("closed twice", (self.folder / "day.log.desk").read_text())
 
 
@@ -434,7 +449,7 @@ class Stops(DeskTest):
                 self.assertEqual(client.heading(), "The desk has stopped")
                 self.assertEqual(re.findall('name="mend" value="([^"]+)"', client.page), ["take back", "end line"])
                 client.send("mend", mend=mend, why="")
-                self.assertIn("say why", client.text())
+                self.assertIn("give the reason", client.text())
                 client.send("mend", mend=mend, why="an editor")
                 self.assertEqual((client.answer.status_code, self.log()), (200, log))
 
@@ -458,8 +473,50 @@ class Stops(DeskTest):
         self.assertEqual(self.log(), b"bid,everest,1 0 4 0,\n")
         self.assertIn("Please wait", client.load("/posted").text_)
         client.load("")
-        client.send("mend", mend="keep changed log", why="a mistake on paper")
+        self.assertIn("From line 1 on: answered lines that go away: 1; lines that are new: 1.", client.text())
+        client.post("mend", mend="keep changed log", why="a mistake on paper")
+        client.load("")
+        self.assertEqual(client.heading(), "The desk has stopped")
+        client.send("mend", mend="keep changed log", why="a mistake on paper", typed="Go on with the changed log")
         self.assertEqual(client.heading(), "Round 1 is open")
+        client.load("/posted")
+        self.assertIn("The log was changed after it was answered", client.text())
+        self.assertRegex(
+            client.text(), "1 [0-9T:+-]+ log changed after the start ([0-9a-f]{4} ){15}[0-9a-f]{4}: a mistake on paper"
+        )
+
+    def test_the_answered_log_is_put_back(self):
+        client = self.open()
+        client.write(ROUND)
+        client.close("1")
+        right = self.log()
+        for wrong in (right.replace(b"everest,2 0 4 0", b"everest,1 0 4 0"), right[:40], right[5:] + b"bid"):
+            self.log_path.write_bytes(wrong)
+            client.load("")
+            self.assertEqual(re.findall('name="mend" value="([^"]+)"', client.page)[0], "put back")
+            client.send("mend", mend="put back", why="an editor")
+            self.assertEqual((self.log(), client.heading()), (right, "Round 2 is open"))
+        self.assertEqual((self.folder / "day.log.changed-2").read_bytes(), right[:40])
+        posted = (self.folder / "day.log.posted").read_text().splitlines()
+        self.assertEqual([len(posted), "close 1" in posted[-1]], [4, True])
+
+    def test_the_last_close_is_taken_back_alone(self):
+        client = self.open()
+        client.write(ROUND)
+        client.close("1")
+        client.load("again")
+        client.send("again", record="5", why="closed too early", typed="cut after 5")
+        self.assertIn("Close 1 is taken back. Round 1 is open again, and all its lines stay.", client.text())
+        self.assertEqual(self.log(), f"{ROUND}\n".encode())
+        for place in ("/posted", "bidder/everest"):
+            client.load(place)
+            self.assertIn("Close 1 is taken back", client.text())
+            self.assertRegex(client.text(), "close 1 [0-9a-f ]{79} void since line 2")
+            self.assertRegex(client.text(), "2 [0-9T:+-]+ close 1 taken back [0-9a-f ]{79}: closed too early")
+        client.close("1")
+        client.load("/posted")
+        self.assertNotIn("is open again", client.text())
+        self.assertRegex(client.text(), "3 [0-9T:+-]+ close 1 ")
 
     def test_programs_that_differ_stop_the_desk(self):
         from cca_tools.desk.answers import Differ
@@ -655,12 +712,13 @@ class Accessible(DeskTest):
 
     def test_a_seal_agrees_with_the_tool(self):
         self.open(SAMPLE)
-        text = taking("seal")(
-            ["sum", str(self.folder / "day.log.key"), str(files_of(self.award).award), str(self.log_path)]
-        )
+        key, journal, posted = (str(self.folder / f"day.log.{kind}") for kind in ("key", "desk", "posted"))
+        files = [key, str(files_of(self.award).award), str(self.log_path)]
+        text = taking("seal")(["check", "--journal", journal, *files, posted])
+        self.assertEqual((text.splitlines()[0], text.count(": agrees"), "void" in text), ("yes", 7, False))
         self.client.load("")
-        self.assertIn(text.splitlines()[0].removeprefix("key "), self.client.text())
-        self.assertIn(text.splitlines()[-1].partition("close 5 ")[2], self.client.text())
+        for line in pathlib.Path(posted).read_text().splitlines()[1:]:
+            self.assertIn(line, self.client.text())
 
 
 class Taken(DeskTest):

@@ -9,7 +9,7 @@ import re
 import unittest
 from fractions import Fraction
 
-from drawn import Drawing
+from checks.cases.drawn import Drawing
 from cca_tools.page import findings, rounds, winners
 from cca_tools.page.source import Source
 from cca_tools.page.words import VULGAR, Names
@@ -239,10 +239,11 @@ class Findings(unittest.TestCase):
             sums = [sum(count * weight for one in it.packages for count, weight in zip(one, weights)) for it in closed]
             losers = sum(closed[-1].eligibility[j] < closed[0].eligibility[j] for j in range(len(award.names)))
             who = rf"(?:(no) bidder|all ({COUNT}) bidders|({COUNT}) of ({COUNT}) bidders)"
-            found = re.search(f"{who} lost eligibility$", title)
-            said = 0 if found[1] else counted(found[2] or found[3])
-            self.assertEqual(said, losers)
+            found = re.search(f"{who} lost eligibility from round 1 to round {len(closed)}$", title)
+            self.assertEqual(found is None, len(closed) == 1)
             if len(closed) > 1:
+                said = 0 if found[1] else counted(found[2] or found[3])
+                self.assertEqual(said, losers)
                 went = "fell" if sums[-1] < sums[0] else "rose"
                 same = f"as many points are asked for in round {len(closed)} as in round 1, {sums[0]};"
                 moved = f"points asked for {went} from {sums[0]} to {sums[-1]} in {WORDS[len(closed)]} rounds;"

@@ -6,7 +6,7 @@ one kind of cone; how far two colours are apart, in CIE L*a*b* (1976).
 import itertools
 import unittest
 
-import samples  # noqa: F401, finds cca_tools
+from checks.cases import samples  # noqa: F401, finds cca_tools
 
 from cca_tools.page.ink import PATTERNS, ROLES, WINNERS
 

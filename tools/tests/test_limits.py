@@ -3,12 +3,13 @@ import pathlib
 import re
 import unittest
 
-from samples import TOOLS
+from checks.cases.samples import TOOLS
 
 from cca_tools.rules.stops import LIMIT, MOST, WORDS, Stop, within
 
 DOCS = pathlib.Path(TOOLS, "..", "docs")
-FORMATS, CERTIFICATES = ((DOCS / f"{name}.md").read_text() for name in ("FORMATS", "CERTIFICATES"))
+PAGES = ("FORMATS", "CERTIFICATES", "PLACEMENTS")
+FORMATS, CERTIFICATES, PLACEMENTS = ((DOCS / f"{name}.md").read_text() for name in PAGES)
 NUMBER = re.compile(r"\d+\^\d+|[\d,]*\d")
 # By the words of the table of limits what the rules call its numbers, in order.
 LIMITS = {
@@ -43,12 +44,12 @@ FIELDS = {
 # What the documents say of further limits.
 SAID = {
     "drafts": (FORMATS, r"A draft list has at most ([\d,]+) entries"),
-    "amount": (FORMATS, r"sealed amount is at most (\d+\^\d+)"),
+    "amount": (FORMATS, r"sealed amount is at\s+most (\d+\^\d+)"),
     "draft amount": (FORMATS, r"an amount, a number of at most (\d+\^\d+), into"),
     "count": (FORMATS, r"Counts are one number of at most ([\d,]+) for each category"),
     "step excess": (FORMATS, r"1 in the first table, then rising, to ([\d,]+) \|"),
     "rows": (CERTIFICATES, r"`rows R`, where `R` is 0 to ([\d,]+),"),
-    "band": (CERTIFICATES, r"a band of 1 to ([\d,]+) slots"),
+    "band": (PLACEMENTS, r"a band of 1 to ([\d,]+) slots"),
     "first version bidders": (CERTIFICATES, r"With at most ([\d,]+) bidders and at most"),
     "first version states": (CERTIFICATES, r"bidders and at most\s+([\d,]+) states"),
 }

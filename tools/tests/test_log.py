@@ -1,7 +1,7 @@
 """The log: records as they are read of any bytes, and the first record that states no line."""
 import unittest
 import unittest.mock
-from samples import sample
+from checks.cases.samples import sample
 from cca_tools.rules.award import read_award
 from cca_tools.rules.log import read_log, records
 from cca_tools.rules.stops import MOST, Stop

@@ -5,12 +5,12 @@ import sys
 import tempfile
 import unittest
 import unittest.mock
-from samples import EXAMPLES, TOOLS, called, certificate_of, lines, said, sample, taking
+from checks.cases.samples import EXAMPLES, TOOLS, called, certificate_of, lines, said, sample, taking
 from test_auction import ROW, TWO, TWO_LOG
-from program import run as program_run
-from program import with_program
+from checks.cases.program import run as program_run
+from checks.cases.program import with_program
 from test_tools import PLACE_CERT
-from voices import AUDIT, audit
+from checks.cases.voices import AUDIT, audit
 from cca_tools.rules.book import read_book
 from cca_tools.rules.program import price_lines
 from cca_tools.rules.stops import MOST, Stop

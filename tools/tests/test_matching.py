@@ -3,7 +3,7 @@ import random
 import unittest
 import unittest.mock
 
-from samples import TOOLS  # noqa: F401 (finds the package)
+from checks.cases.samples import TOOLS  # noqa: F401 (finds the package)
 
 from cca_tools.rules import matching
 from cca_tools.rules.matching import by_fewest_changes, longest_rise, matched

@@ -1,4 +1,5 @@
 """Pictures: each mark is at the place of its numbers on the scale that the picture itself prints."""
+import math
 import re
 import unittest
 import xml.etree.ElementTree as ElementTree
@@ -6,7 +7,7 @@ from dataclasses import dataclass
 from fractions import Fraction
 from itertools import groupby
 
-import samples  # noqa: F401, finds cca_tools
+from checks.cases import samples  # noqa: F401, finds cca_tools
 
 from cca_tools.page import charts, core, winners
 from cca_tools.page.charts import Activity, Band, Paid
@@ -84,6 +85,18 @@ def scale_of(marks, is_across):
     return lambda value: at + float((value - first) / (last - first)) * (to - at), list(found)
 
 
+def log_scale_of(marks):
+    """The logarithmic scale that ticks print at the left: where a number is, and the numbers."""
+    found = {}
+    for line, text in zip(marks, marks[1:]):
+        if line.tag == "line" and text.tag == "text" and number_of(text.letters) is not None:
+            x, y, to_x, to_y = line.ends
+            if y == to_y and round(abs(x - to_x), 1) == 3:
+                found[number_of(text.letters)] = y
+    (first, at), *_, (last, to) = sorted(found.items())
+    return lambda value: at + math.log(value / first) / math.log(last / first) * (to - at), sorted(map(int, found))
+
+
 class Pictures(unittest.TestCase):
     def assert_places(self, found, expected, delta=0.02):
         """The places are these, except for rounding."""
@@ -150,7 +163,7 @@ class OfACategory(Pictures):
         self.assertGreater(steps[0], 30)
 
     def test_prices(self):
-        place, numbers = scale_of(self.prices, is_across=False)
+        place, numbers = log_scale_of(self.prices)
         self.assertEqual(numbers, [100, 110, 120])
         heights = [place(Fraction(100 * price, self.PRICES[0])) for price in self.PRICES]
         dots = [it for it in self.prices if it.tag == "circle"]
@@ -165,12 +178,24 @@ class OfACategory(Pictures):
 
     def test_each_price_has_its_label(self):
         letters = [it.letters for it in self.prices if it.colours[0] == "blue" and it.letters]
-        self.assertEqual(letters, [f"{price:,}" for price in self.PRICES])
+        self.assertEqual(letters, ["200,000", "220,000", "231,000", "242,600, +21.3 %"])
+
+    def test_each_category_is_seen_beside_a_high_one(self):
+        """A rise of 10 % beside one to 400 % of the reserve; each doubling is equally high."""
+        marks = marks_of(charts.category("c", "", "", (200, 220), (3, 2), 2, 400.0, 150.0, False))
+        place, numbers = log_scale_of(
+            marks[: next(at for at, it in enumerate(marks) if it.letters.startswith("demand"))]
+        )
+        self.assertEqual(numbers, [100, 150, 200, 300, 400])
+        self.assertAlmostEqual(place(100) - place(200), place(200) - place(400), delta=0.02)
+        dots = [it.place("cy") for it in marks if it.tag == "circle"]
+        self.assert_places(dots, [place(100), place(110)])
+        self.assertGreater(dots[0] - dots[1], 5)
 
     def test_a_price_that_stays_has_one_label(self):
         marks = marks_of(charts.category("c", "", "", (200, 200, 220), (3, 3, 2), 2, 110.0, 150.0, False))
         letters = [it.letters for it in marks if it.colours[0] == "blue" and it.letters]
-        self.assertEqual(letters, ["200", "220"])
+        self.assertEqual(letters, ["200", "220, +10.0 %"])
 
     def test_demand(self):
         place, _ = scale_of(self.demand, is_across=False)
@@ -197,7 +222,7 @@ class OfACategory(Pictures):
 
     def test_prices_alone(self):
         marks = marks_of(charts.posted("c", "", "", self.PRICES, 121.3))
-        place, _ = scale_of(marks, is_across=False)
+        place, _ = log_scale_of(marks)
         dots = [it.place("cy") for it in marks if it.tag == "circle"]
         self.assert_places(dots, [place(Fraction(100 * price, self.PRICES[0])) for price in self.PRICES])
         self.assertEqual([it.letters for it in marks if it.letters.isdigit()][-4:], list("1234"))
@@ -289,6 +314,24 @@ class OfLots(Pictures):
                 self.assert_places([cell.box[2] for cell, _ in row], [width * (at + 1) for at in range(len(row))])
             self.assertEqual(len({row[0][0].place("y") for row in rows}), len(rows))
 
+    def widths(self, *every):
+        """The width of the first cell of each strip, in percent of the picture."""
+        marks = marks_of(charts.bands("b", "", "", every, self.NAMES, self.LETTERS))
+        found = {}
+        for mark in marks:
+            if mark.tag == "rect" and not mark.style["fill"].startswith("url("):
+                found.setdefault(mark.says.rpartition(" of ")[2], mark.place("width"))
+        return [found[band.name] for band in every]
+
+    def test_all_strips_have_one_scale(self):
+        """Equal lots are equally wide in every strip, of 18 in a row at most; by MHz a lot of 20 is twice one of 10."""
+        one, many, lots = Band("one", [(1, 1)]), Band("many", [(2, 14)]), Band("lots", [(3, 40)])
+        self.assert_places(self.widths(one, many), [100 / 14, 100 / 14])
+        self.assert_places(self.widths(one, lots), [100 / 14, 100 / 14])  # three rows of 14, 14 and 12
+        wide, five = Band("wide", [(1, 2)], 20), Band("five", [(2, 6)], Fraction(5, 2))
+        self.assert_places(self.widths(wide, five), [50, 50 / 8])
+        self.assert_places(self.widths(Band("a", [(1, 3)], 100), Band("b", [(1, 4)], 5)), [25, 25])  # 20 to 1
+
     def test_each_lot_has_its_winner_s_letter_and_the_colour_of_the_key(self):
         parts = [(1, 2), (2, 1), (3, 1), (6, 2), (7, 1), (0, 2)]
         marks, (row,) = self.cells(Band("c2600", parts), self.NAMES, self.LETTERS)
@@ -332,6 +375,8 @@ class OfTheCore(Pictures):
         marks = marks_of(core.two("k", "", "", ("b1", "b2"), (14, 12), (28, 20), 32, (Fraction(17), Fraction(15))))
         at, across, up = self.places(marks)
         self.assertEqual((across, up), ({14, 17, 28}, {12, 15, 20}))
+        right, top, left, bottom = *at(28, 20), *at(14, 12)
+        self.assertAlmostEqual((right - left) / 14, (bottom - top) / 8, delta=0.01)  # one scale on both axes
         corners = [(14, 18), (14, 20), (28, 20), (28, 12), (20, 12)]
         self.assert_corners(self.one(marks, "nobody blocks: the core").points, [at(*it) for it in corners])
         right, top = at(28, 20)
@@ -345,28 +390,65 @@ class OfTheCore(Pictures):
         self.assert_places((paid.place("cx"), paid.place("cy")), at(17, 15))
         self.assert_way(marks, at(14, 12), at(17, 15))
 
+    def test_winners_of_unequal_size(self):
+        """A bid of 10,000 above would make a demand of 6 invisible: the picture is of what is near the least sum."""
+        marks = marks_of(core.two("k", "", "", ("b1", "b2"), (14, 12), (10014, 20), 32, (Fraction(17), Fraction(15))))
+        at, across, up = self.places(marks)
+        self.assertEqual((across, up), ({14, 17}, {12, 15, 20}))
+        least = self.one(marks, "the least sum that nobody blocks: 32")
+        self.assert_corners(least.points, [at(14, 18), at(20, 12)])
+        (x, y), (u, v) = least.points
+        self.assertAlmostEqual(abs(x - u), abs(y - v), delta=0.02)
+        self.assertGreater(abs(x - u), 60)
+
+    def test_the_vickrey_point_is_seen_around_what_is_paid(self):
+        """Both pay their Vickrey prices of 1,000: both marks are at one place, and the triangle is larger."""
+        pays = Fraction(1000), Fraction(1000)
+        marks = marks_of(core.two("k", "", "", ("b1", "b2"), (1000, 1000), (1100, 1100), 2000, pays))
+        triangle = self.one(marks, "Vickrey prices: b1 1,000, b2 1,000")
+        (dot,) = [it for it in marks if it.tag == "circle"]
+        self.assertGreater(max(x for x, _ in triangle.points) - dot.place("cx"), dot.place("r") + 3)
+
     def three(self, low, bid, demands, pays):
+        """The marks, and where payments are: the first winner's share is a height, and the others share the width."""
         marks = marks_of(core.three("k", "", "", ("b1", "b2", "b3"), low, bid, demands, pays))
-        return marks, *self.places(marks)
+        second, third, first = sorted(
+            self.one(marks, "all ways to share the least sum").points, key=lambda it: (-it[1], it[0])
+        )
+        lengths = [(a - c) ** 2 + (b - d) ** 2 for (a, b), (c, d) in ((first, second), (second, third), (third, first))]
+        self.assertAlmostEqual(lengths[0], lengths[1], delta=20)
+        self.assertAlmostEqual(lengths[1], lengths[2], delta=20)
+        above = sum(pays) - sum(low)
+
+        def at(*amounts):
+            shares = [(it - least) / above for it, least in zip(amounts, low)]
+            return tuple(
+                sum(float(share) * corner[axis] for share, corner in zip(shares, (first, second, third)))
+                for axis in (0, 1)
+            )
+
+        return marks, at
 
     def test_three_winners(self):
-        """Three bid 10 each, and another one 11 for all three lots: a pair pays at least 1, and all together 11. So the
-        third winner's payment, 11 less the two, is from 0 to 10."""
+        """Three bid 10 each, and another one 11 for all three lots: a pair pays at least 1, and all together 11."""
         third = Fraction(11, 3)
-        marks, at, across, up = self.three((0, 0, 0), (10, 10, 10), (1, 1, 1), (third, third, third))
-        self.assertEqual((across, up), ({0, 10}, {0, 10}))
-        corners = [(1, 0), (10, 0), (10, 1), (1, 10), (0, 10), (0, 1)]
+        marks, at = self.three((0, 0, 0), (10, 10, 10), (1, 1, 1), (third, third, third))
+        corners = [(1, 0, 10), (10, 0, 1), (10, 1, 0), (1, 10, 0), (0, 10, 1), (0, 1, 10)]
         area = self.one(marks, "nobody blocks")
         self.assert_corners(area.points, [at(*it) for it in corners])
         self.assertEqual(area.style["stroke-width"], "1.4")
-        paid = next(it for it in marks if it.says.startswith("paid: ") or it.tag == "circle")
-        self.assert_places((paid.place("cx"), paid.place("cy")), at(third, third))
+        (paid,) = [it for it in marks if it.tag == "circle"]
+        self.assert_places((paid.place("cx"), paid.place("cy")), at(third, third, third))
+        letters = [it.letters for it in marks if it.tag == "text"]
+        self.assertEqual(letters, ["b1", "pays 11", "b2", "pays 11", "b3", "pays 11"])
+        triangle = next(it for it in marks if it.says.startswith("Vickrey prices"))
+        self.assertGreater(max(x for x, _ in triangle.points) - paid.place("cx"), paid.place("r") + 3)
 
     def test_what_nobody_blocks_is_no_more_than_a_line(self):
         """b1 and b2 pay 12 of 13, b1 at most 6 and b2 at most 7: from 5 and 7 to 6 and 6, drawn as a thick line."""
-        marks, at, _, _ = self.three((5, 3, 1), (9, 9, 5), (12, 6, 7), (Fraction(6), Fraction(6), Fraction(1)))
+        marks, at = self.three((5, 3, 1), (9, 9, 5), (12, 6, 7), (Fraction(6), Fraction(6), Fraction(1)))
         area = self.one(marks, "nobody blocks")
-        self.assert_corners(area.points, [at(5, 7), at(6, 6)])
+        self.assert_corners(area.points, [at(5, 7, 1), at(6, 6, 1)])
         self.assertEqual(area.style["stroke-width"], "4")
 
 

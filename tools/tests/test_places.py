@@ -1,7 +1,7 @@
 """tools/check-places: the worked example, each test failed once, and the faults of slots and certificates."""
 import unittest
-from samples import lines, said, sample
-from voices import check_places
+from checks.cases.samples import lines, said, sample
+from checks.cases.voices import check_places
 
 SLOTS = sample("band.slots")
 # The choice 1 1 0 is worth 18 by the order x, z, y. Entry M is what those outside the set M can still reach after it.

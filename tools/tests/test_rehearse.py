@@ -5,10 +5,10 @@ import threading
 import time
 import unittest
 
-import checked
-import rehearsed
-from program import with_program
-from samples import called
+from checks.cases import checked
+from checks.cases import rehearsed
+from checks.cases.program import with_program
+from checks.cases.samples import called
 
 from cca_tools.rules.auction import replay
 from cca_tools.rules.award import read_award

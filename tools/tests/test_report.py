@@ -1,7 +1,6 @@
 """The report: what is in it, as text and as a page."""
 import hashlib
 import os
-import pathlib
 import re
 import subprocess
 import sys
@@ -11,7 +10,7 @@ import unittest
 from fractions import Fraction
 from html.parser import HTMLParser
 
-from samples import EXAMPLES, TOOLS, called, certificate_of, book_of, sample, spectrum
+from checks.cases.samples import EXAMPLES, TOOLS, called, certificate_of, book_of, sample, spectrum
 from cca_tools.page import core, html, plain, source, words
 from cca_tools.page.report import page
 from cca_tools.rules.stops import Stop
@@ -19,7 +18,7 @@ from cca_tools.rules.view import view_text
 
 AWARD, LOG = sample("spectrum.award"), sample("spectrum.log")
 BIDDERS = "everest", "harbour", "meridian", "niche", "tarn"
-# The refused lines of the sample, as docs/GUIDE.md has them.
+# The refused lines of the sample, as docs/BIDDER.md has them.
 REFUSED = {
     5: "points 96",
     7: "unknown",
@@ -90,6 +89,8 @@ def tables(made, title):
             if kind == "cards":
                 for card in block.cards:
                     walk(card.blocks)
+            if kind == "fold":
+                walk(block.blocks)
             table = block if kind == "table" else block.table if kind == "picture" else None
             if table and table.title == title:
                 found.append([[html.parts(cell)[0] for cell in row] for row in table.rows])
@@ -102,7 +103,8 @@ def tables(made, title):
 def replies(made):
     """Of each line its reply, in words and in the program's form."""
     (section,) = [it for it in made.sections if it.key == "lines"]
-    rows = [row for card in section.blocks[-1].cards for table in card.blocks for row in table.rows]
+    (cards,) = section.blocks[-1].blocks
+    rows = [row for card in cards.cards for table in card.blocks for row in table.rows]
     return {int(html.parts(line)[0]): reply for line, _, reply in rows}
 
 
@@ -228,8 +230,7 @@ class OfABook(Told):
         made = page(facts_of(*self.files))
         (files,) = tables(made, "The files, by their sums (SHA-256)")
         self.assertEqual([row[:2] for row in files], [["book of bids", "file0"], ["certificate", "file1"]])
-        (kit,) = re.findall("Proved with `(.+?)`", pathlib.Path(TOOLS, "../README.md").read_text())
-        self.assert_told(f"Proved with {kit}.", flat(plain.text(made)))
+        self.assert_told("The program isn't here, so nothing is known about its proof.", flat(plain.text(made)))
 
     def test_a_book_alone(self):
         told = flat(text_of(self.files[0]))
@@ -288,7 +289,7 @@ class OfALog(Told):
         cls.told = flat(plain.text(cls.made))
 
     def test_rounds(self):
-        found = tables(self.made, "By round")
+        found = [tables(self.made, f"{name} by round")[0] for name in ("a800", "b800", "c2600", "e2600")]
         self.assertEqual(
             found[0],
             [
@@ -310,7 +311,7 @@ class OfALog(Told):
     def test_heads_of_lines(self):
         """A line is one of the log, and its reply one that docs/FORMATS.md has."""
         (section,) = [it for it in self.made.sections if it.key == "lines"]
-        (table, *_) = [it for card in section.blocks[-1].cards for it in card.blocks]
+        (table, *_) = [it for card in section.blocks[-1].blocks[0].cards for it in card.blocks]
         first = dict(zip([it.head for it in table.columns], [html.parts(cell)[0] for cell in table.rows[0]]))
         self.assertEqual((first["Line"], list(first)), ("1", ["Line", "What was sent", "Reply"]))
         self.assert_told("everest asks for", first["What was sent"])
@@ -369,17 +370,34 @@ class OfALog(Told):
                 ("tarn", "500,000", "460,000", "460,200"),
             ],
         )
-        self.assertRegex(self.told, "revenue 1,436,700 bid by winners 1,820,000 .* 78.9 % net value 559,100")
+        self.assertRegex(
+            self.told, "revenue 1,436,700 bid by winners 1,820,000 .* 78.9 % net value: bids less reserves 559,100"
+        )
+
+    def test_the_result_comes_first(self):
+        """Who won what and pays what, by the lines of the award (README.md), before any other table."""
+        first = self.made.sections[0].blocks[0].cards[0].blocks[0]
+        self.assertEqual([it.head for it in first.columns], ["Winner", "Won", "Pays"])
+        self.assertEqual(
+            [[html.parts(cell)[0].replace("\N{NO-BREAK SPACE}", " ") for cell in row] for row in first.rows],
+            [
+                ["everest", "1 x a800, 3 x c2600", "292,400"],
+                ["harbour", "1 x b800, 2 x c2600, 4 x e2600", "310,400"],
+                ["meridian", "1 x a800, 4 x c2600, 5 x e2600", "292,500"],
+                ["niche", "5 x c2600", "81,200"],
+                ["tarn", "2 x a800", "460,200"],
+            ],
+        )
 
     def test_the_final_clock_price_of_each_package(self):
-        """By the prices of round 4 in docs/GUIDE.md: 242600 275700 19200 400."""
+        """By the prices of round 4 of the sample: 242600 275700 19200 400."""
         winners = tables(self.made, "Winners and prices, reserves included")[0]
         self.assertEqual([row[2] for row in winners], ["300,200", "315,700", "321,400", "96,000", "485,200"])
 
     def test_titles_say_the_finding(self):
         titles = {section.key: section.finding for section in self.made.sections}
         told = "Three of five winners pay their Vickrey price; a coalition raises niche and tarn by 200 each"
-        self.assertEqual((titles["winners"], titles["why"]), (told, told))
+        self.assertEqual((titles["winners"], titles["why"]), ("Five winners pay 1,436,700 for all 28 lots", told))
         self.assertEqual(titles["rounds"], "The clock took four rounds, and prices rose in all four categories")
 
     def test_the_vickrey_price_is_worked_out(self):
@@ -628,7 +646,7 @@ class OfAPage(Told):
         self.assertEqual({"matplotlib", "numpy", "jinja2"} & set(loaded), set())
 
     def test_pictures_have_letters(self):
-        self.assertRegex(self.text, r"<text[^>]*>\s*242,600\s*</text>")
+        self.assertRegex(self.text, r"<text[^>]*>\s*242,600, \+21.3 %\s*</text>")
 
     def test_the_same_files_give_the_same_page(self):
         self.assertEqual(self.text, html.page(page(facts_of(AWARD, LOG, spectrum()[1]))))

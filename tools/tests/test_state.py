@@ -9,12 +9,18 @@ import tempfile
 import unittest
 import unittest.mock
 
-from drawn import Drawing
-from samples import EXAMPLES, TOOLS, called, lines, sample
+from checks.cases.drawn import Drawing
+from checks.cases.samples import EXAMPLES, TOOLS, called, lines, sample
 from cca_tools.rules.auction import replay
 from cca_tools.rules.award import read_award
 from cca_tools.rules.log import read_log
-from cca_tools.rules.state import CLOSE, clock_states, close_effect, entries_above, list_states
+from cca_tools.rules.state import (
+    CLOSE,
+    clock_states,
+    close_effect,
+    entries_above,
+    list_states,
+)
 
 SMALL = sample("sample.award").decode()
 # east asks for two of three lots at 12, and west offers as much for two: both cost 24, and one of them wins
@@ -39,7 +45,10 @@ def shown(award, log, *words, **environment):
 
 def spectrum(records):
     """The screen after this many records of the sample."""
-    text, status, fault = shown(sample("spectrum.award"), b"".join(sample("spectrum.log").splitlines(True)[:records]))
+    text, status, fault = shown(
+        sample("spectrum.award"),
+        b"".join(sample("spectrum.log").splitlines(True)[:records]),
+    )
     assert (status, fault) == (0, ""), fault
     return text.splitlines()
 
@@ -52,17 +61,23 @@ def cells(rows, name):
 
 class Clock(unittest.TestCase):
     def test_an_open_round(self):
-        """The prices after a close are those that docs/GUIDE.md shows."""
+        """The prices after a close are those that docs/AUCTIONEER.md shows."""
         rows = spectrum(9)
         self.assertEqual(rows[:2], ["= Round 1 is open.", "last line 9: spectrum-cap 1 11"])
         self.assertEqual(cells(rows, "price  "), ["200,000", "250,000", "15,000", "100"])
         self.assertEqual(cells(rows, "asked, of supply"), ["7 of 4", "2 of 1", "24 of 14", "15 of 9"])
         self.assertEqual(cells(rows, "excess"), ["3", "1", "10", "6"])
         self.assertEqual(cells(rows, "price after a close"), ["220,000", "262,500", "16,500", "200"])
-        self.assertEqual(cells(rows, "everest"), ["2 0 4 0", "48", "80", "32", "460,000", "3 of 11", "26 of 42"])
+        self.assertEqual(
+            cells(rows, "everest"),
+            ["2 0 4 0", "48", "80", "32", "460,000", "3 of 11", "26 of 42"],
+        )
         self.assertIn("A close now ends round 1 and posts round 2.", rows)
         rows = spectrum(5)
-        self.assertEqual(cells(rows, "tarn"), ["no line yet", "0", "96", "96", "0", "11 of 11", "42 of 42"])
+        self.assertEqual(
+            cells(rows, "tarn"),
+            ["no line yet", "0", "96", "96", "0", "11 of 11", "42 of 42"],
+        )
         missing = "! tarn has no line in this round yet: a close now leaves it without eligibility for the rest of the"
         self.assertIn(f"{missing} clock.", rows)
 
@@ -73,15 +88,37 @@ class Clock(unittest.TestCase):
             (head + "bid,east,0, / ", ("nothing", "no line yet")),
             (head + "bid,east,3, / bid,east,0, / bid,west,1, / ", ("nothing", "1")),
             (head + "bid,east,3, / bid,west,0, / bid,west,4, / ", ("3", "nothing")),
-            ("bid,east,4, / " + head + "bid,east,3, / bid,west,0, / ", ("3", "nothing")),
+            (
+                "bid,east,4, / " + head + "bid,east,3, / bid,west,0, / ",
+                ("3", "nothing"),
+            ),
         ):
             with self.subTest(log=log):
                 rows = shown(SMALL, lines(log[:-3]))[0].splitlines()
                 self.assertEqual((cells(rows, "east")[0], cells(rows, "west")[0]), words)
         three = SMALL + '\n[[bidder]]\nname = "north"\neligibility = 3\n'
-        rows = shown(three, lines("bid,east,3, / bid,west,2, / close,,, / bid,east,3, / bid,west,2,"))[0].splitlines()
+        rows = shown(
+            three,
+            lines("bid,east,3, / bid,west,2, / close,,, / bid,east,3, / bid,west,2,"),
+        )[0].splitlines()
         self.assertEqual(cells(rows, "north")[0], "out")
         self.assertFalse(any("no line in this round" in row for row in rows))
+
+    def test_who_asks_for_nothing_is_named(self):
+        """Also a bidder whose slip was corrected by an empty package."""
+        five = b"".join(sample("spectrum.log").splitlines(True)[:5])
+        rows = shown(sample("spectrum.award"), five + b"bid,tarn,2 1 4 0,\nbid,tarn,0 0 0 0,\n")[0].splitlines()
+        self.assertIn(
+            "! tarn asks for nothing in this round: a close now leaves it without eligibility for the rest of the"
+            " clock.",
+            rows,
+        )
+        log = "bid,east,3, / bid,west,2, / close,,, / bid,east,3, / bid,west,1, / bid,west,0,"
+        rows = shown(SMALL, lines(log))[0].splitlines()
+        self.assertIn(
+            "! west asks for nothing in this round, which is the final one after a close now.",
+            rows,
+        )
 
     def test_a_close_that_ends_the_clock(self):
         rows = shown(SMALL, lines("bid,east,1,"))[0].splitlines()
@@ -93,7 +130,8 @@ class Clock(unittest.TestCase):
     def test_a_round_that_was_posted_a_moment_ago(self):
         rows = spectrum(11)
         self.assertIn(
-            "! Nobody asks for anything in this round. Was it posted a moment ago? A second close ends the clock.", rows
+            "! Nobody asks for anything in this round. Was it posted a moment ago? A second close ends the clock.",
+            rows,
         )
         self.assertFalse(any("Was it posted" in row for row in spectrum(12)))
 
@@ -133,7 +171,10 @@ class Fatal(unittest.TestCase):
 
     def test_few_rounds_left(self):
         log = lines("bid,east,3, / bid,west,2, / close,,, / " * 292 + "bid,east,3, / bid,west,2,")
-        self.assertIn("! 6 more rounds can be posted after that.", shown(SMALL.replace("200", "1"), log)[0])
+        self.assertIn(
+            "! 6 more rounds can be posted after that.",
+            shown(SMALL.replace("200", "1"), log)[0],
+        )
 
     def test_what_it_says_of_a_close_comes(self):
         """On drawn auctions the close that is written next does what was said of it."""
@@ -163,8 +204,14 @@ class Lists(unittest.TestCase):
     def test_drafts_and_refusals(self):
         rows = spectrum(34)
         self.assertEqual(rows[0], "= The clock ended after round 4. Lists are taken.")
-        self.assertEqual(cells(rows, "everest"), ["3", "0", "a submission is refused: relative-cap 3 661000"])
-        self.assertIn("! everest: entry 3, 2 0 4 0 for 760,000, is above its cap 661,000 by 99,000", rows)
+        self.assertEqual(
+            cells(rows, "everest"),
+            ["3", "0", "a submission is refused: relative-cap 3 661000"],
+        )
+        self.assertIn(
+            "! everest: entry 3, 2 0 4 0 for 760,000, is above its cap 661,000 by 99,000",
+            rows,
+        )
         self.assertIn("A close now ends the auction.", rows)
         self.assertEqual(cells(spectrum(36), "everest"), ["3", "3", "as submitted"])
         rows = spectrum(36)
@@ -179,7 +226,12 @@ class Lists(unittest.TestCase):
             drawing.clock()
             for j in drawing.bidders():
                 for package in drawing.draw.sample(drawing.packages, 5):
-                    drawing.take("draft", j, package, drawing.award.reserve_of(package) + drawing.draw.randint(0, 99))
+                    drawing.take(
+                        "draft",
+                        j,
+                        package,
+                        drawing.award.reserve_of(package) + drawing.draw.randint(0, 99),
+                    )
                 above = entries_above(drawing.auction, j)
                 many += len(above) > 1
                 reply = drawing.take("submit", j)
@@ -193,7 +245,10 @@ class Lists(unittest.TestCase):
         head = "bid,east,1, / bid,west,1, / close,,, / draft,east,1,20 / submit,east,, / "
         rows = shown(SMALL, lines(head + "draft,east,1,25 / draft,east,2,30"))[0].splitlines()
         self.assertEqual(cells(rows, "east"), ["2", "1", "2 not submitted"])
-        self.assertIn("! The drafts of east differ from what was submitted: the submitted list counts.", rows)
+        self.assertIn(
+            "! The drafts of east differ from what was submitted: the submitted list counts.",
+            rows,
+        )
         rows = shown(SMALL, lines(head + "drop,east,1,"))[0].splitlines()
         self.assertEqual(cells(rows, "east"), ["0", "1", "1 not submitted"])
 
@@ -223,9 +278,15 @@ class Words(unittest.TestCase):
         ):
             text, ended, fault = shown(award, log)
             with self.subTest(words=words):
-                self.assertEqual((text, ended, fault.splitlines()[0]), ("", status, f"tools/state: {words}"))
+                self.assertEqual(
+                    (text, ended, fault.splitlines()[0]),
+                    ("", status, f"tools/state: {words}"),
+                )
         award = os.path.join(EXAMPLES, "sample.award")
-        made = subprocess.run([sys.executable, os.path.join(TOOLS, "state"), award, "nothing.log"], capture_output=True)
+        made = subprocess.run(
+            [sys.executable, os.path.join(TOOLS, "state"), award, "nothing.log"],
+            capture_output=True,
+        )
         self.assertEqual((made.returncode, made.stdout), (4, b""))
         self.assertIn(b"`nothing.log` can't be read: No such file or directory.", made.stderr)
 
@@ -282,7 +343,9 @@ def on_terminal(columns, *files):
     fcntl.ioctl(follower, termios.TIOCSWINSZ, struct.pack("HHHH", 50, columns, 0, 0))
     kept = {name: text for name, text in os.environ.items() if name not in ("COLUMNS", "LINES", "NO_COLOR")}
     made = subprocess.Popen(
-        [sys.executable, os.path.join(TOOLS, "state"), *files], stdout=follower, env={**kept, "TERM": "xterm"}
+        [sys.executable, os.path.join(TOOLS, "state"), *files],
+        stdout=follower,
+        env={**kept, "TERM": "xterm"},
     )
     os.close(follower)
     text = b""

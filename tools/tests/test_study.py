@@ -1,31 +1,36 @@
 """Studies: plans, rows, and runs that are stopped, killed, and spread over workers."""
 import contextlib
 import csv
+import hashlib
 import importlib.util
 import io
 import json
 import os
 import pathlib
 import signal
+import statistics
 import subprocess
 import sys
 import tempfile
 import time
 import unittest
+import unittest.mock
 from fractions import Fraction
 
-from program import PROGRAM, with_program
-from samples import TOOLS
+from checks.cases.program import PROGRAM, with_program
+from checks.cases.samples import TOOLS
 
+import cca_tools
 from cca_tools.page import html, plain
 from cca_tools.page.document import Figures, Table
 from cca_tools.rules.award import read_award
 from cca_tools.rules.stops import Stop
-from cca_tools.studies import pictures
-from cca_tools.studies.measures import Spread, pairs_of, results_of, spread_of
+from cca_tools.studies import pictures, rows
+from cca_tools.studies.measures import Spread, pairs_of, results_of, spread_of, student, wilson
 from cca_tools.studies.pages import drawings, page_of
+from cca_tools.studies.origin import Origin
 from cca_tools.studies.plan import award_of, award_text, read_plan
-from cca_tools.studies.rows import Job, rows_of
+from cca_tools.studies.rows import Job
 from test_rehearse import ONE, VALUES
 
 PLAN = """plan = 1
@@ -37,6 +42,9 @@ seed = 5
 version = [1, 2]
 share = [100, 60]
 """
+
+
+ORIGIN = Origin("5a" * 32, "NOT PROVED: so", "1.0.0", "ab12", "c3" * 32, {"plan.toml": "d4" * 32})
 
 
 class WithPlan(unittest.TestCase):
@@ -117,6 +125,26 @@ class Measures(WithPlan):
         self.assertEqual((found.count, found.mean, found.quantiles), (5, 3.0, (1.2, 2.0, 3.0, 4.0, 4.8)))
         self.assertAlmostEqual(found.error, 0.5**0.5)
 
+    def test_one_value_has_no_standard_error(self):
+        found = spread_of([Fraction(7, 3)])
+        self.assertEqual((found.error, found.words(), found.interval_words()), (None, "2.33", "n/a"))
+
+    def test_intervals(self):
+        """Student's values are those of printed tables; Wilson's intervals those of Newcombe (1998), in his table I."""
+        for freedom, value in {1: 12.706, 2: 4.303, 3: 3.182, 4: 2.776, 9: 2.262, 29: 2.045, 120: 1.980}.items():
+            self.assertAlmostEqual(student(freedom), value, 3)
+        for some, every, low, high in ((81, 263, 0.2553, 0.3662), (15, 148, 0.0624, 0.1605), (0, 20, 0, 0.1611)):
+            found = wilson(some, every)
+            self.assertAlmostEqual(found[0], low, 4)
+            self.assertAlmostEqual(found[1], high, 4)
+
+    def test_many_values_of_real_size(self):
+        """The mean and the error of 4,000 values with as many denominators, beside those of floats."""
+        values = [Fraction(100 * (n * n % 7919), 3_000_001 + n) for n in range(4000)]
+        found = spread_of(values)
+        self.assertAlmostEqual(found.mean, statistics.fmean(map(float, values)), 9)
+        self.assertAlmostEqual(found.error, statistics.stdev(map(float, values)) / 4000**0.5, 9)
+
     def test_pairs(self):
         plan = read_plan(self.plan(PLAN.replace("share = [100, 60]", "share = [100, 80, 60]")))
         table = [{"auction": str(n % 3 + 1), "efficiency": str(n)} for n in range(18)]
@@ -150,10 +178,10 @@ class Pages(WithPlan):
     def setUp(self):
         super().setUp()
         self.results = results_of(read_plan(self.plan(PLAN.replace("share = [100, 60]", ""))), self.TABLE)
-        self.page = page_of(self.results, "name")
+        self.page = page_of(self.results, "name", ORIGIN)
 
     def test_what_was_tried(self):
-        plan, cases, differences = self.page.sections
+        plan, cases, differences, origin = self.page.sections
         self.assertEqual((plan.title, cases.title), ("What was tried", "What came out"))
         self.assertEqual(differences.title, "What differs, auction by auction")
         (figures,) = [it for it in plan.blocks if isinstance(it, Figures)]
@@ -164,14 +192,17 @@ class Pages(WithPlan):
 
     def test_measures(self):
         """In the first case the core's revenue is 50, 60 and 70 percent: its mean is 60, its variance 100, and the
-        standard error the root of 100/3; the others likewise."""
+        standard error the root of 100/3; the others likewise. Wilson's interval of 2 of 3 is 20.77 to 93.85 (as
+        scipy and R's prop.test without correction have it)."""
         (table,) = [it for it in self.page.sections[1].blocks if isinstance(it, Table)]
-        first = "90.00 ± 5.77", "60.00 ± 5.77", "50.00 ± 0.00", "80.00 ± 5.77", "66.67 ± 33.33", "5.00 ± 1.53"
-        second = "100.00 ± 0.00", "60.00 ± 10.00", "50.00 ± 0.00", "80.00 ± 0.00", "100.00 ± 0.00", "2.00 ± 0.00"
+        two, both = "66.67 (20.77 to 93.85)", "100.00 (34.24 to 100.00)"
+        first = "3", "90.00 ± 5.77", "60.00 ± 5.77", "50.00 ± 0.00", "80.00 ± 5.77", two, "5.00 ± 1.53"
+        second = "2", "100.00 ± 0.00", "60.00 ± 10.00", "50.00 ± 0.00", "80.00 ± 0.00", both, "2.00 ± 0.00"
         self.assertEqual(table.rows, [["version 1", *first, "1.00 ± 1.00"], ["version 2", *second, "0.00 ± 0.00"]])
 
     def test_differences(self):
-        """The first two auctions alone have both: revenue 20 more and 10 less, profit 30 less and as much."""
+        """The first two auctions alone have both. In percent of the first case's best value, 100, revenue is 90 and 40
+        more, and profit 20 less and 30 more."""
         rules, pair = drawings(self.results)
         self.assertEqual((rules.key, pair.title), ("rules", "version 2 against 1"))
         found = {name: (spread.count, spread.mean, spread.error) for name, spread, _ in pair.flat}
@@ -179,9 +210,9 @@ class Pages(WithPlan):
             found,
             {
                 "efficiency": (2, 5.0, 5.0),
-                "revenue": (2, 5.0, 15.0),
-                "profit of all": (2, -15.0, 15.0),
-                "profit of east": (2, -15.0, 15.0),
+                "revenue": (2, 65.0, 25.0),
+                "profit of all": (2, 5.0, 25.0),
+                "profit of east": (2, 5.0, 25.0),
                 "profit of west": (2, 0.0, 0.0),
             },
         )
@@ -199,7 +230,7 @@ class Pages(WithPlan):
 
     def test_without_a_row(self):
         every = [{"auction": str(n % 3 + 1), "stopped": "limit winners 7"} for n in range(6)]
-        (plan,) = page_of(results_of(self.results.plan, every), "name").sections
+        plan, _ = page_of(results_of(self.results.plan, every), "name", ORIGIN).sections
         self.assertEqual(plan.title, "What was tried")
         self.assertEqual(list(drawings(results_of(self.results.plan, every))), [])
 
@@ -244,11 +275,79 @@ class Runs(WithPlan):
         self.run_study("again", text=PLAN.replace("auctions = 3", "auctions = 2"))
         _, said = self.run_study("again", text=PLAN.replace("seed = 5", "seed = 6"), status=5)
         self.assertIn("has rows of another plan", said)
+        rows = whole.splitlines(keepends=True)
+        (self.folder / "again" / "rows.jsonl").write_bytes(b"".join([*rows[:3], b"\0\0" + rows[3][9:], *rows[4:]]))
+        _, said = self.run_study("again")
+        self.assertIn(
+            "1 of the lines of rows.jsonl can't be read; their auctions are held again", said.replace("\n", " ")
+        )
+        self.assertEqual(self.table("again"), self.table("whole"))
         page = (self.folder / "whole" / "page.html").read_text()
         pictures = {path.name: path.read_text() for path in (self.folder / "whole").glob("*.svg")}
         self.assertEqual(sorted(pictures), ["pair1.svg", "pair2.svg", "pair3.svg", "pair4.svg", "rules.svg"])
         self.assertEqual((page.count("<svg"), page.count("share 60 against 100")), (5, 6))
         self.assertIn("version 2 against 1", pictures["pair2.svg"])
+
+    def test_what_made_it(self):
+        """Rows, table and page name the program by the checksum of its file, and another one doesn't go on."""
+        self.run_study("made", "--processes", "1")
+        total = hashlib.sha256(pathlib.Path(PROGRAM).read_bytes()).hexdigest()
+        head = json.loads((self.folder / "made" / "rows.jsonl").read_text().splitlines()[0])
+        self.assertEqual((head["program"], head["tools"]), (total, cca_tools.__version__))
+        rows = list(csv.DictReader(io.StringIO(self.table("made"))))
+        plan = read_plan(self.plan())
+        self.assertEqual({(row["program"], row["plan"]) for row in rows}, {(total, plan.sum())})
+        page = (self.folder / "made" / "page.html").read_text()
+        for name in ("a.award", "v.values", "p.toml"):
+            text = (self.folder / name).read_bytes()
+            copy = self.folder / "made" / "inputs" / ("plan.toml" if name == "p.toml" else name)
+            self.assertEqual(copy.read_bytes(), text)
+            self.assertIn(hashlib.sha256(text).hexdigest(), page)
+        self.assertEqual(read_plan(str(self.folder / "made" / "inputs" / "plan.toml")).sum(), plan.sum())
+        self.assertIn(total, page)
+        other = self.folder / "other"
+        other.write_bytes(pathlib.Path(PROGRAM).read_bytes() + b"\n")
+        other.chmod(0o755)
+        with unittest.mock.patch.dict(os.environ, CCA_PROGRAM=str(other)):
+            _, said = self.run_study("made", status=5)
+            self.assertIn("has rows of another program;", " ".join(said.split()))
+
+    def test_a_price_above_the_bid_stops_the_study(self):
+        """A program between that puts a 9 before each price."""
+        other = self.folder / "other"
+        other.write_text(f"#!/bin/sh\n{os.path.abspath(PROGRAM)} \"$@\" | sed 's/ pays / pays 9/'\n")
+        other.chmod(0o755)
+        plan = read_plan(self.plan())
+        rows.audited.add(hashlib.sha256(other.read_bytes()).hexdigest())
+        with unittest.mock.patch.dict(os.environ, CCA_PROGRAM=str(other)):
+            (made,) = rows.rows_of(plan, [Job(0, 2)], None)
+        self.assertEqual(made.stop[:2], ("cca: audit", 70))
+        self.assertIn("which aren't in this order", made.stop[2])
+
+    def test_two_runs_of_one_folder(self):
+        text = PLAN.replace("auctions = 3", "auctions = 4000")
+        with subprocess.Popen(
+            self.words("two", text=text), stderr=subprocess.DEVNULL, stdout=subprocess.DEVNULL
+        ) as made:
+            end = time.monotonic() + 120
+            while self.kept("two") < 3 and time.monotonic() < end:
+                time.sleep(0.02)
+            _, said = self.run_study("two", text=text, status=5)
+            made.kill()
+        self.assertIn("Another run works on", said)
+
+    def test_no_worker_outlives_its_study(self):
+        """Killed in each way, the study takes its processes with it: the pipe that they have is closed."""
+        text = PLAN.replace("auctions = 3", "auctions = 4000")
+        for number in (signal.SIGTERM, signal.SIGKILL):
+            words = self.words(f"ended{number}", "--processes", "2", text=text)
+            with subprocess.Popen(words, stderr=subprocess.DEVNULL, stdout=subprocess.PIPE) as made:
+                end = time.monotonic() + 120
+                while self.kept(f"ended{number}") < 3 and time.monotonic() < end:
+                    time.sleep(0.02)
+                made.send_signal(number)
+                made.communicate(timeout=60)
+            self.assertEqual(made.returncode, -number)
 
     def test_a_study_that_is_killed_goes_on(self):
         text = PLAN.replace("auctions = 3", "auctions = 15")
@@ -267,19 +366,30 @@ class Runs(WithPlan):
 
     def test_the_first_of_each_hundred_is_audited(self):
         plan = read_plan(self.plan())
-        made = rows_of(plan, [Job(0, number) for number in (1, 2, 100, 101, 201)], None)
+        made = rows.rows_of(plan, [Job(0, number) for number in (1, 2, 100, 101, 201)], None)
         self.assertEqual([it.row.get("audit") for it in made], ["yes", "", "", "yes", "yes"])
 
-    def test_a_limit_is_a_row(self):
-        many = b"".join(b'[[bidder]]\nname = "c%d"\neligibility = 9\n' % n for n in range(6))
+    def study_of_single_lots(self, name, lots):
+        """The table of auctions in which as many bidders as lots win one each, and no further lot is worth as much."""
+        many = b"".join(b'[[bidder]]\nname = "c%d"\neligibility = 9\n' % n for n in range(lots - 1))
         (self.folder / "a.award").write_bytes(
-            ONE.replace(b"supply = 2", b"supply = 7").replace(b"[[step]]", many + b"[[step]]")
+            ONE.replace(b"supply = 2", b"supply = %d" % lots).replace(b"[[step]]", many + b"[[step]]")
         )
         values = b'values = 1\n[[bidder]]\nmodel = "additive"\nlot = [[90, 99], 0]\ndecrease = 90\n'
         (self.folder / "v.values").write_bytes(values)
-        self.run_study("limit", text=PLAN.replace("auctions = 3", "auctions = 1"))
-        rows = list(csv.DictReader(io.StringIO(self.table("limit"))))
-        self.assertEqual({(row["stopped"], row["core"]) for row in rows}, {("limit winners 7", "")})
+        self.run_study(name, text=PLAN.replace("auctions = 3", "auctions = 1"))
+        return list(csv.DictReader(io.StringIO(self.table(name))))
+
+    def test_more_winners_than_the_program_prices(self):
+        rows = self.study_of_single_lots("seven", 7)
+        self.assertEqual(
+            {(row["stopped"], row["winners"], row["found_by"]) for row in rows}, {("", "7", "tools/price")}
+        )
+        self.assertTrue(all(float(row["vickrey"]) <= float(row["core"]) <= float(row["bids"]) for row in rows))
+
+    def test_a_limit_is_a_row(self):
+        rows = self.study_of_single_lots("limit", 11)
+        self.assertEqual({(row["stopped"], row["core"]) for row in rows}, {("limit rows 11", "")})
 
     @unittest.skipUnless(importlib.util.find_spec("distributed"), "the package python3-distributed isn't installed")
     def test_workers_of_dask_one_of_them_killed(self):

@@ -5,8 +5,8 @@ import random
 import unittest
 import unittest.mock
 
-from drawn import drawn
-from samples import certificate_of, lines, said, sample, taking
+from checks.cases.drawn import drawn
+from checks.cases.samples import certificate_of, lines, said, sample, taking
 from test_state import SMALL, TIE
 from cca_tools.rules.auction import replay
 from cca_tools.rules.award import read_award

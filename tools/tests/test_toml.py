@@ -2,7 +2,7 @@
 reads."""
 import datetime
 import unittest
-from samples import sample
+from checks.cases.samples import sample
 from cca_tools.rules.toml import Moment, NoToml, read_toml
 
 try:

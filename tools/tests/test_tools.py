@@ -14,7 +14,7 @@ import time
 import unittest
 import unittest.mock
 
-from samples import EXAMPLES, TOOLS, called, lines, sample
+from checks.cases.samples import EXAMPLES, TOOLS, called, lines, sample
 
 from cca_tools import command_line, terminal
 from cca_tools.__main__ import COMMANDS, main as main_of_all
@@ -248,10 +248,12 @@ class Words(WithFiles):
     def test_all(self):
         self.assertEqual(sorted(RIGHT), [name for name in COMMANDS if name in RIGHT])
         for words, named in ((["cap"], "did you mean caps?"), ([], "usage: "), (["--help"], "usage: ")):
-            with contextlib.redirect_stderr(io.StringIO()) as said, contextlib.redirect_stdout(io.StringIO()) as out:
-                status = main_of_all(words)
+            with tempfile.TemporaryFile("w+") as file:
+                with contextlib.redirect_stderr(file), contextlib.redirect_stdout(file):
+                    status = main_of_all(words)
+                file.seek(0)
+                self.assertIn(named, file.read())
             self.assertEqual(status, 0 if words == ["--help"] else 2)
-            self.assertIn(named, said.getvalue() + out.getvalue())
 
 
 class Files(WithFiles):

@@ -2,7 +2,7 @@
 import math
 import unittest
 
-from samples import sample
+from checks.cases.samples import sample
 
 from cca_tools.rules.award import read_award
 from cca_tools.rules.stops import Stop

@@ -5,8 +5,8 @@ import re
 import unittest
 import unittest.mock
 
-from drawn import drawn
-from samples import said, sample, taking
+from checks.cases.drawn import drawn
+from checks.cases.samples import said, sample, taking
 from cca_tools.commands.what_if import admission, least_amount, least_to_draft, with_bid
 from cca_tools.rules.auction import replay
 from cca_tools.rules.award import read_award
@@ -181,7 +181,7 @@ class Advice(unittest.TestCase):
         self.assertTrue(all(count > 5 for count in self.seen.values()), self.seen)
 
     def test_the_sample(self):
-        """As docs/GUIDE.md has it, 700001 is above the cap, and what raises that wins in its place."""
+        """As docs/BIDDER.md has it, 700001 is above the cap, and what raises that wins in its place."""
         self.check(sample("spectrum.award"), sample("spectrum.log"), 1, (2, 0, 4, 0))
         self.assertEqual([self.seen[kind] for kind in ("refused", "mended", "instead")], [1, 1, 1])
 

@@ -1,7 +1,7 @@
-"""tools/why: the prices of the samples as docs/GUIDE.md explains them, and prices whose multipliers have both signs."""
+"""tools/why: the prices of the samples as docs/BIDDER.md explains them, and prices by multipliers of both signs."""
 import unittest
 from fractions import Fraction
-from samples import book_of, certificate_of, lines, said, sample, six_bidders, spectrum, taking
+from checks.cases.samples import book_of, certificate_of, lines, said, sample, six_bidders, spectrum, taking
 from cca_tools.rules.book import read_book
 from cca_tools.rules.certificate import read_certificate
 from cca_tools.rules.why import LEGEND, Reasons, offer_of, vickrey_offer, why_lines

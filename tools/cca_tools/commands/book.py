@@ -9,9 +9,13 @@ the columns are in this order:
     bidder,lots800,lots2600,amount          North Tel;1 4;48,000.50
     North Tel,1,4,"48,000.50"
 
-JSON is {"supply": [4, 14], "reserve": [10, 2], "bids": [{"bidder": "north", "package": [1, 4], "amount": 48000.5}]}.
-What is sold comes from --supply, from --award, or from the JSON. A file that is a book already is read as it is, and
---as csv or --as json prints it in the other forms.
+With --award the columns of counts have the names of its categories, or are called c1, c2 and so on; otherwise they are
+in the order of --supply. An amount such as 48.000 may be 48 or 48000: other amounts of the table decide, or --decimal.
+
+JSON is {"supply": [4, 14], "reserve": [10, 2], "bids": [{"bidder": "north", "package": [1, 4], "amount": 48000.5}]},
+or a list of records with the keys of a table's heads, as pandas and R write frames. What is sold comes from --supply,
+from --award, or from the JSON. A file that is a book already is read as it is, and --as csv or --as json prints it in
+the other forms.
 
 Statuses are those of `cca`; 3 where a row states no bid, with the row. What it doesn't test: that a bid above its
 bidder's means was meant. Bidders are in the order in which they come first, and that order decides ties.
@@ -24,8 +28,10 @@ from collections.abc import Sequence
 from decimal import Decimal
 
 from cca_tools.command_line import Parser, run_command, say
-from cca_tools.data.bids import Made, Sold, csv_text, json_text, read_bids
-from cca_tools.data.numbers import amount_of
+from cca_tools.data.bids import Made, csv_text, json_text, read_bids
+from cca_tools.data.jsons import is_json
+from cca_tools.data.numbers import MARKS, PLAIN
+from cca_tools.data.raw import MOST_DIGITS, Sold
 from cca_tools.rules.award import read_award
 from cca_tools.rules.book import book_text, read_book
 from cca_tools.rules.stops import load
@@ -40,17 +46,18 @@ def parser() -> Parser:
     words.add_argument("--supply", metavar="COUNTS", help='the lots of each category, as "4 1 14 9"')
     words.add_argument("--reserve", metavar="AMOUNTS", help="the reserve of a lot of each category; 0 where not given")
     words.add_argument("--award", metavar="AWARD", help="an award, instead of --supply and --reserve")
-    words.add_argument("--decimal", choices=[".", ","], default=".", help="the decimal mark of amounts")
+    about = "the decimal mark of a table's amounts; where it isn't given, the amounts decide it"
+    words.add_argument("--decimal", choices=MARKS, help=about)
     words.add_argument("--as", dest="form", choices=sorted(TEXTS), default="book", help="what is printed")
     return words
 
 
 def numbers_of(text: str, option: str) -> list[Decimal]:
     """The numbers of an option."""
-    found = [amount_of(part) for part in text.replace(",", " ").split()]
-    if not found or None in found:
-        parser().error(f"{option} takes numbers with spaces between them, and `{text}` isn't that")
-    return [number for number in found if number is not None]
+    parts = text.split()
+    if not parts or not all(map(PLAIN.fullmatch, parts)):
+        parser().error(f"{option} takes numbers such as 48000.50 with spaces between them, and `{text}` isn't that")
+    return list(map(Decimal, parts))
 
 
 def sold_of(options: argparse.Namespace) -> Sold | None:
@@ -64,10 +71,12 @@ def sold_of(options: argparse.Namespace) -> Sold | None:
             parser().error("--reserve needs --supply")
         return None
     supply = numbers_of(options.supply, "--supply")
+    if any(count >= 10**MOST_DIGITS for count in supply):
+        parser().error(f"--supply takes counts of at most {MOST_DIGITS} digits")
     if any(count != int(count) for count in supply):
         parser().error(f"--supply takes whole numbers, and `{options.supply}` isn't that")
-    reserves = numbers_of(options.reserve, "--reserve") if options.reserve else [Decimal(0)] * len(supply)
-    if len(reserves) != len(supply):
+    reserves = numbers_of(options.reserve, "--reserve") if options.reserve else []
+    if reserves and len(reserves) != len(supply):
         parser().error(f"--supply has {len(supply)} numbers, and --reserve {len(reserves)}")
     return Sold(tuple(map(int, supply)), tuple(reserves))
 
@@ -77,7 +86,7 @@ def made_of(options: argparse.Namespace) -> Made:
     data, sold = load(options.file, "bids"), sold_of(options)
     if data.startswith(b"book "):
         return Made(read_book(data), 1)
-    if sold is None and not data.lstrip(b"\xef\xbb\xbf \t\r\n").startswith(b"{"):
+    if sold is None and not is_json(data):
         parser().error('a table doesn\'t say what is sold: give --supply, as --supply "4 1 14 9", or --award')
     return read_bids(data, sold, options.decimal)
 

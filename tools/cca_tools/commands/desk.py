@@ -3,9 +3,15 @@ and a key; nobody enters without the key, which is new at each start.
 
 A line is shown with both programs' reply before it is written. It is written once, whole, and synced to the disk before
 anybody reads its reply. A close says what it does, and asks for the number of the open round, or for the words `end the
-clock` or `end the auction`. Beside LOG are its journal (LOG.desk: when each line came in and what was replied), the key
-of the seals (LOG.key) and each longer log that was cut (LOG.cut-N). Once the auction is closed the desk awards, has
-both programs audit, makes the report (LOG.html, LOG.txt) and the set that is published (LOG.set).
+clock` or `end the auction`. Next to LOG are its journal (LOG.desk: when each line came in and what was replied;
+tools/journal prints it), the key of the seals (LOG.key), the posted lines (LOG.posted: a sealed line for each close and
+each round that is held again; tools/seal tests it) and each longer log that was cut (LOG.cut-N).
+
+Once the auction is closed the desk awards, has both programs audit, makes the report (LOG.html, LOG.txt) and the set
+that is published (LOG.set).
+
+With --second a close and a round that is held again wait until a second person, who enters by the second key in a
+browser of its own, has seen and approved them; the journal has both names.
 
 The room's screen, /posted, needs no key; show it in a browser of its own. For the desk take a browser profile without
 extensions. Nobody else writes LOG while the desk is open.
@@ -24,6 +30,7 @@ import argparse
 import importlib.util
 import logging
 import os
+import resource
 import socket
 import sys
 from collections.abc import Sequence
@@ -31,12 +38,14 @@ from pathlib import Path
 
 from cca_tools.command_line import Parser, run_command, say
 from cca_tools.rules.names import read_names
+from cca_tools.rules.pricing import winners_warning
 from cca_tools.rules.program import program
 from cca_tools.rules.stops import CRASH, WRITE_FAULT, Stop
 from cca_tools.rules.words import NUMBER
 from cca_tools.terminal import progress
 
 HOST = "127.0.0.1"
+THREADS, CONNECTIONS, IDLE_SECONDS = 6, 1000, 15
 PACKAGES = {"flask": "python3-flask", "waitress": "python3-waitress"}
 NO_PROGRAM = (
     "the desk answers each line by both programs, and the program isn't built here. Build it once with ./cca, or say"
@@ -51,9 +60,12 @@ def parser() -> Parser:
     words.add_file("LOG", "its log; it is made where it isn't there")
     words.add_argument("--names", metavar="FILE", help="a file of names for people; tools/state --help has its form")
     words.add_argument(
-        "--copies", metavar="FOLDER", help="copy log, journal and key there after each close; name another disk"
+        "--copies", metavar="FOLDER", help="copy log, journal and key there after each write; name another disk"
     )
-    words.add_argument("--port", metavar="N", default="0", help="listen on this port; without it, on a drawn one")
+    words.add_argument("--port", metavar="N", default="0", help="listen on this port; without it, on one of this log")
+    words.add_argument(
+        "--second", action="store_true", help="a second person approves closes and cuts, by a key of his own"
+    )
     words.add_argument("--demand", action="store_true", help="show the demand of closed rounds on the room's screen")
     words.add_argument("--feed", metavar="FILE", help="take lines that `tools/rehearse --desk` writes there")
     return words
@@ -95,6 +107,16 @@ def listener_on(port: int) -> socket.socket:
     return made
 
 
+def usual_listener(port: int) -> socket.socket:
+    """A socket on the port that a log has at each start, so that the room's screen goes on after a restart; on a drawn
+    one if another program has it."""
+    try:
+        return listener_on(port)
+    except Stop:
+        say(f"! Another program has port {port}, so the room's screen has a new address.", "red")
+        return listener_on(0)
+
+
 def path_of(text: str | None) -> Path | None:
     """The path of an option, or None without it."""
     return Path(text) if text else None
@@ -117,7 +139,7 @@ def served(options: argparse.Namespace, path: Path, port: int) -> str:
     from cca_tools.desk.answers import NoProgram
     from cca_tools.desk.control import Desk, Files
     from cca_tools.desk.ending import Ending
-    from cca_tools.desk.guard import Guard, in_groups
+    from cca_tools.desk.guard import Guard, in_groups, new_key
     from cca_tools.desk.logfile import Refused, Unsure, warnings_of
     from cca_tools.desk.web import make_app
 
@@ -127,26 +149,49 @@ def served(options: argparse.Namespace, path: Path, port: int) -> str:
         names = read_names(options.names, files.answers.award)
         made = Desk(files, log, names=names, copies=copies, feed=feed)
     except (Refused, Unsure, NoProgram) as fault:
-        raise Stop("cca: stopped", WRITE_FAULT, why=str(fault).rstrip(".")) from None
+        raise Stop("cca: stopped", WRITE_FAULT, why=f"the desk can't begin: {str(fault).rstrip('.')}") from None
+    if made.mark.is_proved:
+        say(f"The program: {made.mark.text}.")
+    else:
+        say(f"! {made.mark.text}. Run no auction with it: the journal and the published set say so.", "red")
     for warning in warnings_of(log, copies):
         say(f"! {warning}", "red")
-    listener = listener_on(port)
-    guard = Guard(listener.getsockname()[1])
+    for warning in winners_warning(made.award):
+        say(f"! {warning}", "red")
+    if made.log.is_shared():
+        say("! Another desk has this log open. Nothing is lost by that, but end one of them.", "red")
+    listener = listener_on(port) if port else usual_listener(made.log.usual_port())
+    guard = Guard(listener.getsockname()[1], second_key=new_key() if options.second else "")
     app = make_app(made, guard, Ending(made, path_of(options.names)), options.demand)
-    print(f"desk  {guard.origin}/\nkey   {in_groups(guard.key)}\nroom  {guard.origin}/posted", flush=True)
+    second = f"second  {in_groups(guard.second_key)}\n" if options.second else ""
+    print(f"desk  {guard.origin}/\nkey   {in_groups(guard.key)}\n{second}room  {guard.origin}/posted", flush=True)
     serve(app, listener)
     return "The desk is closed."
 
 
 def serve(app: object, listener: socket.socket) -> None:
-    """Serves pages by one thread until Ctrl-C."""
+    """Serves pages until Ctrl-C. The desk itself does one thing at a time; the room's screen never waits for it, and
+    idle connections are soon closed."""
     import waitress
 
     from cca_tools.desk.guard import MOST_BYTES
 
     progress.step("")  # (it waits for requests, and says nothing of that)
     logging.getLogger("waitress.queue").setLevel(logging.ERROR)  # (with one thread it warns of each second request)
-    waitress.serve(app, sockets=[listener], threads=1, ident=None, max_request_body_size=2 * MOST_BYTES, _quiet=True)
+    soft, hard = resource.getrlimit(resource.RLIMIT_NOFILE)
+    resource.setrlimit(resource.RLIMIT_NOFILE, (min(hard, max(soft, 4 * CONNECTIONS)), hard))
+    waitress.serve(
+        app,
+        sockets=[listener],
+        threads=THREADS,
+        ident=None,
+        max_request_body_size=2 * MOST_BYTES,
+        connection_limit=CONNECTIONS,
+        channel_timeout=IDLE_SECONDS,
+        cleanup_interval=5,
+        asyncore_use_poll=True,
+        _quiet=True,
+    )
 
 
 def main(argv: Sequence[str]) -> int:

@@ -17,13 +17,12 @@ The names for people are a file of TOML, which no rule reads. Each key may be le
     [bidder.aurora]
     name = "Aurora Telecom plc"
 
-Look before each close: nothing takes one back. Lines that begin with ! are warnings. Statuses are those of `cca`.
+Look before each close. Lines that begin with ! are warnings. Statuses are those of `cca`.
 """
 
 from __future__ import annotations
 
 import argparse
-import os
 import sys
 from collections.abc import Iterator, Sequence
 from typing import TypeAlias
@@ -43,9 +42,9 @@ from cca_tools.rules.state import (
     close_effect,
     list_states,
 )
-from cca_tools.rules.stops import load
+from cca_tools.rules.stops import MOST, load
 from cca_tools.rules.ties import tie_sentences, ties_of
-from cca_tools.terminal import NARROWEST, Colour, progress, width
+from cca_tools.terminal import Colour, given_width, progress, width
 
 Cells: TypeAlias = list[str]
 GAP = "  "
@@ -67,8 +66,7 @@ def parser() -> Parser:
 
 def columns() -> int:
     """How wide the screen is. `watch` gives it in COLUMNS, and standard output is no terminal there."""
-    given = os.environ.get("COLUMNS", "")
-    return max(NARROWEST, int(given)) if given.isdecimal() else width(sys.stdout)
+    return given_width() or width(sys.stdout)
 
 
 def amount(value: int) -> str:
@@ -181,7 +179,10 @@ def closed_words(auction: Auction) -> Iterator[str]:
     yield f"The book has {sum(bids)} bids of {sum(map(bool, bids))} bidders."
     book = auction.book()
     progress.step("looking for ties")
-    yield from (f"! {sentence}" for sentence in tie_sentences(book, ties_of(book)))
+    ties = ties_of(book)
+    yield from (f"! {sentence}" for sentence in tie_sentences(book, ties))
+    if (winners := sum(map(bool, ties.winners))) > MOST["winners"]:
+        yield f"{winners} bidders win. `cca award` prices at most {MOST['winners']}: use `tools/price AWARD LOG CERT`."
 
 
 def names_lines(auction: Auction, names: LongNames) -> Iterator[str]:
@@ -192,10 +193,13 @@ def names_lines(auction: Auction, names: LongNames) -> Iterator[str]:
         named = [names.categories[category.name]] if category.name in names.categories else []
         if named or mhz:
             lots.append(f"{category.name}: {', '.join([*named, *mhz])}")
-    bidders = [f"{name}: {names.bidders[name]}" for name in auction.award.names if name in names.bidders]
     if names.amounts():
         yield f"Amounts are in {names.amounts()}."
-    yield from ("; ".join(found) for found in (lots, bidders) if found)
+    if lots:
+        yield "; ".join(lots)
+    bidders = [name for name in auction.award.names if name in names.bidders]
+    width = max(map(len, bidders), default=0) + 1
+    yield from (f"{f'{name}:':<{width}} {names.bidders[name]}" for name in bidders)
 
 
 def head(auction: Auction) -> str:

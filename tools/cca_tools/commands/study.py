@@ -15,14 +15,16 @@ with pictures. The plan is TOML; its files are looked up from its folder:
 
 Each choice of what varies is a case. An auction of the same number has the same values in all cases, so differences
 between cases are taken auction by auction. An auction can be held again alone, with the seed of its row, by
-tools/rehearse --fit. The folder of --out (the plan's name without its end) gets `table.csv`, `page.html`, its pictures
-and `rows.jsonl`. A study that was stopped goes on where it was when it is run
-again, also with more auctions.
+tools/rehearse --fit. The folder of --out (the plan's name without its end) gets `table.csv`, `page.html`, its pictures,
+`rows.jsonl`, and in `inputs` the plan and its files. Table, page and rows name the program by its SHA-256, the version
+and commit of the tools, and the plan. A study that was stopped goes on if it is run again, also with more auctions, by
+the same program, tools and plan. A price below the Vickrey price or above the bid stops the study.
 
 In `table.csv` money is gross and in the award's unit. `value` is what all lots are worth where they end, and `best`
 what they could be worth, both by true values, with unsold lots at their reserve; `efficiency` is the one over the
 other. `core`, `vickrey` and `bids` are what the winners pay by each rule for the same bids, `raised` is whether the
-core raised a price above Vickrey's, and a bidder's `profit` is its value less its price. Of every hundredth auction,
+core raised a price above Vickrey's, a bidder's `profit` is its value less its price, and its `regret` its price less
+its Vickrey price, the most that it gains if it alone bids otherwise (Day and Milgrom 2008). Of every hundredth auction,
 the first one too, the certificate is tested by the rules of tools/audit (`audit`); one that fails stops the study. An
 auction beyond a limit of the program has that in `stopped`, and no prices.
 
@@ -40,17 +42,19 @@ import sys
 import time
 from collections.abc import Sequence
 
-from cca_tools.command_line import Parser, run_command
-from cca_tools.data.prices import need_program
+from cca_tools.command_line import Parser, run_command, say
+from cca_tools.data.numbers import MARKS
 from cca_tools.rules.stops import CRASH, Stop
-from cca_tools.studies.measures import results_of
 from cca_tools.page import html
+from cca_tools.studies.measures import results_of
+from cca_tools.studies.origin import origin_of
 from cca_tools.studies.pages import drawings, page_of, summary
 from cca_tools.studies.plan import read_plan
 from cca_tools.studies.runners import here, on_dask
 from cca_tools.studies.store import PAGE, TABLE, Store, table_text
 from cca_tools.terminal import is_terminal
 
+MOST_PROCESSES = 1000
 STEPS = 10  # so often it is said how far a study is where standard error is no terminal
 
 
@@ -60,7 +64,21 @@ def parser() -> Parser:
     words.add_file("PLAN", "what is tried")
     words.add_argument("--out", metavar="FOLDER", help="where the results are written")
     words.add_argument("--scheduler", metavar="ADDRESS", help="a scheduler of Dask, whose workers hold the auctions")
+    words.add_argument("--processes", metavar="N", help="hold the auctions in N processes (one for each processor)")
+    words.add_argument("--decimal", choices=MARKS, default=".", help="the decimal mark of the table")
     return words
+
+
+def processes_of(options: argparse.Namespace) -> int | None:
+    """The number of processes that the words state, or None."""
+    text: str | None = options.processes
+    if text is None:
+        return None
+    if options.scheduler:
+        parser().error("--processes is for this machine, and --scheduler for the workers of Dask")
+    if not (text.isascii() and text.isdigit() and 1 <= int(text) <= MOST_PROCESSES):
+        parser().error(f"--processes takes a whole number from 1 to {MOST_PROCESSES}, and `{text}` isn't that")
+    return int(text)
 
 
 def time_text(seconds: float) -> str:
@@ -85,21 +103,22 @@ class Count:
             print(f"\r{text}\x1b[K", end="\n" if self.done == self.every else "", file=sys.stderr, flush=True)
         elif self.done * STEPS // self.every > self.said:
             self.said = self.done * STEPS // self.every
-            print(text, file=sys.stderr, flush=True)
+            say(text)
 
 
-def fill(store: Store, scheduler: str | None) -> None:
+def fill(store: Store, scheduler: str | None, processes: int | None) -> None:
     """Holds the auctions of which there is no row yet."""
     jobs = store.left()
     if not jobs:
         return
     every = len(store.plan.cases) * store.plan.auctions
     counted = Count(every - len(jobs), every)
-    for done in on_dask(store.plan, jobs, scheduler) if scheduler else here(store.plan, jobs):
+    total = store.origin.program
+    for done in on_dask(store.plan, jobs, scheduler, total) if scheduler else here(store.plan, jobs, processes):
         if done.stop:
             line, status, why = done.stop
             raise Stop(line, status, why=f"auction {done.job.number} of case {done.job.case + 1}: {why}")
-        store.keep(done.job, done.row)
+        store.keep(done)
         counted.one_more()
 
 
@@ -107,15 +126,14 @@ def study(options: argparse.Namespace) -> str:
     """The results in words; the table and the page are files."""
     plan = read_plan(options.plan)
     title = os.path.splitext(os.path.basename(options.plan))[0]
-    need_program()
-    store = Store(options.out or title, plan)
+    store = Store(options.out or title, plan, origin_of(plan))
     try:
-        fill(store, options.scheduler)
+        fill(store, options.scheduler, processes_of(options))
     except KeyboardInterrupt:
         raise Stop("cca: stopped", CRASH, why=f"{len(store.rows)} auctions are kept; run it again to go on") from None
     results = results_of(plan, store.table())
-    written = [store.write(TABLE, table_text(store))]
-    written.append(store.write(PAGE, html.page(page_of(results, title))))
+    written = [store.write(TABLE, table_text(store, options.decimal))]
+    written.append(store.write(PAGE, html.page(page_of(results, title, store.origin))))
     written += [store.write(f"{it.key}.svg", it.text(is_file=True)) for it in drawings(results)]
     return "\n".join([*summary(results), *(f"written: {name}" for name in written)])
 

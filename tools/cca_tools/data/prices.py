@@ -1,22 +1,32 @@
-"""The prices of a book as the program finds them, with exact fractions, for Python and as tables."""
+"""The prices of a book, with exact fractions, for Python and as tables.
+
+The program finds them. If more bidders win than it prices, `pricing` finds them, and the program tests them.
+"""
 
 from __future__ import annotations
 
 import csv
 import io
 import json
+import re
 import subprocess
-from collections.abc import Iterable, Iterator, Sequence
+import tempfile
+from collections.abc import Iterable, Iterator, Mapping, Sequence
 from dataclasses import dataclass
 from fractions import Fraction
+from pathlib import Path
 from typing import Any
 
-from cca_tools.data.numbers import decimal, exact, fraction_of
-from cca_tools.rules.book import Book, book_text
+from cca_tools.data.numbers import Mark, decimal, exact, fraction_of
+from cca_tools.pricing.judges import Asked
+from cca_tools.pricing.making import make_certificate
+from cca_tools.rules.book import Book, book_text, read_book
 from cca_tools.rules.program import program
-from cca_tools.rules.stops import CRASH, DONE, LIMIT, Stop
+from cca_tools.rules.stops import CRASH, DONE, LIMIT, Stop, refused
 from cca_tools.rules.types import Amount, Package
+from cca_tools.rules.weights import read_weights
 
+BY_PROGRAM, BY_TOOL = "cca", "tools/price"
 NO_PROGRAM = "prices are found by the program; build it with ./cca, or say where it is with CCA_PROGRAM=PATH"
 
 
@@ -30,6 +40,12 @@ class Price:
     bid: Amount = 0
     vickrey: Amount = 0
     pays: Fraction = Fraction(0)
+
+    @property
+    def regret(self) -> Fraction:
+        """The price less the Vickrey price: the most that the winner gains if it alone bids otherwise (Day and Milgrom
+        2008)."""
+        return self.pays - self.vickrey
 
     @property
     def bid_net(self) -> Amount:
@@ -53,6 +69,7 @@ class Prices:
 
     rows: tuple[Price, ...]
     net: Amount  # the value of the winning choice, net of reserves
+    found_by: str = BY_PROGRAM
 
     @property
     def winners(self) -> tuple[Price, ...]:
@@ -95,18 +112,68 @@ def stop_of(lines: Sequence[str], status: int, said: str) -> Stop:
     )
 
 
-def price(book: Book) -> Prices:
-    """The winners of a book and their prices. A `Stop` if there is no program, or where it finds none, as for seven
-    winners (`cca: limit winners 7`)."""
-    words = [need_program(), "price", "/dev/stdin", "/dev/null"]
-    run = subprocess.run(words, input=book_text(book), capture_output=True)
+def price(book: Book, *, weights: Mapping[str, int] | None = None, program: str | None = None) -> Prices:
+    """The winners of a book and their prices, by the program at this path, or by the one that `need_program` finds.
+
+    With weights (1 to 20, and 1 for a bidder that has none) a price is as much above the Vickrey price as they say. A
+    `Stop` says in words what is wrong with the book; or that there is no program, or that no prices are found, as if
+    they need more than ten rows (`cca: limit rows 11`)."""
+    read_book(book_text(book))
+    path = program or need_program()
+    if weights is None:
+        try:
+            return prices_of(book.names, book.reserves, lines_of([path, "price", "/dev/stdin", "/dev/null"], book))
+        except Stop as stop:
+            if not is_beyond(stop):
+                raise
+            return price_beyond(book)
+    text = weights_text(book, weights)
+    with tempfile.NamedTemporaryFile() as file:
+        file.write(text)
+        file.flush()
+        words = [path, "weigh", "/dev/stdin", file.name, "/dev/null"]
+        return prices_of(book.names, book.reserves, lines_of(words, book))
+
+
+def weights_text(book: Book, weights: Mapping[str, int]) -> bytes:
+    """The file of weights. A `Stop` if one is of no bidder of the book, or isn't a weight."""
+    if unknown := [name for name in weights if name not in book.names]:
+        raise refused("weights", why=f"`{unknown[0]}` is no bidder of the book, and they are {', '.join(book.names)}")
+    lines = [f"weight {name} {weights.get(name, 1)}" for name in book.names]
+    text = "\n".join(["weights 1", *lines, "end", ""]).encode()
+    read_weights(text, book)
+    return text
+
+
+def lines_of(words: Sequence[str], book: Book) -> list[str]:
+    """What the program prints for a book on standard input."""
+    try:
+        run = subprocess.run(words, input=book_text(book), capture_output=True)
+    except OSError as fault:
+        raise Stop("cca: no program", CRASH, why=f"`{words[0]}` can't be run: {fault.strerror}") from None
     lines = run.stdout.decode("utf-8", "replace").splitlines()
     if run.returncode != DONE:
         raise stop_of(lines, run.returncode, run.stderr.decode("utf-8", "replace"))
-    return prices_of(book.names, book.reserves, lines)
+    return lines
 
 
-def prices_of(names: Sequence[str], reserves: Sequence[Amount], lines: Iterable[str]) -> Prices:
+def price_beyond(book: Book) -> Prices:
+    """The prices of a book with any number of winners, tested by the program."""
+    with tempfile.TemporaryDirectory() as folder:
+        name, cert = Path(folder, "book"), Path(folder, "cert")
+        name.write_bytes(book_text(book))
+        made = make_certificate(Asked([str(name)]), book, str(cert))
+    return prices_of(book.names, book.reserves, made.lines[1:], BY_TOOL)
+
+
+def is_beyond(stop: Stop) -> bool:
+    """Whether the program stopped because more bidders win than it prices."""
+    return stop.line.startswith("cca: limit winners ")
+
+
+def prices_of(
+    names: Sequence[str], reserves: Sequence[Amount], lines: Iterable[str], found_by: str = BY_PROGRAM
+) -> Prices:
     """The prices of what the program prints of these bidders."""
     won, net = dict[str, Price](), 0
     for line in lines:
@@ -118,41 +185,40 @@ def prices_of(names: Sequence[str], reserves: Sequence[Amount], lines: Iterable[
             won[name] = Price(name, package, reserve, int(bid), int(vickrey), fraction_of(pays))
         elif word == "net":
             net = int(fields[0])
-    return Prices(tuple(won.get(name) or Price(name, None) for name in names), net)
+    return Prices(tuple(won.get(name) or Price(name, None) for name in names), net, found_by)
+
+
+def price_object(names: Sequence[str], reserves: Sequence[Amount], lines: Sequence[str]) -> dict[str, object]:
+    """The object that `cca price --json` prints of the lines of prices."""
+    prices, words = prices_of(names, reserves, lines), [line.split(" ") for line in lines]
+    winners = [
+        {"bid": it.bid, "name": it.bidder, "package": it.package, "pays": fields[-1], "vickrey": it.vickrey}
+        for it, fields in zip(prices.winners, words)
+    ]
+    return {"net": prices.net, "revenue": words[-1][-1], "winners": winners}
 
 
 # As tables.
 
 COLUMNS = (
     "book bidder package reserve bid vickrey price price_decimal"
-    " bid_net vickrey_net price_net price_net_decimal stopped"
+    " bid_net vickrey_net price_net price_net_decimal found_by stopped"
 ).split()
 
+NUMBERS = COLUMNS[3:-2]
+NUMBER = re.compile(r"-?[0-9]+(\.[0-9]+)?")
+# A decimal that is a whole cell.
+DECIMAL = re.compile(r"^(-?[0-9]+)\.([0-9]+)$")
 
-def cells_of(name: str, row: Price, unit: int) -> list[str]:
+
+def cells_of(name: str, row: Price, unit: int, found_by: str) -> list[str]:
     """The cells of a bidder, amounts divided by the unit."""
     package = " ".join(map(str, row.package)) if row.package else ""
     gross: list[int | Fraction] = [row.reserve, row.bid, row.vickrey, row.pays]
     parts = [Fraction(value) / unit for value in gross]
     nets = [value - parts[0] for value in parts[1:]]
-    reserve, bid, vickrey, pays = map(exact, parts)
-    bid_net, vickrey_net, pays_net = map(exact, nets)
-    decimals = decimal(parts[3]), decimal(nets[2])
-    return [
-        name,
-        row.bidder,
-        package,
-        reserve,
-        bid,
-        vickrey,
-        pays,
-        decimals[0],
-        bid_net,
-        vickrey_net,
-        pays_net,
-        decimals[1],
-        "",
-    ]
+    amounts = [*map(exact, parts), decimal(parts[3]), *map(exact, nets), decimal(nets[2])]
+    return [name, row.bidder, package, *amounts, found_by, ""]
 
 
 def stopped_cells(name: str, bidder: str, line: str) -> list[str]:
@@ -163,31 +229,40 @@ def stopped_cells(name: str, bidder: str, line: str) -> list[str]:
 def cells_of_book(name: str, book: Book, unit: int = 1) -> Iterator[list[str]]:
     """The cells of each bidder of a book. A book beyond a limit has the limit in its last ones."""
     try:
-        yield from (cells_of(name, row, unit) for row in price(book).rows)
+        found = price(book)
+        yield from (cells_of(name, row, unit, found.found_by) for row in found.rows)
     except Stop as stop:
         if stop.status != LIMIT:
             raise
         yield from (stopped_cells(name, bidder, stop.line) for bidder in book.names)
 
 
-def csv_text(rows: Iterable[Sequence[str]]) -> str:
-    """Rows of cells as CSV with heads."""
+def csv_text(rows: Iterable[Sequence[str]], mark: Mark = ".") -> str:
+    """Rows of cells as CSV with heads. With decimal commas there are semicolons between the cells, as spreadsheets of
+    many countries have it."""
+    return table_text(COLUMNS, rows, mark).rstrip("\n")
+
+
+def table_text(heads: Sequence[str], rows: Iterable[Sequence[str]], mark: Mark = ".") -> str:
+    """Heads and rows of cells as CSV with this decimal mark."""
     out = io.StringIO()
-    csv.writer(out, lineterminator="\n").writerows([COLUMNS, *rows])
-    return out.getvalue().rstrip("\n")
+    writer = csv.writer(out, lineterminator="\n", delimiter=";" if mark == "," else ",")
+    writer.writerow(heads)
+    writer.writerows([DECIMAL.sub(r"\1,\2", cell) for cell in row] if mark == "," else row for row in rows)
+    return out.getvalue()
 
 
 def json_lines(rows: Iterable[Sequence[str]]) -> str:
-    """Rows of cells as an object of JSON in each line: packages as lists, decimals as numbers, and exact amounts as
-    texts."""
-    return "\n".join(json.dumps(object_of(dict(zip(COLUMNS, row)))) for row in rows)
+    """Rows of cells as an object of JSON in each line: packages as lists, and amounts as numbers; one that no decimal
+    states exactly is a text, as `6+2/3`."""
+    return "\n".join(object_text(dict(zip(COLUMNS, row))) for row in rows)
 
 
-def object_of(row: dict[str, str]) -> dict[str, object]:
-    """The object of a row: what a book beyond a limit doesn't have is left out."""
-    found: dict[str, object] = {name: cell for name, cell in row.items() if cell}
-    found["package"] = [int(count) for count in row["package"].split()] if row["package"] else None
-    for name in ("price_decimal", "price_net_decimal"):
-        if row[name]:
-            found[name] = float(row[name])
-    return found
+def object_text(row: dict[str, str]) -> str:
+    """The object of a row: what a book beyond a limit doesn't have is left out. Numbers keep all of their digits."""
+    members = {
+        name: cell if name in NUMBERS and NUMBER.fullmatch(cell) else json.dumps(cell) for name, cell in row.items()
+    }
+    members = {name: text for name, text in members.items() if row[name]}
+    members["package"] = json.dumps([int(count) for count in row["package"].split()] if row["package"] else None)
+    return "{" + ", ".join(f'"{name}": {text}' for name, text in members.items()) + "}"

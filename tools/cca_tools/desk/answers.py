@@ -14,6 +14,7 @@ from cca_tools.rules.auction import Auction
 from cca_tools.rules.award import Award, read_award
 from cca_tools.rules.book import book_text
 from cca_tools.rules.log import END, MARK, Line, read_log
+from cca_tools.rules.mark import mark_of
 from cca_tools.rules.state import CLOSE
 from cca_tools.rules.stops import DONE, MOST, REFUSED, Stop, load, within
 from cca_tools.rules.telling import told
@@ -64,6 +65,7 @@ class Answers:
         except OSError as fault:
             raise NoProgram(f"The program {program} can't be read: {fault.strerror}.") from None
         self.pins = {"award": sum_of(self.award_data), "program": sum_of(data)}
+        self.mark = mark_of(data)
         self._program, self._probes = Program(data, self.award_data), Probes(self.award)
         self._kept = [Known(b"", Auction(self.award), [])]
 
@@ -107,6 +109,11 @@ class Answers:
             read_log(data, self.award)  # (raises the stop of the whole, with the number of the record there)
             raise
         return [dataclasses.replace(it, number=records + it.number, row=rows + it.row) for it in new]
+
+    def winners(self, data: bytes) -> int | None:
+        """How many bidders win by the bids of a log as it is; None if a limit stops the program. Raises as `auction`
+        does."""
+        return self._program.winners(book_text(self._known(data).auction.book()))
 
     def probe(self, data: bytes) -> list[str]:
         """Compares each bidder's points and caps, now and after a close, by probing lines that are answered and never

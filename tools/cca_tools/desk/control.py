@@ -9,22 +9,29 @@ from __future__ import annotations
 import contextlib
 import dataclasses
 import hashlib
-from collections.abc import Callable, Sequence
+from collections.abc import Callable, Mapping, Sequence
 from pathlib import Path
 
 from cca_tools.desk.answers import Answers, Differ, NoLine, NoProgram
 from cca_tools.desk.feed import Feed
+from cca_tools.desk.told import Speech
 from cca_tools.desk.lines import CLOSE, NotLines, agrees, close_words, closes_in
+from cca_tools.desk.record import public_of_rows
 from cca_tools.desk.logfile import Base, Busy, LogFile, Mend, Refused, Stop, Unsure, Written
 from cca_tools.rules.auction import Auction, Reply
 from cca_tools.rules.log import Line
 from cca_tools.rules.names import NO_NAMES, LongNames
-from cca_tools.rules.seals import key_sum, seal_of
+from cca_tools.rules.mark import Mark
+from cca_tools.rules.seals import Public, Row, closed_lengths, head_rows, line_ends, read_posted, sum_of
 from cca_tools.rules.state import CloseEffect, close_effect
 from cca_tools.rules.stops import MOST
+from cca_tools.rules.stops import Stop as FormStop
+from cca_tools.version import commit, version
 
+PRICER = Path(__file__).resolve().parents[2] / "price"
 SAFE = "What was answered is in the log and in its journal. Nothing is written now."
 NOT_COMPARED = ": not compared "
+NOBODY: Mapping[str, str] = {}
 AGAIN = "End the desk by Ctrl-C on its terminal, and start it again with the same words."
 
 
@@ -81,15 +88,6 @@ def closes_of(data: bytes, auction: Auction) -> list[Close]:
     return found
 
 
-def line_ends(data: bytes) -> list[int]:
-    """The bytes of a log up to and with each of its lines."""
-    ends, at = list[int](), 0
-    for line in data.splitlines(True):
-        at += len(line)
-        ends.append(at)
-    return ends
-
-
 class Pin:
     """A file that may not change while the desk runs, by its SHA-256. It is read again where its state says that it was
     written since; the first state is from before it was read."""
@@ -127,6 +125,7 @@ class Files:
         self.award, self.program = award, program
         states = {kind: state_of(path) for kind, path in (("award", award), ("program", program))}
         self.answers = Answers(award, program)
+        self.mark: Mark = self.answers.mark
         sums = self.answers.pins
         self.pins = [
             Pin("award", award, sums["award"], states["award"]),
@@ -149,13 +148,47 @@ class Desk:
         """Raises `Refused` and `Unsure` as `LogFile` does."""
         self.award_path, self.program, self.log_path = files.award, files.program, log_path
         self.answers, self.pins = files.answers, files.pins
-        self.log = LogFile(log_path, self.answers.pins, copies)
+        self.mark = files.mark
+        about = {"program": self.mark.text, "tools": f"version {version()}, commit {commit() or 'unknown'}"}
+        self.log = LogFile(log_path, self.answers.pins, copies, about)
         self.award, self.names = self.answers.award, names
+        self.speech, self.has_pricer = Speech(self.award, names), PRICER.exists()
         self.feed = Feed(feed) if feed else None
         self.copy_fault = ""
         self._halt: Stop | None = None
         self._compared: tuple[bytes, list[str]] | None = None  # the log whose points and caps were compared last
         self._has_copies = copies is not None
+        if self.log.stop() is None:
+            with contextlib.suppress(Stopped):  # (the first page says it)
+                self.settle()
+
+    def settle(self, is_publish: bool = False) -> None:
+        """Posts what is due, and that the set is made. Nothing is written to the log before that is done. Raises
+        `Stopped`."""
+        try:
+            self.log.post(self.closes_now, is_publish)
+        except Busy:
+            pass  # the next page posts it
+        except (Refused, NoLine) as fault:
+            raise Stopped(Stop(str(fault), SAFE, "Mend that by hand, and load this page again.", "none")) from None
+        except Unsure as fault:
+            raise self.unsure(fault) from None
+
+    def closes_now(self, data: bytes) -> tuple[list[int], bool]:
+        """The bytes of a log up to and with each admitted close, and whether the last one ends the auction."""
+        auction = self.answered(data)
+        return closed_lengths(data, auction), auction.stage == "closed"
+
+    def head_lines(self) -> list[str]:
+        """The lines that are posted before the first line of the log: the checksums of key and award."""
+        return head_rows(sum_of(self.log.key), self.answers.pins["award"])
+
+    def given(self) -> Public:
+        """What follows from the posted lines, by LOG.posted. Raises `Stopped`."""
+        try:
+            return public_of_rows(read_posted(self.log.posted()))
+        except (Refused, FormStop) as fault:
+            raise Stopped(Stop(str(fault), SAFE, "Put the copy of LOG.posted back.", "none")) from None
 
     def now(self) -> Moment:
         """The log as it is. Raises `Stopped`."""
@@ -164,10 +197,26 @@ class Desk:
             data = self.log.read()
             return Moment(data, self.answered(data), self.log.base(data))
         except NoLine as fault:
-            stop = Stop(f"The log isn't taken. {fault}", SAFE, "Mend by hand how that record is written.", "none")
+            stop = self.line_stop() or Stop(
+                f"The log isn't taken. {fault}", SAFE, "Mend by hand how that record is written.", "none"
+            )
         except Refused as fault:
             stop = Stop(str(fault), SAFE, "Mend that by hand, and load this page again.", "none")
         raise Stopped(stop)
+
+    def line_stop(self) -> Stop | None:
+        """The stop of a log after whose answered lines is something that is no line; None if there is nothing such."""
+        try:
+            data, length = self.log.read(), self.log.answered_length()
+            if len(data) <= length:
+                return None
+            self.answered(data)
+        except NoLine as fault:
+            todo = "Take out what isn't answered: nobody had a reply to it, and a copy of it is kept."
+            return Stop(f"The log has something that is no line. {words_of_typed(fault)}", SAFE, todo, "take out")
+        except Refused:
+            return None
+        return None
 
     def noted(self) -> Moment:
         """The log as it is, once lines in it that no desk had answered are noted. Raises `Stopped`."""
@@ -180,6 +229,7 @@ class Desk:
             raise Stopped(Stop(str(fault), SAFE, "Mend that by hand, and load this page again.", "none")) from None
         except Unsure as fault:
             raise self.unsure(fault) from None
+        self.settle()
         return moment
 
     def need_running(self) -> None:
@@ -241,6 +291,15 @@ class Desk:
             return effect
         return dataclasses.replace(effect, warnings=(*effect.warnings, *self.not_compared(moment.data)))
 
+    def winners(self, moment: Moment) -> int | None:
+        """How many bidders win by the bids as they are; None if a limit stops the program. Raises `Stopped`."""
+        try:
+            return self.answers.winners(moment.data)
+        except Differ as fault:
+            raise self.differs(str(fault)) from None
+        except NoProgram as fault:
+            raise no_program(fault) from None
+
     def not_compared(self, data: bytes) -> list[str]:
         """Compares points and caps of both programs, once for a log, and says which bidders' weren't. Raises
         `Stopped`."""
@@ -263,18 +322,27 @@ class Desk:
         `Stopped`."""
         if closes_in(text):
             raise NotLines("A close is written on its own page.")
-        return self.append(base, text, lambda before: None)
-
-    def close(self, base: Base, typed: str) -> Written:
-        """Writes a close, where the words are typed that it asks for. Raises as `write` does, and `WrongWords`."""
-        written = self.append(base, CLOSE, lambda before: need_words(before, typed))
-        if not written.was_there:
-            self.after_close(written.log)
+        written = self.append(base, text, lambda before: None)
+        self.copy_out()
         return written
 
-    def append(self, base: Base, text: bytes, need: Callable[[Auction], None]) -> Written:
+    def close(self, base: Base, typed: str, people: Mapping[str, str] = NOBODY) -> Written:
+        """Writes a close if the words are typed that it asks for; `people` are the names of who asked for it and who
+        approved it, for the journal. Raises as `write` does, and `WrongWords`."""
+        written = self.append(base, CLOSE, lambda before: need_words(before, typed), people)
+        self.settle()
+        self.copy_out()
+        if self.feed and not written.was_there:
+            with contextlib.suppress(OSError):  # (the next page tries it again, and says why)
+                self.feed.follow(self.answered(written.log))
+        return written
+
+    def append(
+        self, base: Base, text: bytes, need: Callable[[Auction], None], people: Mapping[str, str] = NOBODY
+    ) -> Written:
         """Appends lines that both programs answer, where the auction before them is as it has to be."""
         self.need_running()
+        self.settle()
 
         def check(wanted: bytes) -> Sequence[str]:
             before = self.answered(wanted[: base.length])
@@ -282,21 +350,18 @@ class Desk:
             return [reply.text() for reply in self.preview(Moment(wanted[: base.length], before, base), text).replies]
 
         try:
-            return self.log.append(base, text, check)
+            return self.log.append(base, text, check, people)
         except Unsure as fault:
             raise self.unsure(fault) from None
 
-    def after_close(self, log: bytes) -> None:
-        """Copies the files, and lets a rehearsal go on; what failed is kept for the page."""
+    def copy_out(self) -> None:
+        """Copies the files. What failed is kept for the pages, and the next write makes up for it."""
         self.copy_fault = ""
         try:
             if self._has_copies:
                 self.log.copy_out()
         except (Refused, Unsure) as fault:
-            self.copy_fault = f"The close is written, and the copies aren't. {fault}"
-        if self.feed:
-            with contextlib.suppress(OSError):  # (the next page tries it again, and says why)
-                self.feed.follow(self.answered(log))
+            self.copy_fault = f"The log is written, and the copies aren't. {fault}"
 
     def waiting(self, moment: Moment) -> list[bytes]:
         """The lines of a rehearsal that wait; it goes on where its file lacks a close. Raises `Refused`."""
@@ -308,29 +373,37 @@ class Desk:
         except OSError as fault:
             raise Refused(f"The file of the rehearsal can't be used: {fault.strerror}") from None
 
-    def cut(self, base: Base, length: int, why: str) -> Path:
-        """Cuts the log, a round held again. Raises `Refused` and `Stopped`."""
+    def cut(self, base: Base, length: int, why: str, stay: bool = False, people: Mapping[str, str] = NOBODY) -> Path:
+        """Cuts the log, for a round that is held again, or takes back a close alone (`stay`). Raises `Refused` and
+        `Stopped`."""
         self.need_running()
+        self.settle()
         try:
-            return self.log.cut(base, length, why)
+            kept = self.log.cut(base, length, why, stay, people)
         except Unsure as fault:
             raise self.unsure(fault) from None
+        self.settle()
+        self.copy_out()
+        return kept
 
-    def mend(self, mend: Mend, why: str) -> None:
+    def mend(self, mend: Mend, why: str, people: Mapping[str, str] = NOBODY) -> None:
         """Mends the log as a stop says. Raises `Refused` and `Stopped`."""
         try:
-            self.log.mend(mend, why)
+            if mend == "take out":
+                self.log.take_out(why)
+            else:
+                self.log.mend(mend, why, people)
         except Unsure as fault:
             raise self.unsure(fault) from None
+        if self.log.stop() is None:
+            with contextlib.suppress(Stopped):  # (the page that follows says it)
+                self.settle()
+                self.copy_out()
 
-    def seal(self, data: bytes, close: Close) -> str:
-        """The seal of a close, as 64 digits."""
-        return seal_of(self.log.key, data[: close.length])
-
-    @property
-    def key_sum(self) -> str:
-        """The sum of the key, which is given out before the first line."""
-        return key_sum(self.log.key)
+    def row_of(self, number: int) -> Row | None:
+        """The posted line of a close that counts, by its number in the log."""
+        public = self.given()
+        return public.rows[public.counting[number - 1][0] - 1] if number <= len(public.counting) else None
 
 
 def words_of_typed(fault: NoLine) -> str:

@@ -6,6 +6,7 @@ A sync that failed is never tried again: the second one would say yes, also wher
 from __future__ import annotations
 
 import contextlib
+import errno
 import fcntl
 import hashlib
 import itertools
@@ -19,6 +20,7 @@ from pathlib import Path
 WAIT = 2.0  # seconds for the lock
 PAUSE = 0.02
 MODE = 0o600
+FULL = "the disk is full: make room on it, and try again"
 # A name of a pipe in the place of a file mustn't hold the desk up, and no link is followed.
 SAFELY = os.O_NOFOLLOW | os.O_CLOEXEC | os.O_NONBLOCK
 APPEND = os.O_RDWR | os.O_APPEND
@@ -38,6 +40,11 @@ class Missing(Refused):
 
 class Unsure(Exception):
     """Nobody can say whether the disk has the line: the desk stops, and has to be started again."""
+
+
+def why_of(fault: OSError) -> str:
+    """Why the disk didn't do something. A full one is called that."""
+    return FULL if fault.errno in (errno.ENOSPC, errno.EDQUOT) else fault.strerror or "a fault of the disk"
 
 
 def sum_of(data: bytes) -> str:
@@ -61,7 +68,7 @@ def opened(path: Path, flags: int) -> Iterator[int]:
     except FileNotFoundError:
         raise Missing(f"{path.name} isn't there.") from None
     except OSError as fault:
-        raise Refused(f"{path.name} can't be opened: {fault.strerror}.") from None
+        raise Refused(f"{path.name} can't be opened: {why_of(fault)}.") from None
     try:
         yield handle
     finally:
@@ -76,7 +83,7 @@ def read_open(handle: int, name: str) -> bytes:
             parts.append(part)
             done += len(part)
     except OSError as fault:
-        raise Refused(f"{name} can't be read: {fault.strerror}.") from None
+        raise Refused(f"{name} can't be read: {why_of(fault)}.") from None
     return b"".join(parts)
 
 
@@ -91,7 +98,7 @@ def sync(handle: int, name: str) -> None:
     try:
         os.fsync(handle)
     except OSError as fault:
-        raise Unsure(f"The disk doesn't say that it keeps {name}: {fault.strerror}.") from None
+        raise Unsure(f"The disk doesn't say that it keeps {name}: {why_of(fault)}.") from None
 
 
 def sync_folder(path: Path) -> None:
@@ -99,7 +106,7 @@ def sync_folder(path: Path) -> None:
     try:
         handle = os.open(path.absolute().parent, os.O_RDONLY | os.O_DIRECTORY | os.O_CLOEXEC)
     except OSError as fault:
-        raise Unsure(f"The folder of {path.name} can't be opened: {fault.strerror}.") from None
+        raise Unsure(f"The folder of {path.name} can't be opened: {why_of(fault)}.") from None
     try:
         sync(handle, f"the name {path.name}")
     finally:
@@ -125,7 +132,7 @@ def lock(handle: int, name: str) -> None:
             if time.monotonic() > end:
                 raise Busy(f"Another program holds {name}. Nothing was written; try again.") from None
         except OSError as fault:
-            raise Refused(f"{name} can't be locked here: {fault.strerror}. Put it on a disk of this machine.") from None
+            raise Refused(f"{name} can't be locked here: {why_of(fault)}. Put it on a disk of this machine.") from None
         time.sleep(PAUSE)
 
 
@@ -139,6 +146,31 @@ def locked(path: Path) -> Iterator[int]:
         yield handle
 
 
+def presence(path: Path) -> int:
+    """A handle on a file, under a shared lock for as long as this process has it; -1 if there is none."""
+    try:
+        handle = os.open(path, os.O_RDONLY | SAFELY)
+    except OSError:
+        return -1
+    with contextlib.suppress(OSError):
+        fcntl.flock(handle, fcntl.LOCK_SH | fcntl.LOCK_NB)
+    return handle
+
+
+def is_shared(handle: int) -> bool:
+    """Whether another process has such a handle on the file."""
+    if handle < 0:
+        return False
+    try:
+        fcntl.flock(handle, fcntl.LOCK_EX | fcntl.LOCK_NB)
+        return False
+    except OSError:
+        return True
+    finally:
+        with contextlib.suppress(OSError):
+            fcntl.flock(handle, fcntl.LOCK_SH | fcntl.LOCK_NB)
+
+
 def need_locks(path: Path, handle: int) -> None:
     """Tests that a second lock is refused while `handle` has one. Raises `Refused`."""
     with opened(path, os.O_RDWR) as other:
@@ -147,7 +179,7 @@ def need_locks(path: Path, handle: int) -> None:
         except BlockingIOError:
             return
         except OSError as fault:
-            raise Refused(f"{path.name} can't be locked here: {fault.strerror}.") from None
+            raise Refused(f"{path.name} can't be locked here: {why_of(fault)}.") from None
     raise Refused(
         f"Locks don't work where {path.name} is: two programs could write to it at once. Put it on a disk of this"
         " machine."
@@ -159,7 +191,7 @@ def shorten(handle: int, length: int, name: str) -> None:
     try:
         os.ftruncate(handle, length)
     except OSError as fault:
-        raise Unsure(f"{name} can't be cut to {length} bytes: {fault.strerror}.") from None
+        raise Unsure(f"{name} can't be cut to {length} bytes: {why_of(fault)}.") from None
     sync(handle, name)
 
 
@@ -170,9 +202,9 @@ def append_once(handle: int, text: bytes, name: str) -> None:
     """
     start = os.fstat(handle).st_size
     try:
-        done, why = os.write(handle, text), "the disk took a part of it alone"
+        done, why = os.write(handle, text), f"{FULL}; it took only a part"
     except OSError as fault:
-        done, why = 0, fault.strerror or "a fault of the disk"
+        done, why = 0, why_of(fault)
     if done < len(text):
         if os.fstat(handle).st_size != start:
             shorten(handle, start, name)
@@ -194,7 +226,7 @@ def write_again(path: Path, start: int) -> None:
                 done = os.pwrite(handle, tail, start)
                 tail, start = tail[done:], start + done
         except OSError as fault:
-            raise Unsure(f"{path.name} can't be written: {fault.strerror}.") from None
+            raise Unsure(f"{path.name} can't be written: {why_of(fault)}.") from None
         sync(handle, path.name)
 
 
@@ -210,7 +242,7 @@ def new_file(path: Path, data: bytes) -> bool:
     except FileExistsError:
         return False
     except OSError as fault:
-        raise Refused(f"{path.name} can't be made: {fault.strerror}.") from None
+        raise Refused(f"{path.name} can't be made: {why_of(fault)}.") from None
     finally:
         with contextlib.suppress(OSError):
             os.unlink(part)
@@ -244,7 +276,7 @@ def kept(path: Path, kind: str, data: bytes) -> Path:
         except FileExistsError:
             continue
         except (OSError, Unsure) as fault:
-            why = fault.strerror if isinstance(fault, OSError) else str(fault)
+            why = why_of(fault) if isinstance(fault, OSError) else str(fault)
             raise Refused(f"No copy can be kept in {copy.name}, so nothing was changed: {why}") from None
     raise AssertionError("there is always another number")
 
@@ -259,5 +291,5 @@ def replaced(path: Path, data: bytes) -> None:
         os.replace(part, path)
         sync_folder(path)
     except (OSError, Unsure) as fault:
-        why = fault.strerror if isinstance(fault, OSError) else str(fault)
+        why = why_of(fault) if isinstance(fault, OSError) else str(fault)
         raise Refused(f"{path} can't be written: {why}") from None

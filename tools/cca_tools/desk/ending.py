@@ -7,6 +7,7 @@ there is tested, and never written again. All files are beside the log.
 from __future__ import annotations
 
 import os
+import re
 import subprocess
 import sys
 import tempfile
@@ -15,12 +16,15 @@ from dataclasses import dataclass
 from pathlib import Path
 
 from cca_tools.desk.control import Desk, Moment
+from cca_tools.desk.tables import Cell, Column, Row, Table
+from cca_tools.desk.told import Speech
+from cca_tools.page.words import commas
 from cca_tools.rules.publication import AWARD, CERT, LOG, SUMS, sum_of
-from cca_tools.rules.seals import seals_of
 from cca_tools.rules.stops import DONE
 from cca_tools.rules.ties import tie_sentences, ties_of
 
 TOOLS = Path(__file__).resolve().parents[2]
+PRICER = TOOLS / "price"
 SECONDS = 1800
 
 
@@ -46,6 +50,8 @@ class Outcome:
     is_right: bool
     runs: Sequence[Run]
     ties: Sequence[str] = ()
+    needs_pricer: bool = False
+    tables: Sequence[Table] = ()
 
 
 def run(name: str, words: Sequence[str | Path], program: Path) -> Run:
@@ -66,15 +72,39 @@ def run(name: str, words: Sequence[str | Path], program: Path) -> Run:
     return Run(name, done.returncode, done.stdout.decode("utf-8", "replace"))
 
 
+def meaning(made: Run) -> str:
+    """What a run said after its first line, which is the program's."""
+    said = [line for line in made.printed.splitlines() if line and not line.startswith("cca:")]
+    return " ".join(said)
+
+
+PRICE = re.compile(r"winner (\w+) ([\d ]+) bid (\d+) vickrey (\d+) pays (\S+)")
+
+
+def price_table(printed: str, speech: Speech) -> Table:
+    """What the winners win and pay, by what both programs print, with names and the unit."""
+    rows = []
+    for line in printed.splitlines():
+        if found := PRICE.fullmatch(line):
+            name, lots, *amounts = found.groups()
+            package = tuple(map(int, lots.split(" ")))
+            cells = [Cell(speech.bidder(name)), Cell(speech.package(package), lots)]
+            rows.append(Row([*cells, *(Cell(commas(it)) for it in amounts)]))
+    total = "".join(line.removeprefix("revenue ") for line in printed.splitlines() if line.startswith("revenue "))
+    rows.append(Row([Cell("Revenue"), *[Cell("")] * 3, Cell(commas(total))], "next"))
+    columns = [Column("Bidder", is_number=False), Column("Wins", is_number=False)]
+    return Table(
+        speech.caption("What the winners pay"), [*columns, *map(Column, ("Bid", "Vickrey price", "Pays"))], rows
+    )
+
+
 class Ending:
     """The steps at the end of the auction of a desk."""
 
     def __init__(self, desk: Desk, names_path: Path | None) -> None:
         self.desk, self.names_path = desk, names_path
         log = desk.log_path
-        self.cert, self.page, self.text, self.seals = (
-            log.with_name(f"{log.name}.{kind}") for kind in ("cert", "html", "txt", "seals")
-        )
+        self.cert, self.page, self.text = (log.with_name(f"{log.name}.{kind}") for kind in ("cert", "html", "txt"))
 
     @property
     def files(self) -> list[Path]:
@@ -90,15 +120,60 @@ class Ending:
         """Awards where no certificate is there, then audits by both programs, and looks for ties."""
         runs = list[Run]()
         if not self.cert.exists():
-            runs.append(self.make_cert())
+            runs.append(self.make_cert("cca award", [self.desk.program, "award"]))
             if runs[0].status != DONE:
-                return Outcome("There is no award yet: the program made no certificate.", False, runs)
+                return self.no_award(runs)
+        return self.audited(moment, runs)
+
+    def price(self, moment: Moment) -> Outcome:
+        """Has `tools/price` make the certificate, for more winners than `cca award` prices; then as `award`."""
+        runs = list[Run]()
+        if not self.cert.exists():
+            runs.append(self.make_cert("tools/price", [sys.executable, PRICER]))
+            if runs[0].status != DONE:
+                return Outcome(f"`tools/price` made no certificate. {meaning(runs[0])}", False, runs)
+        return self.audited(moment, runs)
+
+    def no_award(self, runs: list[Run]) -> Outcome:
+        """Why the program made no certificate, in the words of `tools/explain`."""
+        explained = run(
+            "tools/explain", [sys.executable, TOOLS / "explain", "award", *self.files[:2]], self.desk.program
+        )
+        is_limit = runs[0].printed.startswith("cca: limit winners")
+        sentence = f"The program makes no certificate of this log. {meaning(explained)}"
+        return Outcome(sentence, False, [*runs, explained], needs_pricer=is_limit)
+
+    def audited(self, moment: Moment, runs: list[Run]) -> Outcome:
+        """Has both programs audit the certificate, and looks for ties."""
         runs += [
             run("cca audit", [self.desk.program, "audit", *self.files], self.desk.program),
             run("tools/audit", [sys.executable, TOOLS / "audit", *self.files], self.desk.program),
         ]
         book = moment.auction.book()
-        return Outcome(*self.verdict(runs), runs, tie_sentences(book, ties_of(book)))
+        sentence, is_right = self.verdict(runs)
+        tables = [price_table(runs[-1].printed, self.desk.speech)] if is_right else []
+        return Outcome(sentence, is_right, runs, tie_sentences(book, ties_of(book)), tables=tables)
+
+    def made_files(self) -> dict[str, Path]:
+        """The files that the steps have made, by the names of their links."""
+        found = {"certificate": self.cert, "report": self.page, "text": self.text}
+        set_page = self.folder() / "index.html"
+        return {name: path for name, path in {**found, "set": set_page}.items() if path.exists()}
+
+    def links(self, is_closed: bool) -> dict[str, str]:
+        """The files that can be loaded: the name of each link, and what it says."""
+        if not is_closed:
+            return {}
+        words = {"certificate": "certificate", "report": "report", "text": "report as text", "set": "page of the set"}
+        return {name: f"{words[name]}, {path.name}" for name, path in self.made_files().items()}
+
+    def older_set(self) -> Path | None:
+        """The last set that isn't of the files as they are; None if the newest one is."""
+        folder = self.folder()
+        if folder.exists():
+            return None
+        older = sorted(self.cert.parent.glob(f"{self.desk.log_path.name}.set*"))
+        return older[-1] if older else None
 
     def verdict(self, runs: Sequence[Run]) -> tuple[str, bool]:
         """What the two audits come to."""
@@ -109,20 +184,20 @@ class Ending:
             return f"Both programs refuse the certificate {self.cert}: move it away, and award again.", False
         return "Both programs say yes, and print the same to the byte.", True
 
-    def make_cert(self) -> Run:
-        """Has the program write a certificate under another name; it gets its own once it is whole."""
+    def make_cert(self, what: str, command: Sequence[str | Path]) -> Run:
+        """Has a command write a certificate under another name; it gets its own once it is whole."""
         fd, name = tempfile.mkstemp(prefix=f".{self.cert.name}.", dir=self.cert.parent)
         os.close(fd)
         os.unlink(name)
         try:
-            made = run("cca award", [self.desk.program, "award", *self.files[:2], name], self.desk.program)
+            made = run(what, [*command, *self.files[:2], name], self.desk.program)
             if made.status == DONE:
                 sync(Path(name))
                 os.link(name, self.cert)  # (it is never put over one that is there)
                 sync(self.cert.parent)
             return made
         except OSError as fault:
-            return Run("cca award", 70, f"The certificate can't be kept: {fault.strerror}.")
+            return Run(what, 70, f"The certificate can't be kept: {fault.strerror}.")
         finally:
             Path(name).unlink(missing_ok=True)
 
@@ -150,16 +225,15 @@ class Ending:
         return Run(made.name, made.status, f"{len(made.printed):,} characters in {path.name}")
 
     def publish(self, moment: Moment) -> Outcome:
-        """Makes the published set in a new folder, with the key and the seals; a set that is there is tested."""
+        """Makes the published set in a new folder, with the key, the journal and the posted lines. A set that is there
+        is tested."""
         folder = self.folder()
         if folder.exists():
             return Outcome(f"The set is in {folder} already, and all its sums hold.", True, [])
-        seals = Run("seals", DONE, seals_of(self.desk.log.key, moment.data, moment.auction).text() + "\n")
-        kept = self.written(seals, self.seals)
-        if kept.status != DONE:
-            return Outcome("The set isn't made.", False, [kept])
-        key = self.desk.log_path.with_name(self.desk.log_path.name + ".key")
-        words: list[str | Path] = [sys.executable, TOOLS / "publish", *self.names, "--key", key, "--seals", self.seals]
+        self.desk.settle(is_publish=True)
+        key, journal = (self.desk.log_path.with_name(f"{self.desk.log_path.name}.{kind}") for kind in ("key", "desk"))
+        given: list[str | Path] = ["--key", key, "--journal", journal, "--posted", self.desk.log.posted_path]
+        words: list[str | Path] = [sys.executable, TOOLS / "publish", *self.names, *given]
         made = run("tools/publish", [*words, *self.files, folder], self.desk.program)
         if made.status != DONE:
             return Outcome("The set isn't made.", False, [made])

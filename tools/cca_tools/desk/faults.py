@@ -11,7 +11,9 @@ from cca_tools.desk.journal import Entry, replayed
 from cca_tools.rules.printable import shown
 
 # What the button of a stop does; "none" where somebody has to do something by hand first.
-Mend: TypeAlias = Literal["none", "take back", "end line", "cut again", "keep changed log", "restart"]
+Mend: TypeAlias = Literal[
+    "none", "take back", "take out", "end line", "cut again", "put back", "keep changed log", "restart"
+]
 ANSWERED = "All that was answered is in the log and in the journal."
 IN_JOURNAL = "The journal has the log as it was answered."
 
@@ -21,7 +23,8 @@ class Stop:
     """Why the desk can't write, what is safe, and what to do, each in one or two sentences; `mend` is the button.
 
     `take back` is that of a torn last line. `end line` mends that too, if the line lacks nothing but its line feed:
-    offer both then. `end line` alone is that of an answered line that has lost its line feed.
+    offer both then. `end line` alone is that of an answered line that has lost its line feed. `put back` is for a
+    changed log, which can also be kept as it is.
     """
 
     why: str
@@ -31,7 +34,8 @@ class Stop:
 
     def allows(self, mend: Mend) -> bool:
         """Whether a mend fits."""
-        return mend == self.mend or (mend, self.mend) == ("end line", "take back")
+        others = ("end line", "take back"), ("keep changed log", "put back")
+        return mend == self.mend or (mend, self.mend) in others
 
 
 def whole_lines(data: bytes) -> bytes:
@@ -95,9 +99,8 @@ def changed_log(data: bytes, entries: Sequence[Entry]) -> Stop:
     return Stop(
         f"The log was changed by hand: from byte {place} on, in line {row}, it isn't what was answered at {at}.",
         IN_JOURNAL,
-        "If the change was a mistake, put the log back as it was, and load this page again. Else go on with the changed"
-        " log: both are kept, and each line counts as it is now.",
-        "keep changed log",
+        "Put the answered log back. The changed one is kept in a file next to it, and nothing else changes.",
+        "put back",
     )
 
 

@@ -56,6 +56,9 @@ class Guard:
     key: str = field(default_factory=new_key, repr=False)
     session: str = field(default_factory=lambda: secrets.token_urlsafe(32), repr=False)
     token: str = field(default_factory=lambda: secrets.token_urlsafe(32), repr=False)
+    # of the second person, who approves; empty without one
+    second_key: str = field(default="", repr=False)
+    second_session: str = field(default_factory=lambda: secrets.token_urlsafe(32), repr=False)
     inside: str = field(default_factory=lambda: f"/desk-{secrets.token_hex(16)}", repr=False)
 
     @property
@@ -68,9 +71,15 @@ class Guard:
         """The origin of each form."""
         return f"http://{self.host}"
 
-    def is_key(self, text: str) -> bool:
-        """Whether a text is the key, with or without its hyphens."""
-        return same(re.sub(r"[\s-]", "", text).lower(), self.key)
+    def person_of(self, text: str) -> int:
+        """Whose key a text is, with or without its hyphens: 1 for the auctioneer, 2 for the second person, else 0."""
+        key = re.sub(r"[\s-]", "", text).lower()
+        is_second = bool(self.second_key) and same(key, self.second_key)
+        return 1 if same(key, self.key) else 2 if is_second else 0
+
+    def is_second(self, request: Request) -> bool:
+        """Whether a request is of the second person."""
+        return bool(self.second_key) and same(request.cookies.get(COOKIE, ""), self.second_session)
 
     def fault(self, request: Request) -> int | None:
         """The status with which a request is refused, or None."""
@@ -96,12 +105,17 @@ class Guard:
 
     def inside_fault(self, request: Request) -> int | None:
         """The status with which a request for a page of the desk is refused, or None."""
-        if not same(request.cookies.get(COOKIE, ""), self.session):
+        if not same(request.cookies.get(COOKIE, ""), self.session) and not self.is_second(request):
             return 403
         if request.method == "POST" and not same(request.form.get("token", ""), self.token):
             return 403
         return None
 
-    def let_in(self, response: Response) -> None:
-        """Gives a browser the cookie."""
-        response.set_cookie(COOKIE, self.session, path=f"{self.inside}/", httponly=True, samesite="Strict")
+    def let_in(self, response: Response, person: int = 1) -> None:
+        """Gives the browser of a person the cookie."""
+        session = self.second_session if person == 2 else self.session
+        response.set_cookie(COOKIE, session, path=f"{self.inside}/", httponly=True, samesite="Strict")
+
+    def let_out(self, response: Response) -> None:
+        """Takes the cookie from a browser."""
+        response.delete_cookie(COOKIE, path=f"{self.inside}/", httponly=True, samesite="Strict")

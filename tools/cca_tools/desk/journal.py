@@ -1,8 +1,12 @@
-"""The journal beside the log: what was answered when, and all that was done to the log, one object of JSON a line.
+"""The journal beside the log: what was answered when, and everything that was done to the log, one object of JSON on
+each line. docs/FORMATS.md has its form.
 
-Each entry has the text that it put after the first `from` bytes of the log, and the length and the sum of the log after
-it. So the journal alone leads to the log as it was answered. A line that is no entry is what a kill or a power cut left
-of one that nobody has seen: it is ignored.
+Each entry has the text that it put after the first `from` bytes of the log, and the length and the checksum of the log
+after it. So the journal alone leads to the log as it was answered. A line that is no entry is what a kill or a power
+cut left of one that nobody has seen: it is ignored.
+
+Each entry has in `prev` the checksum of the line before it, so that the checksum of a line binds all lines before it,
+and each seal covers it. If torn lines are between two entries, the checksum is of the last entry's line with them.
 """
 
 from __future__ import annotations
@@ -11,6 +15,7 @@ import contextlib
 import dataclasses
 import datetime
 import hashlib
+import hmac
 import json
 import os
 from collections.abc import Iterator, Mapping, Sequence
@@ -22,6 +27,25 @@ from cca_tools.desk.disk import APPEND, Refused, append_once, opened, read_file,
 BLOCK = 65_536
 # What makes a torn line one that is no entry, also where the line feed alone is missing. Nothing of it is taken away.
 TORN = b" (torn)\n"
+NO_LINE = "0" * 64
+VERSION = 1
+KINDS = frozenset(
+    (
+        "begun",
+        "line",
+        "posted",
+        "cut",
+        "cut ended",
+        "changed",
+        "put back",
+        "taken back",
+        "ended",
+        "found",
+        "restored",
+        "started again",
+        "other tools",
+    )
+)
 
 
 @dataclasses.dataclass(frozen=True)
@@ -37,10 +61,18 @@ class Entry:
     length: int
     sum: str
     more: Mapping[str, object]
+    prev: str = NO_LINE
 
     def line(self) -> bytes:
         """As the journal has it, without its line feed."""
-        fields = {"at": self.at, "what": self.what, "epoch": self.epoch, "bytes": self.length, "sum": self.sum}
+        fields = {
+            "prev": self.prev,
+            "at": self.at,
+            "what": self.what,
+            "epoch": self.epoch,
+            "bytes": self.length,
+            "sum": self.sum,
+        }
         return json.dumps({**fields, "from": self.start, "text": self.text.decode("latin-1"), **self.more}).encode()
 
     @staticmethod
@@ -48,12 +80,21 @@ class Entry:
         """The entry of a line, or None."""
         try:
             more = json.loads(line)
-            fields = [more.pop(name) for name in ("at", "what", "epoch", "from", "text", "bytes", "sum")]
-            at, what, epoch, start, text, length, total = fields
-            forms = [(at, str), (what, str), (epoch, str), (start, int), (text, str), (length, int), (total, str)]
+            fields = [more.pop(name) for name in ("at", "what", "epoch", "from", "text", "bytes", "sum", "prev")]
+            at, what, epoch, start, text, length, total, prev = fields
+            forms = [
+                (prev, str),
+                (at, str),
+                (what, str),
+                (epoch, str),
+                (start, int),
+                (text, str),
+                (length, int),
+                (total, str),
+            ]
             if not all(type(field) is form for field, form in forms):
                 return None
-            return Entry(at, what, epoch, start, text.encode("latin-1"), length, total, more)
+            return Entry(at, what, epoch, start, text.encode("latin-1"), length, total, more, prev)
         except (ValueError, KeyError, AttributeError, TypeError):
             return None
 
@@ -72,7 +113,16 @@ class Entry:
 
 def now() -> str:
     """The time as an entry has it."""
-    return datetime.datetime.now(datetime.timezone.utc).isoformat(timespec="milliseconds")
+    return datetime.datetime.now().astimezone().isoformat(timespec="milliseconds")
+
+
+def seconds_back(before: str, after: str) -> float:
+    """By how many seconds a time is before the one that came first; 0 where it isn't."""
+    try:
+        first, second = map(datetime.datetime.fromisoformat, (before, after))
+        return max(0.0, round((first - second).total_seconds(), 3))
+    except (ValueError, TypeError):
+        return 0.0
 
 
 def entry(what: str, epoch: str, log: bytes, start: int, **more: object) -> Entry:
@@ -81,7 +131,22 @@ def entry(what: str, epoch: str, log: bytes, start: int, **more: object) -> Entr
 
 
 class Damaged(Refused):
-    """The journal doesn't lead to the logs whose sums it has: somebody has changed it."""
+    """The journal doesn't lead to the logs whose checksums it has: somebody has changed it."""
+
+
+def need_version(first: Entry) -> None:
+    """Tests that a journal is of the form that this desk writes. Raises `Refused`."""
+    if first.more.get("version") != VERSION:
+        raise Refused(f"The journal is of version {first.more.get('version')}, and these tools read version {VERSION}.")
+
+
+def is_older(line: bytes) -> bool:
+    """Whether a line is an entry of a desk of before version 1, which had no chain."""
+    try:
+        found = json.loads(line)
+    except ValueError:
+        return False
+    return isinstance(found, dict) and "what" in found and "prev" not in found
 
 
 class Journal:
@@ -89,11 +154,18 @@ class Journal:
 
     def __init__(self, path: Path) -> None:
         self.path = path
+        self._known: tuple[bytes, list[Entry]] = b"", []  # what was read last, up to an entry
 
     def entries(self) -> list[Entry]:
         """All entries, oldest first. Raises `Missing` or `Refused`."""
-        lines = read_file(self.path).split(b"\n")[:-1]
-        return [found for found in map(Entry.of, lines) if found]
+        data, (known, found) = read_file(self.path), self._known
+        if known and data.startswith(known):
+            found = [*found, *chained(data[len(known) :], found[-1].line(), known.count(b"\n"))]
+        else:
+            found = chained(data)
+        if found and data.endswith(found[-1].line() + b"\n"):
+            self._known = data, found
+        return list(found)
 
     def last(self) -> Entry | None:
         """The newest entry, read from the end of the file. Raises `Missing` or `Refused`."""
@@ -109,12 +181,35 @@ class Journal:
                     return None
                 taken *= 8
 
+    def head(self) -> str:
+        """The checksum of the last line, which binds all lines. Raises `Missing` or `Refused`."""
+        with self._open(os.O_RDONLY) as handle:
+            return line_sum(self._last_lines(handle))
+
     def note(self, new: Entry) -> None:
-        """Adds an entry, synced. Raises `Refused` where nothing was written, and `Unsure`."""
+        """Adds an entry after the last line, synced. Raises `Refused` if nothing was written, and `Unsure`."""
+        last = self.last()
+        back = seconds_back(last.at, new.at) if last else 0
         with self._open(APPEND) as handle:
             size = os.fstat(handle).st_size
             is_torn = size > 0 and os.pread(handle, 1, size - 1) != b"\n"
-            append_once(handle, (TORN if is_torn else b"") + new.line() + b"\n", self.path.name)
+            more: dict[str, object] = dict(new.more)
+            if back:
+                more["back"] = back
+            line = dataclasses.replace(new, more=more, prev=line_sum(self._last_lines(handle))).line()
+            append_once(handle, (TORN if is_torn else b"") + line + b"\n", self.path.name)
+
+    def _last_lines(self, handle: int) -> bytes | None:
+        """The last entry's line and the torn ones after it, without their last line feed; None where there is none."""
+        size, taken = os.fstat(handle).st_size, BLOCK
+        while size:
+            data = os.pread(handle, taken, max(0, size - taken))
+            lines = (data[:-1] if data.endswith(b"\n") else data + TORN[:-1]).split(b"\n")
+            for place in range(len(lines) - 1, -1 if taken >= size else 0, -1):
+                if Entry.of(lines[place]) or (place == 0 and taken >= size):
+                    return b"\n".join(lines[place:])
+            taken *= 8
+        return None
 
     @contextlib.contextmanager
     def _open(self, flags: int) -> Iterator[int]:
@@ -130,6 +225,32 @@ class Journal:
         data = read_file(self.path)
         end = data.rfind(b"\n")
         write_again(self.path, data.rfind(b"\n", 0, max(0, end)) + 1)
+
+
+def line_sum(line: bytes | None) -> str:
+    """The checksum of a line of the journal, as the next one has it; zeros before the first."""
+    return NO_LINE if line is None else sum_of(line)
+
+
+def chained(data: bytes, before: bytes | None = None, lines: int = 0) -> list[Entry]:
+    """The entries of a journal, or of its rest after an entry's line and that many lines, oldest first. Raises
+    `Damaged` for one without the checksum of the line before it, and for a line that no desk has written."""
+    found = list[Entry]()
+    for number, line in enumerate(data.split(b"\n")[:-1], lines + 1):
+        new = Entry.of(line)
+        if new and not hmac.compare_digest(new.prev.encode(), line_sum(before).encode()):
+            raise Damaged(changed_words(number, f"of {new.at}, doesn't have the checksum of the line before it"))
+        # (one text has one reading, so no line says one thing to this reader and another to a person)
+        if new.line() != line if new else not line.endswith(TORN[:-1]):
+            raise Damaged(changed_words(number, "isn't as a desk writes it"))
+        found += [new] if new else []
+        before = line if new or before is None else before + b"\n" + line
+    return found
+
+
+def changed_words(number: int, what: str) -> str:
+    """What is said of a journal that somebody has changed."""
+    return f"The journal was changed by hand: its line {number}, {what}. Put its copy back."
 
 
 def replayed(entries: Sequence[Entry]) -> bytes:

@@ -20,12 +20,17 @@ CLOSE = b"close,,,\n"
 KINDS: dict[Stage, tuple[Kind, ...]] = {"clock": ("bid",), "sealed": ("draft", "drop", "submit"), "closed": ()}
 # Signs by which people set off thousands, as the desk itself does; the same one in all places.
 THOUSANDS = re.compile(r"\d{1,3}([,' \u00a0\u2009\u202f])\d{3}(?:\1\d{3})*")
+PROPORTION = 10  # an amount of this many times another one may be a typing error
 COUNTS = re.compile(r"\d+(?: \d+)*")
 FOREIGN = re.compile(r"[^\x20-\x7e\n]|\"")
 
 
 class NotLines(Exception):
-    """What was typed isn't text of lines: why, in a sentence for the page."""
+    """What was typed isn't text of lines: why, in a sentence for the page, and the field where it was typed."""
+
+    def __init__(self, why: str, field: str = "") -> None:
+        super().__init__(why)
+        self.field = field
 
 
 @dataclasses.dataclass(frozen=True)
@@ -50,9 +55,9 @@ class Typed:
     def record(self) -> bytes:
         """The line that the fields of the form state."""
         if not any(self.kind in kinds for kinds in KINDS.values()):
-            raise NotLines("Choose what was sent.")
+            raise NotLines("Choose what was sent.", "kind")
         if not self.bidder:
-            raise NotLines("Choose the bidder.")
+            raise NotLines("Choose the bidder.", "bidder")
         package = "" if self.kind == "submit" else counts_of(self.package)
         amount = amount_of(self.amount) if self.kind == "draft" else ""
         return plain(f"{self.kind},{self.bidder},{package},{amount}\n")
@@ -64,7 +69,8 @@ def counts_of(text: str) -> str:
     if not COUNTS.fullmatch(counts):
         raise NotLines(
             "A package is a count for each category with a space between them, 0 for none. "
-            f"{'It is empty' if not counts else f'`{clipped(counts)}` is typed'}."
+            f"{'It is empty' if not counts else f'`{clipped(counts)}` is typed'}.",
+            "package",
         )
     return counts
 
@@ -74,7 +80,8 @@ def amount_of(text: str) -> str:
     amount = text.strip()
     digits = re.sub(r"\D", "", amount) if THOUSANDS.fullmatch(amount) else amount
     if not (digits.isascii() and digits.isdecimal()):
-        raise NotLines(f"An amount is a whole number. {f'`{clipped(amount)}` is typed' if amount else 'It is empty'}.")
+        typed = f"`{clipped(amount)}` is typed" if amount else "It is empty"
+        raise NotLines(f"An amount is a whole number. {typed}.", "amount")
     return digits
 
 

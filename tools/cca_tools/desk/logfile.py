@@ -31,15 +31,30 @@ from cca_tools.desk.faults import (
     torn_line,
     whole_lines,
 )
-from cca_tools.desk.journal import Entry, Journal, entry, now, replayed
+from cca_tools.desk.journal import (
+    VERSION,
+    Entry,
+    Journal,
+    entry,
+    is_older,
+    need_version,
+    now,
+    replayed,
+    seconds_back,
+)
+from cca_tools.desk.record import is_publish_line, posted_text, public_of, seconds
 from cca_tools.rules import stops
-from cca_tools.rules.seals import key_of, new_key
+from cca_tools.rules.seals import Event, Row, Sealer, key_of, new_key
 
 __all__ = ["Base", "Busy", "Grown", "LogFile", "Mend", "Refused", "Stop", "Unsure", "Written", "warnings_of"]
 
 BASE = re.compile(r"([0-9a-f]{16})\.(0|[1-9][0-9]{0,11})\.([0-9a-f]{64})")
 NOBODY_ELSE = "Only you may be able to write there: `chmod go-w` takes that from others."
+FIRST_PORT, PORTS = 20_000, 10_000  # (the system draws ports from 32,768 on)
+LATEST = 200  # entries among which the latest time is looked for
 Check = Callable[[bytes], Sequence[str]]
+# The bytes of a log up to and with each admitted close, and whether the last one ends the auction.
+Closes = Callable[[bytes], tuple[Sequence[int], bool]]
 
 
 class Grown(Refused):
@@ -105,26 +120,45 @@ def shortened(what: str, epoch: str, data: bytes, length: int, **more: object) -
     return entry(what, epoch, data[:length], length, whole=[len(data), sum_of(data)], **more)
 
 
+def kept_more(*copies: Path) -> dict[str, object]:
+    """What an entry has about the files that keep what was taken away: their names and checksums."""
+    return {"kept": [it.name for it in copies], "kept_sums": [sum_of(read_file(it)) for it in copies]}
+
+
 class LogFile:
-    """The log under its lock, with its journal (`LOG.desk`), its key (`LOG.key`) and what was taken away beside it.
+    """The log under its lock, with its journal (`LOG.desk`), its key (`LOG.key`), the posted lines (`LOG.posted`) and
+    what was taken away next to it.
 
     It has no memory of the log: each call reads what the disk has, so that several desks may run, and a kill changes
     nothing. `key` has the bytes of the key's file.
     """
 
-    def __init__(self, path: Path, pins: Mapping[str, str], copies: Path | None = None) -> None:
+    def __init__(
+        self,
+        path: Path,
+        pins: Mapping[str, str],
+        copies: Path | None = None,
+        about: Mapping[str, str] | None = None,
+    ) -> None:
         """Makes the files that aren't there, and notes lines that no desk had answered.
 
-        `pins` are the sums of award and program by name. Raises `Refused` where locks don't work, a file is a link, the
+        `pins` are the checksums of award and program by name, and `about` is what else the journal's first entry says
+        about them. Raises `Refused` where locks don't work, a file is a link, the
         key is lost, or the journal began with other pins; `Unsure` where a new file can't be synced.
         """
         self.path, self.copies, self.key = path, copies, b""
         self._key_path, self._journal = beside(path, "key"), Journal(beside(path, "desk"))
+        self.posted_path, self._about = beside(path, "posted"), dict(about or {})
         self._pins, self._unsure, self._found = dict(pins), "", 0
         self._need_copies()
         self._start()
+        self._presence = disk.presence(self._key_path)
 
     # What the disk has
+
+    def is_shared(self) -> bool:
+        """Whether another desk has this log open."""
+        return disk.is_shared(self._presence)
 
     def read(self) -> bytes:
         """The log as it is. Raises `Refused` where it can't be read."""
@@ -136,7 +170,36 @@ class LogFile:
 
     def answered_at(self) -> list[tuple[str, str, int]]:
         """Each entry of the journal: its time (UTC, ISO 8601), what it is of, and the bytes of the log after it."""
-        return [(it.at, it.what, it.length) for it in self._journal.entries()]
+        return [(it.at, it.what, it.length) for it in self._journal.entries() if it.what != "posted"]
+
+    def journal_data(self) -> bytes:
+        """The bytes of the journal. Raises `Missing` or `Refused`."""
+        return read_file(self._journal.path)
+
+    def last_cut(self) -> Path | None:
+        """The file that keeps the log before the last cut, if nothing was written after it."""
+        for it in reversed(self._journal.entries()):
+            if it.what == "cut" and it.names("kept"):
+                return self.path.with_name(it.names("kept")[0])
+            if it.what not in ("posted", "cut ended", "started again", "other tools"):
+                return None
+        return None
+
+    def usual_port(self) -> int:
+        """A port that this log has at each start: it comes from the journal's first entry."""
+        return FIRST_PORT + int(self._journal.entries()[0].epoch, 16) % PORTS
+
+    def answered(self) -> bytes:
+        """The log as it was answered last, by the journal. Raises `Missing` or `Refused`."""
+        return replayed(self._journal.entries())
+
+    def posted(self) -> bytes:
+        """The posted lines, which the journal has too. Raises `Missing` or `Refused`."""
+        return self._need_prefix(read_file(self.posted_path), self._posted_text())
+
+    def clock_back(self) -> float:
+        """By how many seconds the clock of the machine is before the latest time of the journal; 0 if it isn't."""
+        return max(seconds_back(it.at, now()) for it in self._journal.entries()[-LATEST:])
 
     def stop(self) -> Stop | None:
         """What is wrong now with log, journal and key, or None."""
@@ -191,7 +254,7 @@ class LogFile:
         try:
             if read_file(self._key_path) == self.key:
                 return None
-            why = f"{self._key_path.name} was changed: it isn't the key whose sum was given out."
+            why = f"{self._key_path.name} was changed: it isn't the key whose checksum was posted."
         except Missing as fault:
             why = str(fault)
         return Stop(
@@ -232,6 +295,8 @@ class LogFile:
             if is_new and self._last().length:
                 self._note_again("restored", why="the log wasn't there, and was written from the journal")
             self._note_found(read_open(handle, self.path.name), self._last())
+            self._need_posted(self._posted_text())
+            disk.write_again(self.posted_path, 0)
             self._unsure = ""
             if why is not None and not self._log_stop(read_open(handle, self.path.name), self._last()):
                 self._note_again("started again", why=why)
@@ -255,20 +320,28 @@ class LogFile:
         """Tests the key and the journal of an earlier start, or makes them."""
         if not self._has_journal():
             self._take_key("")
-            first = entry("begun", new_epoch(), b"", 0, pins=self._pins, key=sum_of(self.key))
+            more: dict[str, object] = {"pins": self._pins, "key": sum_of(self.key), "about": self._about}
+            first = entry("begun", new_epoch(), b"", 0, version=VERSION, **more)
             if not disk.new_file(self._journal.path, first.line() + b"\n"):
                 self._begin_in_empty(first)
             return
         entries = self._journal.entries()
+        need_version(entries[0])
         replayed(entries)
         self._need_pins(entries[0])
         self._take_key(str(entries[0].more.get("key")))
         self._journal.settle()
+        known = [it.more["about"] for it in entries if "about" in it.more]
+        if self._about and known[-1:] != [self._about]:
+            self._note_again("other tools", about=self._about)
 
     def _begin_in_empty(self, first: Entry) -> None:
         """The first entry of a journal that is there and has nothing in it."""
-        if read_file(self._journal.path):
-            raise Refused(f"{self._journal.path.name} is no journal of a desk, and is never overwritten. Move it away.")
+        if data := read_file(self._journal.path):
+            name = self._journal.path.name
+            if is_older(data.split(b"\n")[0]):
+                raise Refused(f"{name} was begun by an older version of the desk. End this auction with that version.")
+            raise Refused(f"{name} is no journal of a desk, and is never overwritten. Move it away.")
         self._journal.note(first)
 
     def _need_pins(self, first: Entry) -> None:
@@ -292,7 +365,7 @@ class LogFile:
             data = read_file(self._key_path)
         except Missing:
             if known and not self.key:
-                raise Refused(f"{name} isn't there, and its sum was given out. Put its copy back.") from None
+                raise Refused(f"{name} isn't there, and its checksum was posted. Put its copy back.") from None
             data = self.key or new_key()
             disk.new_file(self._key_path, data)
             data = read_file(self._key_path)
@@ -301,7 +374,7 @@ class LogFile:
             disk.replaced(self._key_path, self.key)
             data = self.key
         if known and sum_of(data) != known:
-            raise Refused(f"{name} isn't the key whose sum was given out ({len(data)} bytes). Put its copy back.")
+            raise Refused(f"{name} isn't the key whose checksum was posted ({len(data)} bytes). Put its copy back.")
         try:
             key_of(data)
         except stops.Stop as fault:
@@ -356,7 +429,7 @@ class LogFile:
         found, self._found = self._found, 0
         return found
 
-    def append(self, base: Base, text: bytes, check: Check) -> Written:
+    def append(self, base: Base, text: bytes, check: Check, people: Mapping[str, str] | None = None) -> Written:
         """Writes lines, each with its line feed, onto the log that the base names, once, and notes their replies.
 
         `check` is called under the lock with the log as it would be, before anything is written; it gives the replies
@@ -379,7 +452,8 @@ class LogFile:
                     disk.write_again(self.path, last.length)
                 else:
                     self._write(handle, wanted, text)
-                self._note_line(entry("line", last.epoch, wanted, last.length, replies=list(replies)))
+                more = dict(people or {})
+                self._note_line(entry("line", last.epoch, wanted, last.length, replies=list(replies), **more))
             return Written(wanted, was_there)
 
     def _write(self, handle: int, wanted: bytes, text: bytes) -> None:
@@ -400,10 +474,77 @@ class LogFile:
         except Refused as fault:
             raise Unsure(f"What was sent is in the log, but the journal couldn't be written. {fault}") from None
 
+    # Posted lines
+
+    def _posted_text(self) -> bytes:
+        """All lines that the journal posts."""
+        return posted_text(self._journal.entries(), sum_of(self.key), self._pins["award"])
+
+    def _need_prefix(self, data: bytes, wanted: bytes) -> bytes:
+        """The bytes of `LOG.posted`, if the lines that the journal posts begin with them. Raises `Refused`."""
+        if wanted.startswith(data):
+            return data
+        row = data[: common_length(data, wanted)].count(b"\n") + 1
+        raise Refused(
+            f"{self.posted_path.name} was changed by hand: its line {row} isn't the one that the journal posted. Put"
+            " its copy back, or move it away and start the desk again: it writes the lines of the journal."
+        )
+
+    def _need_posted(self, wanted: bytes) -> None:
+        """Completes `LOG.posted` if a kill has left it shorter than the lines that the journal posts: nobody has seen
+        more than the file had. Raises `Refused` if it has anything else."""
+        path = self.posted_path
+        try:
+            data = self._need_prefix(read_file(path), wanted)
+        except Missing:
+            disk.new_file(path, wanted)
+            return
+        if len(data) < len(wanted):
+            with disk.opened(path, disk.APPEND) as handle:
+                disk.append_once(handle, wanted[len(data) :], path.name)
+
+    def post(self, closes_of: Closes, is_publish: bool = False) -> int:
+        """Posts what is due: notes in the journal, and then adds to `LOG.posted`, a line for each public event of this
+        log that has none; `is_publish` is whether the set is made now. Returns how many. Raises `Refused` and
+        `Unsure`."""
+        with self._held() as handle:
+            data, last = self._ready(handle)
+            last = self._note_found(data, last)
+            entries = self._journal.entries()
+            posted = self._posted_text()
+            self._need_posted(posted)
+            try:
+                due = public_of(entries).due(*closes_of(data))
+            except ValueError as fault:
+                raise Refused(f"The journal and the log don't agree: {fault}.") from None
+            if is_publish and (due or not is_publish_line(entries[-1])):
+                due.append(Event("publish", 0, len(data)))
+            sealer = Sealer(self.key, self._pins["award"])
+            for event in due:
+                at = now()
+                row = sealer.row(event, seconds(at), data, self._journal.head(), posted)
+                self._post_row(replace(last, at=at), row, event.length)
+                posted += f"{row.text()}\n".encode()
+            return len(due)
+
+    def _post_row(self, last: Entry, row: Row, length: int) -> None:
+        """Posts a line. Once the journal has it a start completes `LOG.posted`, so a kill loses no line, and no number
+        is used twice."""
+        more = {"line": row.text(), "upto": length}
+        self._journal.note(replace(last, what="posted", start=last.length, text=b"", more=more))
+        with disk.opened(self.posted_path, disk.APPEND) as handle:
+            try:
+                disk.append_once(handle, f"{row.text()}\n".encode(), self.posted_path.name)
+            except Refused as fault:
+                raise Unsure(f"A line is noted in the journal and not posted yet. {fault}") from None
+
     # Cuts and mends
 
-    def cut(self, base: Base, length: int, why: str) -> Path:
-        """Cuts the log to its first `length` bytes, a round held again. Gives the file that keeps the longer log."""
+    def cut(
+        self, base: Base, length: int, why: str, stay: bool = False, people: Mapping[str, str] | None = None
+    ) -> Path:
+        """Cuts the log to its first `length` bytes, for a round that is held again; `stay` is whether only a close is
+        taken back. Returns the file that keeps the longer log."""
         with self._held() as handle:
             data, last = self._ready(handle)
             need_base(base, data, last)
@@ -412,12 +553,13 @@ class LogFile:
             if not 0 <= length < len(data) or data[:length] != whole_lines(data[:length]):
                 raise Refused(f"The log has {len(data)} bytes, and no line to cut begins at byte {length}.")
             self._note_found(data, last)
-            return self._cut(handle, data, length, why)
+            return self._cut(handle, data, length, why, stay, dict(people or {}))
 
-    def _cut(self, handle: int, data: bytes, length: int, why: str) -> Path:
+    def _cut(self, handle: int, data: bytes, length: int, why: str, stay: bool, people: Mapping[str, object]) -> Path:
         """Keeps the log, notes the cut, and cuts."""
         copy = disk.kept(self.path, "cut", data)
-        self._journal.note(shortened("cut", new_epoch(), data, length, why=why, kept=[copy.name]))
+        more = {**kept_more(copy), **({"stay": True} if stay else {}), **people}
+        self._journal.note(shortened("cut", new_epoch(), data, length, why=why, **more))
         self._shorten(handle, length)
         with contextlib.suppress(Refused):  # (it is noted before the next line then)
             self._note_again("cut ended")
@@ -429,7 +571,7 @@ class LogFile:
         if not disk.is_named(handle, self.path):
             raise Unsure(f"The log was cut, but another file has taken the place of {self.path.name}.")
 
-    def mend(self, mend: Mend, why: str) -> None:
+    def mend(self, mend: Mend, why: str, people: Mapping[str, str] | None = None) -> None:
         """Does what a stop's mend names, under the lock, with a copy of what is taken away and an entry of the journal.
 
         Raises `Refused` where the log doesn't have this fault any more, and `Unsure`. `end line` doesn't test that the
@@ -446,9 +588,9 @@ class LogFile:
             stop = self._stop(data)
             if stop is None or not stop.allows(mend):
                 raise Refused("The log doesn't have this fault any more. Load the page again.")
-            self._mended(handle, data, mend, why)
+            self._mended(handle, data, mend, why, dict(people or {}))
 
-    def _mended(self, handle: int, data: bytes, mend: Mend, why: str) -> None:
+    def _mended(self, handle: int, data: bytes, mend: Mend, why: str, people: Mapping[str, object]) -> None:
         """Mends a log that has the fault for this."""
         match mend:
             case "take back":
@@ -456,16 +598,37 @@ class LogFile:
             case "end line":
                 self._end_line(handle, data, why)
             case "cut again":
-                self._cut(handle, data, self._last().length, why)
+                last = self._last()
+                again = {it: last.more[it] for it in ("by", "approved") if it in last.more}
+                self._cut(handle, data, last.length, why, last.more.get("stay") is True, again)
+            case "put back":
+                self._put_back(handle, data, why)
             case "keep changed log":
-                self._keep_changed(data, why)
+                self._keep_changed(data, why, people)
+
+    def answered_length(self) -> int:
+        """The bytes of the log that were answered, or noted as found."""
+        return self._last().length
+
+    def take_out(self, why: str) -> None:
+        """Takes out what is after the answered lines and is no line, and keeps it. Raises `Refused` and `Unsure`."""
+        with self._held() as handle:
+            data, last = read_open(handle, self.path.name), self._last()
+            if fault_of(data, last) not in (None, "torn") or len(data) <= last.length:
+                raise Refused("The log doesn't have this fault any more. Load the page again.")
+            self._take_away(handle, data, data[: last.length], why)
 
     def _take_back(self, handle: int, data: bytes, why: str) -> None:
         """Takes a torn last line out of the log, and keeps it."""
         lines = whole_lines(data)
-        last = self._note_found(lines, self._last())
+        self._note_found(lines, self._last())
+        self._take_away(handle, data, lines, why)
+
+    def _take_away(self, handle: int, data: bytes, lines: bytes, why: str) -> None:
+        """Cuts the log to its noted lines, and keeps what was after them."""
+        last = self._last()
         copy = disk.kept(self.path, "torn", data[len(lines) :])
-        self._journal.note(shortened("taken back", last.epoch, data, len(lines), why=why, kept=[copy.name]))
+        self._journal.note(shortened("taken back", last.epoch, data, len(lines), why=why, **kept_more(copy)))
         self._shorten(handle, len(lines))
 
     def _end_line(self, handle: int, data: bytes, why: str) -> None:
@@ -475,14 +638,25 @@ class LogFile:
         self._write(handle, data + b"\n", b"\n")
         self._note_line(entry("ended", last.epoch, data + b"\n", last.length, why=why))
 
-    def _keep_changed(self, data: bytes, why: str) -> None:
+    def _put_back(self, handle: int, data: bytes, why: str) -> None:
+        """Makes the log again what was answered, and keeps the changed one. A kill in between leaves a changed log,
+        which can be put back again."""
+        answered = self.answered()
+        self._note_again("put back", why=why, **kept_more(disk.kept(self.path, "changed", data)))
+        start = common_length(answered, data)
+        self._shorten(handle, start)
+        if answered[start:]:
+            self._write(handle, answered, answered[start:])
+
+    def _keep_changed(self, data: bytes, why: str, people: Mapping[str, object]) -> None:
         """Goes on with a log that was changed by hand. It and the answered one are kept; no older page fits."""
         answered, lines = replayed(self._journal.entries()), whole_lines(data)
-        copies = [disk.kept(self.path, kind, log).name for kind, log in (("changed", data), ("answered", answered))]
+        copies = [disk.kept(self.path, kind, log) for kind, log in (("changed", data), ("answered", answered))]
         start = common_length(answered, lines)
         disk.write_again(self.path, start)
-        more = {"why": why, "kept": copies, "whole": [len(answered), sum_of(answered)]}
-        self._journal.note(entry("changed", new_epoch(), lines, start, **more))
+        whole: dict[str, object] = {"whole": [len(answered), sum_of(answered)]}
+        more = {**kept_more(*copies), **whole, **people}
+        self._journal.note(entry("changed", new_epoch(), lines, start, why=why, **more))
 
     def copy_out(self) -> None:
         """Copies log, journal and key to the folder for copies, synced. Raises `Refused` where that can't be done, and
@@ -491,7 +665,8 @@ class LogFile:
             return
         with self._held() as handle:
             data, _ = self._ready(handle)
-            files = {self._key_path: self.key, self._journal.path: read_file(self._journal.path), self.path: data}
+            own = self._journal.path, self.posted_path
+            files = {self._key_path: self.key, **{path: read_file(path) for path in own}, self.path: data}
             for path, copy in files.items():
                 disk.replaced(self.copies / path.name, copy)
 
@@ -501,7 +676,7 @@ def warnings_of(path: Path, copies: Path | None = None) -> list[str]:
     found = []
     for folder in (path.absolute().parent, *([] if copies is None else [copies.absolute()])):
         found += folder_warnings(folder)
-    for file in (path, beside(path, "desk"), beside(path, "key")):
+    for file in (path, beside(path, "desk"), beside(path, "key"), beside(path, "posted")):
         with contextlib.suppress(OSError):
             if os.stat(file, follow_symlinks=False).st_mode & (stat.S_IRWXG | stat.S_IRWXO):
                 found.append(f"Others may read or change {file.name}. `chmod 600` takes that from them.")

@@ -72,24 +72,33 @@ class Program:
     def auction(self, log: bytes) -> Ended:
         """What `cca auction` answers to a log. Raises `NoProgram`."""
         with Memory("log", log) as log_file, Memory("book", is_sealed=False) as book:
-            files = self._award, log_file, book
-            try:
-                run = subprocess.run(
-                    ["cca", "auction", *(file.path for file in files)],
-                    executable=self._program.path,
-                    pass_fds=[file.handle for file in (self._program, *files)],
-                    stdin=subprocess.DEVNULL,
-                    stdout=subprocess.PIPE,
-                    stderr=subprocess.DEVNULL,
-                    timeout=SECONDS,
-                    check=False,
-                )
-            except subprocess.TimeoutExpired:
-                raise NoProgram(f"The program doesn't answer within {SECONDS:g} s.") from None
-            except OSError as fault:
-                raise NoProgram(f"The program can't be started: {fault.strerror}.") from None
-            lines = run.stdout.decode("ascii", "replace").splitlines()
-            if run.returncode not in (DONE, REFUSED, LIMIT):
+            status, lines = self._run("auction", self._award, log_file, book)
+            if status not in (DONE, REFUSED, LIMIT):
                 last = f", and its last line is `{lines[-1]}`" if lines else ""
-                raise NoProgram(f"The program ended with status {run.returncode}, which no log leads to{last}.")
-            return Ended(lines, run.returncode, book.read())
+                raise NoProgram(f"The program ended with status {status}, which no log leads to{last}.")
+            return Ended(lines, status, book.read())
+
+    def winners(self, book: bytes) -> int | None:
+        """How many bidders win by a book, as `cca win` finds them; None if a limit stops it. Raises `NoProgram`."""
+        with Memory("book", book) as file:
+            status, lines = self._run("win", file)
+            return sum(line.startswith("winner ") for line in lines) if status == DONE else None
+
+    def _run(self, command: str, *files: Memory) -> tuple[int, list[str]]:
+        """The status of a command of the program over these files, and the lines that it prints."""
+        try:
+            run = subprocess.run(
+                ["cca", command, *(file.path for file in files)],
+                executable=self._program.path,
+                pass_fds=[file.handle for file in (self._program, *files)],
+                stdin=subprocess.DEVNULL,
+                stdout=subprocess.PIPE,
+                stderr=subprocess.DEVNULL,
+                timeout=SECONDS,
+                check=False,
+            )
+        except subprocess.TimeoutExpired:
+            raise NoProgram(f"The program doesn't answer within {SECONDS:g} s.") from None
+        except OSError as fault:
+            raise NoProgram(f"The program can't be started: {fault.strerror}.") from None
+        return run.returncode, run.stdout.decode("ascii", "replace").splitlines()

@@ -7,33 +7,37 @@ Each form is answered by the address of a page (303), so that loading a page aga
 from __future__ import annotations
 
 import secrets
+import threading
 from collections.abc import Callable, Mapping
 from dataclasses import dataclass, field, replace
 from pathlib import Path
 from typing import Any, TypeAlias
 
 import jinja2
-from flask import Blueprint, Flask, Response, abort, make_response, redirect, render_template, request
+from flask import Blueprint, Flask, Response, abort, g, make_response, redirect, render_template, request
 from werkzeug.exceptions import HTTPException
 
-from cca_tools.desk import views
+from cca_tools.desk import files, search, views
 from cca_tools.desk.answers import NoLine
-from cca_tools.desk.control import Desk, Moment, Stopped, closes_of
+from cca_tools.desk.approval import Asked, People
+from cca_tools.desk.control import Desk, Moment, Stopped, WrongWords, closes_of, need_words
 from cca_tools.desk.ending import Ending, Outcome
 from cca_tools.desk.guard import FORM, HEADERS, MOST_BYTES, Guard
 from cca_tools.desk.lines import CLOSE, NotLines, Typed, agrees, cut_words, need_alone, plain
 from cca_tools.desk.logfile import Base, Mend, Refused, Stop, Written
+from cca_tools.desk.pasting import ListFaults, bidder_in, paste_of, sheet_of
+from cca_tools.desk.views import FormFault
 from cca_tools.page.ink import variables
 from cca_tools.rules.view import view_text
 
 Answer: TypeAlias = Response
 HERE = Path(__file__).parent
 KEPT = 50  # pages that can be loaded again
-REASON = 500
+REASON, NAME = 500, 80
 GONE = "That page is gone, and nothing was written by it. Enter the line again."
 STATUS_WORDS = {
     400: "The desk doesn't understand what was sent.",
-    403: "This isn't for you: enter by the key that the terminal shows, and use the desk's own pages.",
+    403: "This page needs the key that the terminal shows, and the desk's own forms. After each start the key is new.",
     404: "There is no such page.",
     405: "Pages are loaded, and forms are sent; nothing else is answered.",
     413: "More was sent than the desk takes at once, which is 1 MB.",
@@ -45,20 +49,26 @@ MENDS: dict[Mend, str] = {
     "take back": "Take that line back",
     "end line": "End that line",
     "cut again": "Cut again",
+    "put back": "Put the answered log back",
     "keep changed log": "Go on with the log as it is",
     "restart": "Start again",
+    "take out": "Take out what isn't answered",
 }
-# Of how many lines a form says why they would be refused.
-MOST_REASONS = 3
+KEEP: Mend = "keep changed log"
+KEEP_WORDS = "go on with the changed log"
+NOT_SECOND = "The second person approves or declines, and writes nothing."
 
 
 @dataclass(frozen=True)
 class Kept:
-    """What a form had, for the page that it leads to: the fields as typed, the lines, and what was wrong."""
+    """What a form had, for the page that it leads to: the fields as typed, the lines, what was wrong, and the lines
+    that the form keeps for later."""
 
     form: Mapping[str, str] = field(default_factory=dict)
     text: bytes = b""
     notice: str = ""
+    fault: FormFault = FormFault()
+    rest: str = ""
 
 
 class Store:
@@ -85,7 +95,12 @@ class Pages:
 
     def __init__(self, desk: Desk, guard: Guard, ending: Ending, with_demand: bool) -> None:
         self.desk, self.guard, self.ending, self.with_demand = desk, guard, ending, with_demand
-        self.store = Store()
+        self.store, self.people = Store(), People(bool(guard.second_key))
+        self.entered: list[str] = []  # the times at which browsers have entered
+        self.lock = threading.RLock()  # of everything but the room's screen
+        self.room = ""  # the room's screen as it was shown last
+        self.asked: Asked | None = None  # what waits for the second person
+        self.asked_keep: tuple[str, bytes] | None = None  # why to go on with which changed log, if that waits
         self.cuts: dict[str, views.CutDone] = {}
         self.outcomes: dict[str, tuple[str, Outcome]] = {}  # of each step: the log's sum, and what it came to
         self.sheet = style_sheet()
@@ -95,7 +110,28 @@ class Pages:
     def watch(self) -> Answer | None:
         """Refuses a request that the guard doesn't let in."""
         fault = self.guard.fault(request)
-        return self.refusal(fault) if fault else None
+        if fault:
+            return self.refusal(fault)
+        if self.guard.is_inside(request):
+            self.lock.acquire()
+            g.has_lock = True
+            if request.method == "POST" and self.is_second() and not self.may_send():
+                return make_response(render_template("refused.html", words=NOT_SECOND, door=""), 403)
+        return None
+
+    def leave_lock(self, fault: BaseException | None) -> None:
+        """Lets the next request of the desk in."""
+        if g.pop("has_lock", False):
+            self.lock.release()
+
+    def may_send(self) -> bool:
+        """Whether the second person may send this form: to approve, to decline, and to leave."""
+        is_keep = request.path.endswith("/mend") and request.form.get("mend") == KEEP and self.asked_keep is not None
+        return is_keep or request.path.endswith(("/approve", "/leave"))
+
+    def is_second(self) -> bool:
+        """Whether the second person asks."""
+        return self.guard.is_second(request)
 
     def headed(self, response: Answer) -> Answer:
         """Gives an answer the headers that each one has."""
@@ -104,7 +140,8 @@ class Pages:
 
     def refusal(self, status: int) -> Answer:
         """The page of a request that is refused, without any address of the desk."""
-        return make_response(render_template("refused.html", words=STATUS_WORDS.get(status, STATUS_WORDS[400])), status)
+        words = STATUS_WORDS.get(status, STATUS_WORDS[400])
+        return make_response(render_template("refused.html", words=words, door="/" if status == 403 else ""), status)
 
     def http_fault(self, fault: HTTPException) -> Answer:
         """The page of a fault of a request."""
@@ -113,39 +150,66 @@ class Pages:
     def shown(self, template: str, status: int = 200, /, **facts: Any) -> Answer:
         """A page of the desk."""
         guard = self.guard
-        text = render_template(template, inside=guard.inside, token=guard.token, host=guard.host, **facts)
+        room, waits = f"{guard.origin}/posted", self.asked is not None
+        more = {"room": room, "waits": waits, "is_second": self.is_second(), "is_over": facts.pop("is_over", False)}
+        text = render_template(template, inside=guard.inside, token=guard.token, host=guard.host, **more, **facts)
         return make_response(text, status)
 
     def to(self, place: str) -> Answer:
         """Sends the browser on to a page."""
         return make_response(redirect(f"{self.guard.inside}/{place}", 303))
 
-    def keep(self, place: str, text: bytes = b"", notice: str = "") -> Answer:
+    def keep(
+        self, place: str, text: bytes = b"", notice: str = "", fault: FormFault = FormFault(), rest: str = ""
+    ) -> Answer:
         """Keeps the form that was sent, and sends the browser on to the page that shows it."""
         fields = {name: value for name, value in request.form.items() if name not in ("token", "base", "text")}
-        return self.to(f"{place}/{self.store.keep(Kept(fields, text, notice))}")
+        return self.to(f"{place}/{self.store.keep(Kept(fields, text, notice, fault, rest))}")
+
+    def keep_fault(self, why: NotLines | Refused) -> Answer:
+        """Sends the browser on to the form that was sent, with what is wrong at its field."""
+        field_name = getattr(why, "field", "") or ("raw" if request.form.get("raw") else "")
+        if field_name or request.form.get("kind"):
+            return self.keep("entry", fault=FormFault(field_name or "package", [f"Nothing was written. {why}"]))
+        return self.keep("entry", notice=f"Nothing was written. {why}")
 
     # Without the key.
 
     def door(self) -> Answer:
         """The field for the key."""
-        return self.shown("door.html", is_wrong="wrong" in request.args)
+        return self.shown("door.html", is_wrong="wrong" in request.args, by_two=bool(self.guard.second_key))
 
     def enter(self) -> Answer:
         """Lets in who has the key."""
-        if not self.guard.is_key(request.form.get("key", "")):
+        person, name = self.guard.person_of(request.form.get("key", "")), " ".join(request.form.get("name", "").split())
+        if not person or not self.people.enter(person, name[:NAME]):
             return make_response(redirect("/?wrong", 303))
         answer = self.to("")
-        self.guard.let_in(answer)
+        self.guard.let_in(answer, person)
+        with self.lock:
+            self.entered.append(views.time_now())
+        return answer
+
+    def leave(self) -> Answer:
+        """Locks the desk for this browser: its cookie is gone, and the key opens it again."""
+        answer = make_response(redirect("/", 303))
+        self.guard.let_out(answer)
         return answer
 
     def posted(self) -> Answer:
-        """What everybody may know. While the desk can't answer it says nothing else than that."""
+        """What everybody may know. While the desk can't answer it says nothing else than that; while the desk is at
+        work for its own pages, it is as it was shown last."""
+        if not self.lock.acquire(blocking=False):
+            return make_response(self.room) if self.room else make_response(render_template("wait.html"), 503)
         try:
             facts = views.posted(self.desk, self.desk.now(), self.with_demand)
+            self.room = render_template("posted.html", posted=facts)
         except Stopped:
+            self.room = ""
             return make_response(render_template("wait.html"), 503)
-        return make_response(render_template("posted.html", posted=facts))
+        finally:
+            self.lock.release()
+        return make_response(self.room)
 
     def css(self) -> Answer:
         """The style sheet."""
@@ -159,15 +223,36 @@ class Pages:
 
     def with_reasons(self, kept: Kept) -> Kept:
         """A form that is corrected, with why its lines would be refused."""
-        if not kept.text or kept.notice:
+        if kept.notice or kept.fault.sentences:
             return kept
+        if not kept.text:
+            return self.with_paste_faults(kept)
         moment = self.desk.now()
         try:
-            lines = views.preview_page(moment, self.desk.preview(moment, kept.text)).lines
+            lines = views.preview_page(self.desk, moment, self.desk.preview(moment, kept.text)).lines
         except Refused as fault:
             return replace(kept, notice=str(fault))
-        reasons = [f"{line.record} would be refused: {line.reply}. {line.words}" for line in lines if not line.is_ok]
-        return replace(kept, notice=" ".join(reasons[:MOST_REASONS]))
+        reasons = [
+            f"{f'Line {row}, ' if len(lines) > 1 else ''}{line.record} would be refused: {line.reply}. {line.words}"
+            for row, line in enumerate(lines, 1)
+            if not line.is_ok
+        ]
+        if not reasons:
+            return kept
+        where = "raw" if kept.form.get("raw") else "amount" if "amount" in lines[0].words else "package"
+        return replace(kept, fault=FormFault(where, reasons))
+
+    def with_paste_faults(self, kept: Kept) -> Kept:
+        """A form that has kept lines of a paste, with why they are no lines, or why they would be refused."""
+        raw = kept.form.get("raw", "")
+        try:
+            paste = paste_of(raw, self.desk.award)
+            if paste.faults:
+                sentences = [it.words() for it in paste.faults]
+                return replace(kept, fault=FormFault("raw", sentences, len(paste.good)))
+            return self.with_reasons(replace(kept, text=plain("".join(f"{it}\n" for it in paste.good))))
+        except NotLines:
+            return kept
 
     def stage(self, kept: Kept) -> Answer:
         """The stage, with the form as it was typed and what was wrong."""
@@ -177,10 +262,24 @@ class Pages:
             waiting = self.desk.waiting(moment)
         except Refused as fault:
             notice = notice or str(fault)
-        shown = views.home(self.desk, moment, Typed.of(kept.form), waiting)
-        return self.shown(
-            "home.html", page=shown, notice=notice, outcomes=self.outcomes_of(moment), base=moment.base.text()
-        )
+        shown = views.home(self.desk, moment, Typed.of(kept.form), waiting, kept.fault)
+        facts = {
+            "outcomes": self.outcomes_of(moment),
+            "base": moment.base.text(),
+            "recut": self.cut_lines(moment)[1] > 0,
+            "entered": self.entered,
+            "set_out": self.set_out(moment),
+            "links": self.ending.links(moment.auction.stage == "closed"),
+            "can_price": self.desk.has_pricer,
+        }
+        return self.shown("home.html", page=shown, notice=notice, **facts)
+
+    def set_out(self, moment: Moment) -> str:
+        """The folder of a set that was made before the log had its last lines; nothing if there is none."""
+        if moment.auction.stage != "closed":
+            return ""
+        made = self.ending.older_set()
+        return made.name if made else ""
 
     def outcomes_of(self, moment: Moment) -> dict[str, Outcome]:
         """What the last steps have come to, as far as they are of this log."""
@@ -188,15 +287,62 @@ class Pages:
 
     def preview(self) -> Answer:
         """Takes what was typed to the page that shows the replies."""
+        typed, rest = Typed.of(request.form), ""
         try:
-            text = Typed.of(request.form).text()
+            if typed.raw:
+                paste = paste_of(typed.raw, self.desk.award)
+                if paste.faults and not (paste.good and "good" in request.form):
+                    sentences = [f"Nothing was written. {it.words()}" for it in paste.faults]
+                    return self.keep("entry", fault=FormFault("raw", sentences, len(paste.good)))
+                text, rest = plain("".join(f"{it}\n" for it in paste.good)), paste.rest
+            else:
+                text = typed.text()
             need_alone(text)
             if text == CLOSE:
                 return self.to("close")
             self.desk.preview(self.desk.now(), text)
         except (NotLines, Refused) as fault:
-            return self.keep("entry", notice=f"Nothing was written. {fault}")
-        return self.keep("preview", text)
+            return self.keep_fault(fault)
+        return self.keep("preview", text, rest=rest)
+
+    def list_form(self, number: str = "") -> Answer:
+        """The form for a list of a bidder as CSV."""
+        kept = self.store.find(number) if number else Kept()
+        page = views.list_form(self.desk, kept.form)
+        return self.shown("list.html", page=page, fault=kept.fault, notice=kept.notice)
+
+    def take_list(self) -> Answer:
+        """Takes a list that was handed in to the page that shows the replies to its lines."""
+        form = request.form
+        try:
+            moment = self.desk.now()
+            if moment.auction.stage != "sealed":
+                raise Refused("Lists are taken only after the clock has ended.")
+            name = form.get("bidder", "")
+            j = bidder_in(self.desk.award, name)
+            sheet = sheet_of(form.get("list", ""), self.desk.award, self.desk.names)
+            drafts = moment.auction.desks[j - 1].drafts
+            text = plain(sheet.lines(name, drafts, "whole" in form, "submit" in form))
+            self.desk.preview(moment, text)
+        except ListFaults as fault:
+            return self.keep("list", fault=FormFault("list", fault.faults))
+        except (NotLines, Refused) as fault:
+            where = getattr(fault, "field", "") or "list"
+            return self.keep("list", fault=FormFault(where, [f"Nothing was written. {fault}"]))
+        return self.to(f"preview/{self.store.keep(Kept({'raw': text.decode()}, text))}")
+
+    def cut_lines(self, moment: Moment) -> tuple[str, int]:
+        """The lines of the open round, or of the lists, that the last cut took away, if nothing was written after it;
+        and how many."""
+        text = files.cut_lines(self.desk, moment)
+        return text, text.count("\n")
+
+    def recut(self) -> Answer:
+        """Takes the lines that a cut took away to the page that shows the replies."""
+        text, many = self.cut_lines(self.desk.now())
+        if not many:
+            return self.keep("entry", notice="There are no cut lines to be entered again.")
+        return self.to(f"preview/{self.store.keep(Kept({'raw': text}, plain(text)))}")
 
     def take_waiting(self) -> Answer:
         """Takes lines of a rehearsal to the page that shows the replies."""
@@ -218,10 +364,17 @@ class Pages:
             return self.stage(kept)
         moment = self.desk.now()
         try:
-            page = views.preview_page(moment, self.desk.preview(moment, kept.text))
+            page = views.preview_page(self.desk, moment, self.desk.preview(moment, kept.text))
         except Refused as fault:
             return self.stage(Kept(kept.form, notice=f"Nothing was written. {fault}"))
-        facts = {"notice": kept.notice, "base": moment.base.text(), "text": kept.text.decode(), "number": number}
+        facts = {
+            "notice": kept.notice,
+            "base": moment.base.text(),
+            "text": kept.text.decode(),
+            "number": number,
+            "rest": kept.rest,
+            "rest_count": kept.rest.count("\n"),
+        }
         return self.shown("preview.html", page=page, **facts)
 
     def close(self, number: str = "") -> Answer:
@@ -233,7 +386,8 @@ class Pages:
         except Refused:
             waiting = []
         page = views.close_page(self.desk, moment, self.desk.effect(moment), waiting)
-        return self.shown("close.html", page=page, base=moment.base.text(), notice=kept.notice)
+        facts = {"base": moment.base.text(), "notice": kept.notice, "fault": kept.fault}
+        return self.shown("close.html", page=page, by_two=self.people.by_two, **facts)
 
     def write(self) -> Answer:
         """Writes lines."""
@@ -247,20 +401,80 @@ class Pages:
             return self.to(f"entry/{self.store.keep(Kept({'raw': sent}, notice=f'Nothing was written. {fault}'))}")
         except Refused as fault:
             return self.to(f"preview/{self.store.keep(Kept({'raw': sent}, text, str(fault)))}")
-        return self.to_lines(written, text.count(b"\n"))
+        rest = request.form.get("rest", "").replace("\r\n", "\n")
+        return self.to_lines(written, text.count(b"\n"), self.store.keep(Kept({"raw": rest})) if rest else "")
 
     def write_close(self) -> Answer:
-        """Writes a close."""
+        """Writes a close, or asks the second person."""
+        form = request.form
         try:
-            written = self.desk.close(Base.of(request.form.get("base", "")), request.form.get("typed", ""))
+            base, typed = Base.of(form.get("base", "")), form.get("typed", "")
+            if self.people.by_two:
+                moment = self.desk.now()
+                need_words(moment.auction, typed)
+                return self.ask(Asked("close", base, moment.data, {"typed": typed}))
+            written = self.desk.close(base, typed)
         except Refused as fault:
+            if isinstance(fault, WrongWords):
+                return self.keep("close", fault=FormFault("typed", [str(fault)]))
             return self.keep("close", notice=str(fault))
         return self.to_lines(written, 1)
 
-    def to_lines(self, written: Written, count: int) -> Answer:
-        """Sends the browser on to the page of what was written."""
+    # Two people.
+
+    def ask(self, asked: Asked) -> Answer:
+        """Asks the second person to approve something."""
+        self.asked = asked
+        return self.to("approve")
+
+    def approval(self) -> Answer:
+        """What waits for the second person, as it would be done now."""
+        if not self.asked:
+            return self.to("")
+        moment = self.desk.noted()
+        if moment.data != self.asked.data:
+            self.asked = None
+            return self.keep("entry", notice="The log has changed, so what waited for the second person is gone.")
+        return self.shown("approve.html", asked=self.asked, **self.approved_page(self.asked, moment))
+
+    def approved_page(self, asked: Asked, moment: Moment) -> dict[str, Any]:
+        """What the second person sees of what waits."""
+        facts: dict[str, Any] = {"names": self.people.names(), "close": None, "cuts": ""}
+        if asked.kind == "close":
+            facts["close"] = views.close_page(self.desk, moment, self.desk.effect(moment), [])
+        else:
+            page = views.again_page(moment)
+            facts["cuts"] = next(
+                (f"{it.words}; {it.cuts}" for it in page.choices if it.typed == asked.form["typed"]), ""
+            )
+        return facts
+
+    def approve(self) -> Answer:
+        """Does what waits, once the second person has approved it; the first may only take it back."""
+        asked, says = self.asked, request.form.get("says", "")
+        self.asked = None if says in ("decline", "approve") else asked
+        if not asked or says != "approve":
+            return (
+                self.keep("entry", notice="Nothing was written: it was taken back or declined.")
+                if asked
+                else self.to("")
+            )
+        if not self.is_second():
+            self.asked = asked
+            return self.to("approve")
+        people = self.people.names()
+        try:
+            if asked.kind == "close":
+                return self.to_lines(self.desk.close(asked.base, asked.form["typed"], people), 1)
+            return self.do_cut(asked.base, self.desk.now(), int(asked.form["record"]), asked.form["why"], people)
+        except Refused as fault:
+            return self.keep("entry", notice=str(fault))
+
+    def to_lines(self, written: Written, count: int, rest: str = "") -> Answer:
+        """Sends the browser on to the page of what was written, with the number of a form that keeps other lines."""
         last = len(self.desk.answered(written.log).lines)
-        return self.to(f"lines/{last - count + 1}-{last}{'?again' if written.was_there else ''}")
+        more = [*(["again"] if written.was_there else []), *([f"rest={rest}"] if rest else [])]
+        return self.to(f"lines/{last - count + 1}-{last}{'?' if more else ''}{'&'.join(more)}")
 
     def lines(self, first: int, last: int) -> Answer:
         """What was written."""
@@ -268,7 +482,16 @@ class Pages:
         if not 1 <= first <= last <= len(moment.auction.lines):
             abort(404)
         page = views.written_page(self.desk, moment, first, last, "again" in request.args)
-        return self.shown("written.html", page=page, copy_fault=self.desk.copy_fault if page.seal else "")
+        rest = request.args.get("rest", "")
+        facts = {"copy_fault": self.desk.copy_fault, "rest": rest if rest in self.store.kept else ""}
+        facts["announcement"] = files.announcement(self.desk, moment, last, self.with_demand) if page.seal else ""
+        return self.shown("written.html", page=page, last=last, **facts)
+
+    def all_lines(self) -> Answer:
+        """All lines of the log, or those that are asked for."""
+        moment = self.desk.noted()
+        page = search.found_lines(self.desk, moment, search.Wanted.of(request.args))
+        return self.shown("all.html", page=page)
 
     # A bidder.
 
@@ -288,37 +511,91 @@ class Pages:
         answer.headers["Content-Disposition"] = f'attachment; filename="{name}.view"'
         return answer
 
+    def readback(self, name: str) -> Answer:
+        """What a bidder has sent, to be printed, compared by it and signed."""
+        page = views.readback(self.desk, self.desk.now(), self.number_of(name))
+        return self.shown("readback.html", page=page)
+
+    def views_zip(self) -> Answer:
+        """The views of all bidders, and the last announcement."""
+        data = files.views_zip(self.desk, self.desk.now(), self.with_demand)
+        return self.attached(data, f"{self.desk.log_path.name}.views.zip", "application/zip")
+
+    def announced(self, last: int) -> Answer:
+        """The announcement of a close as a file."""
+        moment = self.desk.now()
+        if not 1 <= last <= len(moment.auction.lines):
+            abort(404)
+        text = files.announcement(self.desk, moment, last, self.with_demand) or abort(404)
+        return self.attached(text.encode(), f"announcement-{last}.txt", "text/plain; charset=utf-8")
+
+    def attached(self, data: bytes, name: str, kind: str) -> Answer:
+        """A file to be kept."""
+        answer = Response(data, content_type=kind)
+        answer.headers["Content-Disposition"] = f'attachment; filename="{name}"'
+        return answer
+
+    def protocol(self) -> Answer:
+        """The journal as a protocol, to be printed and signed."""
+        self.desk.now()
+        return self.shown("protocol.html", text=files.protocol(self.desk))
+
+    def made(self, name: str) -> Answer:
+        """A file that a step at the end has made."""
+        path = self.ending.made_files().get(name) or abort(404)
+        kinds = {".html": "text/html; charset=utf-8", ".txt": "text/plain; charset=utf-8"}
+        return self.attached(path.read_bytes(), path.name, kinds.get(path.suffix, "application/octet-stream"))
+
     # A round held again.
 
     def again(self, number: str = "") -> Answer:
         """The closes after which the log can be cut."""
         kept = self.store.find(number) if number else Kept()
         moment = self.desk.noted()
-        facts = {"base": moment.base.text(), "notice": kept.notice, "form": kept.form}
-        return self.shown("again.html", page=views.again_page(moment), **facts)
+        facts = {"base": moment.base.text(), "notice": kept.notice, "form": kept.form, "fault": kept.fault}
+        return self.shown("again.html", page=views.again_page(moment), by_two=self.people.by_two, **facts)
 
     def cut(self) -> Answer:
-        """Cuts the log after a close."""
+        """Cuts the log after a close, or asks the second person."""
         moment, form = self.desk.now(), request.form
         record, why = form.get("record", -1, type=int), " ".join(form.get("why", "").split())[:REASON]
-        lengths = {0: 0, **{it.record: it.length for it in closes_of(moment.data, moment.auction)}}
         try:
-            if record not in lengths:
-                raise Refused("Nothing was cut: choose the close after which the log is cut.")
-            if not why:
-                raise Refused("Nothing was cut: say why the round is held again.")
-            if not agrees(form.get("typed", ""), cut_words(record)):
-                raise Refused(f"Nothing was cut: for the close that you chose, type {cut_words(record)}.")
-            kept = self.desk.cut(Base.of(form.get("base", "")), lengths[record], why)
+            wrong = self.cut_fault(moment, record, why)
+            if wrong.sentences:
+                return self.keep("again", fault=wrong)
+            base = Base.of(form.get("base", ""))
+            if self.people.by_two:
+                fields = {"record": str(record), "why": why, "typed": cut_words(record)}
+                return self.ask(Asked("cut", base, moment.data, fields))
+            return self.do_cut(base, moment, record, why, {})
         except Refused as fault:
             return self.keep("again", notice=str(fault))
+
+    def cut_fault(self, moment: Moment, record: int, why: str) -> FormFault:
+        """What is wrong in the form of a cut."""
+        if record not in lengths_of(moment):
+            choices = views.again_page(moment).choices
+            first = f"record-{choices[0].record}" if choices else ""
+            return FormFault(first, ["Nothing was cut: choose the close after which the log is cut."])
+        if not why:
+            return FormFault("why", ["Nothing was cut: give the reason; everybody reads it."])
+        if not agrees(request.form.get("typed", ""), cut_words(record)):
+            return FormFault("typed", [f"Nothing was cut: for the close that you chose, type {cut_words(record)}."])
+        return FormFault()
+
+    def do_cut(self, base: Base, moment: Moment, record: int, why: str, people: Mapping[str, str]) -> Answer:
+        """Cuts the log. Raises `Refused`."""
+        length, last = lengths_of(moment)[record], views.last_close(moment)
+        stay = last is not None and record == last.record - 1
+        kept = self.desk.cut(base, length, why, stay, people)
         number = secrets.token_hex(8)
-        self.cuts[number] = views.cut_done(self.desk, moment, lengths[record], kept.name, why)
+        self.cuts[number] = views.cut_done(self.desk, moment, length, kept.name, why)
         return self.to(f"cut/{number}")
 
     def cut_page(self, number: str) -> Answer:
         """What a cut has done."""
-        return self.shown("cut.html", page=self.cuts.get(number) or abort(404))
+        page = self.cuts.get(number) or abort(404)
+        return self.shown("cut.html", page=page, recut=self.cut_lines(self.desk.now())[1])
 
     # A stop, and the end.
 
@@ -328,11 +605,24 @@ class Pages:
             return self.to("")
         number = (request.view_args or {}).get("number", "")
         notice = self.store.kept[number].notice if number in self.store.kept else ""
-        mends = [(mend, MENDS[mend]) for mend in self.mends_of(fault.stop) if mend in MENDS]
-        return self.shown("stopped.html", 503, stop=fault.stop, mends=mends, notice=notice)
+        mends = [(mend, MENDS[mend]) for mend in self.mends_of(fault.stop) if mend in MENDS and mend != KEEP]
+        facts = {"stop": fault.stop, "mends": mends, "notice": notice, "keep": KEEP, "words": KEEP_WORDS}
+        facts |= {"asked_keep": self.asked_keep[0] if self.asked_keep else "", "names": self.people.names()}
+        return self.shown("stopped.html", 503, changes=self.changes(fault.stop), **facts)
+
+    def changes(self, stop: Stop) -> list[str]:
+        """What changes if the auctioneer goes on with a changed log; nothing if that can't be."""
+        if not stop.allows(KEEP):
+            return []
+        try:
+            return views.changes(self.desk)
+        except (NoLine, Refused, Stopped):
+            return []
 
     def mends_of(self, stop: Stop) -> list[Mend]:
         """The mends that fit a stop. A torn line that is whole except for its line feed can be ended too."""
+        if stop.mend == "put back":
+            return ["put back", KEEP]
         if stop.mend != "take back":
             return [stop.mend]
         try:
@@ -343,7 +633,7 @@ class Pages:
 
     def mend(self) -> Answer:
         """Mends the log as a button says."""
-        stop, wanted = self.desk.log.stop(), request.form.get("mend", "")
+        stop, wanted = self.desk.log.stop() or self.desk.line_stop(), request.form.get("mend", "")
         why = " ".join(request.form.get("why", "").split())[:REASON]
         for mend in self.mends_of(stop) if stop else []:
             if mend == wanted and mend in MENDS:
@@ -354,10 +644,29 @@ class Pages:
         """Mends the log where a reason is given."""
         try:
             if not why:
-                raise Refused("Nothing was changed: say why, for the journal.")
+                raise Refused("Nothing was changed: give the reason, for the journal.")
+            if mend == KEEP and not agrees(request.form.get("typed", ""), KEEP_WORDS):
+                raise Refused(f"Nothing was changed: to go on with the changed log, type {KEEP_WORDS}.")
+            if mend == KEEP and self.people.by_two:
+                return self.keep_by_two(why)
             self.desk.mend(mend, why)
         except Refused as fault:
             return self.keep("entry", notice=str(fault))
+        except Stopped as fault:
+            return self.keep("entry", notice=f"That was tried, and it failed. {fault.stop.why}")
+        return self.to("")
+
+    def keep_by_two(self, why: str) -> Answer:
+        """Goes on with a changed log once the second person has approved that; asks for it before. Raises `Refused` and
+        `Stopped`."""
+        data = self.desk.log.read()
+        if not self.is_second():
+            self.asked_keep = why, data
+            return self.to("")
+        asked, self.asked_keep = self.asked_keep, None
+        if asked is None or asked[1] != data:
+            raise Refused("Nothing was changed: the log isn't the one that this was asked for.")
+        self.desk.mend(KEEP, asked[0], self.people.names())
         return self.to("")
 
     def end(self, step: str) -> Answer:
@@ -367,12 +676,23 @@ class Pages:
             return self.to("")
         steps: dict[str, Callable[[], Outcome]] = {
             "award": lambda: self.ending.award(moment),
+            "price": lambda: self.ending.price(moment),
             "report": self.ending.report,
             "publish": lambda: self.ending.publish(moment),
         }
         run = steps.get(step) or abort(404)
-        self.outcomes[step] = moment.base.sum, run()
+        outcome = run()
+        # (a certificate of the pricer counts as the award, and the page offers what follows it)
+        self.outcomes["award" if step == "price" else step] = moment.base.sum, outcome
         return self.to("")
+
+
+def lengths_of(moment: Moment) -> dict[int, int]:
+    """The bytes of the log after each record after which it can be cut."""
+    lengths = {0: 0, **{it.record: it.length for it in closes_of(moment.data, moment.auction)}}
+    if last := views.last_close(moment):
+        lengths[last.record - 1] = last.length - len(CLOSE)
+    return lengths
 
 
 def style_sheet() -> str:
@@ -392,6 +712,7 @@ def make_app(desk: Desk, guard: Guard, ending: Ending, with_demand: bool = False
     app.jinja_env.undefined = jinja2.StrictUndefined
     app.before_request(pages.watch)
     app.after_request(pages.headed)
+    app.teardown_request(pages.leave_lock)
     app.register_error_handler(HTTPException, pages.http_fault)
     app.register_error_handler(Stopped, pages.stopped)
     for path, handler, method in OUTSIDE:
@@ -417,6 +738,19 @@ INSIDE = (
     ("/preview/<number>", "previewed", "GET"),
     ("/write", "write", "POST"),
     ("/lines/<int:first>-<int:last>", "lines", "GET"),
+    ("/leave", "leave", "POST"),
+    ("/list", "list_form", "GET"),
+    ("/list/<number>", "list_form", "GET"),
+    ("/list", "take_list", "POST"),
+    ("/recut", "recut", "POST"),
+    ("/approve", "approval", "GET"),
+    ("/approve", "approve", "POST"),
+    ("/all", "all_lines", "GET"),
+    ("/views.zip", "views_zip", "GET"),
+    ("/announcement/<int:last>", "announced", "GET"),
+    ("/protocol", "protocol", "GET"),
+    ("/made/<name>", "made", "GET"),
+    ("/bidder/<name>/readback", "readback", "GET"),
     ("/close", "close", "GET"),
     ("/close/<number>", "close", "GET"),
     ("/close", "write_close", "POST"),

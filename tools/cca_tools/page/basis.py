@@ -4,7 +4,6 @@ from __future__ import annotations
 
 import hashlib
 import pathlib
-import re
 from collections.abc import Sequence
 
 from cca_tools.page.document import (
@@ -22,15 +21,17 @@ from cca_tools.page.document import (
     columns,
 )
 from cca_tools.page.source import Source
-from cca_tools.version import ROOT, released, version
+from cca_tools.rules.mark import mark_of
+from cca_tools.rules.stops import MOST
+from cca_tools.version import released, version
 
 KINDS = {"award": "award", "log": "log", "book": "book of bids", "cert": "certificate"}
 PROVED = (
-    "Of the program `cca` is proved, for every award and log: whenever `cca audit` says yes, the book holds exactly the"
-    " bids that the activity rules admit, the winners are the first feasible choice of greatest net value, no coalition"
-    " blocks the prices, their sum is least in the core, and every other core point of that sum lies farther from the"
-    " Vickrey point. The proofs are over the program's own definitions, which `docs/DEFINITIONS.md` has; what has to"
-    " be believed is told in `README.md`."
+    "Of the program `cca`, built with proof, is proved for every award and log: whenever `cca audit` says yes, the book"
+    " holds exactly the bids that the activity rules admit, the winners are the first feasible choice of greatest net"
+    " value, no coalition blocks the prices, their sum is least in the core, and every other core point of that sum is"
+    " farther from the Vickrey point. The proofs are over the program's own definitions, which `docs/DEFINITIONS.md`"
+    " has; what has to be believed is told in `README.md`."
 )
 NOT_PROVED = (
     "That the log has what the bidders sent, and all of it, no program can say. This page itself isn't proved: its"
@@ -48,11 +49,13 @@ LEFT_OUT = [
 ]
 
 
-def kit() -> str:
-    """The line of the kit with which the program was proved, as README.md has it."""
-    page = ROOT / "README.md"
-    found = re.search(r"Proved with `([^`]+)`", page.read_text(encoding="utf-8")) if page.exists() else None
-    return found[1] if found else ""
+def mark(source: Source) -> str:
+    """Whether the program is proved, by its own mark and its checksum."""
+    path = pathlib.Path(source.program or "")
+    if not path.is_file():
+        return "The program isn't here, so nothing is known about its proof."
+    found = mark_of(path.read_bytes())
+    return f"The program here: {found.text}." + ("" if found.is_proved else " Nothing below applies to it.")
 
 
 def made_by() -> str:
@@ -94,8 +97,17 @@ def asked(source: Source) -> Words:
             " tested it; it isn't the published one."
         )
     if not source.said:
-        return Words("The certificate was tested by the second program. The program isn't here.")
-    return Words("The certificate was tested by two programs, which share no code.")
+        return Words(f"{found(source)}The certificate was tested by the second program. The program isn't here.")
+    return Words(f"{found(source)}The certificate was tested by two programs, which share no code.")
+
+
+def found(source: Source) -> str:
+    """That the program hasn't found the prices, if there are more winners than it prices."""
+    winners = len(source.certificate.winners) if source.certificate else 0
+    if winners <= MOST["winners"]:
+        return ""
+    most = MOST["winners"]
+    return f"{winners} bidders win, and the program finds prices for at most {most}: another program found these. "
 
 
 def section(source: Source, with_program: bool = False, more: Sequence[Block] = ()) -> Section:
@@ -107,7 +119,6 @@ def section(source: Source, with_program: bool = False, more: Sequence[Block] = 
             table = Table("Does the certificate pass?", columns("Tested by", "Answer"), verdicts(source))
             blocks.append(Cards([Card("", [table])]))
     blocks.append(Cards([Card("", [sums(source, with_program)])], size="wide"))
-    blocks += [Heading("What is proved"), Words(PROVED)]
-    blocks += [Words(f"Proved with `{kit()}`.")] if kit() else []
+    blocks += [Heading("What is proved"), Words(mark(source)), Words(PROVED)]
     blocks += [Words(NOT_PROVED), Words(made_by()), Heading("What isn't modelled"), Points(LEFT_OUT)]
     return Section("basis", "What this rests on", blocks)

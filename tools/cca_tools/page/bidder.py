@@ -16,6 +16,7 @@ from cca_tools.page.document import (
     Cards,
     Cell,
     Content,
+    Fold,
     Heading,
     Key,
     Picture,
@@ -85,9 +86,9 @@ class View:
 
 def posted_table(view: View, shown: Sequence[Round], c: int) -> Table:
     """The posted price of a category, and what the bidder asked for, by rounds."""
-    heads = columns("Round", "Price #", "You asked for #")
+    heads = columns("Round", f"Price{view.source.unit} #", "You asked for #")
     rows = [[number(it.number), number(it.prices[c]), number(it.packages[view.j - 1][c])] for it in shown]
-    return Table("By round", heads, rows)
+    return Table(f"{view.source.names.categories[c]} by round", heads, rows)
 
 
 def posted(view: View, shown: Sequence[Round]) -> Iterator[Card]:
@@ -98,7 +99,11 @@ def posted(view: View, shown: Sequence[Round]) -> Iterator[Card]:
         title, about = f"{name}: posted prices", rounds.price_about(name, shown, c)
         draw = drawing(c, title, about, [it.prices[c] for it in shown], scale)
         picture = Picture(title, about, draw, posted_table(view, shown, c), findings.of_posted(shown, c))
-        yield Card(name, [picture], f"{count(category.supply, 'lot')}, reserve {number(category.reserve)}")
+        yield Card(
+            name,
+            [picture if len(shown) > 1 else picture.table],
+            f"{count(category.supply, 'lot')}, reserve {number(category.reserve)}",
+        )
 
 
 def drawing(c: int, title: str, about: str, prices: list[Amount], scale: float | None) -> Callable[[], str]:
@@ -115,12 +120,10 @@ def round_section(view: View) -> Section:
     own = rounds.activity(view.source, shown, [view.j], auction.open_round is not None)
     blocks: list[Block] = [
         Words(running if auction.stage == "clock" else ended),
-        Key([("blue", "line", "posted price of a lot")]),
-    ]
-    blocks += [
+        *([Key([("blue", "line", "posted price of a lot")])] if len(shown) > 1 else []),
         Cards(list(posted(view, shown)), size=rounds.size(award)),
         Heading("Your package and eligibility"),
-        rounds.ACTIVITY_KEY,
+        *([rounds.ACTIVITY_KEY] if len(shown) > 1 else []),
     ]
     return Section("rounds", "The rounds", [*blocks, Cards([own], size="full")])
 
@@ -134,12 +137,15 @@ def line_section(view: View) -> Section:
     refused = sum(not reply.is_ok for _, reply in own)
     told = f"You sent {count(len(own), 'line')}; {was(refused, 'them')}. A line that is refused changes nothing."
     cards = lines.cards(view.source, [line for line, _ in seen], [reply for _, reply in seen])
-    return Section("lines", "Your lines", [Words(told), Cards(list(cards), size="wide")])
+    shown = Fold(
+        f"All {count(len(seen), 'line')} (to print them too, open them first)", [Cards(list(cards), size="wide")]
+    )
+    return Section("lines", "Your lines", [Words(told), shown])
 
 
 def draft_table(view: View, title: str, pairs: Sequence[Bid]) -> Table:
     """A list of the bidder's."""
-    heads = columns("No.", "Package", "Amount #")
+    heads = columns("No.", "Package", f"Amount{view.source.unit} #")
     rows: list[list[Content]] = [
         [number(entry), view.source.names.cell(package), number(amount)]
         for entry, (package, amount) in enumerate(pairs, 1)
@@ -157,7 +163,7 @@ def bids_table(view: View) -> Table:
         tone: Tone = "good" if place == won else ""
         key = Cell(f"{place}, won" if tone else f"{place}", tone=tone)
         rows.append([key, source.names.cell(package, tone), Cell(number(amount), tone=tone), whence[package]])
-    return Table("Your bids", columns("No.", "Package", "Amount #", "From"), rows)
+    return Table("Your bids", columns("No.", "Package", f"Amount{view.source.unit} #", "From"), rows)
 
 
 def bid_section(view: View) -> Section:
@@ -189,7 +195,7 @@ def winner_table(view: View) -> Table:
         ]
         for j in source.winners
     ]
-    return Table("Winners and prices, reserves included", columns("Winner", "Won", "Pays #"), rows)
+    return Table(f"Winners and prices{source.unit}, reserves included", columns("Winner", "Won", "Pays #"), rows)
 
 
 def own_words(view: View) -> Iterator[str]:

@@ -72,11 +72,11 @@ class Frame:
         return self.bottom - (height - self.low) / (self.high - self.low) * (self.bottom - self.top)
 
 
-def draw_scale(drawing: Drawing, frame: Frame, places: Sequence[int]) -> None:
-    """The numbers of these heights at the left. No line goes from them through the picture, where it would cross the
-    labels of marks."""
+def draw_scale(drawing: Drawing, frame: Frame, places: Sequence[int], is_log: bool = False) -> None:
+    """The numbers of these heights at the left; on a logarithmic scale those of percents. No line goes from them
+    through the picture, where it would cross the labels of marks."""
     for place in places:
-        y = frame.y(place)
+        y = frame.y(doublings(place, 100) if is_log else place)
         drawing.line(frame.left - 3, y, frame.left, y, "soft", 1)
         drawing.text(frame.left - 6, y + 4, f"{place:,}", side="end")
 
@@ -118,7 +118,7 @@ def draw_prices(drawing: Drawing, frame: Frame, prices: Sequence[Amount], height
 
 
 def label_prices(drawing: Drawing, frame: Frame, prices: Sequence[Amount], heights: Sequence[float]) -> None:
-    """The labels of all prices where they have room, else of the first and of the last."""
+    """The labels of all prices where they have room, else of the first and of the last, which also has its rise."""
     labels = [f"{price:,}" for price in prices]
     last = len(prices) - 1
     below = range(last) if max(map(width_of, labels)) < frame.slot else range(min(1, last))
@@ -126,27 +126,45 @@ def label_prices(drawing: Drawing, frame: Frame, prices: Sequence[Amount], heigh
         for at in below:
             if at == 0 or labels[at] != labels[at - 1]:
                 drawing.text(frame.x(at + 1) + 4, frame.y(heights[at]) + 14, labels[at], "blue")
-    drawing.text(frame.right, frame.y(heights[-1]) - 7, labels[-1], "blue", "end")
+    rise = f", +{words.per_cent(prices[-1] - prices[0], prices[0])}" if prices[0] and labels[0] != labels[-1] else ""
+    drawing.text(frame.right, frame.y(heights[-1]) - 7, labels[-1] + rise, "blue", "end")
 
 
 def price_part(
     drawing: Drawing, top: float, bottom: float, left: float, prices: Sequence[Amount], most: float | None
 ) -> Frame:
     """The prices of a category: in percent of its reserve where the categories share a scale up to this many, else on a
-    scale of its own. Either begins at the reserve, with room for a label below."""
-    heights = [100 * price / prices[0] for price in prices] if most else [float(price) for price in prices]
-    low = heights[0]
-    high = max(110.0, most) if most else max(heights[-1], low + 1)
-    drawing.text(0, top - 6, "price, in % of the reserve" if most else "price of a lot, on a scale of its own")
-    frame = Frame(left, WIDE, top + 18, bottom - 18, low, high, len(prices))
-    draw_scale(drawing, frame, ticks(low, high, 4) if most else [])
+    scale of its own. Either begins at the reserve, with room for a label below. The shared scale is logarithmic, so
+    that a rise of 10 % is seen beside one of 300 %."""
+    heights = [doublings(price, prices[0]) if most else float(price) for price in prices]
+    high = doublings(max(LEAST_RISE, most), 100) if most else max(heights[-1], heights[0] + 1)
+    drawing.text(0, top - 6, "price, in % of the reserve (log scale)" if most else "price of a lot, on its own scale")
+    frame = Frame(left, WIDE, top + 18, bottom - 18, heights[0], high, len(prices))
+    draw_scale(drawing, frame, price_ticks(most), is_log=True)
     draw_prices(drawing, frame, prices, heights)
     return frame
 
 
+LEAST_RISE = 110.0  # percent of the reserve, up to which a scale goes at least
+APART = 0.19  # of the scale's height: the room of a number
+
+
+def doublings(value: float | Fraction, first: float | Fraction) -> float:
+    """How often the first value has to be doubled for this one."""
+    return math.log2(value / first)
+
+
 def price_ticks(most: float | None) -> list[int]:
-    """The numbers of the scale of prices."""
-    return ticks(100, max(110.0, most), 4) if most else []
+    """The numbers of the shared scale of prices, in percent of the reserve, that have room above each other."""
+    if not most:
+        return []
+    most = max(LEAST_RISE, most)
+    round_numbers = [digit * 10**power for power in range(2, 16) for digit in (1, 2, 3, 4, 5)]
+    found = [100]
+    for place in sorted([110, 120, 150, *round_numbers[1:]]):
+        if place <= most and doublings(place, found[-1]) >= APART * doublings(most, 100):
+            found.append(place)
+    return found
 
 
 def runs(values: Sequence[object]) -> Iterator[tuple[int, int]]:
@@ -347,8 +365,8 @@ def draw_paid(drawing: Drawing, one: Paid, top: float, scale: float) -> None:
     drawing.text(min(WIDE, max(end, least + width)), top + 12, amount, "blue", "end")
 
 
-def paid(key: str, title: str, about: str, winners: Sequence[Paid]) -> str:
-    """For each winner what it bid and pays, all on one scale."""
+def paid(key: str, title: str, about: str, winners: Sequence[Paid], unit: str = "amount") -> str:
+    """For each winner what it bid and pays, all on one scale in this unit."""
     drawing = Drawing(key)
     most = max(max(one.bid, one.clock or 0) for one in winners) or 1
     scale, bottom = (WIDE - 4) / most, 50 * len(winners) + 4
@@ -363,17 +381,18 @@ def paid(key: str, title: str, about: str, winners: Sequence[Paid]) -> str:
             drawing.line(x, bottom, x, bottom + 4, "soft", 1)
             drawing.text(middle, bottom + 17, f"{place:,}", side="middle")
             right = middle + half
-    drawing.text(WIDE, bottom + 33, "amount, reserves included", side="end")
+    drawing.text(WIDE, bottom + 33, shortened(f"{unit}, reserves included", WIDE), side="end")
     return as_picture(key, title, about, (WIDE, bottom + 40), drawing.inner())
 
 
 @dataclass(frozen=True)
 class Band:
-    """The lots of a category: its name, and for each part of them whose it is, as the number of a winner or 0 for the
-    unsold ones, with how many there are."""
+    """The lots of a category: its name, for each part of them whose it is, as the number of a winner or 0 for the
+    unsold ones, with how many there are, and how wide a lot is: its MHz, or 1 if they aren't known."""
 
     name: str
     parts: Sequence[tuple[int, int]]
+    width: Fraction | int = 1
 
     @property
     def supply(self) -> int:
@@ -382,7 +401,37 @@ class Band:
 
 
 ROW = 30
-MOST_IN_ROW = 18
+MOST_IN_ROW = 18  # of the narrowest lots, so that each has room for its letter
+
+
+@dataclass(frozen=True)
+class Strip:
+    """How the lots of a category are drawn: in so many rows, with so many in each, and how wide one is, in parts of the
+    whole width."""
+
+    rows: int
+    in_row: int
+    cell: float
+
+
+def strips(every: Sequence[Band]) -> list[Strip]:
+    """How the lots of categories are drawn on one scale: a cell is as wide as its lot, in MHz or in lots. A lot that is
+    too wide for a row of its own gives all lots one width."""
+    widths = [band.width for band in every]
+    room = MOST_IN_ROW * min(widths)
+    if max(widths) > room:
+        widths, room = [1] * len(every), MOST_IN_ROW
+    rows = [math.ceil(band.supply / (room // width)) for band, width in zip(every, widths)]
+    in_rows = [math.ceil(band.supply / many) for band, many in zip(every, rows)]
+    longest = max(many * width for many, width in zip(in_rows, widths))
+    return [Strip(many, in_row, float(width / longest)) for many, in_row, width in zip(rows, in_rows, widths)]
+
+
+def has_widths(every: Sequence[Band]) -> bool:
+    """Whether cells are as wide as the MHz of their lots."""
+    return 1 < len({band.width for band in every}) and max(it.width for it in every) <= MOST_IN_ROW * min(
+        it.width for it in every
+    )
 
 
 def draw_cell(drawing: Drawing, x: tuple[float, float], y: float, winner: int, letter: str, says: str) -> None:
@@ -394,27 +443,27 @@ def draw_cell(drawing: Drawing, x: tuple[float, float], y: float, winner: int, l
     if winner == 0 or at > 1:
         over = drawing.hatch(f"l{at}", at - 1) if winner else drawing.hatch("soft")
         drawing.rect(place, y, width, ROW - 4, over, "ground", 2, "", says)
+    for edge in (y + 1.5, y + ROW - 5.5) if winner else ():
+        drawing.line(place, edge, share(x[0] + x[1]), edge, f"l{at}", 1.2)
     role = "letter" if winner else "ink"
     drawing.text(share(x[0] + x[1] / 2), y + 17.5, letter, role, "middle", under=fill, is_bold=bool(winner))
 
 
 def bands(key: str, title: str, about: str, every: Sequence[Band], names: Sequence[str], letters: Sequence[str]) -> str:
-    """A strip for each category, with a cell for each lot in the colour of its winner. Strips are equally long, and a
+    """A strip for each category, with a cell for each lot in the colour of its winner. All strips have one scale, and a
     strip of many lots has several rows."""
     drawing, y = Drawing(key), 0
-    for band in every:
+    for band, strip in zip(every, strips(every)):
         left = sum(lots for winner, lots in band.parts if winner == 0)
         room = "all sold" if not left else f"{left:,} of {band.supply:,} unsold"
         drawing.text(0, y + 13, shortened(band.name, WIDE - width_of(room) - 10), "ink", is_bold=True)
         drawing.text(share(1), y + 13, room, side="end")
         y += 20
-        rows = math.ceil(band.supply / MOST_IN_ROW)
-        in_row = math.ceil(band.supply / rows)
         for at, (winner, lots) in enumerate((it for it in band.parts for _ in range(it[1]))):
             who = f"{names[winner - 1]} wins {lots:,}" if winner else f"{lots:,} stay unsold"
             says = f"{who} of {words.count(band.supply, 'lot')} of {band.name}"
-            x = (at % in_row / in_row, 1 / in_row)
+            x = (at % strip.in_row * strip.cell, strip.cell)
             letter = letters[winner - 1] if winner else "\N{EN DASH}"
-            draw_cell(drawing, x, y + at // in_row * ROW, winner, letter, says)
-        y += rows * ROW + 8
+            draw_cell(drawing, x, y + at // strip.in_row * ROW, winner, letter, says)
+        y += strip.rows * ROW + 8
     return as_picture(key, title, about, y, drawing.inner())

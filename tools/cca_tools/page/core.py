@@ -23,6 +23,7 @@ Point: TypeAlias = tuple[Number, Number]
 # A set of winners, in order.
 Group: TypeAlias = tuple[BidderNumber, ...]
 TOP, BOTTOM = 22, 260
+MOST_TIMES = 8  # how many times what is paid above the Vickrey prices an axis may have
 SMALL = 60_000  # states times bids up to which a book needs no numpy
 
 
@@ -86,15 +87,31 @@ def corner(lowest: Sequence[Number], highest: Sequence[Number]) -> list[Point]:
     return [(left, bottom), (right, bottom), (right, top), (left, top)]
 
 
-def window(low: Number, high: Number) -> tuple[float, float]:
-    """Ends of an axis that leave room around both values."""
-    span = Fraction(high - low) or abs(Fraction(high)) / 4 or Fraction(1)
-    return float(low - span * 3 / 10), float(high + span * 12 / 100)
+def window(low: Number, high: Number, span: Number) -> tuple[float, float]:
+    """Ends of an axis that leave room around both values, in parts of this span."""
+    return float(low - Fraction(span) * 3 / 10), float(high + Fraction(span) * 12 / 100)
+
+
+def alike(
+    xs: tuple[float, float], ys: tuple[float, float], width: float, height: float
+) -> tuple[tuple[float, float], tuple[float, float]]:
+    """The ends of both axes on one scale, so that the nearest point looks nearest."""
+    unit = max((xs[1] - xs[0]) / width, (ys[1] - ys[0]) / height)
+    return (xs[0], xs[0] + unit * width), (ys[0], ys[0] + unit * height)
+
+
+def shown(low: Sequence[Number], bid: Sequence[Number], both: Number) -> list[Number]:
+    """Up to which payments of two winners a picture goes: up to both bids, unless the payments of least sum would be
+    too small then."""
+    above = both - low[0] - low[1]
+    if above <= 0 or max(high - least for least, high in zip(low, bid)) <= MOST_TIMES * above:
+        return list(bid)
+    return [min(high, least + 2 * above) for least, high in zip(low, bid)]
 
 
 @dataclass(frozen=True)
 class Stage:
-    """A picture with an axis for each of two winners: the values at its ends, and where it is drawn."""
+    """A picture with an axis for each of two winners, on one scale: the values at its ends, and where it is drawn."""
 
     drawing: Drawing
     xs: tuple[float, float]
@@ -125,8 +142,7 @@ class Stage:
             sides = [(tip[0] - 6 * a + 3 * s * b, tip[1] - 6 * b - 3 * s * a) for s in (1, -1)]
             self.drawing.path([sides[0], tip, sides[1]], "ink", 1.4)
         told = [f"{names[0]} {words.price(one)}, {names[1]} {words.price(other)}" for one, other in (low, pays)]
-        self.drawing.triangle(x, y - 5, 10, "orange", f"Vickrey prices: {told[0]}" if low != pays else told[0])
-        self.drawing.dot(u, v, 4.5, "blue", f"paid: {told[1]}")
+        draw_marks(self.drawing, (x, y), (u, v), f"Vickrey prices: {told[0]}", f"paid: {told[1]}")
 
     def axes(self, names: Sequence[str], xs: Sequence[Number], ys: Sequence[Number]) -> None:
         """The axes with their names, and numbers at these values, the first before the others, where they have room
@@ -156,10 +172,23 @@ class Stage:
         return [(value, place) for value, place, _ in found]
 
 
+def draw_marks(
+    drawing: Drawing, low: tuple[float, float], pays: tuple[float, float], low_says: str, pays_says: str
+) -> None:
+    """The marks of the Vickrey prices and of what is paid. A triangle is large enough to be seen around a dot that lies
+    over it."""
+    (x, y), (u, v) = low, pays
+    size = 10 if math.hypot(u - x, v - y) > 12 else 22
+    drawing.triangle(x, y - size * (0.5 if size == 10 else 0.62), size, "orange", low_says)
+    drawing.dot(u, v, 4.5, "blue", pays_says)
+
+
 def stage(key: str, xs: tuple[Number, Number], ys: tuple[Number, Number], marks: Sequence[Number]) -> Stage:
     """An empty picture from below the first value to above the last, with room for these numbers at its left."""
     left = max(width_of(words.price(value)) for value in marks) + 10
-    return Stage(Drawing(key), window(*xs), window(*ys), left)
+    span = max(Fraction(xs[1] - xs[0]), Fraction(ys[1] - ys[0])) or abs(Fraction(xs[1])) or Fraction(1)
+    across, up = alike(window(*xs, span), window(*ys, span), WIDE - 4 - left, BOTTOM - TOP)
+    return Stage(Drawing(key), across, up, left)
 
 
 def two(
@@ -173,18 +202,39 @@ def two(
     pays: Sequence[Fraction],
 ) -> str:
     """The payments of two winners: Vickrey prices, bids, what they have to pay together, and what they pay."""
-    made = stage(key, (low[0], bid[0]), (low[1], bid[1]), [low[1], bid[1], pays[1]])
+    most = shown(low, bid, both)
+    made = stage(key, (low[0], most[0]), (low[1], most[1]), [low[1], bid[1], pays[1]])
     left, bottom = Fraction(made.xs[0]), Fraction(made.ys[0])
-    core = clipped(corner(low, bid), 1, 1, both)
-    made.area(corner((left, bottom), bid), "reddish", says="somebody blocks")
+    ends = [min(Fraction(end), Fraction(high)) for end, high in zip((made.xs[1], made.ys[1]), bid)]
+    core = clipped(corner(low, ends), 1, 1, both)
+    made.area(corner((left, bottom), ends), "reddish", says="somebody blocks")
     made.area(core, "greenish", "green", "nobody blocks: the core")
     least = sorted(clipped(clipped(core, -1, -1, -sum(pays)), 1, 1, sum(pays)))
     if len(least) > 1:
-        ends = [made.at(*least[0]), made.at(*least[-1])]
-        made.drawing.path(ends, "red", 3, f"the least sum that nobody blocks: {words.price(sum(pays))}")
+        line = [made.at(*least[0]), made.at(*least[-1])]
+        made.drawing.path(line, "red", 3, f"the least sum that nobody blocks: {words.price(sum(pays))}")
     made.points(names, (low[0], low[1]), (pays[0], pays[1]))
     made.axes(names, [low[0], bid[0], pays[0]], [low[1], bid[1], pays[1]])
     return as_picture(key, title, about, (WIDE, BOTTOM + 42), made.drawing.inner())
+
+
+@dataclass(frozen=True)
+class Triangle:
+    """The payments of three winners that are at least their Vickrey prices and have one sum, as a triangle of equal
+    sides: at a corner one winner pays all that is above. So all distances are those of payments, on one scale."""
+
+    low: Sequence[Number]
+    above: Number
+
+    def at(self, x: Number, y: Number) -> tuple[float, float]:
+        """The place of what the first and the second winner pay; the third pays the rest."""
+        first, second = (float(Fraction(it - low) / self.above) for it, low in zip((x, y), self.low))
+        third = 1 - first - second
+        return MIDDLE + SIDE / 2 * (third - second), BASE - SIDE * math.sqrt(3) / 2 * first
+
+
+# The places of the triangle's corners: its base, the middle of it, and the length of a side.
+BASE, MIDDLE, SIDE = 252, WIDE / 2, 220
 
 
 def three(
@@ -197,19 +247,42 @@ def three(
     demands: Sequence[Amount],
     pays: Sequence[Fraction],
 ) -> str:
-    """The payments of least sum of three winners: two of them on the axes, and the third pays the rest of the sum."""
+    """The payments of least sum of three winners, if that is more than the sum of the Vickrey prices."""
     total = sum(pays)
-    xs = (low[0], max(pays[0], min(bid[0], total - low[1] - low[2])))
-    ys = (low[1], max(pays[1], min(bid[1], total - low[0] - low[2])))
-    made = stage(key, xs, ys, [low[1], bid[1], pays[1]])
-    (left, right), (bottom, top) = made.xs, made.ys
-    whole = corner([Fraction(left), Fraction(bottom)], [Fraction(right), Fraction(top)])
-    core = clipped(clipped(corner(low[:2], bid[:2]), -1, -1, low[2] - total), 1, 1, total - bid[2])
+    above = total - sum(low)
+    drawing, made = Drawing(key), Triangle(low, above)
+    ends = [(low[0] + above, low[1]), (low[0], low[1] + above), (low[0], low[1])]
+    core: list[Point] = [*ends]
+    drawing.area([made.at(*it) for it in core], "ground", "rule", says="all ways to share the least sum")
+    for (a, b), least in zip(((-1, 0), (0, -1), (1, 1)), (-bid[0], -bid[1], total - bid[2])):
+        core = clipped(core, a, b, least)
+    drawing.area([made.at(*it) for it in core], "reddish", says="somebody blocks")
     for (a, b), least in zip(((1, 1), (0, -1), (-1, 0)), (demands[0], demands[1] - total, demands[2] - total)):
         core = clipped(core, a, b, least)
-    made.area(whole, "reddish", says="somebody blocks")
-    made.area(core, "greenish", "green", "nobody blocks")
-    part = Fraction(total - sum(low), 3)
-    made.points(names, (low[0] + part, low[1] + part), (pays[0], pays[1]))
-    made.axes(names, [low[0], bid[0], pays[0]], [low[1], bid[1], pays[1]])
-    return as_picture(key, title, about, (WIDE, BOTTOM + 42), made.drawing.inner())
+    if core:
+        is_line = sum(x * v - u * y for (x, y), (u, v) in zip(core, core[1:] + core[:1])) == 0
+        places = [made.at(*it) for it in core]
+        drawing.area(places, "greenish", "green", 4 if is_line else 1.4, "nobody blocks")
+    part = Fraction(above, 3)
+    told = [f"{name} {words.price(amount)}" for name, amount in zip(names, low)]
+    paid = [f"{name} {words.price(amount)}" for name, amount in zip(names, pays)]
+    draw_marks(
+        drawing,
+        made.at(low[0] + part, low[1] + part),
+        made.at(pays[0], pays[1]),
+        f"Vickrey prices, each raised by the same: {words.listed(told)}",
+        f"paid: {words.listed(paid)}",
+    )
+    label_corners(drawing, made, names)
+    return as_picture(key, title, about, (WIDE, BASE + 44), drawing.inner())
+
+
+def label_corners(drawing: Drawing, made: Triangle, names: Sequence[str]) -> None:
+    """At each corner who pays how much there; the other two pay their Vickrey prices."""
+    most = [f"pays {words.price(low + made.above)}" for low in made.low]
+    drawing.text(MIDDLE, BASE - SIDE * math.sqrt(3) / 2 - 22, shortened(names[0], WIDE), "ink", "middle")
+    drawing.text(MIDDLE, BASE - SIDE * math.sqrt(3) / 2 - 7, most[0], side="middle")
+    drawing.text(0, BASE + 20, shortened(names[1], WIDE / 2 - 8), "ink")
+    drawing.text(0, BASE + 35, most[1])
+    drawing.text(WIDE, BASE + 20, shortened(names[2], WIDE / 2 - 8), "ink", "end")
+    drawing.text(WIDE, BASE + 35, most[2], side="end")

@@ -51,6 +51,7 @@ class Table:
     rows: Sequence[Sequence[Content]]
     note: str = ""
     is_full: bool = False  # takes all the room there is
+    is_result: bool = False  # has two lines for each winner where there is little room
 
     @property
     def is_long(self) -> bool:
@@ -80,6 +81,14 @@ class Words:
 
     text: str
     tone: Tone = ""
+
+
+@dataclass
+class Links:
+    """A paragraph of links to files that are beside the page: the text before them, and the path and words of each."""
+
+    text: str
+    links: Sequence[tuple[str, str]]
 
 
 @dataclass
@@ -132,13 +141,21 @@ class Cards:
 
 
 @dataclass
+class Fold:
+    """Blocks that a page shows once its reader opens them; a page is printed with them only then."""
+
+    title: str
+    blocks: Sequence[Block]
+
+
+@dataclass
 class Heading:
     """A heading within a section."""
 
     text: str
 
 
-Block: TypeAlias = Table | Picture | Words | Points | Figures | Key | Cards | Heading
+Block: TypeAlias = Table | Picture | Words | Links | Points | Figures | Key | Cards | Fold | Heading
 
 
 @dataclass

@@ -63,6 +63,20 @@ def of_prices(source: Source) -> str:
     return f"{wins(source, many)} {'pays its Vickrey price' if many == 1 else 'pay their Vickrey price'}; {told}"
 
 
+def of_award(source: Source) -> str:
+    """How many win, what they pay together, and for how many lots."""
+    if not source.winners:
+        return "Nobody wins"
+    book, many = given(source.book), len(source.winners)
+    whole, left = sum(book.supply), sum(book.left(given(source.certificate).choice))
+    pays = sum((source.pays(j) for j in source.winners), Fraction(0))
+    who = f"{source.names.bidder(source.winners[0])} pays" if many == 1 else f"{capital(spelled(many))} winners pay"
+    unit = f" {source.long.amounts()}" if source.long.amounts() else ""
+    every = {1: "the only lot", 2: "both lots"}.get(whole, f"all {number(whole)} lots")
+    lots = f"{number(whole - left)} of {number(whole)} lots" if left else every
+    return f"{who} {price(pays)}{unit} for {lots}"
+
+
 def of_payments(source: Source) -> str:
     """What the winners pay together, of what they bid."""
     pays = sum((source.pays(j) for j in source.winners), Fraction(0))
@@ -134,16 +148,20 @@ def of_clock(shown: Sequence[Round], has_open: bool) -> str:
 
 
 def of_activity(points: Sequence[Sequence[int]], eligibility: Sequence[Sequence[int]], has_open: bool) -> str:
-    """How the points that are asked for went over the closed rounds, and how many bidders lost eligibility. Both are
-    by bidder and by round."""
+    """How the points that are asked for went over the closed rounds, and how many bidders had less eligibility in the
+    last round than in the first. Both are by bidder and by round."""
     closed = len(points[0]) - has_open
+    since = f"from round 1 to round {len(points[0]):,}"
     if len(points) == 1:
         lost = eligibility[0][0] - eligibility[0][-1]
-        return f"Eligibility fell by {count(lost, 'point')}" if lost else "No eligibility was lost"
+        fell = f"fell by {count(lost, 'point')}" if lost else "stayed the same"
+        return f"Eligibility {fell} {since}" if len(points[0]) > 1 else "Points asked for and eligibility"
     losers = sum(one[-1] < one[0] for one in eligibility)
     whole = len(points)
     who = "no bidder" if not losers else f"all {spelled(whole)} bidders" if losers == whole else ""
-    lost_words = f"{who or f'{spelled(losers)} of {spelled(whole)} bidders'} lost eligibility"
+    lost_words = f"{who or f'{spelled(losers)} of {spelled(whole)} bidders'} lost eligibility {since}"
+    if len(points[0]) < 2:
+        return "Points asked for and eligibility"
     if closed < 2:
         return capital(lost_words)
     first, last = sum(one[0] for one in points), sum(one[closed - 1] for one in points)

@@ -15,8 +15,10 @@ from cca_tools.page.document import (
     Column,
     Content,
     Figures,
+    Fold,
     Heading,
     Key,
+    Links,
     Page,
     Picture,
     Points,
@@ -48,9 +50,9 @@ def parts(cell: Content) -> tuple[str, str, str]:
 
 
 # The widest letter that is usual in tables, in units of 16 pixels, and the widths of stack.css.
-LETTER, STACKS = 0.56, (22, 28, 36, 48, 62)
+LETTER, STACKS = 0.56, (22, 28, 36, 42, 48, 62)
 # The letters of the head of a row up to which it stays on one line; of several bidders it has more.
-MOST_KEY = 24
+MOST_KEY = 16
 
 
 def wraps(table: Table) -> bool:
@@ -73,8 +75,8 @@ def least_width(table: Table, i: int, column: Column) -> int:
 def stack(table: Table) -> str:
     """The class of a table whose cells are one below the other where there is too little room; none where it always has
     room."""
-    if table.is_full:
-        return "lines"
+    if table.is_full or table.is_result:
+        return "lines" if table.is_full else "result"
     letters = sum(least_width(table, i, column) + 1 for i, column in enumerate(table.columns))
     width = LETTER * letters
     return "" if width <= 18 else f"stack{next((it for it in STACKS if it >= width), STACKS[-1])}"
@@ -153,6 +155,9 @@ class Writer:
         if isinstance(block, Words):
             named = f' class="{block.tone}"' if block.tone else ""
             yield f"<p{named}>{marked(block.text)}</p>\n"
+        elif isinstance(block, Links):
+            every = [f'<a href="{escape(path)}">{escape(words)}</a>' for path, words in block.links]
+            yield f"<p>{escape(block.text)} {', '.join(every)}.</p>\n"
         elif isinstance(block, Points):
             yield f"<ul>{''.join(f'<li>{marked(item)}</li>' for item in block.items)}</ul>\n"
         elif isinstance(block, Heading):
@@ -166,6 +171,11 @@ class Writer:
             yield from table_texts(block, next(self.numbers))
         elif isinstance(block, Picture):
             yield from self.picture(block)
+        elif isinstance(block, Fold):
+            yield f"<details>\n<summary>{escape(block.title)}</summary>\n"
+            for inner in block.blocks:
+                yield from self.block(inner)
+            yield "</details>\n"
         else:
             yield from self.cards(block)
 

@@ -5,7 +5,7 @@ from __future__ import annotations
 import re
 from collections.abc import Callable, Iterator, Sequence
 
-from cca_tools.page.document import Card, Cards, Cell, Content, Section, Table, Tone, Words, columns
+from cca_tools.page.document import Card, Cards, Cell, Content, Fold, Section, Table, Tone, Words, columns
 from cca_tools.page.source import Source, given
 from cca_tools.page.words import Names, commas, count, number, was
 from cca_tools.rules.auction import Auction, Reply
@@ -159,6 +159,9 @@ def section(source: Source) -> Section:
                 "Each line is in words and, below, as the log has it; each reply in words and as the program"
                 " prints it."
             ),
-            Cards(list(cards(source, auction.lines, auction.replies)), size="wide"),
+            Fold(
+                f"All {count(len(auction.lines), 'line')} of the log (to print them too, open them first)",
+                [Cards(list(cards(source, auction.lines, auction.replies)), size="wide")],
+            ),
         ],
     )

@@ -13,7 +13,9 @@ from cca_tools.page.document import (
     Cell,
     Content,
     Figures,
+    Fold,
     Heading,
+    Links,
     Page,
     Picture,
     Points,
@@ -105,6 +107,8 @@ def block_lines(block: Block) -> Iterator[str]:
     """The lines of a block, and an empty one. What the marks of pictures mean isn't shown, since there are none."""
     if isinstance(block, Words):
         yield from [*wrapped(block.text), ""]
+    elif isinstance(block, Links):
+        yield from [*wrapped(f"{block.text} {', '.join(path for path, _ in block.links)}."), ""]
     elif isinstance(block, Points):
         yield from [*(line for item in block.items for line in wrapped(item, before="- ")), ""]
     elif isinstance(block, Heading):
@@ -114,6 +118,9 @@ def block_lines(block: Block) -> Iterator[str]:
         yield from [*(f"{head:<{width}}  {value}" for head, value in block.pairs), ""]
     elif isinstance(block, (Table, Picture)):
         yield from table_lines(block.table if isinstance(block, Picture) else block)
+    elif isinstance(block, Fold):
+        for inner in block.blocks:
+            yield from block_lines(inner)
     elif isinstance(block, Cards):
         for card in block.cards:
             yield from card_lines(card)

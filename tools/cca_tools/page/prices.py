@@ -50,7 +50,7 @@ def signed(value: Amount) -> str:
 
 def offer_table(source: Source, offer: Offer, title: str, last: str) -> Table:
     """What the others would bring more without some winners, bidder by bidder."""
-    heads = columns("Bidder", "Would win", "In place of", "Brings more #")
+    heads = columns("Bidder", "Would win", "In place of", f"Brings more{source.unit} #")
     rows: list[list[Content]] = [
         [source.names.bidder(it.j), bid_words(source, it.then), bid_words(source, it.now), signed(it.more)]
         for it in offer.changes
@@ -98,7 +98,8 @@ def block_words(source: Source, turn: Turn) -> str:
 def turns(source: Source) -> list[Block]:
     """The turns of pricing, as the program has them."""
     if not source.turns:
-        missing = "The program isn't here to show the turns of pricing. What follows is from the certificate."
+        why = "doesn't price so many winners" if source.program else "isn't here to show the turns of pricing"
+        missing = f"The program {why}. What follows is from the certificate."
         return [Words(missing)] if given(source.certificate).rows else []
     cards = [Card(f"Turn {turn.number}", [Words(text) for text in turn_words(source, turn)]) for turn in source.turns]
     return [Heading("Turn by turn"), Cards(cards, size="wide")]
@@ -137,7 +138,7 @@ def core_table(source: Source, gross: Mapping[core.Group, Amount]) -> Table:
                 price_cell(paid - least, "" if paid > least else "strong"),
             ]
         )
-    return Table("What each group of winners has to pay", heads, rows)
+    return Table(f"What each group of winners has to pay{source.unit}", heads, rows)
 
 
 def core_picture(source: Source) -> Picture:
@@ -163,8 +164,11 @@ def core_picture(source: Source) -> Picture:
 
 
 def core_blocks(source: Source) -> list[Block]:
-    """The core of two or three winners."""
+    """The core of two or three winners. Three that pay their Vickrey prices have no sum to share, so no picture."""
     total = price(sum((source.pays(j) for j in source.winners), Fraction(0)))
+    if len(source.winners) == 3 and all(source.pays(j) == source.vickrey(j) for j in source.winners):
+        blocks: list[Block] = [core_picture(source).table]
+        return [Heading("The core"), Words(f"{findings.of_core(source)}."), Cards([Card("", blocks)], size="wide")]
     if len(source.winners) == 2:
         key = [
             ("greenish", "pale", "nobody blocks: the core"),
@@ -175,7 +179,8 @@ def core_blocks(source: Source) -> list[Block]:
         ]
         told = (
             "Each place of the picture is a price for each of the two winners. Paid is, of the prices of least sum that"
-            " nobody blocks, the nearest to the Vickrey prices."
+            " nobody blocks, the nearest to the Vickrey prices. The numbers of an axis are the winner's Vickrey"
+            " price, what it pays, and its bid if that is in the picture."
         )
     else:
         key = [
@@ -184,12 +189,27 @@ def core_blocks(source: Source) -> list[Block]:
             ("orange", "triangle", "the Vickrey prices, each raised by the same amount"),
             ("blue", "dot", "what is paid"),
         ]
-        last = source.names.bidder(source.winners[2])
         told = (
-            f"The least sum that nobody blocks is {total}. A place of the picture is what two winners pay of it;"
-            f" {last} pays the rest."
+            f"The least sum that nobody blocks is {total}. A place of the picture is how three winners could share it."
+            " At a corner one of them pays all that is above the Vickrey prices. Paid is the green place nearest to the"
+            " triangle."
         )
     return [Heading("The core"), Words(told), Key(key), Cards([Card("", [core_picture(source)])], size="wide")]
+
+
+def sentences(source: Source) -> list[str]:
+    """Why each winner pays what it pays; those that nothing raises above their Vickrey prices have one sentence."""
+    plain = [j for j in source.winners if source.pays(j) == source.vickrey(j) and not source.reasons.is_asked(j)]
+    others = [j for j in source.winners if j not in plain or len(plain) == 1]
+    told = [source.told(source.reasons.sentence(j)) for j in others]
+    if len(plain) == 1 or not plain:
+        return told
+    each = listed(f"{source.names.bidder(j)} ({price(source.pays(j))})" for j in plain)
+    return [
+        f"{each} pay their Vickrey prices, which is what their winning costs the others, and no coalition makes them"
+        " pay more.",
+        *told,
+    ]
 
 
 def section(source: Source) -> Section | None:
@@ -197,7 +217,7 @@ def section(source: Source) -> Section | None:
     if not source.has_prices or not source.winners:
         return None
     blocks: list[Block] = [
-        Points([source.told(source.reasons.sentence(j)) for j in source.winners]),
+        Points(sentences(source)),
         Words(LEGEND),
         *turns(source),
         *coalitions(source),

@@ -3,11 +3,11 @@
 from __future__ import annotations
 
 import os
+from collections.abc import Sequence
 
 from cca_tools.page import basis, bidder, findings, lines, prices, rounds, sale, state, winners
-from cca_tools.page.document import Page, Section
+from cca_tools.page.document import Links, Page, Section
 from cca_tools.page.source import Source, given
-from cca_tools.page.words import listed
 
 
 def how_far(source: Source, is_stopped: bool) -> str:
@@ -43,10 +43,12 @@ def foot(source: Source) -> str:
     return ", ".join(f"{basis.KINDS[it.kind]} {it.sum[:12]}" for it in source.sums)
 
 
-def for_all(source: Source, with_program: bool) -> list[Section | None]:
-    """The sections of the report for everybody."""
-    finding = findings.of_prices(source) if source.has_prices else ""
-    first = Section("winners", "Winners and prices", winners.result(source), finding)
+def for_all(source: Source, with_program: bool, sheets: Sequence[str]) -> list[Section | None]:
+    """The sections of the report for everybody; `sheets` are files of tables beside it, which it links to."""
+    finding = findings.of_award(source) if source.has_prices else ""
+    links = [(path, os.path.splitext(os.path.basename(path))[0]) for path in sheets]
+    more = [Links("Tables for a spreadsheet (CSV):", links)] if links else []
+    first = Section("winners", "Winners and prices", [*winners.result(source), *more], finding)
     logged = [rounds.section(source), lines.section(source)] if source.auction else []
     return [
         state.section(source),
@@ -59,21 +61,15 @@ def for_all(source: Source, with_program: bool) -> list[Section | None]:
     ]
 
 
-def amounts(source: Source) -> str:
-    """What amounts are in, and how wide lots are."""
-    unit = f" Amounts are in {source.long.amounts()}." if source.long.amounts() else ""
-    return " ".join([f"{unit} Amounts include reserves, where net isn't said.", *source.long.lots()])
-
-
-def page(source: Source, name: str = "", with_program: bool = False) -> Page:
-    """The report, for everybody or for the bidder of this short name."""
-    files = listed(f"`{it.name}`" for it in source.sums)
+def page(source: Source, name: str = "", with_program: bool = False, sheets: Sequence[str] = ()) -> Page:
+    """The report, for everybody or for the bidder of this short name; the former links to the tables of `sheets`."""
     if name:
         name = source.long.bidder(name)
         found: list[Section | None] = [*bidder.sections(source, given(source.award).number_of(name))]
-        under = f"{how_far(source, False)} What `{name}` sees of it.{amounts(source)}"
+        under = f"{how_far(source, False)} What `{name}` sees of it. {source.amounts()}"
     else:
-        found = for_all(source, with_program)
+        found = for_all(source, with_program, sheets)
         now = how_far(source, source.auction is not None and source.auction.limit_stop is not None)
-        under = f"{now}{verdict(source)} Made of {files}.{amounts(source)}"
+        amounts = "" if source.has_prices and source.winners else f" {source.amounts()}"
+        under = " ".join(filter(None, [source.long.occasion(), f"{now}{verdict(source)}{amounts}"]))
     return Page(title_of(source, name), under, [section for section in found if section], foot(source))

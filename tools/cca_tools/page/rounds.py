@@ -23,15 +23,15 @@ from cca_tools.page.document import (
     columns,
 )
 from cca_tools.page.source import Source, given
-from cca_tools.page.words import count, number, spelled
+from cca_tools.page.words import count, number
 from cca_tools.rules.auction import Auction
 from cca_tools.rules.award import Award
 from cca_tools.rules.clock import Round
 from cca_tools.rules.types import BidderNumber, Package
 
 ON_ONE_SCALE = (
-    "Prices are drawn in per cent of the reserve, and demand in per cent of the supply, so that the categories can be"
-    " compared; the numbers at the marks are prices and lots."
+    "Prices are in per cent of the reserve, on one logarithmic scale: a doubling is equally high for each category."
+    " Demand is in per cent of the supply. The numbers at the marks are prices and lots."
 )
 CATEGORY_KEY = Key(
     [
@@ -43,7 +43,6 @@ CATEGORY_KEY = Key(
     ]
 )
 ACTIVITY_KEY = Key([("bluish", "pale", "points of the package"), ("red", "line", "eligibility")])
-COMPARED = 5  # prices whose greatest is more than this many times its reserve would make the others flat
 
 
 def shown_rounds(auction: Auction) -> list[Round]:
@@ -61,7 +60,7 @@ def price_scale(award: Award, rounds: Sequence[Round]) -> float | None:
     if not all(award.reserves):
         return None
     most = max(Fraction(price, reserve) for price, reserve in zip(rounds[-1].prices, award.reserves))
-    return float(100 * most) if most <= COMPARED else None
+    return float(100 * most)
 
 
 def demand_scale(award: Award, rounds: Sequence[Round]) -> float:
@@ -69,9 +68,10 @@ def demand_scale(award: Award, rounds: Sequence[Round]) -> float:
     return max(100.0, *(100 * lots / supply for closed in rounds for lots, supply in zip(closed.demand, award.supply)))
 
 
-def category_table(supply: int, rounds: Sequence[Round], c: int, open_round: Round | None) -> Table:
+def category_table(source: Source, supply: int, rounds: Sequence[Round], c: int) -> Table:
     """Price, demand and excess of a category by rounds."""
-    heads = columns("Round", "Price #", "Asked for, of supply #", "Excess #")
+    open_round, name = given(source.auction).open_round, source.names.categories[c]
+    heads = columns("Round", f"Price{source.unit} #", "Asked for, of supply #", "Excess #")
     rows: list[list[Content]] = []
     for closed in rounds:
         excess = closed.excess[c]
@@ -79,7 +79,7 @@ def category_table(supply: int, rounds: Sequence[Round], c: int, open_round: Rou
         rows.append(
             [number(closed.number), number(closed.prices[c]), asked, Cell(number(excess), tone="bad" if excess else "")]
         )
-    return Table("By round", heads, rows)
+    return Table(f"{name} by round", heads, rows)
 
 
 def price_about(name: str, rounds: Sequence[Round], c: int) -> str:
@@ -100,8 +100,7 @@ def category_about(name: str, rounds: Sequence[Round], supply: int, c: int) -> s
 
 def categories(source: Source, rounds: Sequence[Round]) -> Iterator[Card]:
     """A card for each category."""
-    award, open_round = given(source.award), given(source.auction).open_round
-    has_open = open_round is not None
+    award, has_open = given(source.award), given(source.auction).open_round is not None
     scales = price_scale(award, rounds), demand_scale(award, rounds), has_open
     for c, category in enumerate(award.categories):
         prices, demand = [closed.prices[c] for closed in rounds], [closed.demand[c] for closed in rounds]
@@ -109,9 +108,13 @@ def categories(source: Source, rounds: Sequence[Round]) -> Iterator[Card]:
         title = f"{name}: price and demand by round"
         about = category_about(name, rounds, category.supply, c)
         draw = drawing(c, title, about, prices, demand, category.supply, scales)
-        table = category_table(category.supply, rounds, c, open_round)
+        table = category_table(source, category.supply, rounds, c)
         picture = Picture(title, about, draw, table, findings.of_category(rounds, c, has_open))
-        yield Card(name, [picture], f"{count(category.supply, 'lot')}, reserve {number(category.reserve)}")
+        yield Card(
+            name,
+            [picture if len(rounds) > 1 else table],
+            f"{count(category.supply, 'lot')}, reserve {number(category.reserve)}",
+        )
 
 
 def drawing(
@@ -180,7 +183,7 @@ def activity(source: Source, rounds: Sequence[Round], numbers: Sequence[BidderNu
     heads = columns(*(["Bidder"] if len(every) > 1 else []), "Round", "Asks for", "Points, of eligible for #")
     table = Table("Points asked for and eligibility by round", heads, rows)
     draw = lambda: charts.activities("activity", title, about, every, most, has_open)  # noqa: E731
-    return Card("", [Picture(title, about, draw, table)])
+    return Card("", [Picture(title, about, draw, table) if len(rounds) > 1 else table])
 
 
 def how_it_went(source: Source, rounds: Sequence[Round]) -> str:
@@ -195,12 +198,9 @@ def scale_words(award: Award, rounds: Sequence[Round]) -> str:
     """Which scales the pictures have, and why."""
     if price_scale(award, rounds):
         return ON_ONE_SCALE
-    why = (
-        f"a price rose to more than {spelled(COMPARED)} times its reserve" if all(award.reserves) else "a reserve is 0"
-    )
     return (
-        f"Prices are drawn each on a scale of its own, since {why}; demand in per cent of the supply, so that the"
-        " categories can be compared."
+        "Prices are drawn each on a scale of its own, since a reserve is 0. Demand is in per cent of the supply, so"
+        " that the categories can be compared."
     )
 
 
@@ -208,10 +208,17 @@ def section(source: Source) -> Section:
     """The rounds of the clock."""
     award, auction = given(source.award), given(source.auction)
     rounds, has_open = shown_rounds(auction), auction.open_round is not None
-    blocks: list[Block] = [Words(how_it_went(source, rounds)), Words(scale_words(award, rounds))]
-    key = Key([mark for mark in CATEGORY_KEY.marks if has_open or mark[1] != "dashed"])
-    blocks += [key, Cards(list(categories(source, rounds)), size=size(award))]
-    if award.bidders:
+    blocks: list[Block] = [Words(how_it_went(source, rounds))]
+    if len(rounds) > 1:
+        blocks += [Words(scale_words(award, rounds))]
+        blocks += [Key([mark for mark in CATEGORY_KEY.marks if has_open or mark[1] != "dashed"])]
+    blocks += [Cards(list(categories(source, rounds)), size=size(award))]
+    if not any(map(any, (it.demand for it in rounds))):
+        blocks += [Words("Nobody asked for a lot.")]
+    elif len(rounds) == 1:
+        blocks += [Heading("What each bidder asked for")]
+        blocks += [Cards([activity(source, rounds, range(1, len(award.bidders) + 1), has_open)], size="full")]
+    elif award.bidders:
         told = (
             "A column for each round, and a row for each bidder: the points of its package, and the line of its"
             " eligibility. All bidders have one scale."

@@ -12,7 +12,7 @@ from cca_tools.rules.award import Award, Step
 
 def categories(source: Source) -> Table:
     """What is sold."""
-    heads = columns("Category", "Lots #", "Reserve of a lot #")
+    heads = columns("Category", "Lots #", f"Reserve of a lot{source.unit} #")
     if not source.award:
         book = given(source.book)
         lots = zip(source.names.categories, book.supply, book.reserves)

@@ -95,6 +95,23 @@ class Source:
         """The winners, in order."""
         return given(self.certificate).winners
 
+    @property
+    def widths(self) -> list[Fraction]:
+        """The MHz of a lot of each category; empty unless all of them are named."""
+        wide = {self.long.category(name): Fraction(str(mhz)) for name, mhz in self.long.mhz.items()}
+        names = self.names.categories
+        return [wide[name] for name in names] if all(name in wide for name in names) else []
+
+    @property
+    def unit(self) -> str:
+        """What amounts are in, as it follows a head: `, thousand EUR`; empty if no currency is named."""
+        return f", {self.long.amounts()}" if self.long.amounts() else ""
+
+    def amounts(self) -> str:
+        """What amounts are in, and how wide lots are, in sentences."""
+        unit = [f"Amounts are in {self.long.amounts()}."] if self.long.amounts() else []
+        return " ".join([*unit, "Amounts include reserves, unless net is said.", *self.long.lots()])
+
     def won(self, j: BidderNumber) -> Bid:
         """The bid with which a winner wins."""
         return given(self.book).winning(given(self.certificate).choice, j)

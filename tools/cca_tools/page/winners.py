@@ -2,8 +2,10 @@
 
 from __future__ import annotations
 
+import os
 from collections.abc import Iterator, Sequence
 from fractions import Fraction
+from operator import mul
 
 from cca_tools.page import charts, findings
 from cca_tools.page.charts import Band, Paid
@@ -16,6 +18,7 @@ from cca_tools.page.document import (
     Column,
     Content,
     Figures,
+    Fold,
     Key,
     Picture,
     Points,
@@ -32,6 +35,7 @@ from cca_tools.rules.stops import LIMIT
 from cca_tools.rules.ties import DECIDES, differences, how_many, ties_of
 from cca_tools.rules.types import Amount, BidderNumber, Package
 
+MOST_SHOWN = 60  # bids that the book shows at once
 MOST_TIES = 5  # other choices of the same net value that are told one by one
 
 
@@ -55,6 +59,18 @@ def unsold_reserve(source: Source) -> Amount:
     return given(source.book).reserve(unsold(source))
 
 
+def result_table(source: Source) -> Table:
+    """Who won what and pays what: the result, in as few columns as there may be."""
+    widths = source.widths
+    heads = columns("Winner", "Won", *(["MHz #"] if widths else []), f"Pays{source.unit} #")
+    rows = list[list[Content]]()
+    for j in source.winners:
+        package = source.won(j)[0]
+        wide = [price(sum(map(mul, widths, package), Fraction(0)))] if widths else []
+        rows.append([source.names.bidder(j), source.names.package(package), *wide, price_cell(source.pays(j), "good")])
+    return Table("", heads, rows, is_result=True)
+
+
 def winner_rows(source: Source) -> Iterator[list[Content]]:
     """A row for each winner."""
     for j in source.winners:
@@ -75,7 +91,7 @@ def winners_table(source: Source) -> Table:
     """Who won what, and what it pays."""
     clock = ["Final clock price #"] if source.auction else []
     heads = columns("Winner", "Won", *clock, "Bid #", "Vickrey price #", "Pays #", "Of its bid #")
-    return Table("Winners and prices, reserves included", heads, list(winner_rows(source)))
+    return Table(f"Winners and prices{source.unit}, reserves included", heads, list(winner_rows(source)))
 
 
 def net_table(source: Source) -> Table:
@@ -99,7 +115,7 @@ def net_table(source: Source) -> Table:
         number(sum(given(source.certificate).vickrey(j) for j in source.winners)),
         price_cell(sum((source.pays(j) - source.reserve(j) for j in source.winners), Fraction(0))),
     ]
-    return Table("The same net of reserve", heads, [*rows, ["together", *sums]])
+    return Table(f"The same net of reserve{source.unit}", heads, [*rows, ["together", *sums]])
 
 
 def paid_picture(source: Source) -> Picture:
@@ -116,23 +132,30 @@ def paid_picture(source: Source) -> Picture:
             Paid(name, source.reserve(j), source.vickrey(j), source.pays(j), source.won(j)[1], source.clock_price(j))
             for name, j in zip(names, source.winners)
         ]
-        return charts.paid("paid", title, about, rows)
+        return charts.paid("paid", title, about, rows, source.long.amounts() or "amount")
 
     return Picture(title, about, draw, winners_table(source))
 
 
 def letters_of(names: Sequence[str]) -> list[str]:
-    """A letter for each winner: the first one of its name where these differ, else A, B, C .."""
+    """A letter or two for each winner: the first one of its name where these differ, else what comes after the letters
+    that all names begin with, and else A, B, C .."""
     first = [name[:1].upper() for name in names]
-    is_told = len(set(first)) == len(first) and all(letter.isalpha() and len(letter) == 1 for letter in first)
-    return first if is_told else [chr(ord("A") + at) for at in range(len(names))]
+    same = len(os.path.commonprefix(list(names)))
+    after = [name[same : same + 2] for name in names]
+    for found in first, after:
+        if len(set(found)) == len(found) and all(it.isalnum() for it in found):
+            return found
+    return [chr(ord("A") + at) for at in range(len(names))]
 
 
 def bands_of(source: Source) -> Iterator[Band]:
     """Of each category whose its lots are."""
+    widths = source.widths
     for c, name in enumerate(source.names.categories):
         sold = [(place, source.won(j)[0][c]) for place, j in enumerate(source.winners, 1)]
-        yield Band(name, [part for part in [*sold, (0, unsold(source)[c])] if part[1]])
+        parts = [part for part in [*sold, (0, unsold(source)[c])] if part[1]]
+        yield Band(name, parts, widths[c] if widths else 1)
 
 
 def bands_key(names: Sequence[str], letters: Sequence[str], has_unsold: bool) -> Key:
@@ -154,12 +177,15 @@ def bands_card(source: Source) -> Card:
     picture = Picture(
         title, about, lambda: charts.bands("lots", title, about, every, names, letters), lots_table(source)
     )
-    return Card("", [bands_key(names, letters, any(unsold(source))), picture])
+    scale = (
+        "A cell is a lot, as wide as its MHz." if charts.has_widths(every) else "A cell is a lot; all are equally wide."
+    )
+    return Card("", [bands_key(names, letters, any(unsold(source))), Words(scale), picture])
 
 
 def lots_table(source: Source) -> Table:
     """Who won how many lots of each category, and what is left at its reserve."""
-    heads = columns("Category", "Supply #", "Sold to", "Unsold #", "At reserve #")
+    heads = columns("Category", "Supply #", "Sold to", "Unsold #", f"At reserve{source.unit} #")
     rows = []
     for c, name in enumerate(source.names.categories):
         lots = [(source.names.bidder(j), source.won(j)[0][c]) for j in source.winners]
@@ -211,7 +237,7 @@ def bids_table(source: Source, j: BidderNumber) -> Table:
             number(net),
         ]
         rows.append([*row, whence[package]] if whence else row)
-    return Table(f"Bids of {source.names.bidder(j)}", heads, rows)
+    return Table(f"Bids of {source.names.bidder(j)}{source.unit}", heads, rows)
 
 
 def won_words(source: Source, j: BidderNumber) -> str:
@@ -233,14 +259,14 @@ def book_cards(source: Source) -> Iterator[Card]:
 
 def figures(source: Source) -> Figures:
     """The numbers that are seen first."""
-    lots, unit = sum(given(source.book).supply), f", {source.long.amounts()}" if source.long.amounts() else ""
+    lots = sum(given(source.book).supply)
     pairs = [
         ("winners", f"{len(source.winners)} of {given(source.book).bidders}"),
         ("lots sold", f"{number(lots - sum(unsold(source)))} of {number(lots)}"),
-        (f"revenue{unit}", price(total(source))),
-        ("bid by winners", number(bid_total(source))),
+        (f"revenue{source.unit}", price(total(source))),
+        (f"bid by winners{source.unit}", number(bid_total(source))),
         ("revenue, of what they bid", per_cent(total(source), bid_total(source))),
-        ("net value", number(given(source.certificate).value)),
+        (f"net value: bids less reserves{source.unit}", number(given(source.certificate).value)),
     ]
     return Figures(pairs)
 
@@ -271,10 +297,12 @@ def result(source: Source) -> list[Block]:
     """The blocks that come first: who won what and what it pays."""
     if source.has_prices and source.winners:
         return [
+            Cards([Card("", [result_table(source)])], size="wide"),
             figures(source),
+            Words(source.amounts()),
             *tied(source),
-            Cards([bands_card(source)], size="full"),
             Cards([Card("", [paid_key(source), paid_picture(source)])], size="wide"),
+            Cards([bands_card(source)], size="full"),
             Cards([Card("", [net_table(source)])], size="wide"),
         ]
     if source.has_prices:
@@ -304,4 +332,8 @@ def book(source: Source) -> Section | None:
         if source.auction
         else "At most one bid of each bidder wins."
     )
-    return Section("book", "The book of bids", [Words(told), Cards(list(book_cards(source)))])
+    many = sum(map(len, source.book.bids))
+    cards: Block = Cards(list(book_cards(source)))
+    if many > MOST_SHOWN:
+        cards = Fold(f"All {count(many, 'bid')} (to print them too, open them first)", [cards])
+    return Section("book", "The book of bids", [Words(told), cards])

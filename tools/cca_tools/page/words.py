@@ -104,6 +104,10 @@ def counts(package: Package) -> str:
     return " ".join(map(str, package))
 
 
+# A name that no reader takes for two items of a package: one word, as the short names of an award.
+ONE_WORD = re.compile(r"[^\W_][\w.-]*")
+
+
 class Names:
     """What categories and bidders are called. A book has no names of categories, so they are numbered."""
 
@@ -112,6 +116,7 @@ class Names:
         self.packages = dict[Package, str]()
         named = list(categories)
         self.categories = named or [f"category {c}" for c in range(1, width + 1)]
+        self.is_plain = all(map(ONE_WORD.fullmatch, named))
         self.joint = "\N{NO-BREAK SPACE}x\N{NO-BREAK SPACE}" if named else "\N{NO-BREAK SPACE}of "
 
     def bidder(self, number: BidderNumber) -> str:
@@ -119,10 +124,15 @@ class Names:
         return self.bidders[number - 1]
 
     def package(self, package: Package) -> str:
-        """2 x a800, 4 x c2600; of a book, 1 of category 2."""
+        """2 x a800, 4 x c2600; of a book, 1 of category 2. Longer names may have commas, and numbers as in `2 x 5 MHz`:
+        then 2 lots of 800 MHz, 2 x 5 MHz; 1 lot of 2.6 GHz."""
         if package not in self.packages:
-            parts = [f"{lots}{self.joint}{name}" for lots, name in zip(package, self.categories) if lots]
-            self.packages[package] = ", ".join(parts) or "nothing"
+            kinds = [(lots, name) for lots, name in zip(package, self.categories) if lots]
+            if self.is_plain:
+                found = ", ".join(f"{lots}{self.joint}{name}" for lots, name in kinds)
+            else:
+                found = "; ".join(f"{lots}\N{NO-BREAK SPACE}lot{'s' * (lots > 1)} of {name}" for lots, name in kinds)
+            self.packages[package] = found or "nothing"
         return self.packages[package]
 
     def cell(self, package: Package, tone: Tone = "") -> Cell:

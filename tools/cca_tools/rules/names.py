@@ -3,6 +3,8 @@
 An award has short names alone, and no other key. So these are in a file of TOML of their own; no rule reads it:
 
     title = "Northland award of 700 MHz and 3.6 GHz"
+    held = "3 to 14 March 2025"      # when the auction was held
+    seller = "Northland Communications Authority"
     currency = "EUR"
     unit = 1000                      # an amount of 1 in the files is 1,000 EUR
 
@@ -48,6 +50,8 @@ class LongNames:
     """
 
     title: str = ""
+    held: str = ""
+    seller: str = ""
     currency: str = ""
     unit: int = 1
     categories: Mapping[str, str] = dataclasses.field(default_factory=dict)
@@ -89,6 +93,11 @@ class LongNames:
     def lots(self) -> list[str]:
         """How wide the lots are, a sentence for each category that has a width."""
         return [f"A lot of {self.category(name)} is {mhz:g} MHz wide." for name, mhz in self.mhz.items()]
+
+    def occasion(self) -> str:
+        """When the auction was held, and by whom, in sentences; empty if neither is named."""
+        parts = [f"Held {self.held}." if self.held else "", f"Seller: {self.seller}." if self.seller else ""]
+        return " ".join(filter(None, parts))
 
     def amounts(self) -> str:
         """In what amounts are, in words: `thousand EUR`. Nothing where no currency is named."""
@@ -168,7 +177,7 @@ def names_of(data: bytes, award: Award) -> LongNames:
         top = read_toml(data)
     except ValueError as error:
         fault(f"the names are no TOML: {error}")
-    need_keys(top, ("title", "currency", "unit", "category", "bidder"), "of the names")
+    need_keys(top, ("title", "held", "seller", "currency", "unit", "category", "bidder"), "of the names")
     categories = entries(top, "category", [category.name for category in award.categories])
     bidders = entries(top, "bidder", award.names)
     for kind, tables, known in (("category", categories, ("name", "mhz")), ("bidder", bidders, ("name",))):
@@ -178,6 +187,8 @@ def names_of(data: bytes, award: Award) -> LongNames:
         fault("`unit` is there without `currency`")
     return LongNames(
         title=text_of(top["title"], "title") if "title" in top else "",
+        held=text_of(top["held"], "held") if "held" in top else "",
+        seller=text_of(top["seller"], "seller") if "seller" in top else "",
         currency=text_of(top["currency"], "currency") if "currency" in top else "",
         unit=unit_of(top.get("unit", 1)),
         categories=texts(categories, "category", [category.name for category in award.categories]),

@@ -18,36 +18,92 @@ from cca_tools.rules.printable import printable
 from cca_tools.rules.stops import WRITE_FAULT, Stop
 
 SUMS, PAGE = "SHA256SUMS", "index.html"
+SCRIPT = pathlib.Path(__file__).parents[1] / "page" / "templates" / "witness.js"  # tests noted lines in the page
 AWARD, LOG, CERT = "auction.award", "auction.log", "auction.cert"
-NAMES, KEY, SEALS = "names.toml", "auction.key", "seals.txt"
+NAMES, KEY, POSTED, JOURNAL, KEPT = (
+    "names.toml",
+    "auction.key",
+    "auction.posted",
+    "auction.journal",
+    "kept",
+)
+AUDIT = "audit.html"
+# where the page that audits an auction in a browser is: in a release, and in a checkout in which it was built
+TOP = pathlib.Path(__file__).resolve().parents[3]
+AUDIT_PLACES = TOP / AUDIT, TOP / "second_proof" / "built" / AUDIT
 ABOUT = {
     AWARD: "the award: what was sold, to whom, and by which rules",
     LOG: "the log: each line of each bidder and of the auctioneer, in the order in which they came in",
     CERT: "the certificate: what shows that the winners and the prices are right",
+    AUDIT: "a page that tests the auction in any browser, without a network",
     NAMES: "the names for people, which no rule reads",
-    KEY: "the key of the seals that were given out at each close",
-    SEALS: "what was given out: the sum of the key before the first line, and a seal at each close",
+    KEY: "the key of the seals, which was secret until the end",
+    POSTED: "the lines as they were posted on the day: checksums of key and award, and a sealed line for each event",
+    JOURNAL: "the journal of the day: what came in when, what was replied, what was cut and why, as one chain of lines",
     "report.html": "the report, for a browser without a network",
     "report.txt": "the report as plain text",
+    "tables/winners.csv": "a table: who won what and pays what",
+    "tables/rounds.csv": "a table: prices and demand by round",
+    "tables/prices.csv": "a table: reserves and last prices of the clock by category",
+    "tables/bids.csv": "a table: all bids of the book",
 }
 STYLE = (
     "body{font:16px/1.5 system-ui,sans-serif;max-width:60rem;margin:2rem auto;padding:0 1rem;color:#111;"
     "background:#fff}table{border-collapse:collapse}"
     "td,th{text-align:left;vertical-align:top;padding:.3rem .8rem .3rem 0;"
     "border-bottom:1px solid #ccc}code,pre{font:13px/1.5 ui-monospace,monospace;overflow-wrap:anywhere}"
-    "pre{white-space:pre-wrap}@media(prefers-color-scheme:dark){body{color:#eee;background:#111}a{color:#9cf}}"
+    "pre{white-space:pre-wrap}.bad{color:#b00020;font-weight:bold}.told{font:13px/1.6 ui-monospace,monospace;padding:0;"
+    "list-style:none;overflow-wrap:anywhere}.void,.void b{color:#b00020}"
+    "code,pre{overflow-wrap:anywhere}.winners td,.winners th{padding-right:1.5rem}"
+    "td.number,th.number{text-align:right;font-variant-numeric:tabular-nums}a.first{font-weight:bold;font-size:1.2rem}"
+    "dd{margin:0 0 .6rem}summary{cursor:pointer}h1{font-size:1.6rem;line-height:1.25}h2{font-size:1.25rem}"
+    "@media(max-width:34rem){.winners,.winners tbody{display:block}.winners tr:first-child{display:none}"
+    ".winners tr{display:grid;grid-template-columns:1fr auto;border-bottom:1px solid #ccc;padding:.3rem 0}"
+    ".winners td,.winners th{border:0;padding:0}.winners td{grid-column:1}"
+    ".winners td.number{grid-area:2/2}.winners td:last-child{grid-area:1/2}"
+    ".winners td.number:not(:last-child)::after{content:' MHz'}"
+    ".wide tr{display:block;border-bottom:1px solid #ccc;padding:.3rem 0}.wide th{display:none}"
+    ".wide td{display:block;border:0;padding:0}}"
+    "textarea{width:100%;font:13px/1.5 ui-monospace,monospace;box-sizing:border-box}"
+    "button,textarea{color:inherit;background:transparent;border:1px solid #888;padding:.4rem .7rem}"
+    "@media(prefers-color-scheme:dark){body{color:#eee;background:#111}a{color:#9cf}"
+    ".bad,.void,.void b{color:#ff8a9a}}"
 )
 
 
 @dataclasses.dataclass(frozen=True)
 class Made:
-    """By what a set was made: lines of a name and what it is, such as the program and its sum."""
+    """With what a set was made: rows of a name, what it is, such as the program's checksum, and whether that is as it
+    should be; and what was posted."""
 
-    rows: Sequence[tuple[str, str]]
+    rows: Sequence[tuple[str, str, bool]]
+    told: Told | None = None
+
+
+@dataclasses.dataclass(frozen=True)
+class Result:
+    """The result for people: when and by whom the auction was held, what amounts are in, the result in a sentence, and
+    a table of winners."""
+
+    occasion: str
+    amounts: str
+    sentence: str
+    heads: Sequence[str]
+    rows: Sequence[Sequence[str]]
+
+
+@dataclasses.dataclass(frozen=True)
+class Told:
+    """The posted lines, each with the words of why it is void (empty if it isn't), and whether there is a journal."""
+
+    lines: Sequence[tuple[str, str]]
+    has_journal: bool
 
 
 def about(name: str) -> str:
     """What a file of the set is."""
+    if name.startswith(f"{KEPT}/"):
+        return "what was taken away from the log on the day, as the journal says"
     return ABOUT[name] if name in ABOUT else f"what {pathlib.PurePath(name).stem} sees of the auction"
 
 
@@ -61,30 +117,131 @@ def sums_text(files: Mapping[str, bytes]) -> bytes:
     return "".join(f"{sum_of(data)}  {name}\n" for name, data in sorted(files.items())).encode()
 
 
+def audit_page() -> dict[str, bytes]:
+    """The page that audits an auction in a browser, by its name in a set. Empty without a release and a build."""
+    found = next((path for path in AUDIT_PLACES if path.is_file()), None)
+    return {AUDIT: found.read_bytes()} if found else {}
+
+
+def by_browser(files: Mapping[str, bytes]) -> list[str]:
+    """How a reader tests the auction in a browser, as a row of the tests. Empty if the set has no page for that."""
+    if AUDIT not in files:
+        return []
+    return [
+        f'<dt>The whole auction, in any browser<dd>Open <a href="{AUDIT}">{AUDIT}</a> and drop <code>{AWARD}</code>, '
+        f"<code>{LOG}</code>, <code>{CERT}</code> and <code>{SUMS}</code> on it. If you don't trust who made this "
+        f"folder, take {AUDIT} from the release; its checksum is in <code>BUILDINFO</code> there."
+    ]
+
+
 def commands(files: Mapping[str, bytes]) -> list[tuple[str, str]]:
     """What a reader can test, with the command that does so."""
     audit = f"{AWARD} {LOG} {CERT}"
     found = [
         ("That no file was changed", f"sha256sum -c {SUMS}"),
-        ("The whole auction, with the proved program", f"cca audit {audit}"),
-        ("The same with the second program", f"tools/audit {audit}"),
+        ("The whole auction, with the program of a release", f"cca audit {audit}"),
+        ("The whole auction, with the second program", f"tools/audit {audit}"),
         ("Why each winner pays what it pays", f"tools/why {audit}"),
-        ("A bidder, that its lines are in the log", f"tools/caps {AWARD} {LOG} NAME --view | diff - own.view"),
+        (
+            "A bidder, that its lines are in the log",
+            f"tools/caps {AWARD} {LOG} NAME --view | diff - own.view",
+        ),
     ]
-    if SEALS in files:
-        found.append(("That no line was changed after its close", f"tools/seal check {KEY} {AWARD} {LOG} {SEALS}"))
-    return found
+    if POSTED not in files:
+        return found
+    if JOURNAL in files:
+        found.append(
+            (
+                "That journal, log, key and posted lines agree with each other",
+                f"tools/journal {JOURNAL} --check {AWARD} {LOG} {KEY} {POSTED}",
+            )
+        )
+        how = f"--journal {JOURNAL}"
+    else:
+        kept = [f"--cut {name}" for name in sorted(files) if name.startswith(f"{KEPT}/")]
+        how = " ".join([f"--posted {POSTED}", *kept])
+    what = "A witness, whether the lines that were noted on the day are those of these files"
+    return [*found, (what, f"tools/seal check {how} {KEY} {AWARD} {LOG} NOTED")]
 
 
-def page(title: str, verdict: str, files: Mapping[str, bytes], made: Made) -> bytes:
-    """The page that says what each file is."""
+def told_text(told: Told) -> str:
+    """The posted lines, and what a witness does with those that were noted, as a part of the page."""
+    esc = html.escape
+    rows = [
+        f"<li class=void><s>{esc(text)}</s><br><b>{esc(void)}</b>" if void else f"<li>{esc(text)}"
+        for text, void in told.lines
+    ]
+    return f"""<h2>What was posted on the day</h2>
+<p>These lines were on the room's screen and on each bidder's page. The auctioneer, who has the key, can make another
+set of files whose parts agree with each other. Only a line that somebody else noted on the day shows that it is another
+one: one line that agrees binds the award, the log{", the journal" if told.has_journal else ""} and all posted lines
+before it.
+<p>If you noted or photographed lines, write them into a file NOTED: in any order, with all 64 digits of each seal. Then
+run the last command above, with the tools of a release from a source that you trust. It says of each line whether it
+agrees, is void and since when, or is not of these files.
+<details><summary>{len(rows)} posted lines</summary>
+<ol class=told>
+{chr(10).join(rows)}
+</ol>
+</details>
+<h2>Test your notes in this page</h2>
+<p>The page makes the same test in your browser, and sends nothing. But the auctioneer made this page too, so in a
+dispute use the command.
+<p><label for=files>1. Choose all files of this folder whose names begin with <code>auction</code></label><br>
+<input type=file id=files multiple>
+<p><label for=noted>2. Type or paste the lines that you noted</label><br>
+<textarea id=noted rows=6 spellcheck=false autocomplete=off></textarea>
+<p><button type=button id=test>3. Test them</button>
+<pre id=found role=status></pre>
+<script>
+{SCRIPT.read_text(encoding="utf-8")}</script>
+"""
+
+
+def result_text(result: Result, files: Mapping[str, bytes]) -> str:
+    """Who won what and pays what, and where to read more, as the first part of the page."""
+    esc = html.escape
+    numbers = [" class=number" if head.startswith(("MHz", "Pays")) else "" for head in result.heads]
+    heads = "".join(f"<th scope=col{of}>{esc(head)}" for head, of in zip(result.heads, numbers))
+    rows = [
+        "<tr>"
+        + "".join(
+            f"<td{of}>{esc(text)}" if at else f"<th scope=row>{esc(text)}"
+            for at, (text, of) in enumerate(zip(row, numbers))
+        )
+        for row in result.rows
+    ]
+    table = f"<table class=winners>\n<tr>{heads}\n{chr(10).join(rows)}\n</table>\n" if rows else ""
+    sheets = [
+        f'<a href="{esc(name)}">{esc(pathlib.PurePath(name).stem)}</a>' for name in files if name.endswith(".csv")
+    ]
+    bidders = [
+        f'<a href="{esc(name)}">{esc(pathlib.PurePath(name).stem)}</a>'
+        for name in files
+        if name.startswith("bidders/") and name.endswith(".html")
+    ]
+    more = [f"<p>Tables for a spreadsheet (CSV): {', '.join(sheets)}.\n"] if sheets else []
+    more += [f"<p>What each bidder sees: {', '.join(bidders)}.\n"] if bidders else []
+    occasion = f"<p>{esc(result.occasion)}\n" if result.occasion else ""
+    return f"""{occasion}<h2>{esc(result.sentence)}</h2>
+{table}<p><small>{esc(result.amounts)}</small>
+<p><a class=first href="report.html">Read the report</a>
+{"".join(more)}"""
+
+
+def page(title: str, result: Result, files: Mapping[str, bytes], made: Made) -> bytes:
+    """The page of the set: the result, how to test it, and what each file is."""
     esc = html.escape
     rows = [
         f'<tr><td><a href="{esc(name)}">{esc(name)}</a><td>{esc(about(name))}<td><code>{sum_of(data)}</code>'
         for name, data in sorted(files.items(), key=lambda it: ("/" in it[0], it[0]))
     ]
-    tests = [f"<dt>{esc(what)}<dd><code>{esc(command)}</code>" for what, command in commands(files)]
-    by = [f"<tr><td>{esc(name)}<td><code>{esc(text)}</code>" for name, text in made.rows]
+    tests = by_browser(files)
+    tests += [f"<dt>{esc(what)}<dd><code>{esc(command)}</code>" for what, command in commands(files)]
+    by = [
+        f"<tr><td>{esc(name)}<td><code{'' if is_right else ' class=bad'}>{esc(text)}</code>"
+        for name, text, is_right in made.rows
+    ]
     text = f"""<!DOCTYPE html>
 <html lang="en">
 <meta charset="utf-8">
@@ -92,21 +249,27 @@ def page(title: str, verdict: str, files: Mapping[str, bytes], made: Made) -> by
 <title>{esc(title)}</title>
 <style>{STYLE}</style>
 <h1>{esc(title)}</h1>
-<h2>Winners and prices</h2>
-<pre>{esc(verdict)}</pre>
-<h2>The files</h2>
-<table><tr><th>File<th>What it is<th>Sum (SHA-256)
-{chr(10).join(rows)}
-</table>
-<p>The sums are also in <a href="{SUMS}">{SUMS}</a>.
-<h2>How to test them</h2>
+{result_text(result, files)}<h2>How to test it</h2>
 <dl>
 {chr(10).join(tests)}
 </dl>
+{told_text(made.told) if made.told else ""}<h2>The files</h2>
+<p>The checksums are in <a href="{SUMS}">{SUMS}</a>.
+<details><summary>{len(rows)} files with their checksums</summary>
+<div class=wide>
+<table><tr><th scope=col>File<th scope=col>What it is<th scope=col>Checksum (SHA-256)
+{chr(10).join(rows)}
+</table>
+</div>
+</details>
 <h2>Made with</h2>
+<details{"" if all(is_right for *_, is_right in made.rows) else " open"}><summary>Programs and checksums</summary>
+<div class=wide>
 <table>
 {chr(10).join(by)}
 </table>
+</div>
+</details>
 </html>
 """
     return text.encode()
@@ -114,7 +277,11 @@ def page(title: str, verdict: str, files: Mapping[str, bytes], made: Made) -> by
 
 def unwritten(folder: str, why: str | None) -> Stop:
     """The stop of a folder that can't be made."""
-    return Stop("cca: write fault folder", WRITE_FAULT, why=f"`{printable(folder)}` can't be written: {why}")
+    return Stop(
+        "cca: write fault folder",
+        WRITE_FAULT,
+        why=f"`{printable(folder)}` can't be written: {why}",
+    )
 
 
 def need_new(folder: str) -> None:

@@ -12,6 +12,7 @@ from typing import Literal, TypeAlias
 
 from cca_tools.rules.auction import Auction, Reply
 from cca_tools.rules.log import Line
+from cca_tools.rules.pricing import winners_warning
 from cca_tools.rules.reasons import reason
 from cca_tools.rules.stops import MOST
 from cca_tools.rules.types import Amount, BidderNumber, Package
@@ -187,11 +188,22 @@ def missing_words(names: Sequence[str], ends_clock: bool) -> str:
     return f"{head}a close now leaves {plural(few, 'it', 'them')} without eligibility for the rest of the clock."
 
 
+def nothing_words(names: Sequence[str], ends_clock: bool) -> str:
+    """What a close does to bidders that are eligible, and whose last line asks for nothing."""
+    few = len(names)
+    head = f"{names_in(names)} {plural(few, 'asks', 'ask')} for nothing in this round"
+    if ends_clock:
+        return f"{head}, which is the final one after a close now."
+    return f"{head}: a close now leaves {plural(few, 'it', 'them')} without eligibility for the rest of the clock."
+
+
 def clock_warnings(auction: Auction, ends_clock: bool = False) -> list[str]:
     """What the auctioneer may not want of a close of the open round. That bidders ask for less is no surprise."""
     states = clock_states(auction)
     missing = [it.name for it in states if it.activity == "no line yet"]
+    idle = [it.name for it in states if it.activity == "nothing" and it.eligibility]
     warnings = [missing_words(missing, ends_clock)] if missing else []
+    warnings += [nothing_words(idle, ends_clock)] if idle else []
     if not any(any(it.package) for it in states):
         warnings.append(
             "Nobody asks for anything in this round. Was it posted a moment ago? A second close ends the clock."
@@ -219,7 +231,15 @@ def list_warnings(auction: Auction) -> list[str]:
 
 
 def close_effect(auction: Auction) -> CloseEffect:
-    """What a close would do now."""
+    """What a close would do now, with what the auctioneer may not want of it."""
+    effect = stage_effect(auction)
+    if effect.reply.word == "stage":
+        return effect
+    return dataclasses.replace(effect, warnings=(*effect.warnings, *winners_warning(auction.award)))
+
+
+def stage_effect(auction: Auction) -> CloseEffect:
+    """What a close would do now in this stage."""
     reply = auction.answer(CLOSE)
     if reply.word == "stage":
         return CloseEffect(reply, "The auction is closed. No line is taken any more.", False, ())

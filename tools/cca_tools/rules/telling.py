@@ -128,10 +128,13 @@ NEXT = {
     LIMIT: "The limits are in docs/FORMATS.md.",
     MEMORY: "Run it again with more memory.",
 }
+BEYOND = "They are priced by `tools/price BOOK CERT [--weights WEIGHTS]`, or `tools/price AWARD LOG CERT`."
 
 
 def next_step(stop: Stop) -> str:
     """What to do next about a stop, or nothing."""
+    if stop.line.startswith("cca: limit winners"):
+        return BEYOND
     if stop.status != REFUSED:
         return NEXT.get(stop.status, "")
     if stop.line.startswith("cca: refused log"):

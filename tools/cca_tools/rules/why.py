@@ -140,6 +140,10 @@ class Reasons:
             )
         return f"{start}, which is what its winning costs the others, and no coalition makes it pay more."
 
+    def is_asked(self, j: BidderNumber) -> bool:
+        """Whether a coalition that raises prices asks a winner for more."""
+        return any(share.coalition and share.amount > 0 for share in self.shares(j))
+
     def asked(self, offer: Offer) -> str:
         """What a coalition asks for, as the reason of a sentence."""
         verb = "offers" if len(offer.names) + (offer.kept > 0) < 2 else "offer"

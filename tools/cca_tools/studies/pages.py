@@ -9,7 +9,8 @@ from cca_tools.page.document import Block, Card, Cards, Content, Figures, Key, P
 from cca_tools.page.document import columns as heads
 from cca_tools.page.words import count
 from cca_tools.studies import pictures
-from cca_tools.studies.measures import MEASURES, RULES, Measure, Pair, Results, Spread, of_best, pairs_of, per_cent
+from cca_tools.studies.measures import MEASURES, RULES, Measure, OfBest, Pair, Results, Spread, pairs_of, per_cent
+from cca_tools.studies.origin import Origin
 from cca_tools.studies.plan import FIELDS, Plan
 from cca_tools.studies.pictures import Bar
 
@@ -48,7 +49,11 @@ def case_rows(results: Results) -> list[list[Content]]:
     """The mean of each measure in each case."""
     plan = results.plan
     return [
-        [plan.label(case), *(results.spread(case, measure).words() for measure in MEASURES.values())]
+        [
+            plan.label(case),
+            f"{len(results.rows[case]):,}",
+            *(results.spread(case, measure).words() for measure in MEASURES.values()),
+        ]
         for case in plan.cases
         if results.rows[case]
     ]
@@ -57,9 +62,18 @@ def case_rows(results: Results) -> list[list[Content]]:
 def spread_table(title: str, bars: Sequence[Bar]) -> Table:
     """The numbers of bars."""
     rows: list[list[Content]] = [
-        [name, spread.words(), *(f"{spread.quantiles[at]:.2f}" for at in (0, 2, 4))] for name, spread, _ in bars
+        [
+            name,
+            f"{spread.count:,}",
+            spread.words(),
+            spread.interval_words(),
+            *(f"{spread.quantiles[at]:.2f}" for at in (0, 2, 4)),
+        ]
+        for name, spread, _ in bars
     ]
-    columns = heads("", "Mean, standard error #", "5 % #", "Median #", "95 % #")
+    columns = heads(
+        "", "Auctions #", "Mean, standard error #", "95 % interval of the mean #", "5 % #", "Median #", "95 % #"
+    )
     return Table(title, columns, rows)
 
 
@@ -111,8 +125,8 @@ def distribution(results: Results) -> Drawing:
 
 def measures_of(names: Sequence[str]) -> dict[str, Measure]:
     """What is compared between two cases."""
-    own = {f"profit of {name}": of_best(f"{name}_profit") for name in names}
-    return {"efficiency": per_cent("efficiency"), "revenue": RULES["core"], "profit of all": of_best("profit"), **own}
+    own = {f"profit of {name}": OfBest(f"{name}_profit") for name in names}
+    return {"efficiency": per_cent("efficiency"), "revenue": RULES["core"], "profit of all": OfBest("profit"), **own}
 
 
 def pair_title(pair: Pair) -> str:
@@ -139,7 +153,7 @@ def differences(results: Results) -> Iterator[tuple[Pair, Drawing]]:
     for number, pair in enumerate(pairs_of(results), 1):
         bars = difference_bars(results, pair)
         words = (f"pair{number}", pair_title(pair), [("", bars)], "% of the best value", True)
-        yield pair, Drawing(*words, "The differences, in % of what the best allocation is worth")
+        yield pair, Drawing(*words, "The differences, in % of what the best allocation of the first case is worth")
 
 
 def drawings(results: Results) -> Iterator[Drawing]:
@@ -160,14 +174,15 @@ def sections_of(results: Results) -> Iterator[Section]:
     yield Section("plan", "What was tried", list(tried(results.plan, stopped(results))))
     if not any(results.rows.values()):
         return
-    table = Table("", heads("Case", *(f"{name} #" for name in MEASURES)), case_rows(results))
+    table = Table("", heads("Case", "Auctions #", *(f"{name} #" for name in MEASURES)), case_rows(results))
     marks = [("blue", "box", "core"), ("orange", "box", "Vickrey"), ("green", "box", "pay as bid, for the same bids")]
     yield Section(
         "cases",
         "What came out",
         [
             Words(
-                "Means over the auctions, each with its standard error. `best` is what the best allocation is worth."
+                "Means over the auctions, each with its standard error, which one auction alone doesn't have, and"
+                " shares with their 95 % interval (Wilson). `best` is what the best allocation is worth."
             ),
             table,
             Key(marks),
@@ -176,31 +191,45 @@ def sections_of(results: Results) -> Iterator[Section]:
         ],
     )
     if found := list(differences(results)):
+        tests = sum(len(drawing.flat) for _, drawing in found)
         cards = [Card(it.title, [it.picture()], others(results, pair)) for pair, it in found]
         yield Section(
             "differences",
             "What differs, auction by auction",
             [
                 Words(
-                    "The second case less the first for auctions of the same number, so that the draws cancel. Green is"
-                    " more and orange less, by over two standard errors of the mean."
+                    "The second case less the first for auctions of the same number, so that the draws cancel, both"
+                    " in % of the first one's best value. Green is more and orange less, by over two standard errors of"
+                    f" the mean. These are {tests} comparisons: where nothing differs, about one of 20 has a colour by"
+                    " chance."
                 ),
                 Cards(cards, size="wide"),
             ],
         )
 
 
-def page_of(results: Results, title: str) -> Page:
+def made_with(origin: Origin) -> Section:
+    """What made the rows."""
+    rows: list[list[Content]] = [
+        ["program", f"{origin.mark}; SHA-256 {origin.program}"],
+        ["tools", origin.maker],
+        ["plan, without the number of auctions", f"SHA-256 {origin.plan}"],
+    ]
+    rows += [[f"inputs/{name}", f"SHA-256 {total}"] for name, total in origin.files.items()]
+    return Section("origin", "What made it", [Table("", heads("What", "Which"), rows)])
+
+
+def page_of(results: Results, title: str, origin: Origin) -> Page:
     """The page of a study."""
     under = "Auctions of bidders with drawn values, priced by the program. `table.csv` has a row for each."
-    return Page(f"Study: {title}", under, list(sections_of(results)))
+    return Page(f"Study: {title}", under, [*sections_of(results), made_with(origin)])
 
 
 def summary(results: Results) -> Iterator[str]:
     """The results in a few lines."""
     for case in results.plan.cases:
         if results.rows[case]:
-            yield results.plan.label(case)
+            yield f"{results.plan.label(case)} ({count(len(results.rows[case]), 'auction')})"
             yield from (f"  {name}: {results.spread(case, it).words()}" for name, it in MEASURES.items())
     for pair in pairs_of(results):
         yield f"{', '.join(filter(None, [pair_title(pair), others(results, pair)]))}, in % of the best value"

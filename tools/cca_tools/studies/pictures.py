@@ -19,7 +19,7 @@ ABOVE, BELOW, EVEN = ("greenish", "green"), ("orangish", "orange"), ("bluish", "
 
 def colour_of(spread: Spread) -> tuple[str, str]:
     """The colours of a difference: by its mean, where that is more than two standard errors from 0."""
-    if abs(spread.mean) <= 2 * spread.error:
+    if spread.error is None or abs(spread.mean) <= 2 * spread.error:
         return EVEN
     return ABOVE if spread.mean > 0 else BELOW
 

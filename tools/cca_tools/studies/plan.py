@@ -43,6 +43,19 @@ class Plan:
     auctions: int
     seed: int  # of the first auction; each further one has the next number
     cases: tuple[Case, ...]
+    text: bytes = b""
+    award_name: str = "award"
+
+    def files(self) -> dict[str, bytes]:
+        """The plan and its files by their names in the folder of the study. The copy of the plan finds the others there
+        if it named them without a folder."""
+        found = {"plan.toml": self.text}
+        for name, data in ((self.award_name, self.award), *self.values):
+            base = os.path.basename(name)
+            while found.get(base, data) != data:
+                base = f"other-{base}"
+            found[base] = data
+        return found
 
     @property
     def varied(self) -> tuple[str, ...]:
@@ -112,9 +125,11 @@ def cap_text(it: SpectrumCap) -> str:
 
 def read_plan(name: str) -> Plan:
     """The plan of a file; the names of files in it are looked up from its folder."""
-    top, folder = fields_of(load(name, "plan"), "plan"), os.path.dirname(name)
+    text, folder = load(name, "plan"), os.path.dirname(name)
+    top = fields_of(text, "plan")
     top.whole("plan", 1, 1)
-    award = load(os.path.join(folder, top.text("award")), "award")
+    award_name = top.text("award")
+    award = load(os.path.join(folder, award_name), "award")
     names = top.texts("values")
     top.need(len(set(names)) == len(names), "values", "names of files that all differ")
     values = tuple((it, load(os.path.join(folder, it), "values")) for it in names)
@@ -122,7 +137,7 @@ def read_plan(name: str) -> Plan:
     cases = read_cases(Fields("plan", "[vary]", top.take("vary", {})), read_award(award), names)
     top.no_more()
     top.need(len(cases) <= MOST_CASES, "vary", f"so little that there are at most {MOST_CASES} cases")
-    plan = Plan(award, values, auctions, seed, cases)
+    plan = Plan(award, values, auctions, seed, cases, text, award_name)
     for case in cases:
         plan.models(case)
     return plan

@@ -2,34 +2,44 @@
 
 from __future__ import annotations
 
-import csv
-import io
+import fcntl
 import json
 import os
 import pathlib
-from collections.abc import Iterable, Sequence
+from collections.abc import Iterator, Sequence
+from typing import BinaryIO, NoReturn
 
+from cca_tools.command_line import say
+from cca_tools.data.numbers import Mark
+from cca_tools.data.prices import table_text as csv_table
 from cca_tools.rules.printable import printable
-from cca_tools.rules.stops import WRITE_FAULT, Stop
+from cca_tools.rules.stops import CRASH, WRITE_FAULT, Stop
+from cca_tools.studies.origin import Origin, differences
 from cca_tools.studies.plan import Plan
-from cca_tools.studies.rows import Job, Row, columns_of
+from cca_tools.studies.rows import MADE, Done, Job, Row, columns_of
 
-ROWS, TABLE, PAGE = "rows.jsonl", "table.csv", "page.html"
+ROWS, TABLE, PAGE, INPUTS, LOCK = "rows.jsonl", "table.csv", "page.html", "inputs", ".lock"
 
 
 class Store:
-    """A folder, and the rows that it has of a plan."""
+    """A folder with the rows that it has of a plan. No two runs have one folder at the same time."""
 
-    def __init__(self, folder: str, plan: Plan) -> None:
-        self.folder, self.plan = pathlib.Path(folder), plan
+    file: BinaryIO
+
+    def __init__(self, folder: str, plan: Plan, origin: Origin) -> None:
+        """Opens or makes the folder. A `Stop` if it can't be written, if another run has it, or if its rows are of
+        another plan or were made by another program or other tools."""
+        self.folder, self.plan, self.origin = pathlib.Path(folder), plan, origin
         self.rows: dict[Job, Row] = {}
+        self.columns = columns_of(plan)
         try:
             self.folder.mkdir(parents=True, exist_ok=True)
+            self.lock()
             self.read()
-            self.file = open(self.folder / ROWS, "ab")
             if not self.rows:
-                self.file.truncate(0)
-                self.append({"plan": plan.sum()})
+                self.begin()
+            self.file = open(self.folder / ROWS, "ab")
+            self.keep_inputs()
         except OSError as fault:
             raise self.unwritten(fault) from None
 
@@ -38,33 +48,70 @@ class Store:
         why = f"`{printable(str(self.folder))}` can't be written: {fault.strerror}"
         return Stop("cca: write fault study", WRITE_FAULT, why=why)
 
+    def refuse(self, why: str) -> NoReturn:
+        """Stops, since the rows can't be gone on with."""
+        name = printable(str(self.folder / ROWS))
+        raise Stop("cca: write fault study", WRITE_FAULT, why=f"`{name}` {why}; name another folder with --out")
+
+    def lock(self) -> None:
+        """Takes the folder for this process, as long as it lives. (Its workers don't have a lock of this kind.)"""
+        self.locked = open(self.folder / LOCK, "ab")
+        try:
+            fcntl.lockf(self.locked, fcntl.LOCK_EX | fcntl.LOCK_NB)
+        except OSError:
+            why = (
+                f"another run works on `{printable(str(self.folder))}`; wait for it, or name another folder with --out"
+            )
+            raise Stop("cca: write fault study", WRITE_FAULT, why=why) from None
+
+    def begin(self) -> None:
+        """Writes the first line of the rows."""
+        (self.folder / ROWS).write_bytes(bytes_of(self.origin.members()))
+
     def read(self) -> None:
-        """Reads the rows that are there. A last line that isn't whole was being written when a run was stopped."""
+        """Reads the rows that are there. A line that isn't whole, as the last one of a run that was stopped, is left
+        out, and its auction is held again."""
         path = self.folder / ROWS
         if not path.exists():
             return
-        data = path.read_bytes()
-        whole = data[: data.rfind(b"\n") + 1]
-        lines = [json.loads(line) for line in whole.splitlines()]
-        if lines and lines[0].get("plan") != self.plan.sum():
-            why = (
-                f"`{printable(str(path))}` has rows of another plan; name another folder with --out, or remove this one"
-            )
-            raise Stop("cca: write fault study", WRITE_FAULT, why=why)
-        self.rows = {Job(it["case"], it["auction"]): it["row"] for it in lines[1:]}
-        if len(whole) < len(data):
-            os.truncate(path, len(whole))
+        first, *lines = path.read_bytes().split(b"\n")
+        if not lines:
+            return
+        head, unfinished = object_of(first), lines.pop()
+        if not head:
+            self.refuse("has no first line that says what made it")
+        if found := differences(head, self.origin):
+            self.refuse(f"has rows of {' and of '.join(found)}")
+        kept = [row for row in map(kept_row, lines) if row]
+        self.rows = dict(kept)
+        if torn := len(lines) - len(kept):
+            say(f"tools/study: {torn} of the lines of {ROWS} can't be read; their auctions are held again")
+        if torn or unfinished:
+            replacement = path.with_suffix(".new")
+            replacement.write_bytes(b"".join(self.lines()))
+            os.replace(replacement, path)
 
-    def append(self, line: object) -> None:
-        """Appends a line, past the buffer."""
-        self.file.write(f"{json.dumps(line)}\n".encode())
-        self.file.flush()
+    def lines(self) -> Iterator[bytes]:
+        """The lines of the file of rows."""
+        yield bytes_of(self.origin.members())
+        yield from (row_line(job, row) for job, row in self.rows.items())
 
-    def keep(self, job: Job, row: Row) -> None:
-        """Keeps the row of an auction."""
-        self.rows[job] = row
+    def keep_inputs(self) -> None:
+        """Copies the plan and its files."""
+        folder = self.folder / INPUTS
+        folder.mkdir(exist_ok=True)
+        for name, data in self.plan.files().items():
+            (folder / name).write_bytes(data)
+
+    def keep(self, done: Done) -> None:
+        """Keeps the row of an auction, past the buffer. Stops if another program than the one of the study made it."""
+        if done.program != self.origin.program:
+            why = f"a worker has another program, {done.program}, and this study has {self.origin.program}"
+            raise Stop("cca: another program", CRASH, why=why)
+        self.rows[done.job] = done.row
         try:
-            self.append({"case": job.case, "auction": job.number, "row": row})
+            self.file.write(row_line(done.job, done.row))
+            self.file.flush()
         except OSError as fault:
             raise self.unwritten(fault) from None
 
@@ -88,15 +135,40 @@ class Store:
         return str(path)
 
 
-def csv_text(columns: Sequence[str], rows: Iterable[Row]) -> str:
-    """The table as CSV; a cell that a row doesn't have is empty."""
-    out = io.StringIO()
-    writer = csv.DictWriter(out, columns, restval="", lineterminator="\n")
-    writer.writeheader()
-    writer.writerows(rows)
-    return out.getvalue()
+def bytes_of(line: object) -> bytes:
+    """The bytes of a line of rows."""
+    return f"{json.dumps(line)}\n".encode()
 
 
-def table_text(store: Store) -> str:
-    """The table of a study."""
-    return csv_text(columns_of(store.plan), store.table())
+def row_line(job: Job, row: Row) -> bytes:
+    """The line of a row."""
+    return bytes_of({"case": job.case, "auction": job.number, "row": row})
+
+
+def object_of(line: bytes) -> dict[str, object]:
+    """The object of a line; an empty one if the line isn't whole."""
+    try:
+        found = json.loads(line)
+    except ValueError:
+        return {}
+    return found if isinstance(found, dict) else {}
+
+
+def kept_row(line: bytes) -> tuple[Job, Row] | None:
+    """The row of a line, or None if the line isn't whole."""
+    found = object_of(line)
+    case, number, row = found.get("case"), found.get("auction"), found.get("row")
+    if not isinstance(case, int) or not isinstance(number, int) or not isinstance(row, dict):
+        return None
+    return Job(case, number), row
+
+
+def cells_of(columns: Sequence[str], row: Row, made: Row) -> list[str]:
+    """The cells of a row; one that it doesn't have is empty."""
+    return [made.get(name) or row.get(name) or "" for name in columns]
+
+
+def table_text(store: Store, mark: Mark = ".") -> str:
+    """The table of a study, of which each row names what made it."""
+    made = dict(zip(MADE, (store.origin.program, store.origin.maker, store.origin.plan)))
+    return csv_table(store.columns, (cells_of(store.columns, row, made) for row in store.table()), mark)

@@ -1,0 +1,1 @@
+"""What builds `./cca` and `./trial`, packs a release, and makes the site and what is drawn."""

@@ -1,0 +1,120 @@
+"""Writes vectors/: the cases and their files.
+
+The answers come from the court's own files and from the rules of cca_tools, which have to agree, and
+from the program too where CCA_PROGRAM names it.
+
+A case that an answer is written beside has to get this answer. It needs python3.
+"""
+import os
+import pathlib
+import shutil
+import tempfile
+
+
+from checks.cases.second_auctions import second_auction
+from checks.cases.voices import FILES, Stop, books, court_answer, is_alike, program_answer, rules_answer, rules_book
+
+PROGRAM = os.environ.get("CCA_PROGRAM") and os.path.abspath(os.environ["CCA_PROGRAM"])
+
+
+class Vectors:
+    """The cases so far, and the bytes of the files that they name."""
+
+    def __init__(self, folder):
+        self.folder, self.files, self.blocks, self.names = folder, {}, [], set()
+        self.auctions = []  # of each case of `auction` its name, why, award and log
+
+    def file(self, name, text, others):
+        """The name of a file with this text: that of an earlier one where the texts are the same, unless it is among others."""
+        known = next((known for known, one in self.files.items() if one == text and known not in others), name)
+        if self.files.setdefault(known, text) != text:
+            raise ValueError(f"two files {name}")
+        pathlib.Path(self.folder, known).write_bytes(text)
+        return known
+
+    def case(self, name, why, command, texts, answer=None, made=()):
+        """A case of a command: its texts, or names of files as str that are there or missing, and the first line of its answer where it is known."""
+        if name in self.names:
+            raise ValueError(f"two cases {name}")
+        self.names.add(name)
+        if command == "auction":
+            self.auctions.append((name, why, *texts[:2]))
+        kinds = FILES.get(command, ("award", "log", "book"))
+        words = []
+        for kind, text in zip(kinds + ("more",) * 3, texts):
+            words.append(text if isinstance(text, str) else self.file(f"{name}.{kind}", text, words))
+        for file, count, text in made:
+            pathlib.Path(self.folder, file).write_text(text * count)
+        printed, status = self.answer(command, words)
+        if (
+            answer is not None
+            and printed.split("\n")[0] != answer
+            and not (answer[:2] == "* " and answer[2:] in printed.split("\n"))
+        ):
+            raise AssertionError(f"{name}: {printed!r} and not {answer!r}")
+        block = [
+            f"case {name}",
+            f"why {why}",
+            *(f"make {file} {count} " + text.replace("\n", "\\n") for file, count, text in made),
+        ]
+        block += [
+            f"run {command} {' '.join(words)}".rstrip(),
+            f"status {status}",
+            *(f"| {line}" for line in printed.split("\n")),
+        ]
+        self.blocks.append("\n".join(block))
+
+    def answer(self, command, words):
+        """What is printed, and the status, on which all voices agree."""
+        paths = [
+            word if word == "/dev/null" else os.path.join(self.folder, word) if word and word[0] != "-" else word
+            for word in words
+        ]
+        said = [court_answer(command, paths) if command in FILES else auction_answer(paths)]
+        if command not in FILES and not is_alike(*books(*paths[:2])):
+            raise AssertionError(f"{words}: the books are {books(*paths[:2])}")
+        if command in FILES and said[0] != ("cca: words", 2):
+            said.append(rules_answer(command, paths))
+        if PROGRAM:
+            said.append(program_answer(PROGRAM, command, paths))
+        if len(set(said)) > 1:
+            raise AssertionError(f"{command} {words}: {said}")
+        return said[0]
+
+    def book(self, award, log):
+        """The book of an award and a log, on which the voices agree, or None where there is none."""
+        paths = [os.path.join(self.folder, f"a-book.{kind}") for kind in ("award", "log")]
+        for path, text in zip(paths, (award, log)):
+            pathlib.Path(path).write_bytes(text)
+        court, rules = books(*paths)
+        if court != rules:
+            raise AssertionError(f"the books are {court} and {rules}")
+        try:
+            return rules_book(dict(zip(("award", "log"), paths)))
+        except Stop:
+            return None
+
+
+def auction_answer(paths):
+    printed, _, status = second_auction(*paths[:2])
+    return printed.removesuffix("\n"), status
+
+
+def main(root):
+    """Writes vectors/ below this folder."""
+    from checks.cases.vector_cases import add_all
+    from checks.cases.vector_winners import add_winners
+
+    with tempfile.TemporaryDirectory() as folder:
+        vectors = Vectors(folder)
+        add_all(vectors)
+        add_winners(vectors)
+        kept = root / "vectors"
+        shutil.rmtree(kept / "files", ignore_errors=True)
+        os.makedirs(kept / "files")
+        for name in vectors.files:
+            shutil.copy(os.path.join(folder, name), kept / "files" / name)
+    (kept / "cases").write_text("\n\n".join(vectors.blocks) + "\n")
+    print(
+        f"{len(vectors.blocks)} cases, {len(vectors.files)} files, {sum(map(len, vectors.files.values()))} bytes, {2 + bool(PROGRAM)} voices"
+    )

@@ -1,0 +1,27 @@
+"""The kit's command `rt` as a module, for scripts that use its inside."""
+
+from __future__ import annotations
+
+import importlib.machinery
+import importlib.util
+import os
+import shutil
+import sys
+from types import ModuleType
+
+
+def path() -> str:
+    """Where the command is; the run ends if it is nowhere."""
+    return os.path.realpath(shutil.which("rt") or sys.exit("rt, the tool of the Rattle kit, is not on the PATH"))
+
+
+def tool() -> ModuleType:
+    """The command as a module, beside which the kit's own modules are found."""
+    sys.path.insert(0, os.path.dirname(path()))
+    sys.dont_write_bytecode = True
+    loader = importlib.machinery.SourceFileLoader("rt", path())
+    spec = importlib.util.spec_from_loader(loader.name, loader)
+    assert spec
+    module = importlib.util.module_from_spec(spec)
+    loader.exec_module(module)
+    return module

@@ -1,0 +1,1 @@
+"""What tests and attacks the program, its tools and the documents."""

@@ -1,0 +1,109 @@
+"""Logs of 100,000 records: an ordinary one, and the ones that cost most of those found."""
+import itertools
+
+RECORDS, ROUNDS, DRAFTS = 100_000, 300, 300
+SUPPLY, POINTS = (20, 19), (20, 1)
+BIDDERS = 16
+MOST = sum(s * p for s, p in zip(SUPPLY, POINTS))
+
+
+def award():
+    """Two categories in which 420 packages have points that all differ, prices that rise by one in each round, 16
+    bidders."""
+    lines = ["version = 2", "tick = 1"]
+    for name, supply, points in zip("ab", SUPPLY, POINTS):
+        lines += ["[[category]]", f'name = "{name}"', f"supply = {supply}", f"points = {points}", "reserve = 1000"]
+    for j in range(1, BIDDERS + 1):
+        lines += ["[[bidder]]", f'name = "b{j}"', f"eligibility = {MOST}"]
+    return "\n".join(lines + ["[[step]]", "excess = 1", "permille = 1"]) + "\n"
+
+
+def package_of(points):
+    return divmod(points, POINTS[0])
+
+
+def line(kind, j, package, amount=""):
+    return f"{kind},b{j},{package[0]} {package[1]},{amount}"
+
+
+class Clock:
+    """300 rounds in which bidder 1 falls by one point a round while bidder 2 asks for all, and the final one."""
+
+    def __init__(self):
+        self.lines, self.prices, prices = [], [], [1000, 1000]
+        for r in range(1, ROUNDS):
+            held = package_of(MOST - r)
+            self.lines += [line("bid", 1, held), line("bid", 2, SUPPLY), "close,,,"]
+            self.prices.append((held, tuple(prices)))
+            prices = [p + max(1, -(-p // 1000)) if h else p for p, h in zip(prices, held)]
+        self.lines += [line("bid", 1, package_of(MOST - ROUNDS)), "close,,,"]
+
+    def amounts(self):
+        """What bidder 1 bid for its packages, the largest package first."""
+        return [(held, sum(n * p for n, p in zip(held, prices))) for held, prices in self.prices]
+
+
+def ordinary():
+    """16 bidders who bid in each of 300 rounds and then draft, drop and submit in turn."""
+    lines = []
+    for r in range(1, ROUNDS):
+        lines += [line("bid", j, (20, 19) if j < 3 else (r % 21, j)) for j in range(1, BIDDERS + 1)] + ["close,,,"]
+    lines += ["close,,,"]
+    packages = [p for p in itertools.product(range(21), range(20)) if any(p)]
+    for n in itertools.count():
+        j, p = n % BIDDERS + 1, packages[n // BIDDERS % len(packages)]
+        lines.append(line("draft", j, p, 2_000_000 + n % 7))
+        if n % 40 == 39:
+            lines.append(line("drop", j, p))
+            lines.append(f"submit,b{j},,")
+        if len(lines) > RECORDS:
+            return lines
+
+
+def behind_the_clock(more):
+    clock = Clock()
+    lines = clock.lines + [line("draft", 1, p, a) for p, a in clock.amounts()]
+    return lines + list(itertools.islice(more(clock.amounts()), RECORDS - len(lines)))
+
+
+def submits(amounts):
+    while True:
+        yield "submit,b1,,"
+
+
+def drafts_and_submits(amounts):
+    package, amount = amounts[150]
+    for n in itertools.count():
+        yield line("draft", 1, package, amount + n % 2)
+        yield "submit,b1,,"
+
+
+def drafts_and_drops(amounts):
+    package, amount = amounts[-1]
+    while True:
+        yield line("drop", 1, package)
+        yield line("draft", 1, package, amount)
+
+
+def low_drafts(amounts):
+    package, amount = amounts[0]
+    while True:
+        yield line("draft", 1, package, amount - 1)
+
+
+def bids():
+    return [line("bid", 1 + n % BIDDERS, package_of(MOST - n % 400)) for n in range(RECORDS)]
+
+
+LOGS = {
+    "ordinary": ordinary,
+    "bids": bids,
+    "submits": lambda: behind_the_clock(submits),
+    "drafts and submits": lambda: behind_the_clock(drafts_and_submits),
+    "drafts and drops": lambda: behind_the_clock(drafts_and_drops),
+    "low drafts": lambda: behind_the_clock(low_drafts),
+}
+
+
+def text_of(kind):
+    return "\n".join(LOGS[kind]()[:RECORDS]) + "\n"

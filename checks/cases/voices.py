@@ -1,0 +1,147 @@
+"""The voices that answer for a certificate: the court's own files tools/audit and tools/check, the rules of cca_tools,
+and the program.
+
+`audit`, `check` and `check_places` take names of files and ask the court's file and the rules, which have to answer
+alike. They give what is printed of a yes; any other end is a `Stop`.
+"""
+import importlib.machinery
+import importlib.util
+import os
+import subprocess
+import sys
+import unittest.mock
+
+from cca_tools.rules.auction import replay
+from cca_tools.rules.award import read_award
+from cca_tools.rules.book import read_book
+from cca_tools.rules.certificate import read_certificate
+from cca_tools.rules.certificate_tests import first_fault
+from cca_tools.rules.log import read_log
+from cca_tools.rules.placement import read_places, read_slots
+from cca_tools.rules.placement_tests import first_fault as first_place_fault
+from cca_tools.rules.printing import place_lines, price_lines
+from cca_tools.rules.stops import NO, WORDS, Stop, load
+from cca_tools.rules.weights import read_weights
+
+TOOLS = os.path.join(os.path.dirname(os.path.realpath(__file__)), "..", "..", "tools")
+FILES = {
+    "audit": ("award", "log", "cert"),
+    "check": ("book", "cert"),
+    "weigh-check": ("book", "weights", "cert"),
+    "place-check": ("slots", "cert"),
+}
+NO_VERDICT = 9  # of an award that TOML 1.0 doesn't have
+
+
+def script(name):
+    """A tool of one file as a module."""
+    loader = importlib.machinery.SourceFileLoader(name.replace("-", "_"), os.path.join(TOOLS, name))
+    module = importlib.util.module_from_spec(importlib.util.spec_from_loader(loader.name, loader))
+    sys.dont_write_bytecode = True
+    loader.exec_module(module)
+    return module
+
+
+AUDIT, CHECK = script("audit"), script("check")
+
+
+def court_answer(command, names):
+    """What the court's own files print for a command of cca with these names, and the status."""
+    if command == "audit":
+        return AUDIT.answer(names)
+    if command == "place-check":
+        return CHECK.answer(names, CHECK.check_places, 2)
+    if command == "weigh-check":
+        return CHECK.answer([*names[:1], *names[2:], *names[1:2]], CHECK.check, 3)
+    return CHECK.answer(names, CHECK.check, 2)
+
+
+def court_book(award, log):
+    """The bids of the book that tools/audit makes of these files, or what it prints instead, and the status."""
+    made = []
+
+    def keep(cert, terms, bids):
+        made.append(bids)
+        raise AUDIT.Stop("", 0)
+
+    with unittest.mock.patch.object(AUDIT, "Certificate", keep):
+        said = AUDIT.answer([award, log, os.devnull])
+    return (made[0], 0) if made else said
+
+
+def books(award, log):
+    """The bids of the book of these files, by tools/audit and by the rules; or the line and status of a stop."""
+    try:
+        rules = [list(bids) for bids in rules_book({"award": award, "log": log}).bids], 0
+    except Stop as stop:
+        rules = stop.line, stop.status
+    return court_book(award, log), rules
+
+
+def rules_text(command, names):
+    """What the rules of cca_tools say of these files, as `cca` prints it; any other end than a yes is a `Stop`."""
+    files = dict(zip(FILES[command], names))
+    if command == "place-check":
+        slots = read_slots(load(files["slots"], "slots"))
+        certificate = read_places(load(files["cert"], "cert"), slots)
+        fault, lines = first_place_fault(slots, certificate), place_lines
+    else:
+        book = rules_book(files)
+        weights = read_weights(load(files["weights"], "weights"), book) if "weights" in files else None
+        certificate = read_certificate(load(files["cert"], "cert"), book)
+        fault, lines = first_fault(book, certificate, weights), price_lines
+    if fault:
+        raise Stop(fault.line, NO, why=fault.text())
+    return "\n".join(["yes", *lines(certificate)])
+
+
+def rules_book(files):
+    """The book of an audit's award and log, or the one that is named."""
+    if "book" in files:
+        return read_book(load(files["book"], "book"))
+    award = read_award(load(files["award"], "award"))
+    return replay(award, read_log(load(files["log"], "log"), award)).need_book()
+
+
+def rules_answer(command, names):
+    """What the rules answer, and the status."""
+    try:
+        return rules_text(command, names), 0
+    except Stop as stop:
+        return stop.line, stop.status
+
+
+def is_alike(*said):
+    """Whether all say the same. The court's file, which is first, gives no verdict of an award that isn't TOML 1.0."""
+    first, *others = said
+    return all(one == others[0] for one in others) and (first == others[0] or first[1] == NO_VERDICT)
+
+
+def program_answer(program, command, names):
+    """What the program prints, without its last line feed, and the status."""
+    ended = subprocess.run([program, command, *names], stdin=subprocess.DEVNULL, capture_output=True)
+    return ended.stdout.decode().removesuffix("\n"), ended.returncode
+
+
+def agreed(command, names):
+    """What the court's file and the rules say alike, or a `Stop`."""
+    said = court_answer(command, names)
+    if said == ("cca: words", WORDS):
+        raise Stop(*said)
+    wanted = rules_answer(command, names)
+    if not is_alike(said, wanted):
+        raise AssertionError(f"{command}: the court's file says {said}, the rules {wanted}")
+    return rules_text(command, names)
+
+
+def audit(names):
+    return agreed("audit", names)
+
+
+def check(names):
+    """BOOK CERT [WEIGHTS], as tools/check takes them."""
+    return agreed("weigh-check", [names[0], *names[:0:-1]]) if len(names) == 3 else agreed("check", names)
+
+
+def check_places(names):
+    return agreed("place-check", names)

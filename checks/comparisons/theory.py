@@ -1,0 +1,42 @@
+"""Tests what theory says of whole auctions of bidders that follow their values, on drawn awards and values.
+
+NUMBER auctions of award version 1, from number FIRST on, with bidders that are straightforward in the clock and list
+every package with its value: each line has to be admitted by the program, no winner may pay more than its value, and
+where values
+are separable with decreasing marginal values, each price has to be the Vickrey price. Then 20 small auctions, in which
+efficiency
+and revenue have to be those of a program that visits all allocations. It prints what isn't so, and ends with 1 then.
+"""
+import collections
+import concurrent.futures
+import functools
+
+from checks.cases.limit_books import build_cca
+
+from checks.cases import checked  # noqa: E402
+
+SMALL = 20
+
+
+def told(results):
+    """Prints the faults, and gives how many auctions of each form there were, and how many have one."""
+    counts, wrong = collections.Counter(), 0
+    for number, (form, found) in results:
+        counts[form] += 1
+        counts["limit winners"] += "limit" in found
+        faults = [it for it in found if it != "limit"]
+        wrong += bool(faults)
+        for it in faults:
+            print(f"auction {number}, {form}: {it}")
+    print(", ".join(f"{form} {count}" for form, count in sorted(counts.items())), f"with a fault {wrong}")
+    return wrong
+
+
+def main(number, first):
+    build_cca()
+    with concurrent.futures.ProcessPoolExecutor() as pool:
+        numbers = range(first, first + number)
+        wrong = told(zip(numbers, pool.map(checked.faults, numbers, chunksize=5)))
+        small = functools.partial(checked.faults, is_small=True)
+        wrong += told(zip(range(SMALL), pool.map(small, range(SMALL))))
+    return 1 if wrong else 0

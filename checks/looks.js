@@ -1,0 +1,156 @@
+// What is wrong with how a page looks: a list of sentences. It is run in the page by checks/looks.
+(() => {
+  const found = [], width = document.documentElement.clientWidth
+  const say = text => { if (found.length < 200) found.push(text) }
+  const short = text => text.trim().replace(/\s+/g, " ").slice(0, 60)
+  // what a browser puts together only when it comes into sight is put together now
+  for (const it of document.querySelectorAll(".late")) it.style.contentVisibility = "visible"
+  for (const it of document.querySelectorAll("details")) it.open = true
+  // a report has its sections in main; other pages are those of a published set, of a study and of the site
+  const isReport = Boolean(document.querySelector("main > section[aria-labelledby]"))
+  const parts = []
+  const walk = document.createTreeWalker(document.body, NodeFilter.SHOW_TEXT)
+  while (walk.nextNode()) {
+    const node = walk.currentNode, holder = node.parentElement
+    if (!node.data.trim() || holder.closest("style, title, desc, script")) continue
+    const style = getComputedStyle(holder)
+    if (style.visibility === "hidden" || style.display === "none" || getComputedStyle(holder.closest("thead") ?? holder).clipPath !== "none") continue
+    const range = document.createRange()
+    range.selectNodeContents(node)
+    for (const box of range.getClientRects()) if (box.width > 0.5 && box.height > 0.5) parts.push({ node, holder, box, text: short(node.data) })
+  }
+  // a part of the page that scrolls up and down shows its texts one after the other
+  const scrolls = it => { const box = it.closest(".scroll.long"); return box && getComputedStyle(box).overflowY !== "visible" ? box : null }
+
+  if (document.scrollingElement.scrollWidth > width + 1) say(`the page is ${document.scrollingElement.scrollWidth} wide, and has room for ${width}`)
+  // code and tables of the site move sideways in frames of their own
+  const moves = it => !isReport && Boolean(it.closest("pre, table")) && [it.closest("pre"), it.closest("table")].some(at => at && getComputedStyle(at).overflowX === "auto" || at?.firstElementChild && getComputedStyle(at.firstElementChild).overflowX === "auto")
+  for (const { box, text, holder } of parts) if (!moves(holder)) if (box.left < -1 || box.right > width + 1) say(`cut at the side: "${text}" in <${holder.tagName.toLowerCase()}>`)
+  for (const it of document.querySelectorAll(".scroll")) if (it.scrollWidth > it.clientWidth + 1) say(`a table has ${it.scrollWidth} and room for ${it.clientWidth}: "${short(it.innerText)}"`)
+  for (const it of document.querySelectorAll("h1, h2, h3, h4, p, li, dd, dt, figcaption, caption, .card"))
+    if (it.scrollWidth > it.clientWidth + 1 && it.clientWidth) say(`overflows: "${short(it.innerText)}"`)
+  for (const svg of document.querySelectorAll("svg")) {
+    const frame = svg.getBoundingClientRect()
+    for (const it of svg.querySelectorAll("text")) {
+      const box = it.getBoundingClientRect()
+      if (box.left < frame.left - 1.5 || box.right > frame.right + 1.5 || box.top < frame.top - 1.5 || box.bottom > frame.bottom + 1.5) say(`cut in a picture: "${short(it.textContent)}"`)
+    }
+    const sizes = [...svg.querySelectorAll("text")].map(it => parseFloat(getComputedStyle(it).fontSize) * it.getScreenCTM().a)
+    if (sizes.some(size => size < 10.95)) say(`letters of ${Math.min(...sizes).toFixed(1)} in a picture: "${short(svg.querySelector("title")?.textContent ?? "")}"`)
+    crossed(svg)
+    scales(svg)
+  }
+  for (const it of document.querySelectorAll(".details th")) if (getComputedStyle(it, "::before").content.includes("Line")) say(`a head of details is called a line: "${short(it.innerText)}"`)
+
+  // lots of one category are equally wide, and all lots where the page says so; the axes of the core have one scale
+  function scales(svg) {
+    const widths = new Map()
+    for (const it of svg.querySelectorAll("rect")) {
+      const lot = /lots? of (.+)$/.exec(it.querySelector("title")?.textContent ?? "")
+      if (lot) widths.set(lot[1], [...(widths.get(lot[1]) ?? []), it.getBoundingClientRect().width])
+    }
+    const differ = all => Math.max(...all) > 1.02 * Math.min(...all) + 0.5
+    for (const [name, all] of widths) if (differ(all)) say(`lots of ${name} differ in width`)
+    const isAlike = /all are equally wide/.test(svg.closest(".card")?.textContent ?? "")
+    if (isAlike && widths.size && differ([...widths.values()].flat())) say("lots of two categories differ in width")
+    if (!/^core/.test(svg.querySelector("title")?.id ?? "")) return
+    const units = [["x1", "y1", "y2"], ["y1", "x1", "x2"]].map(([at, from, to]) => {
+      const found = []
+      for (const line of svg.querySelectorAll("line")) {
+        const text = line.nextElementSibling, value = text?.tagName === "text" ? parseFloat(text.textContent.replace(/,/g, "")) : NaN
+        if (Math.abs(Math.abs(line.getAttribute(from) - line.getAttribute(to)) - 4) < 0.1 && !isNaN(value)) found.push([Number(line.getAttribute(at)), value])
+      }
+      return found.length < 2 ? null : Math.abs((found[1][0] - found[0][0]) / (found[1][1] - found[0][1]))
+    })
+    if (units.every(Boolean) && Math.abs(units[0] / units[1] - 1) > 0.02) say(`axes differ: ${units.map(it => it.toFixed(3)).join(" and ")} a unit`)
+    const outline = [...svg.querySelectorAll("path")].find(it => it.querySelector("title")?.textContent.startsWith("all ways"))
+    if (outline) {
+      const at = outline.getAttribute("d").match(/-?[\d.]+/g).map(Number), corners = [0, 2, 4].map(i => [at[i], at[i + 1]])
+      if (differ(corners.map(([x, y], i) => Math.hypot(x - corners[(i + 1) % 3][0], y - corners[(i + 1) % 3][1])))) say("the sides of the triangle differ")
+    }
+  }
+
+  // texts of a picture that a line goes through, but for those with an edge in the colour of their ground
+  function crossed(svg) {
+    const lines = [...svg.querySelectorAll("path, line")].filter(it => !it.closest("defs") && getComputedStyle(it).stroke !== "none" && (it.tagName === "line" || getComputedStyle(it).fill === "none"))
+    for (const text of svg.querySelectorAll("text")) {
+      if (getComputedStyle(text).stroke !== "none") continue
+      const box = text.getBoundingClientRect(), low = box.top + box.height / 4, high = box.bottom - box.height / 4
+      const isIn = ({ x, y }) => x > box.left + 1 && x < box.right - 1 && y > low && y < high
+      for (const line of lines) {
+        const other = line.getBoundingClientRect(), edge = parseFloat(getComputedStyle(line).strokeWidth) / 2
+        if (other.right + edge < box.left || other.left - edge > box.right || other.bottom + edge < low || other.top - edge > high) continue
+        const length = line.getTotalLength(), places = [...Array(401).keys()].map(i => line.getPointAtLength(length * i / 400).matrixTransform(line.getScreenCTM()))
+        if (places.filter(isIn).length > 1) { say(`a line crosses "${short(text.textContent)}"`); break }
+      }
+    }
+  }
+
+  // texts that lie over each other: parts sorted from above, each compared with those that begin before it ends
+  const sorted = parts.filter(({ holder }) => !scrolls(holder) && !moves(holder)).sort((a, b) => a.box.top - b.box.top)
+  const open = []
+  for (const part of sorted) {
+    for (let i = open.length; i--;) if (open[i].box.bottom <= part.box.top + 1) open.splice(i, 1)
+    for (const other of open) {
+      const wide = Math.min(part.box.right, other.box.right) - Math.max(part.box.left, other.box.left)
+      const high = Math.min(part.box.bottom, other.box.bottom) - Math.max(part.box.top, other.box.top)
+      if (wide > 1.5 && high > 0.3 * Math.min(part.box.height, other.box.height) && part.node !== other.node) say(`"${part.text}" lies over "${other.text}"`)
+    }
+    open.push(part)
+  }
+
+  for (const mark of document.querySelectorAll(".legend i")) {
+    const box = mark.getBoundingClientRect(), range = document.createRange()
+    range.selectNodeContents(mark.nextSibling)
+    for (const text of range.getClientRects()) if (box.right > text.left + 1 && box.left < text.right && box.bottom > text.top && box.top < text.bottom) say(`a mark lies over "${short(mark.nextSibling.data)}"`)
+  }
+  const onlyPictures = document.documentElement.dataset.only === "pictures"
+  for (const svg of document.querySelectorAll("svg")) if (!svg.querySelector("title")?.textContent || !svg.querySelector("desc")?.textContent || svg.getAttribute("role") !== "img") say("a picture without its title or description")
+  for (const it of document.querySelectorAll("figure")) {
+    const table = document.getElementById(it.getAttribute("aria-describedby") ?? "")
+    if (!table || !table.querySelector("tbody tr") || !table.caption?.innerText.trim()) say(`a picture without its table: "${short(it.innerText)}"`)
+    if (!it.querySelector("figcaption")?.innerText.trim()) say("a figure without words")
+  }
+  if (isReport && document.querySelectorAll("svg").length !== document.querySelectorAll("figure").length) say("a picture outside a figure")
+  const ids = [...document.querySelectorAll("[id]")].map(it => it.id)
+  for (const id of new Set(ids.filter((id, i) => ids.indexOf(id) !== i))) say(`two parts are called ${id}`)
+  if (isReport) for (const it of document.querySelectorAll("script, link, img, iframe, object, embed")) say(`<${it.tagName.toLowerCase()}> has no place in a report`)
+  for (const it of document.querySelectorAll("*")) for (const { name, value } of it.attributes) if (/^(https?:)?\/\//.test(value) && !name.startsWith("xmlns") && it.tagName !== "A" && it.rel !== "canonical") say(`${name}="${value}" needs a network`)
+
+  // contrast: the colour of each text against what lies under it
+  const colour = text => { const [r, g, b, a = 1] = (text.match(/[\d.]+/g) ?? [0, 0, 0, 0]).map(Number); return [r, g, b, a] }
+  const over = (above, below) => above.slice(0, 3).map((part, i) => above[3] * part + (1 - above[3]) * below[i]).concat(1)
+  const light = ([r, g, b]) => { const [x, y, z] = [r, g, b].map(part => part / 255).map(part => part <= 0.04045 ? part / 12.92 : ((part + 0.055) / 1.055) ** 2.4); return 0.2126 * x + 0.7152 * y + 0.0722 * z }
+  const contrast = (one, other) => { const [a, b] = [light(one), light(other)].sort((a, b) => b - a); return (a + 0.05) / (b + 0.05) }
+  const ground = it => {
+    const chain = []
+    for (let at = it; at; at = at.parentElement) chain.unshift(colour(getComputedStyle(at).backgroundColor))
+    return chain.reduce((below, above) => over(above, below), [255, 255, 255, 1])
+  }
+  const under = (it, box) => {
+    const svg = it.closest("svg"), x = box.left + box.width / 2, y = box.top + box.height / 2
+    let below = ground(svg)
+    const shapes = document.elementsFromPoint(x, y).filter(at => svg.contains(at) && ["path", "rect", "circle", "polygon"].includes(at.tagName)).reverse()
+    for (const at of shapes) {
+      const style = getComputedStyle(at)
+      if (style.fill === "none" || style.fill.startsWith("url")) continue
+      const fill = colour(style.fill)
+      below = over([...fill.slice(0, 3), fill[3] * style.fillOpacity * style.opacity], below)
+    }
+    return below
+  }
+  const seen = new Set()
+  for (const { holder, box, text } of parts) {
+    const style = getComputedStyle(holder), svg = holder.closest("svg")
+    if (svg) { if (seen.size > 4000) continue; holder.scrollIntoView({ block: "center" }) }
+    const key = svg ? holder : style.color + style.fontSize + holder.className + holder.tagName
+    if (seen.has(key)) continue
+    seen.add(key)
+    const at = svg ? holder.getBoundingClientRect() : box
+    const ratio = svg ? contrast(colour(style.fill), under(holder, at)) : contrast(over(colour(style.color), ground(holder)), ground(holder))
+    if (ratio < 4.5) say(`contrast ${ratio.toFixed(1)}: "${text}"`)
+    if (!svg && parseFloat(style.fontSize) < 11 && !matchMedia("print").matches) say(`letters of ${style.fontSize}: "${text}"`)
+  }
+  scrollTo(0, 0)
+  return found
+})()

@@ -1,0 +1,185 @@
+"""The programs of build/, checks/ and bench/ on small numbers, so that none rots: what compares, what draws, and the
+site of the documents.
+
+Times aren't tested. Each comparison ends with 0 only where nothing differs.
+"""
+import ast
+import os
+import pathlib
+import re
+import shutil
+import subprocess
+import sys
+import tempfile
+import unittest
+
+from checks.cases.program import PROGRAM, with_program
+
+ROOT = pathlib.Path(__file__).resolve().parents[2]
+FOLDERS = ("build", "checks", "bench")
+# With which numbers a comparison runs here, and the line that says that it compared something.
+SMALL = {
+    "books": (["2"], r"^\d{2,} compared, 0 differ$"),
+    "explain": (["30"], r"^30 runs, 0 differ$"),
+    "reports": (["3"], r"^3 auctions and books, 0 differ"),
+    "court": (["60", "7"], r"^60 cases, 3 voices, 0 differ$"),
+    "made": (["0"], r"^3 made auctions, 0 differ$"),
+    "theory": (["2"], r"with a fault 0$"),
+    "files": (["30"], r"^30 runs, seed 1: all ended as they have to$"),
+}
+# What runs long even on small numbers, and what it would need.
+NOT_RUN = {
+    "auctions": "logs of 100,000 records",
+    "second-proof": "coq",
+    "page": "chromium, and the page of the second proof",
+    "memory": "a C compiler, and minutes",
+}
+
+
+def ran(*words):
+    """A program with these words."""
+    how = {**os.environ, "CCA_PROGRAM": PROGRAM or "", "PYTHONDONTWRITEBYTECODE": "1"}
+    words = [sys.executable, str(ROOT / words[0]), *words[1:]]
+    return subprocess.run(words, capture_output=True, text=True, env=how, stdin=subprocess.DEVNULL)
+
+
+def words_of(name):
+    """What a program can be asked for, by its help."""
+    said = ran(name, "--help")
+    return re.findall(r"^ {2,4}([a-z][a-z-]+) ", said.stdout, re.MULTILINE) + re.findall(
+        r"^    ([a-z-]+)$", said.stdout, re.MULTILINE
+    )
+
+
+def programs():
+    """The programs of the folders."""
+    files = [path for folder in FOLDERS for path in sorted((ROOT / folder).iterdir()) if path.is_file()]
+    return [f"{path.parent.name}/{path.name}" for path in files if path.read_bytes()[:2] == b"#!"]
+
+
+class Bench(unittest.TestCase):
+    def test_each_program_has_help(self):
+        """It names its words, says what its docstring says, and runs nothing."""
+        for name in programs():
+            with self.subTest(name=name):
+                done = ran(name, "--help")
+                self.assertEqual((done.returncode, done.stderr), (0, ""))
+                self.assertTrue(done.stdout.startswith(f"usage: {name} [-h]"), done.stdout)
+                self.assertIn(ast.get_docstring(ast.parse((ROOT / name).read_text())), done.stdout)
+
+    def test_each_comparison_is_run_or_named(self):
+        self.assertEqual(set(words_of("checks/compare")), {*SMALL, *NOT_RUN})
+
+    @with_program
+    def test_comparisons(self):
+        for what, (words, line) in SMALL.items():
+            with self.subTest(what=what):
+                done = ran("checks/compare", what, *words)
+                self.assertEqual((done.returncode, done.stderr), (0, ""), done.stdout)
+                self.assertRegex(done.stdout, re.compile(line, re.MULTILINE))
+
+    @with_program
+    def test_what_is_drawn_is_kept(self):
+        done = ran("build/draw", "pictures", "reports", "manual", "--compare")
+        self.assertEqual((done.returncode, done.stdout, done.stderr), (0, "nothing differs\n", ""))
+
+    def test_a_difference_is_seen(self):
+        """A copy in which a page isn't what is drawn."""
+        with tempfile.TemporaryDirectory() as folder:
+            for part in ("build", "checks", "docs"):
+                shutil.copytree(
+                    ROOT / part, os.path.join(folder, part), ignore=shutil.ignore_patterns("out", "__pycache__")
+                )
+            pathlib.Path(folder, "docs", "cca.1").write_text("other\n")
+            words = [sys.executable, os.path.join(folder, "build", "draw"), "manual", "--compare"]
+            done = subprocess.run(words, capture_output=True, text=True)
+            self.assertEqual((done.returncode, done.stderr), (1, ""))
+            self.assertTrue(done.stdout.startswith("docs/cca.1 isn't as it is made now"))
+
+    def test_each_task_has_help(self):
+        for name in ("checks/compare", "bench/times"):
+            for what in words_of(name):
+                with self.subTest(name=name, what=what):
+                    done = ran(name, what, "--help")
+                    self.assertEqual((done.returncode, done.stderr), (0, ""))
+                    self.assertTrue(done.stdout.startswith(f"usage: {name} {what} "))
+
+    def test_wrong_words(self):
+        for words in (
+            ["checks/compare"],
+            ["checks/compare", "nothing"],
+            ["checks/compare", "made", "x"],
+            ["bench/times", "win", "1", "2", "3"],
+            ["build/draw", "nothing"],
+            ["checks/believed", "limits::nothing"],
+            ["checks/believed", "nothing"],
+            ["checks/desk_kills", "x"],
+            ["checks/record_kills", "x"],
+            ["checks/documents", "nothing"],
+            ["checks/edge_runs", "-1"],
+            ["checks/edge_runs", "1", "2", "3", "4"],
+            ["bench/late"],
+            ["bench/late", "nothing"],
+            ["build/libraries", "nothing"],
+            ["checks/looks", "nothing"],
+            ["checks/mutate", "rules"],
+            ["checks/mutate_court", "1", "2", "3", "4"],
+            ["checks/mutate_checker", "1", "2", "3"],
+            ["checks/wrong", "nothing"],
+            *([name, "--nothing"] for name in programs()),
+        ):
+            with self.subTest(words=words):
+                done = ran(*words)
+                self.assertEqual((done.returncode, done.stdout), (2, ""))
+                self.assertTrue(done.stderr.startswith(f"usage: {words[0]} "))
+
+    def test_each_exported_function_is_called(self):
+        done = ran("checks/uncalled")
+        self.assertEqual((done.returncode, done.stdout, done.stderr), (0, "", ""))
+
+    def test_an_uncalled_function_is_seen(self):
+        """A crate that exports a function that is called, and three that are not: one calls itself, one is named by a method, one by a text."""
+        source = {
+            "lib.rt": "mod a;\n\npub use a::{Kind, again, law, named, told, used};\n",
+            "a.rt": "pub fn used(n: u8) -> u8\n    ensures { result ≡ used (told(n)) }\n{\n    n\n}\n\n"
+            "pub fn again(n: u8) -> u8 {\n    again(used(n))\n}\n\npub fn named() -> u8 {\n    1.named()\n}\n\n"
+            'pub fn told(n: u8) -> u8\n{\n    // told(n)\n    n\n}\n\nconst TEXT: &str = "told(1)";\n\npub fn law()\n{}\n',
+        }
+        with tempfile.TemporaryDirectory() as folder:
+            (top := pathlib.Path(folder, "crates", "box", "src")).mkdir(parents=True)
+            for name, text in source.items():
+                (top / name).write_text(text)
+            pathlib.Path(folder, "checks").mkdir()
+            for name in ("__init__.py", "tasks.py", "uncalled"):
+                shutil.copy(ROOT / "checks" / name, pathlib.Path(folder, "checks"))
+            words = [sys.executable, str(pathlib.Path(folder, "checks", "uncalled"))]
+            done = subprocess.run(words, capture_output=True, text=True)
+        lines = [f"box::{name}: exported, and called by nothing" for name in ("again", "named", "told")]
+        self.assertEqual((done.returncode, done.stdout.splitlines(), done.stderr), (1, lines, ""))
+
+    def test_every_program_is_named(self):
+        """A folder's README names each program of the folder, and no other."""
+        for folder in FOLDERS:
+            rows = re.findall(r"^\| (`.*?) \|", (ROOT / folder / "README.md").read_text(), re.MULTILINE)
+            named = {name.split(" ")[0] for row in rows for name in re.findall(r"`([a-z_ A-Z]+)`", row)}
+            self.assertEqual(
+                {f"{folder}/{name}" for name in named}, {it for it in programs() if it.startswith(f"{folder}/")}
+            )
+
+    def test_site(self):
+        if not shutil.which("mkdocs"):
+            self.skipTest("the package mkdocs isn't installed")
+        with tempfile.TemporaryDirectory() as folder:
+            site = pathlib.Path(folder, "site")
+            done = ran("build/site", str(site))
+            self.assertEqual((done.returncode, done.stderr), (0, ""), done.stdout)
+            self.assertIn(", 0 dead links\n", done.stdout)
+            self.assertTrue((site / "docs" / "AUCTIONEER.html").is_file())
+            self.assertIn('href="docs/AUCTIONEER.html"', (site / "index.html").read_text())
+            again = ran("build/site", str(site))
+            self.assertEqual((again.returncode, again.stdout), (2, ""))
+            self.assertIn("is there already", again.stderr)
+
+
+if __name__ == "__main__":
+    unittest.main()

@@ -1,0 +1,85 @@
+"""All Python of the repository is formatted and linted, and what is shell is checked. The package, the scripts and the
+modules that TYPED names are typed.
+
+A test is skipped if its program isn't installed.
+"""
+
+from __future__ import annotations
+
+import pathlib
+import shutil
+import subprocess
+import unittest
+
+ROOT = pathlib.Path(__file__).resolve().parents[2]
+
+
+def files(first: bytes, suffix: str) -> list[str]:
+    """The files that git has of a language: those with its suffix, and scripts that begin with its name."""
+    listed = subprocess.run(["git", "ls-files", "-co", "--exclude-standard"], cwd=ROOT, capture_output=True, text=True)
+    found = []
+    for name in listed.stdout.splitlines():
+        path = ROOT / name
+        if path.is_file() and (path.suffix == suffix or not path.suffix and first in head(path)):
+            found.append(name)
+    return found
+
+
+def head(path: pathlib.Path) -> bytes:
+    """The first line of a script, nothing of another file."""
+    with open(path, "rb") as file:
+        line = file.readline(200)
+    return line if line.startswith(b"#!") else b""
+
+
+PYTHON, SHELL = files(b"python", ".py"), files(b"/sh", ".sh")
+COURT = ["tools/audit", "tools/check"]
+# What is typed beside the package. Cases, comparisons and most tests aren't yet.
+TYPED = (
+    *("cca", "trial", "dev", "build/building.py", "build/usage.py", "build/kit.py", "build/libraries"),
+    *("build/release", "build/site", "build/draw", "build/tests/test_cca.py", "build/tests/test_trial.py"),
+    *("build/tests/test_release.py", "checks/tasks.py", "checks/compare", "checks/run_tests", "bench/times"),
+    *("checks/cases/samples.py", "checks/cases/program.py", "checks/tests/test_style.py"),
+    *(
+        "checks/browser.py",
+        "checks/tests/test_desk_browser.py",
+        "tools/tests/test_doors.py",
+        "tools/tests/test_package.py",
+    ),
+    *("tools/tests/test_book_limits.py", "tools/why"),
+)
+
+
+class Style(unittest.TestCase):
+    def run_tool(self, name: str, *words: str) -> None:
+        """Runs the tool of Debian's package of this name at the top of the repository."""
+        if not shutil.which(name):
+            self.skipTest(f"the package {name} isn't installed")
+        done = subprocess.run([name, *words], cwd=ROOT, capture_output=True, text=True)
+        self.assertEqual(done.returncode, 0, f"{name}\n{done.stdout}{done.stderr}")
+
+    def test_all_files_are_seen(self) -> None:
+        self.assertGreater(len(PYTHON), 200)
+        self.assertIn("cca", PYTHON)
+        self.assertIn(".ci/run", SHELL)
+
+    def test_types(self) -> None:
+        self.run_tool("mypy", "--no-error-summary", *TYPED, "tools/cca_tools")
+
+    def test_types_of_the_court_s_files(self) -> None:
+        """Without the settings of the repository, as a court has them."""
+        for name in COURT:
+            self.run_tool("mypy", "--no-error-summary", "--config-file=", "--strict", "--python-version=3.11", name)
+
+    def test_formatting(self) -> None:
+        self.run_tool("black", "--check", "--quiet", *PYTHON)
+
+    def test_linter(self) -> None:
+        self.run_tool("flake8", *PYTHON)
+
+    def test_shell(self) -> None:
+        self.run_tool("shellcheck", "--severity=warning", *SHELL)
+
+
+if __name__ == "__main__":
+    unittest.main()

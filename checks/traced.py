@@ -1,0 +1,204 @@
+"""Runs programs under ptrace: the calls of the system that they make, and calls that fail, do less, or meet a signal.
+
+Linux on x86-64 alone. Calls count from the first one on that `cca` makes itself, so that no fault hits the loader.
+`traced.c` does it, and is compiled here: a process that follows each stop in Python would take some ten times as long.
+"""
+
+from __future__ import annotations
+
+import array
+import ctypes
+import errno
+import os
+import pathlib
+import platform
+import signal
+import socket
+import struct
+import subprocess
+from collections.abc import Collection, Sequence
+from typing import NamedTuple
+
+SOURCE = pathlib.Path(__file__).with_name("traced.c")
+NUMBERS = {
+    "read": 0,
+    "write": 1,
+    "close": 3,
+    "lseek": 8,
+    "mmap": 9,
+    "munmap": 11,
+    "brk": 12,
+    "mremap": 25,
+    "fcntl": 72,
+    "flock": 73,
+    "fsync": 74,
+    "readlink": 89,
+    "exit_group": 231,
+    "openat": 257,
+    "readlinkat": 267,
+    "statx": 332,
+}
+NAMES = {number: name for name, number in NUMBERS.items()}
+FOR_EVER = 2**62
+# The calls that are always looked at: the one with which a program begins, and those whose answers are noted.
+ALWAYS = ("statx", "write", "fsync")
+TRACED, CLOSED, NO_XFSZ = 1, 2, 4
+ANSWER, SHORT, SIGNAL = range(3)
+# As in traced.c.
+REQUEST, FAULT, NUMBER = struct.Struct("=7q"), struct.Struct("=5q"), struct.Struct("=q")
+REPLY, COUNTS, CALL = struct.Struct("=4q"), struct.Struct("=512q"), struct.Struct("=6q")
+MOST_BYTES = 2**20
+
+LIBC = ctypes.CDLL(None, use_errno=True)
+
+
+class Fault(NamedTuple):
+    """What happens to the calls of a name from number `first` to number `last`, counted from 1.
+
+    `how` is an error (`EIO`), which the call answers without being made; `0`, which it answers likewise; `short N`, a
+    call for at most N bytes; or a signal (`SIGTERM`), which comes as the call is made.
+    """
+
+    call: str
+    first: int
+    last: int
+    how: str
+
+    def packed(self) -> bytes:
+        if is_signal(self.how):
+            kind, value = SIGNAL, int(signal.Signals[self.how])
+        elif is_answer(self.how):
+            kind, value = ANSWER, 0 if self.how == "0" else -int(getattr(errno, self.how))
+        else:
+            kind, value = SHORT, int(self.how.split()[1])
+        return FAULT.pack(NUMBERS[self.call], self.first, self.last, kind, value)
+
+
+class Call(NamedTuple):
+    """A call that met a fault, or is a `write`, an `fsync` or the end: its number among those of the name.
+
+    `file` is its first argument, `how` the fault that it met, and `answer` is None where it isn't noted, and where the
+    process ended in the call.
+    """
+
+    name: str
+    number: int
+    file: int
+    how: str
+    answer: int | None
+
+
+class Traced(NamedTuple):
+    """How a process ended: its status, minus the number of a signal that ended it, and its calls.
+
+    `counts` says how many of each name it made, as far as they were looked at. `has_begun` is whether it made a call of
+    its own, and `is_late` whether it was killed since its time was over. Of a process that isn't traced there are no
+    calls.
+    """
+
+    status: int
+    calls: list[Call]
+    counts: dict[str, int]
+    has_begun: bool
+    is_late: bool
+
+
+class Start(NamedTuple):
+    """How a process starts: its words, its folder, its standard streams, its user, and a limit (`RLIMIT_..` and a
+    value)."""
+
+    words: Sequence[str]
+    folder: str = "."
+    streams: tuple[int, int, int] = (0, 1, 2)
+    user: int = -1
+    limit: tuple[int, int] = (-1, 0)
+    is_closed: bool = False
+    ignores_xfsz: bool = False
+
+
+class Tracer:
+    """A process that runs programs, one after another."""
+
+    def __init__(self, program: str) -> None:
+        self.socket, other = socket.socketpair(socket.AF_UNIX, socket.SOCK_SEQPACKET)
+        with other:
+            self.process = subprocess.Popen([program], stdin=other.fileno())
+
+    def run(
+        self,
+        start: Start,
+        seconds: float,
+        faults: Sequence[Fault] = (),
+        names: Collection[str] = (),
+        is_traced: bool = True,
+    ) -> Traced:
+        """Runs a program with these faults, and kills it after this many seconds.
+
+        The calls that are looked at are those of the faults, of `names`, and of `ALWAYS`.
+        """
+        looked_at = {*ALWAYS, *names, *(fault.call for fault in faults)}
+        flags = TRACED * is_traced | CLOSED * start.is_closed | NO_XFSZ * start.ignores_xfsz
+        request = [
+            REQUEST.pack(int(seconds * 1000), start.user, flags, *start.limit, len(faults), len(looked_at)),
+            *(fault.packed() for fault in faults),
+            *(NUMBER.pack(NUMBERS[name]) for name in sorted(looked_at)),
+            *(os.fsencode(word) + b"\0" for word in (start.folder, *start.words)),
+        ]
+        rights = [(socket.SOL_SOCKET, socket.SCM_RIGHTS, array.array("i", start.streams))]
+        self.socket.sendmsg([b"".join(request)], rights)
+        return unpacked(self.socket.recv(MOST_BYTES), faults)
+
+    def end(self) -> None:
+        self.socket.close()
+        self.process.wait()
+
+
+def unpacked(reply: bytes, faults: Sequence[Fault]) -> Traced:
+    """What the tracer says of a run."""
+    status, is_late, has_begun, _ = REPLY.unpack_from(reply)
+    numbers = COUNTS.unpack_from(reply, REPLY.size)
+    calls = []
+    for number, count, file, fault, answer, has_answer in CALL.iter_unpack(reply[REPLY.size + COUNTS.size :]):
+        how = faults[fault].how if fault >= 0 else ""
+        calls.append(Call(NAMES[number], count, file, how, answer if has_answer else None))
+    counts = {name: numbers[number] for name, number in NUMBERS.items() if numbers[number]}
+    return Traced(status, calls, counts, bool(has_begun), bool(is_late))
+
+
+def compiled(folder: pathlib.Path) -> str:
+    """The program of `traced.c`, which is compiled into this folder."""
+    program = folder / "traced"
+    subprocess.run(["cc", "-O1", "-o", program, SOURCE], check=True)
+    return str(program)
+
+
+def can_trace(program: str, traced: str) -> bool:
+    """Whether the program can be traced here, so that a call of it fails where it is to fail."""
+    if platform.system() != "Linux" or platform.machine() != "x86_64":
+        return False
+    tracer = Tracer(program=traced)
+    with open(os.devnull, "r+b") as null:
+        start = Start([program, "win"], streams=(null.fileno(), null.fileno(), null.fileno()))
+        told = tracer.run(start, 60, (Fault("write", 1, FOR_EVER, "EIO"),))
+    tracer.end()
+    return (told.status, told.has_begun) == (5, True)
+
+
+def shown(faults: Sequence[Fault]) -> str:
+    """The faults in words."""
+    return ", ".join(
+        f"{it.call} {it.first}"
+        + ("" if it.last == it.first else " and later" if it.last >= FOR_EVER else f" to {it.last}")
+        + f": {it.how}"
+        for it in faults
+    )
+
+
+def is_signal(how: str) -> bool:
+    """Whether a fault is a signal."""
+    return how.startswith("SIG")
+
+
+def is_answer(how: str) -> bool:
+    """Whether a fault is an answer to a call that isn't made: an error, or 0."""
+    return how == "0" or hasattr(errno, how)

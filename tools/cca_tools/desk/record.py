@@ -1,0 +1,394 @@
+"""The record of an auction's day: which log a journal leads to, what was posted, and whether all of it agrees.
+
+Nothing here writes to the disk, and nothing knows the pages.
+"""
+
+from __future__ import annotations
+
+import datetime
+import hmac
+from collections.abc import Callable, Mapping, Sequence
+from dataclasses import dataclass
+
+from cca_tools.desk.disk import Refused, sum_of
+from cca_tools.desk.journal import KINDS, Damaged, Entry, chained, need_version, replayed, seconds_back
+from cca_tools.rules.auction import replay
+from cca_tools.rules.award import Award, read_award
+from cca_tools.rules.log import read_log
+from cca_tools.rules.seals import (
+    NO_JOURNAL,
+    VOIDING,
+    Event,
+    Kind,
+    Public,
+    Row,
+    Sealer,
+    closed_lengths,
+    head_text,
+    line_ends,
+    reason_of,
+    row_of,
+)
+
+NOWHERE = 1 << 62  # the bytes up to a line that belongs to no log here
+SHORTENING = "cut", "changed"
+CLOSE = b"close,,,\n"
+
+
+def seconds(at: str) -> str:
+    """A time of the journal in whole seconds, as a posted line has it."""
+    return datetime.datetime.fromisoformat(at).isoformat(timespec="seconds")
+
+
+def posted_of(entry: Entry) -> tuple[Row, Event]:
+    """The line that an entry posts, and its event. Raises `Damaged`."""
+    line, length = entry.more.get("line"), entry.more.get("upto")
+    row = row_of(line) if isinstance(line, str) else None
+    if row is None or type(length) is not int:
+        raise Damaged(f"The journal was changed by hand: its entry of {entry.at} has no posted line.")
+    return row, Event(row.kind, row.close, length, row.why)
+
+
+def public_of(entries: Sequence[Entry]) -> Public:
+    """What follows from the lines that a journal posts. Raises `Damaged`."""
+    public = Public()
+    for entry in entries:
+        take(public, entry)
+    return public
+
+
+def take(public: Public, entry: Entry) -> None:
+    """Takes an entry that posts a line, or after which one is due."""
+    why = str(entry.more.get("why", ""))
+    if entry.what == "cut":
+        kind: Kind = "reopened" if entry.more.get("stay") is True else "back"
+        public.shorten(kind, entry.start, why)
+    elif entry.what == "changed":
+        public.shorten("changed", entry.start, why)
+    elif entry.what == "posted":
+        public.add(*posted_of(entry))
+
+
+def is_publish_line(entry: Entry) -> bool:
+    """Whether an entry posts that the published set is made."""
+    return entry.what == "posted" and posted_of(entry)[0].kind == "publish"
+
+
+def posted_text(entries: Sequence[Entry], key_sum: str, award_sum: str) -> bytes:
+    """All lines that a journal posts, by the checksums of key and award: what LOG.posted has to be."""
+    rows = (posted_of(it)[0] for it in entries if it.what == "posted")
+    return head_text(key_sum, award_sum) + "".join(f"{row.text()}\n" for row in rows).encode()
+
+
+def public_of_rows(rows: Sequence[Row]) -> Public:
+    """What follows from posted lines alone."""
+    public = Public()
+    for row in rows:
+        public.add(row, Event(row.kind, row.close, 0, row.why))
+    return public
+
+
+@dataclass(frozen=True)
+class Replayed:
+    """A log: the bytes up to and with each admitted close, whether the last one ends the auction, and the reply to the
+    record that begins in each line, by the line's number in an editor."""
+
+    closes: Sequence[int]
+    is_over: bool
+    replies: Mapping[int, str]
+
+
+def replayed_log(award: Award, log: bytes) -> Replayed:
+    """What the second program finds in a log. Raises `Stop` if it isn't one."""
+    auction = replay(award, read_log(log, award))
+    replies = {line.row: reply.text() for line, reply in zip(auction.lines, auction.replies)}
+    return Replayed(closed_lengths(log, auction), auction.stage == "closed", replies)
+
+
+def closes_of(award: Award, log: bytes) -> tuple[Sequence[int], bool]:
+    """The bytes of a log up to and with each admitted close, and whether the last one ends the auction."""
+    found = replayed_log(award, log)
+    return found.closes, found.is_over
+
+
+@dataclass(frozen=True)
+class Record:
+    """A record whose parts agree: its entries, the log that they lead to, what was posted, and the text of that."""
+
+    entries: Sequence[Entry]
+    log: bytes
+    public: Public
+    posted: bytes
+
+    @property
+    def times_back(self) -> int:
+        """How often the clock of the machine was set back."""
+        return sum("back" in it.more for it in self.entries)
+
+
+class Tester:
+    """Tests a journal by the bytes of the award and of the key's file: its chain, its first entry, each log that it
+    leads to, each reply, and each line that it posts. Each fault raises `Refused` with its sentence."""
+
+    def __init__(self, award: bytes, key: bytes) -> None:
+        self.award_data, self.key, self.award = award, key, read_award(award)
+        self.sealer = Sealer(key, sum_of(award))
+        self.posted, self.public, self.log = self.sealer.head(), Public(), bytearray()
+
+    def record(self, journal: bytes) -> Record:
+        """The record of a journal. Raises `Refused`."""
+        entries = chained(journal)
+        if not entries:
+            raise Refused("The journal has no entry.")
+        self.need_first(entries[0])
+        replayed(entries)
+        logs = iter(self.logs(entries))
+        now = next(logs)
+        for number, entry in enumerate(entries, 1):
+            if entry.what in SHORTENING:
+                self.need_all_posted(number, now)
+                now = next(logs)
+            self.step(number, entry, now)
+        self.need_all_posted(len(entries) + 1, now)
+        if self.public.pending:
+            raise Refused("The journal ends with a cut or a change that was never posted.")
+        return Record(entries, bytes(self.log), self.public, self.posted)
+
+    def step(self, number: int, entry: Entry, now: Replayed) -> None:
+        """Tests the replies that an entry has, and what it posts."""
+        first = self.log[: entry.start].count(b"\n") + 1
+        del self.log[entry.start :]
+        self.log += entry.text
+        if entry.what == "line":
+            self.need_replies(number, entry, first, now)
+        if entry.what == "posted":
+            self.need_row(number, entry, now)
+        else:
+            take(self.public, entry)
+
+    def need_first(self, first: Entry) -> None:
+        """Tests that a journal begins with this award and this key."""
+        need_version(first)
+        pins = first.more.get("pins")
+        if not isinstance(pins, dict) or pins.get("award") != sum_of(self.award_data):
+            raise Refused("The award isn't the one that the journal began with.")
+        if first.more.get("key") != sum_of(self.key):
+            raise Refused("The key isn't the one that the journal began with.")
+
+    def need_form(self, number: int, entry: Entry, before: Entry | None) -> None:
+        """Tests the kind of an entry, and that it says so if its time is earlier than the time before it."""
+        if entry.what not in KINDS or (entry.what == "begun") != (number == 1):
+            raise Refused(f"The journal's entry {number} is of a kind that has no place there: `{entry.what}`.")
+        back = seconds_back(before.at, entry.at) if before else 0
+        if entry.more.get("back", 0) != back:
+            raise Refused(f"The journal's entry {number} is {back:g} seconds before the last one, and doesn't say so.")
+
+    def need_nothing_away(self, number: int, entry: Entry, before: Entry | None, log: bytearray) -> None:
+        """Tests that only a cut or a change, which are posted, take lines away from the log before it, and that a cut
+        does nothing else than it says."""
+        away = bytes(log[entry.start :])
+        if entry.what not in SHORTENING and away:
+            raise Refused(f"The journal's entry {number} takes answered lines away, and it is no cut and no change.")
+        if entry.what == "cut" and entry.text:
+            raise Refused(f"The journal's entry {number} is a cut, and puts lines into the log.")
+        if before and before.what == entry.what == "cut" and same_cut(before, entry):
+            return  # (a kill has interrupted the cut, which is noted a second time and keeps the same log)
+        if entry.what == "cut" and entry.names("kept_sums") != [sum_of(bytes(log))]:
+            raise Refused(f"The journal's entry {number} is a cut, and another log than the cut one was kept.")
+        if entry.more.get("stay") is True and (entry.what, away) != ("cut", CLOSE):
+            raise Refused(
+                f"The journal's entry {number} says that it takes back a close alone, and does something else."
+            )
+
+    def need_replies(self, number: int, entry: Entry, first: int, now: Replayed) -> None:
+        """Tests the replies that bidders had."""
+        rows = range(first, first + entry.text.count(b"\n"))
+        if entry.names("replies") != [now.replies[row] for row in rows if row in now.replies]:
+            raise Refused(f"The journal's entry {number} has other replies than its lines of the log lead to.")
+
+    def logs(self, entries: Sequence[Entry]) -> list[Replayed]:
+        """Each log that was cut or changed, and the last one. Tests what each entry does to its log. Raises
+        `Refused`."""
+        found, log = list[Replayed](), bytearray()
+        for number, entry in enumerate(entries, 1):
+            before = entries[number - 2] if number > 1 else None
+            self.need_form(number, entry, before)
+            self.need_nothing_away(number, entry, before, log)
+            if entry.what in SHORTENING:
+                found.append(replayed_log(self.award, bytes(log)))
+            del log[entry.start :]
+            log += entry.text
+        return [*found, replayed_log(self.award, bytes(log))]
+
+    def need_all_posted(self, number: int, now: Replayed) -> None:
+        """Tests that each close of a log was posted before the log was cut, or by the end of the journal."""
+        for event in self.due(number, now):
+            if event.kind not in VOIDING:
+                raise Refused(f"Close {event.close} of the log was never posted before the journal's entry {number}.")
+
+    def due(self, number: int, now: Replayed) -> list[Event]:
+        """The events that have to be posted before an entry."""
+        try:
+            return self.public.due(now.closes, now.is_over)
+        except ValueError as fault:
+            raise Refused(f"Before the journal's entry {number}, {fault}.") from None
+
+    def need_row(self, number: int, entry: Entry, now: Replayed) -> None:
+        """Tests a line that is posted."""
+        row, event = posted_of(entry)
+        due = self.due(number, now)
+        if row.kind == "publish" and now.is_over and not due:
+            due = [Event("publish", 0, len(self.log))]
+        place = f"The line that the journal's entry {number} posts"
+        wanted = (due[0].text(), reason_of(due[0].why), due[0].length) if due else None
+        if wanted != (row.event, row.why, event.length) or event.length > len(self.log):
+            raise Refused(f"{place}, `{row.event}`, isn't the one that was due.")
+        if row.number != len(self.public.rows) + 1 or row.time != seconds(entry.at):
+            raise Refused(f"{place} has another number or time than its entry.")
+        seal = self.sealer.seal(row.unsealed(), bytes(self.log[: event.length]), entry.prev, self.posted)
+        if not hmac.compare_digest(seal, row.seal):
+            raise Refused(
+                f"{place} has a seal that isn't made of this award, key, log and journal and the lines before it."
+            )
+        self.posted += f"{row.text()}\n".encode()
+        self.public.add(row, due[0])
+
+
+def same_cut(one: Entry, other: Entry) -> bool:
+    """Whether two entries cut the log to the same length, and keep the same bytes."""
+    return cut_of(one) == cut_of(other)
+
+
+def cut_of(entry: Entry) -> tuple[object, ...]:
+    """What a cut does and keeps."""
+    return entry.start, entry.length, entry.names("kept_sums"), entry.more.get("stay")
+
+
+def need_published(record: Record, journal: bytes) -> None:
+    """Tests that a journal ends with the line that is posted when the set is made, and that nothing is after it. Raises
+    `Refused`."""
+    if not is_publish_line(record.entries[-1]):
+        raise Refused("The journal doesn't end with the posted line `publish`, which the desk adds as the set is made.")
+    if not journal.endswith(record.entries[-1].line() + b"\n"):
+        raise Refused("The journal has something after the posted line `publish`.")
+
+
+def kept_files(entries: Sequence[Entry]) -> dict[str, str]:
+    """The files that keep what was taken away from the log, and their checksums, by the journal. Raises `Refused`."""
+    found = dict[str, str]()
+    for entry in entries:
+        names, sums = entry.names("kept"), entry.names("kept_sums")
+        if len(names) != len(sums):
+            raise Refused(f"The journal's entry of {entry.at} has not one checksum for each file that was kept.")
+        for name, total in zip(names, sums):
+            if "/" in name or name.startswith(".") or found.get(name, total) != total:
+                raise Refused(f"The journal names a kept file `{name}` twice, or outside its folder.")
+            found[name] = total
+    return found
+
+
+def need_kept(entries: Sequence[Entry], read: Callable[[str], bytes]) -> Mapping[str, bytes]:
+    """The files that keep what was taken away, tested. Raises `Refused`."""
+    files = dict[str, bytes]()
+    for name, total in kept_files(entries).items():
+        files[name] = read(name)
+        if sum_of(files[name]) != total:
+            raise Refused(f"{name} isn't what the journal says was kept in it.")
+    return files
+
+
+class ByHand:
+    """Lines that were posted by hand, without a journal: each seal is tried on the log as it is, and on each longer or
+    other one that was kept."""
+
+    def __init__(self, award: bytes, key: bytes, logs: Sequence[bytes]) -> None:
+        """The first log is the one that counts."""
+        rules = read_award(award)
+        self.sealer, self.logs = Sealer(key, sum_of(award)), logs
+        self.head = self.posted = self.sealer.head()
+        self.ends = closes_of(rules, logs[0])
+        self.closes = {log: closes_of(rules, log)[0] for log in logs}
+        self.public, self.foreign = Public(), set[int]()
+
+    def take(self, rows: Sequence[Row]) -> None:
+        """Takes posted lines. `foreign` has those whose seal fits none of the logs."""
+        own = set[int]()
+        for row in rows:
+            length = self.length_of(row, self.logs[:1])
+            if length is not None:
+                own.add(row.number)
+            else:
+                length = self.length_of(row, self.logs[1:])
+            if length is None:
+                self.foreign.add(row.number)
+            self.public.add(row, Event(row.kind, row.close, NOWHERE if length is None else length, row.why))
+            self.posted += f"{row.text()}\n".encode()
+        # (a line that isn't of the past belongs to the log that counts, and to no other one)
+        self.foreign |= {row.number for row in rows if not self.is_past(row)} - own
+
+    def is_past(self, row: Row) -> bool:
+        """Whether a later line has made the log void that the seal of a line covers."""
+        later = [it for it in self.public.rows[row.number :] if it.kind in VOIDING]
+        if row.kind == "publish":
+            return bool(later)
+        if row.kind in VOIDING:
+            return any(it.close < row.close for it in later)
+        return row.number in self.public.voids
+
+    def length_of(self, row: Row, logs: Sequence[bytes]) -> int | None:
+        """The bytes of the log that a line's seal covers, if that is one of these; the lines before it were taken."""
+        for log in logs:
+            for length in self.lengths(row, log):
+                if self.is_sealed(row, log[:length], self.posted):
+                    return length
+        return None
+
+    def lengths(self, row: Row, log: bytes) -> Sequence[int]:
+        """How many bytes of a log the seal of a line may cover."""
+        closes = self.closes[log]
+        if row.kind == "publish":
+            return [end for end in line_ends(log) if closes and end >= closes[-1]]
+        number = len(closes) if row.kind == "end" else row.close
+        return [closes[number - 1] if number else 0] if number <= len(closes) else []
+
+    def is_sealed(self, row: Row, log: bytes, before: bytes) -> bool:
+        """Whether a line has the seal of this log after these posted lines."""
+        return hmac.compare_digest(self.sealer.seal(row.unsealed(), log, NO_JOURNAL, before), row.seal)
+
+    def due(self, why: str, is_publish: bool = False) -> list[Event]:
+        """The events that have to be posted now: closes that weren't, and before them that closes are void which the
+        log doesn't have any more; and that the set is made, if this is asked for and the auction is over."""
+        closes, is_over = self.ends
+        ends = [end for _, end in self.public.counting]
+        same = next((at for at, end in enumerate(ends) if [end] != list(closes[at : at + 1])), len(ends))
+        if same < len(ends):
+            start = ends[same - 1] if same else 0
+            self.public.shorten("reopened" if self.is_taken_back(same, start) else "back", start, why)
+        due = self.public.due(closes, is_over)
+        if is_publish and is_over and (due or not self.is_published()):
+            due.append(Event("publish", 0, len(self.logs[0])))
+        return due
+
+    def is_taken_back(self, same: int, start: int) -> bool:
+        """Whether the last posted close is void and the lines before it are in the log still."""
+        counting, log = self.public.counting, self.logs[0]
+        if same != len(counting) - 1:
+            return False
+        row = self.public.rows[counting[same][0] - 1]
+        before = self.head + "".join(f"{it.text()}\n" for it in self.public.rows[: row.number - 1]).encode()
+        ends = [end for end in line_ends(log) if end > start]
+        return any(self.is_sealed(row, log[:end] + CLOSE, before) for end in ends)
+
+    def is_published(self) -> bool:
+        """Whether the last posted line says that the set of this very log is made."""
+        rows, log = self.public.rows, self.logs[0]
+        if not rows or rows[-1].kind != "publish":
+            return False
+        return self.is_sealed(rows[-1], log, self.posted.removesuffix(f"{rows[-1].text()}\n".encode()))
+
+    def next_row(self, event: Event, time: str) -> Row:
+        """Posts the next line."""
+        row = self.sealer.row(event, time, self.logs[0], NO_JOURNAL, self.posted)
+        self.public.add(row, event)
+        self.posted += f"{row.text()}\n".encode()
+        return row

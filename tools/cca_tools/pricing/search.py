@@ -1,0 +1,131 @@
+"""Core constraint generation: the core point of least sum that is nearest to the Vickrey prices (Day and Raghavan 2007,
+Day and Cramton 2012).
+
+Each turn finds the coalition that blocks most, by a table of lowered worths (docs/CERTIFICATES.md, C9), and adds its
+row. If the denominator of the point is too great for 64 bits, a table of rounded payments is filled first, and the
+coalition that it finds is tested exactly; an exact table decides that no coalition blocks.
+"""
+
+from __future__ import annotations
+
+import math
+from collections.abc import Sequence
+from dataclasses import dataclass
+from fractions import Fraction
+
+from cca_tools.pricing.nearest import Demand, Nearest, Point
+from cca_tools.pricing.tables import NARROW, Filler, Lines, Worths, filler_of, most_worth
+from cca_tools.rules.book import Book
+from cca_tools.rules.types import Amount, Choice
+from cca_tools.terminal import progress
+
+
+@dataclass(frozen=True)
+class Market:
+    """A book with its winning choice, the tables of it and without each winner, and the Vickrey prices, net."""
+
+    filler: Filler
+    choice: Choice
+    value: Amount
+    table: Lines
+    winners: list[int]  # bidders, from 0
+    won: list[Amount]  # the net amount of each winner's bid
+    without: list[tuple[Choice, Lines]]  # of each winner
+    vickrey: list[Amount]  # of each winner
+
+    @property
+    def book(self) -> Book:
+        """The book."""
+        return self.filler.book
+
+
+@dataclass(frozen=True)
+class Turn:
+    """The point of a turn, net, the coalition's row that was added, and how much its members paid too little; None
+    after the last turn, in which no coalition blocks."""
+
+    pays: list[Fraction]
+    demand: Demand | None = None
+    excess: Fraction = Fraction(0)
+
+
+@dataclass(frozen=True)
+class Found:
+    """The core point, all rows that were added, and the last table of lowered worths, which shows that no coalition
+    blocks. The worths and the table are times `den`."""
+
+    point: Point
+    rows: list[Demand]
+    den: int
+    worths: Worths
+    lowered: Lines
+    turns: list[Turn]
+
+
+def market_of(book: Book) -> Market:
+    """The winners of a book, and all tables but the lowered one."""
+    filler = filler_of(book)
+    progress.step("finding the winners")
+    table = filler.table(book.net)
+    choice, value = filler.picked(table, book.net), filler.top(table)
+    winners = [k for k, number in enumerate(choice) if number]
+    won = [book.net[k][choice[k] - 1] for k in winners]
+    without = []
+    for place, k in enumerate(winners, 1):
+        progress.step(f"finding Vickrey price {place} of {len(winners)}")
+        lines = filler.table_without(k, table, book.net)
+        without.append((filler.picked(lines, book.net, k), lines))
+    vickrey = [filler.top(lines) - (value - b) for (_, lines), b in zip(without, won)]
+    return Market(filler, choice, value, table, winners, won, without, vickrey)
+
+
+def lowered_worths(market: Market, pays: Sequence[Amount], den: int) -> list[list[Amount]]:
+    """The worths of all bids times `den`, those of winners less what they would lose at payments of `pays / den`."""
+    lost = {k: max(0, den * b - n) for k, b, n in zip(market.winners, market.won, pays)}
+    return [[den * net - lost.get(k, 0) for net in nets] for k, nets in enumerate(market.book.net)]
+
+
+def demand_of(market: Market, choice: Choice, pays: Sequence[Fraction]) -> Demand:
+    """The row of a choice. Its members are the winners that the choice doesn't use and that pay at most their bids."""
+    members = [i for i, k in enumerate(market.winners) if not choice[k] and pays[i] <= market.won[i]]
+    others = sum(b for i, b in enumerate(market.won) if i not in members)
+    return Demand(sum(1 << i for i in members), market.book.value(choice) - others, choice)
+
+
+def missing(demand: Demand, pays: Sequence[Fraction]) -> Fraction:
+    """How much the members of a row pay too little."""
+    return demand.bound - sum((p for i, p in enumerate(pays) if demand.holds(i)), Fraction(0))
+
+
+def rough_den(market: Market, den: int) -> int:
+    """The denominator of a table of 64 bits: `den` if it fits, and otherwise the greatest that fits."""
+    most = most_worth(market.book.net) + 1
+    return den if den * most < NARROW else max(1, NARROW // most - 1)
+
+
+def most_blocking(market: Market, pays: Sequence[Fraction], den: int) -> tuple[Demand | None, Worths, Lines]:
+    """The row of a coalition that blocks most by payments rounded down to the denominator `den`, or None if that
+    coalition doesn't block at `pays`; and the table that has found it."""
+    worths = lowered_worths(market, [math.floor(p * den) for p in pays], den)
+    lines = market.filler.table(worths)
+    demand = demand_of(market, market.filler.picked(lines, worths), pays)
+    return (demand if missing(demand, pays) > 0 else None), worths, lines
+
+
+def core_point(market: Market, weights: Sequence[int]) -> Found:
+    """The nearest core point of least sum by these weights of the winners."""
+    nearest = Nearest(market.vickrey, list(weights))
+    nearest.rows = [Demand(1 << i, market.vickrey[i], choice) for i, (choice, _) in enumerate(market.without)]
+    turns = list[Turn]()
+    while True:
+        progress.step(f"finding the prices, turn {len(turns) + 1}")
+        point = nearest.point()
+        den = math.lcm(1, *(p.denominator for p in point.pays))
+        rough = rough_den(market, den)
+        demand, worths, lines = most_blocking(market, point.pays, rough)
+        if demand is None and rough != den:
+            demand, worths, lines = most_blocking(market, point.pays, den)
+        if demand is None:
+            return Found(point, nearest.rows, den, worths, lines, [*turns, Turn(point.pays)])
+        turns.append(Turn(point.pays, demand, missing(demand, point.pays)))
+        nearest.rows.append(demand)
