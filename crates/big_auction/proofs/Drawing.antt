@@ -1,32 +1,32 @@
 -- What is drawn, and the packages that come of it.
 use Rattle.std.proofs.Common.{◌≡◌, ℕ, zero, suc, ◌+◌, ◌/◌, ◌%◌, ◌^◌, ◌<◌, ◌≤◌, List, [], ◌∷◌, refl, ◌∙◌, ap, arith}
 use Rattle.std.proofs.lemmas.Nat.{mod_below}
-use Rattle.big_auction.specs.Draws.{turned, behind, drawn, drawn_package}
+use Rattle.big_auction.specs.Draws.{turned, advanced, drawn, drawn_package}
 use Rattle.big_auction.specs.MadeLog.{package_of}
 
 -- a draw is below its bound
 pub drawn-below : (state n bound : ℕ) → 0 < bound → drawn state n bound < bound
 unfolding drawn
-drawn-below state n bound some = mod_below (behind state n / 2 ^ 16) bound some
+drawn-below state n bound some = mod_below (advanced state n / 2 ^ 16) bound some
 
 -- the state no draws after one is that one
-pub behind-none : (state : ℕ) → behind state 0 ≡ state
-unfolding behind
+pub behind-none : (state : ℕ) → advanced state 0 ≡ state
+unfolding advanced
 behind-none state = refl
 
 -- one draw more leads to the next state
-pub behind-more : (state n : ℕ) → behind state (suc n) ≡ turned (behind state n)
-unfolding behind
+pub behind-more : (state n : ℕ) → advanced state (suc n) ≡ turned (advanced state n)
+unfolding advanced
 behind-more state n = refl
 
 -- that many draws after another state
-pub behind-behind : (state m n : ℕ) → behind (behind state m) n ≡ behind state (m + n)
-unfolding behind
-behind-behind state m zero = let e : m ≡ m + 0 = omega arith in ap (behind state) e
-behind-behind state m (suc n) = let e : suc (m + n) ≡ m + suc n = omega arith in ap turned (behind-behind state m n) ∙ ap (behind state) e
+pub behind-behind : (state m n : ℕ) → advanced (advanced state m) n ≡ advanced state (m + n)
+unfolding advanced
+behind-behind state m zero = let e : m ≡ m + 0 = omega arith in ap (advanced state) e
+behind-behind state m (suc n) = let e : suc (m + n) ≡ m + suc n = omega arith in ap turned (behind-behind state m n) ∙ ap (advanced state) e
 
 -- the n-th draw from the state after m draws on is the one of number m + n
-pub drawn-behind : (state m n bound : ℕ) → drawn (behind state m) n bound ≡ drawn state (m + n) bound
+pub drawn-behind : (state m n bound : ℕ) → drawn (advanced state m) n bound ≡ drawn state (m + n) bound
 unfolding drawn
 drawn-behind state m n bound = ap (λ (s : ℕ). s / 2 ^ 16 % bound) (behind-behind state m n)
 
@@ -66,18 +66,18 @@ IsOwn-package_of number k = IsOwn-drawn _ 2 1 7 4 (omega arith) (omega arith) (o
 -- ---- one draw after the other
 
 abbrev pub IsNext : ℕ → ℕ → Type 0
-IsNext state next = next ≡ behind state 1
+IsNext state next = next ≡ advanced state 1
 
 -- the state next to the one after n draws is the one after n + 1
-pub next-next : (state first next n : ℕ) → first ≡ behind state n → IsNext first next → next ≡ behind state (n + 1)
-next-next state first next n is then = then ∙ ap (λ (s : ℕ). behind s 1) is ∙ behind-behind state n 1
+pub next-next : (state first next n : ℕ) → first ≡ advanced state n → IsNext first next → next ≡ advanced state (n + 1)
+next-next state first next n is then = then ∙ ap (λ (s : ℕ). advanced s 1) is ∙ behind-behind state n 1
 
 -- the first draw from the state after n draws on is the one of number n + 1
-pub drawn-next : (state first n x bound : ℕ) → first ≡ behind state n → x ≡ drawn first 1 bound → x ≡ drawn state (n + 1) bound
+pub drawn-next : (state first n x bound : ℕ) → first ≡ advanced state n → x ≡ drawn first 1 bound → x ≡ drawn state (n + 1) bound
 drawn-next state first n x bound is drew = drew ∙ ap (λ (s : ℕ). drawn s 1 bound) is ∙ drawn-behind state n 1 bound
 
 -- four states on, each next to the one before, is the state after four draws
-pub four-states : (s0 s1 s2 s3 s4 : ℕ) → IsNext s0 s1 → IsNext s1 s2 → IsNext s2 s3 → IsNext s3 s4 → s4 ≡ behind s0 4
+pub four-states : (s0 s1 s2 s3 s4 : ℕ) → IsNext s0 s1 → IsNext s1 s2 → IsNext s2 s3 → IsNext s3 s4 → s4 ≡ advanced s0 4
 four-states s0 s1 s2 s3 s4 a b c d = next-next s0 s3 s4 3 (next-next s0 s2 s3 2 (next-next s0 s1 s2 1 a b) c) d
 
 -- the four draws of a package

@@ -5,7 +5,7 @@ use Rattle.std.proofs.lemmas.List.Concat.{flat_map-append}
 use Rattle.auction_rules.specs.declared.Event.{Event}
 use Rattle.auction_rules.specs.declared.Event.TheVariants.{Bid, Draft}
 use Rattle.big_auction.specs.declared.values.Lots.{Lots}
-use Rattle.big_auction.specs.Draws.{behind, drawn, drawn_package}
+use Rattle.big_auction.specs.Draws.{advanced, drawn, drawn_package}
 use Rattle.big_auction.specs.LogText.{event_text, log_text}
 use Rattle.big_auction.specs.MadeLog.{amount_of, drawn_draft, drawn_drafts}
 use Rattle.big_auction.specs.Parts.{counts_of, bids_for}
@@ -50,7 +50,7 @@ bids-more xs i p old now new low is was added_one =
 -- ---- drafts
 
 -- a draft with a package of four draws and an amount by the fifth is the drawn one
-pub draft-same : (s s4 k : ℕ) (prices own final lots : List ℕ) (d a : ℕ) → s4 ≡ behind s 4 → lots ≡ drawn_package s own → d ≡ drawn s4 1 501
+pub draft-same : (s s4 k : ℕ) (prices own final lots : List ℕ) (d a : ℕ) → s4 ≡ advanced s 4 → lots ≡ drawn_package s own → d ≡ drawn s4 1 501
     → a ≡ amount_of prices own final lots (500 + d)
     → Draft k lots a ≡ drawn_draft s prices k own final
 draft-same s s4 k prices own final lots d a fourth are drew is =
@@ -65,18 +65,18 @@ no-drafts s k prices own final = refl
 
 -- one draft more is drawn from the state after five draws for each before it
 pub drafts-more : (s k i : ℕ) (prices own final : List ℕ) → drawn_drafts s prices k own final (i + 1) ≡ drawn_drafts s prices k own final i
-    ++ drawn_draft (behind s (5 * i)) prices k own final ∷ []
+    ++ drawn_draft (advanced s (5 * i)) prices k own final ∷ []
 unfolding drawn_drafts
 drafts-more s k i prices own final =
     let next : i + 1 ≡ suc i = omega arith in
     let e : suc i - 1 ≡ i = omega arith in
     ap (drawn_drafts s prices k own final) next ∙ ap (λ (j : ℕ). drawn_drafts s prices k own final i
-    ++ drawn_draft (behind s (5 * j)) prices k own final ∷ []) e
+    ++ drawn_draft (advanced s (5 * j)) prices k own final ∷ []) e
 
 -- that many drafts were added, and drawn
 pub record IsDrafted (s k : ℕ) (prices own final : List ℕ) (i state : ℕ) (old now : List ℕ) : Type 0 where
   pub text : now ≡ old ++ log_text (drawn_drafts s prices k own final i)
-  pub drew : state ≡ behind s (5 * i)
+  pub drew : state ≡ advanced s (5 * i)
 
 -- before the first draft nothing was added, and nothing drawn
 pub drafted-none : (s k : ℕ) (prices own final old : List ℕ) → IsDrafted s k prices own final 0 s old old
@@ -87,17 +87,17 @@ drafted-none s k prices own final old = record {
 
 -- one draft more was added, and five draws more
 pub drafted-more : (s k : ℕ) (prices own final : List ℕ) (i state next : ℕ) (old now new : List ℕ) → IsDrafted s k prices own final i state old now
-    → new ≡ now ++ event_text (drawn_draft state prices k own final) → next ≡ behind state 5 → IsDrafted s k prices own final (i + 1) next old new
+    → new ≡ now ++ event_text (drawn_draft state prices k own final) → next ≡ advanced state 5 → IsDrafted s k prices own final (i + 1) next old new
 drafted-more s k prices own final i state next old now new d is after =
     let e : 5 * i + 5 ≡ 5 * (i + 1) = omega arith in
     record {
-      text = added old now new (drawn_drafts s prices k own final i) (drawn_draft (behind s (5 * i)) prices k own final) d.text
+      text = added old now new (drawn_drafts s prices k own final i) (drawn_draft (advanced s (5 * i)) prices k own final) d.text
           (is ∙ ap (λ (x : ℕ). now ++ event_text (drawn_draft x prices k own final)) d.drew)
           ∙ ap (λ (es : List Event). old ++ log_text es) (sym (drafts-more s k i prices own final));
-      drew = after ∙ ap (λ (x : ℕ). behind x 5) d.drew ∙ behind-behind s (5 * i) 5 ∙ ap (behind s) e;
+      drew = after ∙ ap (λ (x : ℕ). advanced x 5) d.drew ∙ behind-behind s (5 * i) 5 ∙ ap (advanced s) e;
     }
 
 -- that many draws after a bidder's 100 drafts are 500 more from where they began
-pub state-behind : (s k state next more : ℕ) (prices own final old now : List ℕ) → IsDrafted s k prices own final 100 state old now → next ≡ behind state more
-    → next ≡ behind s (500 + more)
-state-behind s k state next more prices own final old now d after = after ∙ ap (λ (x : ℕ). behind x more) d.drew ∙ behind-behind s 500 more
+pub state-behind : (s k state next more : ℕ) (prices own final old now : List ℕ) → IsDrafted s k prices own final 100 state old now → next ≡ advanced state more
+    → next ≡ advanced s (500 + more)
+state-behind s k state next more prices own final old now d after = after ∙ ap (λ (x : ℕ). advanced x more) d.drew ∙ behind-behind s 500 more

@@ -13,7 +13,7 @@ use Rattle.auction_rules.specs.Terms.{no_lots}
 use Rattle.auction_rules.proofs.Closing.{sum_of-within}
 use Rattle.auction_rules.proofs.States.{get_or-listing, length-listing}
 use Rattle.big_auction.specs.declared.values.Lots.{Lots}
-use Rattle.big_auction.specs.Draws.{behind, drawn_package, first_state}
+use Rattle.big_auction.specs.Draws.{advanced, drawn_package, first_state}
 use Rattle.big_auction.specs.LogText.{event_text, log_text}
 use Rattle.big_auction.specs.MadeAward.{made_terms}
 use Rattle.big_auction.specs.MadeLog.{clock_lines, drawn_draft, drawn_drafts, draws_before, final_prices, held_by, last_draft, last_of, lines_from}
@@ -42,7 +42,7 @@ flat-added f i old now new was more =
 pub record ArePacked (s i state : ℕ) (items : List Lots) : Type 0 where
   pub are : map counts_of items ≡ packages_from s i
   pub some : AllByRecursion (λ p. 0 < p.a) items
-  pub drew : state ≡ behind s (4 * i)
+  pub drew : state ≡ advanced s (4 * i)
 
 -- before the first package none was drawn
 pub packed-none : (s : ℕ) (items : List Lots) → items ≡ [] → ArePacked s 0 s items
@@ -54,20 +54,20 @@ each-push P (y ∷ xs) x each last = (each.0, each-push P xs x each.1 last)
 
 -- one package more, of the next four draws
 pub packed-more : (s i state next : ℕ) (items more : List Lots) (p : Lots) → ArePacked s i state items → counts_of p ≡ drawn_package state widest
-    → next ≡ behind state 4 → more ≡ items ++ p ∷ []
+    → next ≡ advanced state 4 → more ≡ items ++ p ∷ []
     → ArePacked s (i + 1) next more
 packed-more s i state next items more p so_far is after pushed =
     let e : suc i ≡ i + 1 = omega arith in
     let at : suc i - 1 ≡ i = omega arith in
     let far : 4 * i + 4 ≡ 4 * (i + 1) = omega arith in
-    let one : counts_of p ≡ drawn_package (behind s (4 * (suc i - 1))) widest =
-    is ∙ ap (λ (x : ℕ). drawn_package x widest) so_far.drew ∙ ap (λ (j : ℕ). drawn_package (behind s (4 * j)) widest) (sym at) in
+    let one : counts_of p ≡ drawn_package (advanced s (4 * (suc i - 1))) widest =
+    is ∙ ap (λ (x : ℕ). drawn_package x widest) so_far.drew ∙ ap (λ (j : ℕ). drawn_package (advanced s (4 * j)) widest) (sym at) in
     let lot : 0 < p.a = omega (arith, ap (λ (c : List ℕ). slice_index c 0) is) in
     record {
       are = ap (map counts_of) pushed ∙ map-append counts_of items (p ∷ []) ∙ ap (λ (ps : List (List ℕ)). ps ++ counts_of p ∷ []) so_far.are
           ∙ ap (λ (c : List ℕ). packages_from s i ++ c ∷ []) one ∙ ap (packages_from s) e;
       some = subst (AllByRecursion (λ (p : Lots). 0 < p.a)) (sym pushed) (each-push (λ (p : Lots). 0 < p.a) items p so_far.some lot);
-      drew = after ∙ ap (λ (x : ℕ). behind x 4) so_far.drew ∙ behind-behind s (4 * i) 4 ∙ ap (behind s) far;
+      drew = after ∙ ap (λ (x : ℕ). advanced x 4) so_far.drew ∙ behind-behind s (4 * i) 4 ∙ ap (advanced s) far;
     }
 
 -- ---- the clock
@@ -126,7 +126,7 @@ prices-same number = prices-by number 9 (omega arith)
 -- the lines of that many bidders were added
 pub record IsSealed (s : ℕ) (prices : List ℕ) (packages : List (List ℕ)) (i state : ℕ) (old now : List ℕ) : Type 0 where
   pub text : now ≡ old ++ log_text (sealed_for s prices packages i)
-  pub drew : state ≡ behind s (500 * i + min 4 i)
+  pub drew : state ≡ advanced s (500 * i + min 4 i)
 
 -- before the first bidder's lines nothing was added, and nothing drawn
 pub sealed-none : (s : ℕ) (prices : List ℕ) (packages : List (List ℕ)) (old : List ℕ) → IsSealed s prices packages 0 s old old
@@ -142,7 +142,7 @@ staying-more i =
 -- the lines of one bidder more, with 500 draws, and one more where it stays
 pub sealed-more : (s : ℕ) (prices : List ℕ) (xs : List Lots) (i state next : ℕ) (p : Lots) (last old now new : List ℕ) → i < length xs → p ≡ get_or xs i p
     → last ≡ last_of (i + 1) (counts_of p) → IsSealed s prices (map counts_of xs) i state old now
-    → new ≡ now ++ log_text (lines_from state prices (i + 1) (counts_of p) last) → next ≡ behind state (500 + (if nat_le (i + 1) 4 then 1 else 0))
+    → new ≡ now ++ log_text (lines_from state prices (i + 1) (counts_of p) last) → next ≡ advanced state (500 + (if nat_le (i + 1) 4 then 1 else 0))
     → IsSealed s prices (map counts_of xs) (i + 1) next old new
 sealed-more s prices xs i state next p last old now new low is last_is so_far more after =
     let e : i + 1 ≡ suc i = omega arith in
@@ -151,25 +151,25 @@ sealed-more s prices xs i state next p last old now new low is last_is so_far mo
     let lines : lines_from state prices (i + 1) (counts_of p) last ≡ lines_for s prices (map counts_of xs) (suc i) =
     ap (lines_from state prices (i + 1) (counts_of p)) last_is
     ∙ ap (λ (x : ℕ). lines_from x prices (i + 1) (counts_of p) (last_of (i + 1) (counts_of p))) so_far.drew
-    ∙ ap (λ (k : ℕ). lines_from (behind s (500 * i + min 4 i)) prices k (counts_of p) (last_of k (counts_of p))) e
-    ∙ ap (λ (c : List ℕ). lines_from (behind s (500 * i + min 4 i)) prices (suc i) c (last_of (suc i) c)) one
-    ∙ ap (λ (j : ℕ). lines_from (behind s (500 * j + min 4 j)) prices (suc i) (package_at xs (suc i)) (last_of (suc i) (package_at xs (suc i)))) at in
+    ∙ ap (λ (k : ℕ). lines_from (advanced s (500 * i + min 4 i)) prices k (counts_of p) (last_of k (counts_of p))) e
+    ∙ ap (λ (c : List ℕ). lines_from (advanced s (500 * i + min 4 i)) prices (suc i) c (last_of (suc i) c)) one
+    ∙ ap (λ (j : ℕ). lines_from (advanced s (500 * j + min 4 j)) prices (suc i) (package_at xs (suc i)) (last_of (suc i) (package_at xs (suc i)))) at in
     record {
       text = flat-added (lines_for s prices (map counts_of xs)) i old now new so_far.text (more ∙ ap (λ (es : List Event). now ++ log_text es) lines);
-      drew = after ∙ ap (λ (x : ℕ). behind x (500 + (if nat_le (i + 1) 4 then 1 else 0))) so_far.drew
-          ∙ behind-behind s (500 * i + min 4 i) (500 + (if nat_le (i + 1) 4 then 1 else 0)) ∙ ap (behind s) (staying-more i);
+      drew = after ∙ ap (λ (x : ℕ). advanced x (500 + (if nat_le (i + 1) 4 then 1 else 0))) so_far.drew
+          ∙ behind-behind s (500 * i + min 4 i) (500 + (if nat_le (i + 1) 4 then 1 else 0)) ∙ ap (advanced s) (staying-more i);
     }
 
 -- the lines of bidders are those of the made log
-lines-same : (number k : ℕ) → 1 ≤ k → k ≤ 12 → lines_for (behind (first_state number) 48) (final_prices number) (made_packages number) k ≡ lines_of number k
+lines-same : (number k : ℕ) → 1 ≤ k → k ≤ 12 → lines_for (advanced (first_state number) 48) (final_prices number) (made_packages number) k ≡ lines_of number k
 unfolding lines_of
 lines-same number k low high =
     let far : 48 + (500 * (k - 1) + min 4 (k - 1)) ≡ draws_before k = omega arith in
     let own : slice_index_or (made_packages number) (k - 1) [] ≡ package_of number k = at-package number k low high in
     ap (λ (x : ℕ). lines_from x (final_prices number) k (slice_index_or (made_packages number) (k - 1) [])
     (last_of k (slice_index_or (made_packages number) (k - 1) [])))
-    (behind-behind (first_state number) 48 (500 * (k - 1) + min 4 (k - 1)) ∙ ap (behind (first_state number)) far)
-    ∙ ap (λ (c : List ℕ). lines_from (behind (first_state number) (draws_before k)) (final_prices number) k c (last_of k c)) own
+    (behind-behind (first_state number) 48 (500 * (k - 1) + min 4 (k - 1)) ∙ ap (advanced (first_state number)) far)
+    ∙ ap (λ (c : List ℕ). lines_from (advanced (first_state number) (draws_before k)) (final_prices number) k c (last_of k c)) own
 
 flat-same : (f g : ℕ → List Event) (n : ℕ) → ((k : ℕ) → 1 ≤ k → k ≤ n → f k ≡ g k) → flat_map f (listing (λ k. k) n) ≡ flat_map g (listing (λ k. k) n)
 flat-same f g zero same = refl
@@ -179,16 +179,16 @@ flat-same f g (suc n) same =
 
 -- the whole log
 log-by : (number s n : ℕ) (packages : List (List ℕ)) (prices t0 t1 t2 t3 t4 t5 : List ℕ) → packages ≡ made_packages number → prices ≡ final_prices number
-    → s ≡ behind (first_state number) 48 → n ≡ 12
+    → s ≡ advanced (first_state number) 48 → n ≡ 12
     → t0 ≡ [] → t1 ≡ t0 ++ log_text (full_rounds_for packages 9) → t2 ≡ t1 ++ log_text (last_bids_for packages 4) → t3 ≡ t2 ++ event_text Close
     → t4 ≡ t3 ++ log_text (sealed_for s prices packages n) → t5 ≡ t4 ++ event_text Close → t5 ≡ log_text (made_log number)
 unfolding made_log
 log-by number s n packages prices t0 t1 t2 t3 t4 t5 pack price state twelve none full last closed sealed end =
     let lines : sealed_for s prices packages n ≡ flat_map (lines_of number) (listing (λ k. k) 12) =
-    ap (λ (x : ℕ). sealed_for x prices packages n) state ∙ ap (λ (q : List ℕ). sealed_for (behind (first_state number) 48) q packages n) price
-    ∙ ap (λ (ps : List (List ℕ)). sealed_for (behind (first_state number) 48) (final_prices number) ps n) pack
-    ∙ ap (sealed_for (behind (first_state number) 48) (final_prices number) (made_packages number)) twelve
-    ∙ flat-same (lines_for (behind (first_state number) 48) (final_prices number) (made_packages number)) (lines_of number) 12 (lines-same number) in
+    ap (λ (x : ℕ). sealed_for x prices packages n) state ∙ ap (λ (q : List ℕ). sealed_for (advanced (first_state number) 48) q packages n) price
+    ∙ ap (λ (ps : List (List ℕ)). sealed_for (advanced (first_state number) 48) (final_prices number) ps n) pack
+    ∙ ap (sealed_for (advanced (first_state number) 48) (final_prices number) (made_packages number)) twelve
+    ∙ flat-same (lines_for (advanced (first_state number) 48) (final_prices number) (made_packages number)) (lines_of number) 12 (lines-same number) in
     let clock : full_rounds_for packages 9 ++ (last_bids_for packages 4 ++ Close ∷ []) ≡ clock_lines number =
     ap (λ (ps : List (List ℕ)). full_rounds_for ps 9 ++ (last_bids_for ps 4 ++ Close ∷ [])) pack ∙ clock-same number in
     let first : t1 ≡ [] ++ log_text (full_rounds_for packages 9) = full ∙ ap (λ (t : List ℕ). t ++ log_text (full_rounds_for packages 9)) none in
@@ -202,30 +202,30 @@ log-by number s n packages prices t0 t1 t2 t3 t4 t5 pack price state twelve none
 
 -- the same as the program has it
 pub log-made : (number s0 s n : ℕ) (packages : List (List ℕ)) (prices t0 t1 t2 t3 t4 t5 : List ℕ) → s0 ≡ first_state number → packages ≡ packages_from s0 12
-    → prices ≡ prices_after made_terms (held_from packages) 9 → s ≡ behind s0 48 → n ≡ 12
+    → prices ≡ prices_after made_terms (held_from packages) 9 → s ≡ advanced s0 48 → n ≡ 12
     → t0 ≡ [] → t1 ≡ t0 ++ log_text (full_rounds_for packages 9) → t2 ≡ t1 ++ log_text (last_bids_for packages 4) → t3 ≡ t2 ++ event_text Close
     → t4 ≡ t3 ++ log_text (sealed_for s prices packages n) → t5 ≡ t4 ++ event_text Close → t5 ≡ log_text (made_log number)
 log-made number s0 s n packages prices t0 t1 t2 t3 t4 t5 first pack price state =
     let all : packages ≡ made_packages number = pack ∙ ap (λ (x : ℕ). packages_from x 12) first ∙ packages-same number in
     log-by number s n packages prices t0 t1 t2 t3 t4 t5 all (price ∙ ap (λ (ps : List (List ℕ)). prices_after made_terms (held_from ps) 9) all
-    ∙ prices-same number) (state ∙ ap (λ (x : ℕ). behind x 48) first)
+    ∙ prices-same number) (state ∙ ap (λ (x : ℕ). advanced x 48) first)
 
 -- ---- how many lines
 
 drafts-length : (s k n : ℕ) (prices own final : List ℕ) → length (drawn_drafts s prices k own final n) ≡ n
 unfolding drawn_drafts
-drafts-length s k n prices own final = length-listing (λ i. drawn_draft (behind s (5 * (i - 1))) prices k own final) n
+drafts-length s k n prices own final = length-listing (λ i. drawn_draft (advanced s (5 * (i - 1))) prices k own final) n
 
 lines-by : (s k : ℕ) (prices own final : List ℕ) → length (lines_from s prices k own final) ≡ 101 + (if nat_le k 4 then 1 else 0)
 lines-by s k prices own final =
     let drafts : List Event = drawn_drafts s prices k own final 100 in
-    let more : List Event = last_draft (behind s 500) prices k final ++ Submit k ∷ [] in
+    let more : List Event = last_draft (advanced s 500) prices k final ++ Submit k ∷ [] in
     let long : length more ≡ 1 + (if nat_le k 4 then 1 else 0) = elim (cases_Bool (nat_le k 4)) [ inl stay ↦ rw stay refl | inr go ↦ rw go refl ] in
     omega (arith, length-append drafts more, drafts-length s k 100 prices own final, long)
 
 lines-length : (number k : ℕ) → length (lines_of number k) ≡ 101 + (if nat_le k 4 then 1 else 0)
 unfolding lines_of
-lines-length number k = lines-by (behind (first_state number) (draws_before k)) k (final_prices number) (package_of number k) (last_of k (package_of number k))
+lines-length number k = lines-by (advanced (first_state number) (draws_before k)) k (final_prices number) (package_of number k) (last_of k (package_of number k))
 
 sealed-length : (number n : ℕ) → length (flat_map (lines_of number) (listing (λ k. k) n)) ≡ 101 * n + min 4 n
 sealed-length number zero = refl

@@ -12,7 +12,7 @@ use Rattle.auction_rules.specs.Rounds.{OwnRound}
 use Rattle.auction_rules.specs.Caps.{clock_bid}
 use Rattle.auction_rules.specs.State.{DeskState, Round, own_of}
 use Rattle.auction_model.proofs.PackageTestLaws.{is_same-refl, is_same-true, within-first_over}
-use Rattle.big_auction.specs.Draws.{behind, drawn, drawn_package}
+use Rattle.big_auction.specs.Draws.{advanced, drawn, drawn_package}
 use Rattle.big_auction.specs.MadeAward.{made_terms}
 use Rattle.big_auction.specs.MadeLog.{reduced, staying, amount_of, drawn_draft, drawn_drafts, last_draft, lines_from}
 use Rattle.big_auction.proofs.Caps.{greatest-few}
@@ -205,10 +205,10 @@ drafts-go : (rounds : List Round) (prices eligibility : List ℕ) (held : List (
     → Goes s (drawn_drafts state q k own final n) (Within rounds prices eligibility held (last_with q own final) k n)
 unfolding drawn_drafts
 drafts-go rounds prices eligibility held state q own final k n s few known bidding start =
-    goes-listing (λ i. drawn_draft (behind state (5 * (i - 1))) q k own final) n s (λ i. Within rounds prices eligibility held (last_with q own final) k i)
+    goes-listing (λ i. drawn_draft (advanced state (5 * (i - 1))) q k own final) n s (λ i. Within rounds prices eligibility held (last_with q own final) k i)
     start
     (λ i t low within.
-    let x : ℕ = behind state (5 * (suc i - 1)) in
+    let x : ℕ = advanced state (5 * (suc i - 1)) in
     let f : ℕ = 500 + drawn x 5 501 in
     let permille : f ≤ 1000 = omega (arith, drawn-below x 5 501 (omega arith)) in
     draft-goes rounds prices eligibility held (last_with q own final) k i (drawn_package x own) (amount_of q own final (drawn_package x own) f) t known
@@ -237,8 +237,8 @@ pub part-goes : (rounds : List Round) (prices eligibility : List ℕ) (held : Li
     → IsBidding (map (own_of k) rounds) q own final k → Between rounds prices eligibility held (k - 1) s
     → Goes s (lines_from state q k own final) (Between rounds prices eligibility held k)
 part-goes rounds prices eligibility held state q own final k s known bidding between =
-    goes-on s (drawn_drafts state q k own final 100) (last_draft (behind state 500) q k final ++ Submit k ∷ [])
+    goes-on s (drawn_drafts state q k own final 100) (last_draft (advanced state 500) q k final ++ Submit k ∷ [])
     (Within rounds prices eligibility held (last_with q own final) k 100) (Between rounds prices eligibility held k)
     (drafts-go rounds prices eligibility held state q own final k 100 s (omega arith) known bidding
     (begins rounds prices eligibility held (last_with q own final) k s known.some between))
-    (λ t within. last-goes rounds prices eligibility held (behind state 500) q own final k 100 t (omega arith) known bidding within)
+    (λ t within. last-goes rounds prices eligibility held (advanced state 500) q own final k 100 t (omega arith) known bidding within)

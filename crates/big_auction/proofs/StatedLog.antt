@@ -10,7 +10,7 @@ use Rattle.auction_rules.specs.Terms.{Entrant, no_lots}
 use Rattle.award_file.proofs.Names.{number-only}
 use Rattle.log_file.specs.LogForm.{AreCounts, IsNameOf}
 use Rattle.log_file.specs.LogText.{IsStatable}
-use Rattle.big_auction.specs.Draws.{behind, drawn, drawn_package, first_state}
+use Rattle.big_auction.specs.Draws.{advanced, drawn, drawn_package, first_state}
 use Rattle.big_auction.specs.MadeAward.{made_name, made_terms}
 use Rattle.big_auction.specs.MadeLog.{bids_of, clock_lines, drawn_draft, drawn_drafts, draws_before, final_package_of, final_prices, held_by}
 use Rattle.big_auction.specs.MadeLog.{last_draft, lines_of, made_log, package_of, reduced, round_lines, staying}
@@ -88,9 +88,9 @@ module _ (rounds : List OwnRound) (prices own final : List ℕ) (k : ℕ) (some 
   drafts-stated : (state n : ℕ) → AllByRecursion IsLine (drawn_drafts state prices k own final n)
   unfolding drawn_drafts
   drafts-stated state n =
-      each-listed (λ i. drawn_draft (behind state (5 * (i - 1))) prices k own final) n
+      each-listed (λ i. drawn_draft (advanced state (5 * (i - 1))) prices k own final) n
       (λ i low.
-      let x : ℕ = behind state (5 * (suc i - 1)) in
+      let x : ℕ = advanced state (5 * (suc i - 1)) in
       let share : ℕ = 500 + drawn x 5 501 in
       let permille : share ≤ 1000 = omega (arith, drawn-below x 5 501 (omega arith)) in
       let due = due-drawn rounds prices own final k x share permille bids in
@@ -108,16 +108,16 @@ module _ (rounds : List OwnRound) (prices own final : List ℕ) (k : ℕ) (some 
       ]
 
   part-stated : (state : ℕ)
-      → AllByRecursion IsLine (drawn_drafts state prices k own final 100 ++ (last_draft (behind state 500) prices k final ++ Submit k ∷ []))
+      → AllByRecursion IsLine (drawn_drafts state prices k own final 100 ++ (last_draft (advanced state 500) prices k final ++ Submit k ∷ []))
   part-stated state =
-      each-both (drawn_drafts state prices k own final 100) (last_draft (behind state 500) prices k final ++ Submit k ∷ []) (drafts-stated state 100)
-      (each-both (last_draft (behind state 500) prices k final) (Submit k ∷ []) (last-stated (behind state 500)) (named k some few, tt))
+      each-both (drawn_drafts state prices k own final 100) (last_draft (advanced state 500) prices k final ++ Submit k ∷ []) (drafts-stated state 100)
+      (each-both (last_draft (advanced state 500) prices k final) (Submit k ∷ []) (last-stated (advanced state 500)) (named k some few, tt))
 
 lines-stated : (number k : ℕ) → 1 ≤ k → k ≤ 12 → AllByRecursion IsLine (lines_of number k)
 unfolding lines_of
 lines-stated number k some few =
     part-stated _ (final_prices number) (package_of number k) (final_package_of number k) k some few (bidding number k some few)
-    (behind (first_state number) (draws_before k))
+    (advanced (first_state number) (draws_before k))
 
 -- a record can state each line of the log of a number
 pub log-stated : (number : ℕ) → AllByRecursion IsLine (made_log number)

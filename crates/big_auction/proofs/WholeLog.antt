@@ -12,7 +12,7 @@ use Rattle.auction_rules.specs.BookOfLog.{is_complete}
 use Rattle.auction_rules.specs.State.{DeskState, state_of}
 use Rattle.auction_rules.proofs.Telling.{stage-state_of}
 use Rattle.big_auction.specs.Answered.{AreAnsweredOk}
-use Rattle.big_auction.specs.Draws.{behind, first_state}
+use Rattle.big_auction.specs.Draws.{advanced, first_state}
 use Rattle.big_auction.specs.MadeAward.{made_terms}
 use Rattle.big_auction.specs.MadeLog.{package_of, final_package_of, held_by, final_prices, draws_before, lines_of, clock_lines, made_log}
 use Rattle.big_auction.proofs.ClockRounds.{no_lists, posted, rounds_to, sealed_state}
@@ -52,7 +52,7 @@ unfolding lines_of
 lines-go number k s low parts =
     let e : suc k - 1 ≡ k = omega arith in
     part-goes (rounds_to (held_by number) 10) (prices_after made_terms (held_by number) 9) (last_eligibility number) (last_held number)
-    (behind (first_state number) (draws_before (suc k))) (final_prices number) (package_of number (suc k)) (final_package_of number (suc k)) (suc k) s
+    (advanced (first_state number) (draws_before (suc k))) (final_prices number) (package_of number (suc k)) (final_package_of number (suc k)) (suc k) s
     (known (suc k) (omega arith) (omega arith)) (bidding number (suc k) (omega arith) (omega arith)) (subst (λ (i : ℕ). Parts number i s) (sym e) parts)
 
 end-goes : (number : ℕ) (s : DeskState) → Parts number 12 s → Goes s (Close ∷ []) (IsEnd number)

@@ -10,13 +10,13 @@ unfoldable pub turned : ℕ → ℕ
 turned state = (1103515245 * state + 12345) % 2 ^ 31
 
 -- the state that many draws after this one
-unfoldable pub behind : ℕ → ℕ → ℕ
-behind state zero = state
-behind state (suc n) = turned (behind state n)
+unfoldable pub advanced : ℕ → ℕ → ℕ
+advanced state zero = state
+advanced state (suc n) = turned (advanced state n)
 
 -- what the n-th draw from a state on gives, below the bound; draws are numbered from 1
 unfoldable pub drawn : ℕ → ℕ → ℕ → ℕ
-drawn state n bound = behind state n / 2 ^ 16 % bound
+drawn state n bound = advanced state n / 2 ^ 16 % bound
 
 -- the n-th draw and those after it, one for each count, which is the most that may be drawn
 abbrev pub drawn_counts : ℕ → ℕ → List ℕ → List ℕ

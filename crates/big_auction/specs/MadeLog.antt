@@ -6,7 +6,7 @@ use Rattle.auction_rules.specs.declared.Event.TheVariants.{Bid, Close, Draft, Su
 use Rattle.auction_model.specs.PackageTests.{is_same}
 use Rattle.auction_rules.specs.Terms.{no_lots}
 use Rattle.auction_rules.specs.Rounds.{listing, prices_after}
-use Rattle.big_auction.specs.Draws.{first_state, behind, drawn, drawn_package}
+use Rattle.big_auction.specs.Draws.{first_state, advanced, drawn, drawn_package}
 use Rattle.big_auction.specs.MadeAward.{made_bidders, made_terms}
 
 -- ---- packages
@@ -17,7 +17,7 @@ widest = 2 ∷ 1 ∷ 7 ∷ 4 ∷ []
 
 -- the package of bidder k in the rounds 1 to 9; each has four draws, the bidders in order
 unfoldable pub package_of : ℕ → ℕ → List ℕ
-package_of number k = drawn_package (behind (first_state number) (4 * (k - 1))) widest
+package_of number k = drawn_package (advanced (first_state number) (4 * (k - 1))) widest
 
 -- of a package, what a bidder that stays asks for in round 10
 abbrev pub reduced : List ℕ → List ℕ
@@ -77,7 +77,7 @@ drawn_draft state prices k own final =
 
 -- that many of them, one after another
 unfoldable pub drawn_drafts : ℕ → List ℕ → ℕ → List ℕ → List ℕ → ℕ → List Event
-drawn_drafts state prices k own final n = listing (λ i. drawn_draft (behind state (5 * (i - 1))) prices k own final) n
+drawn_drafts state prices k own final n = listing (λ i. drawn_draft (advanced state (5 * (i - 1))) prices k own final) n
 
 -- how many such drafts a bidder has
 abbrev pub draft_count : ℕ
@@ -91,7 +91,7 @@ last_draft state prices k final = if nat_le k staying then Draft k final (cost_o
 abbrev pub lines_from : ℕ → List ℕ → ℕ → List ℕ → List ℕ → List Event
 lines_from state prices k own final =
     drawn_drafts state prices k own final draft_count
-    ++ (last_draft (behind state (5 * draft_count)) prices k final ++ Submit k ∷ [])
+    ++ (last_draft (advanced state (5 * draft_count)) prices k final ++ Submit k ∷ [])
 
 -- how many draws come before bidder k's lines: four for each package, 500 for each bidder before, and one more for each that stays
 abbrev pub draws_before : ℕ → ℕ
@@ -100,7 +100,7 @@ draws_before k = 4 * made_bidders + 5 * draft_count * (k - 1) + min staying (k -
 -- bidder k's lines
 unfoldable pub lines_of : ℕ → ℕ → List Event
 lines_of number k =
-    lines_from (behind (first_state number) (draws_before k)) (final_prices number) k (package_of number k) (final_package_of number k)
+    lines_from (advanced (first_state number) (draws_before k)) (final_prices number) k (package_of number k) (final_package_of number k)
 
 -- ---- the whole
 

@@ -3,7 +3,7 @@ use Rattle.std.specs.Prelude.{ℕ, ◌+◌, ◌-◌, ◌*◌, min, List, [], ◌
 use Rattle.auction_rules.specs.declared.Event.{Event}
 use Rattle.auction_rules.specs.declared.Event.TheVariants.{Bid, Close}
 use Rattle.auction_rules.specs.Rounds.{listing}
-use Rattle.big_auction.specs.Draws.{behind, drawn_package}
+use Rattle.big_auction.specs.Draws.{advanced, drawn_package}
 use Rattle.big_auction.specs.MadeAward.{made_bidders}
 use Rattle.big_auction.specs.MadeLog.{draft_count, last_of, lines_from, staying, widest}
 use Rattle.big_auction.specs.declared.values.Lots.{Lots}
@@ -28,7 +28,7 @@ bids_for packages n = listing (λ k. Bid k (slice_index_or packages (k - 1) []))
 -- bidder k's lines, where the draws of all bidders' lines begin at a state
 abbrev pub lines_for : ℕ → List ℕ → List (List ℕ) → ℕ → List Event
 lines_for state prices packages k =
-    lines_from (behind state (5 * draft_count * (k - 1) + min staying (k - 1))) prices k (slice_index_or packages (k - 1) []) (last_of k (slice_index_or packages (k - 1) []))
+    lines_from (advanced state (5 * draft_count * (k - 1) + min staying (k - 1))) prices k (slice_index_or packages (k - 1) []) (last_of k (slice_index_or packages (k - 1) []))
 
 -- the lines of the clock, where these packages are bid
 abbrev pub last_bids_for : List (List ℕ) → ℕ → List Event
@@ -46,4 +46,4 @@ sealed_for state prices packages n = flat_map (lines_for state prices packages) 
 
 -- the packages of bidders 1 to n, where their draws begin at a state
 abbrev pub packages_from : ℕ → ℕ → List (List ℕ)
-packages_from state n = listing (λ k. drawn_package (behind state (4 * (k - 1))) widest) n
+packages_from state n = listing (λ k. drawn_package (advanced state (4 * (k - 1))) widest) n

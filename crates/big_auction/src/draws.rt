@@ -1,6 +1,6 @@
 // The generator, and what is drawn from it.
 ghost use Rattle.std.specs.Prelude.{◌≡◌, ◌<◌};
-ghost use Rattle.big_auction.specs.Draws.{behind, drawn, drawn_package, first_state, turned};
+ghost use Rattle.big_auction.specs.Draws.{advanced, drawn, drawn_package, first_state, turned};
 ghost use Rattle.big_auction.specs.Parts.{counts_of};
 
 use crate::values::Lots;
@@ -25,10 +25,10 @@ impl Draws {
     }
 
     /// The next number drawn, below the bound.
-    #[tactic(auto, unfolding(crate::specs::Draws::turned, crate::specs::Draws::behind, crate::specs::Draws::drawn))]
+    #[tactic(auto, unfolding(crate::specs::Draws::turned, crate::specs::Draws::advanced, crate::specs::Draws::drawn))]
     pub fn draw(&mut self, bound: u32) -> u32
         requires { 0 < bound }
-        ensures state { self.new.state ≡ behind self.old.state 1 }
+        ensures state { self.new.state ≡ advanced self.old.state 1 }
         ensures drawn { result ≡ drawn self.old.state 1 bound }
         ensures below { result < bound }
     {
@@ -40,7 +40,7 @@ impl Draws {
     /// A package within this one, with a lot of the first category at least.
     pub fn package(&mut self, most: Lots) -> Lots
         requires { 0 < most.a }
-        ensures state { self.new.state ≡ behind self.old.state 4 }
+        ensures state { self.new.state ≡ advanced self.old.state 4 }
         ensures drawn { counts_of result ≡ drawn_package self.old.state (counts_of most) }
     {
         let a = 1 + self.draw(most.a as u32) as u16;

@@ -4,7 +4,7 @@ ghost use Rattle.std.specs.List.{AllByRecursion};
 ghost use Rattle.limits.specs.declared.TheConstants.{MOST_PRICE};
 ghost use Rattle.log_file.specs.LogForm.{counts_text};
 ghost use Rattle.auction_rules.specs.declared.Event.TheVariants.{Bid, Close, Draft, Submit};
-ghost use Rattle.big_auction.specs.Draws.{behind};
+ghost use Rattle.big_auction.specs.Draws.{advanced};
 ghost use Rattle.big_auction.specs.LogText.{event_text, log_text};
 ghost use Rattle.big_auction.specs.MadeAward.{made_name};
 ghost use Rattle.big_auction.specs.MadeLog.{drawn_draft, last_draft, lines_from, draft_count, staying};
@@ -111,7 +111,7 @@ fn add_drawn(
         (text.new ≡ text.old
         ++ event_text (drawn_draft draws.old.state (figures_of prices.now) bidder.now.number
         (counts_of bidder.now.own) (counts_of bidder.now.last))) }
-    ensures state { draws.new.state ≡ behind draws.old.state 5 }
+    ensures state { draws.new.state ≡ advanced draws.old.state 5 }
 {
     let lots = draws.package(bidder.own);
     let permille = 500 + draws.draw(501) as u64;
@@ -131,7 +131,7 @@ fn add_last(
         (text.new ≡ text.old
         ++ log_text (last_draft draws.old.state (figures_of prices.now) bidder.now.number
         (counts_of bidder.now.last))) }
-    ensures state { draws.new.state ≡ behind draws.old.state (if nat_le bidder.now.number staying then 1 else 0) }
+    ensures state { draws.new.state ≡ advanced draws.old.state (if nat_le bidder.now.number staying then 1 else 0) }
 {
     if bidder.number > STAYING {
         return Ok(());
@@ -155,7 +155,7 @@ pub fn add_bidder(
         (counts_of bidder.now.own) (counts_of bidder.now.last))) }
     ensures state { OnOk result
         (draws.new.state
-        ≡ behind draws.old.state (5 * draft_count + (if nat_le bidder.now.number staying then 1 else 0))) }
+        ≡ advanced draws.old.state (5 * draft_count + (if nat_le bidder.now.number staying then 1 else 0))) }
 {
     for _draft in 0..DRAFTS {
         add_drawn(text, draws, prices, bidder)?;

@@ -3,7 +3,7 @@ ghost use Rattle.std.specs.Prelude.{◌≡◌, ◌≤◌, ◌<◌, ◌++◌, IfO
 ghost use Rattle.std.specs.List.{AllByRecursion};
 ghost use Rattle.limits.specs.declared.TheConstants.{MOST_PRICE};
 ghost use Rattle.big_auction.specs.AwardText.{made_award_text};
-ghost use Rattle.big_auction.specs.Draws.{behind};
+ghost use Rattle.big_auction.specs.Draws.{advanced};
 ghost use Rattle.big_auction.specs.LogText.{log_text};
 ghost use Rattle.big_auction.specs.MadeAuction.{IsMadeAuction};
 ghost use Rattle.big_auction.specs.MadeAward.{made_bidders};
@@ -68,7 +68,7 @@ pub fn make(alloc: Global, number: u32) -> Result<Made, AllocError>
 fn draw_packages(alloc: Global, draws: &mut Draws) -> Result<Vec<Lots>, AllocError>
     ensures packages { IfOk result (λ v. map counts_of v.items ≡ packages_from draws.old.state made_bidders) }
     ensures some { IfOk result (λ v. AllByRecursion (λ p. 0 < p.a) v.items) }
-    ensures state { OnOk result (draws.new.state ≡ behind draws.old.state 48) }
+    ensures state { OnOk result (draws.new.state ≡ advanced draws.old.state 48) }
 {
     let mut packages = Vec::with_capacity(alloc, BIDDERS as usize)?;
     for _bidder in 0..BIDDERS {

@@ -18,7 +18,7 @@ use Rattle.cert_stream.specs.declared.due.NextLine.TheVariants.{RowChoice, Rows,
 use Rattle.cert_stream.specs.declared.due.Table.{Table}
 use Rattle.cert_stream.specs.declared.due.Table.TheVariants.{Head, Part, Lowered}
 use Rattle.cert_text.specs.StagePlans.{closing_plan}
-use Rattle.cert_stream.specs.Dues.{ending, from_part, behind_table, version_number, limits_plan, opening, plan_due, IsDue, IsTableOf}
+use Rattle.cert_stream.specs.Dues.{ending, from_part, after_table, version_number, limits_plan, opening, plan_due, IsDue, IsTableOf}
 use Rattle.cert_grammar.proofs.PlanReads.{follows_both}
 use Rattle.cert_stream.proofs.CertOf.{cert_of}
 use Rattle.cert_stream.specs.Standing.{AllIn, IsReading}
@@ -209,14 +209,14 @@ module _ (b s : ℕ) where
         (can_parts (suc j) (drop j choice) (omega (arith, few, many, le, length-drop j choice))) can_ending
 
     -- what follows a table
-    can_behind : (table : Table) → IsTableOf b table → CanFillAll (behind_table b s choice table)
+    can_behind : (table : Table) → IsTableOf b table → CanFillAll (after_table b s choice table)
     can_behind Head is = can_from 0 (omega arith)
     can_behind (Part j) is = can_from j is.1
     can_behind Lowered is = (refl, tt)
 
     -- a table, and what follows it
-    can_title : (table : Table) → IsTableOf b table → CanFillAll (table_plan b s ++ behind_table b s choice table)
-    can_title table is = can_append (table_plan b s) (behind_table b s choice table) (can_lines s (suc b)) (can_behind table is)
+    can_title : (table : Table) → IsTableOf b table → CanFillAll (table_plan b s ++ after_table b s choice table)
+    can_title table is = can_append (table_plan b s) (after_table b s choice table) (can_lines s (suc b)) (can_behind table is)
 
     -- rows, and what follows them
     can_left : (r : ℕ) → 0 < b → CanFillAll (rows_plan b r ++ closing_plan b s)
@@ -236,7 +236,7 @@ module _ (b s : ℕ) where
     can_due (Title table) is = (refl, can_title table is)
     can_due (Entries table k) is = (
       tt,
-      can_append (replicate (b - k) (kind (codes "t") (signed s))) (behind_table b s choice table) (can_lines s (b - k))
+      can_append (replicate (b - k) (kind (codes "t") (signed s))) (after_table b s choice table) (can_lines s (b - k))
           (can_behind table is.0),
     )
     can_due (Without j) is = (

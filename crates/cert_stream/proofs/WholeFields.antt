@@ -13,7 +13,7 @@ use Rattle.wide_num.proofs.Decimal.{IsDigit}
 use Rattle.cert_grammar.specs.Lines.{signed}
 use Rattle.cert_stream.specs.declared.line.fields.Field.{Field}
 use Rattle.cert_stream.specs.declared.line.form.Form.TheVariants.{Signed}
-use Rattle.cert_stream.specs.Fields.{IsField, behind_space}
+use Rattle.cert_stream.specs.Fields.{IsField, after_space}
 use Rattle.cert_stream.specs.LineParts.{IsPart}
 use Rattle.cert_stream.specs.Pieces.{between}
 use Rattle.cert_stream.proofs.Following.{follows, keeps_more, kept_now}
@@ -59,7 +59,7 @@ module _ (word : List ℕ) (most : ℕ) (beyond : Bool) where
   -- one whole number more is kept
   pub field_kept : (count : ℕ) (out now : List ℤ) (bytes piece : List ℕ) (at : ℕ) (f : Field) → IsField piece at f → f.size < 2 ^ 64 → count < most
       → most ≤ length out → now ≡ set out count (pos f.size)
-      → IsPart word (Signed most) (behind_space count beyond) out bytes → IsPart word (Signed most) (behind_space (count + 1) beyond) now
+      → IsPart word (Signed most) (after_space count beyond) out bytes → IsPart word (Signed most) (after_space (count + 1) beyond) now
       (bytes ++ between at (f.end + 1) piece)
   field_kept count out now bytes piece at f is small few room stored part = record {
     numbers = part.numbers ++ pos f.size ∷ [];
@@ -86,8 +86,8 @@ module _ (word : List ℕ) (most : ℕ) (beyond : Bool) where
   -- the same after others
   pub field_join : (count : ℕ) (out now : List ℤ) (bytes piece : List ℕ) (from at : ℕ) (f : Field) → IsField piece at f → f.size < 2 ^ 64 → count < most
       → most ≤ length out → now ≡ set out count (pos f.size) → from ≤ at
-      → IsPart word (Signed most) (behind_space count beyond) out (bytes ++ between from at piece) → IsPart word (Signed most)
-      (behind_space (count + 1) beyond) now (bytes ++ between from (f.end + 1) piece)
+      → IsPart word (Signed most) (after_space count beyond) out (bytes ++ between from at piece) → IsPart word (Signed most)
+      (after_space (count + 1) beyond) now (bytes ++ between from (f.end + 1) piece)
   field_join count out now bytes piece from at f is small few room stored le part =
-      part_join word (Signed most) (behind_space (count + 1) beyond) now bytes piece from at (f.end + 1) le (omega (arith, is.from))
+      part_join word (Signed most) (after_space (count + 1) beyond) now bytes piece from at (f.end + 1) le (omega (arith, is.from))
       (field_kept count out now (bytes ++ between from at piece) piece at f is small few room stored part)

@@ -76,10 +76,10 @@ abbrev pub from_part : ℕ → ℕ → List ℤ → ℕ → List Kind
 from_part bidders states choice j = parts_plan bidders states (suc j) (drop j choice) ++ ending bidders states
 
 -- what comes after a table
-abbrev pub behind_table : ℕ → ℕ → List ℤ → Table → List Kind
-behind_table bidders states choice Head = from_part bidders states choice 0
-behind_table bidders states choice (Part j) = from_part bidders states choice j
-behind_table bidders states choice Lowered = kind (codes "end") (these []) ∷ []
+abbrev pub after_table : ℕ → ℕ → List ℤ → Table → List Kind
+after_table bidders states choice Head = from_part bidders states choice 0
+after_table bidders states choice (Part j) = from_part bidders states choice j
+after_table bidders states choice Lowered = kind (codes "end") (these []) ∷ []
 
 -- the line of limits, which the second version alone has
 abbrev pub limits_plan : Bool → List Kind
@@ -97,8 +97,8 @@ behind b s choice Limits = opening b s
 behind b s choice Den = kind_due b s Value ∷ kind_due b s Choice ∷ ending b s
 behind b s choice Value = kind_due b s Choice ∷ ending b s
 behind b s choice Choice = ending b s
-behind b s choice (Title table) = table_plan b s ++ behind_table b s choice table
-behind b s choice (Entries table k) = replicate (b - k) (kind (codes "t") (signed s)) ++ behind_table b s choice table
+behind b s choice (Title table) = table_plan b s ++ after_table b s choice table
+behind b s choice (Entries table k) = replicate (b - k) (kind (codes "t") (signed s)) ++ after_table b s choice table
 behind b s choice (Without j) = kind (codes "choice") (chosen b) ∷ kind (codes "table") (these []) ∷ (table_plan b s ++ from_part b s choice j)
 behind b s choice (PartChoice j) = kind (codes "table") (these []) ∷ (table_plan b s ++ from_part b s choice j)
 behind b s choice Payments = kind (codes "rows") (counted b) ∷ closing_plan b s

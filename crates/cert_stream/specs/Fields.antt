@@ -21,5 +21,5 @@ pub record IsFront (piece : List ℕ) (at : ℕ) (f : Field) : Type 0 where
   pub low : f.size < 10 ^ 14
 
 -- a line after the space where a number has to begin, with that many numbers before it
-abbrev pub behind_space : ℕ → Bool → LinePart
-behind_space many over = record { phase = Space; count = many; beyond = over }
+abbrev pub after_space : ℕ → Bool → LinePart
+after_space many over = record { phase = Space; count = many; beyond = over }

@@ -4,7 +4,7 @@ ghost use Rattle.cert_grammar.specs.Certificate.{CertValue};
 ghost use Rattle.cert_grammar.specs.CertText.{IsCertificate, as_numbers};
 ghost use Rattle.cert_grammar.specs.Lines.{FitNumbers, rows_plan};
 ghost use Rattle.cert_stream.specs.LinesLeft.{lines_left, parts_left, table_left, rows_left, HasPart, HasDue, ComesNext, AreLeft, Leads};
-ghost use Rattle.cert_stream.specs.Dues.{Follows, IsDue, IsKnown, numbers_due, plan_due, from_part, behind_table, IsTableOf};
+ghost use Rattle.cert_stream.specs.Dues.{Follows, IsDue, IsKnown, numbers_due, plan_due, from_part, after_table, IsTableOf};
 ghost use Rattle.cert_text.specs.StagePlans.{closing_plan};
 ghost use Rattle.cert_stream.specs.Order.{ComesBehind, IsPartNext, IsRowNext, IsTableNext};
 
@@ -84,7 +84,7 @@ fn next_entries(shape: Shape, choice: &[i128], table: Table, k: u16) -> NextLine
     if k < shape.bidders {
         return NextLine::Entries(table, k + 1);
     }
-    behind_table_line(shape, choice, table)
+    after_table_line(shape, choice, table)
 }
 
 /// The first line after the parts of the first `from` bidders: that of the next part, or the payments.
@@ -111,10 +111,10 @@ fn is_zero(number: i128) -> bool
     number == 0
 }
 
-fn behind_table_line(shape: Shape, choice: &[i128], table: Table) -> NextLine
+fn after_table_line(shape: Shape, choice: &[i128], table: Table) -> NextLine
     requires choice { length choice.now ≡ shape.bidders }
     requires table { IsTableOf shape.bidders table }
-    ensures plan { behind_table shape.bidders shape.states choice.now table
+    ensures plan { after_table shape.bidders shape.states choice.now table
         ≡ plan_due shape.bidders shape.states choice.now result }
     ensures due { IsDue shape.bidders result }
     ensures order { IsTableNext shape.bidders choice.now table result }

@@ -18,7 +18,7 @@ use Rattle.review.specs.declared.edit.Edit.{Edit}
 use Rattle.review.specs.declared.edit.Edit.TheVariants.{Add, Raise, Remove}
 use Rattle.review.specs.declared.edit.EditReply.{EditReply}
 use Rattle.review.specs.declared.edit.EditReply.TheVariants as reply
-use Rattle.outcome.specs.ReviewText.{AreEditLines, IsReplyLine, IsReviewText, IsStateLine, behind, behind_all, behind_reply, state_line}
+use Rattle.outcome.specs.ReviewText.{AreEditLines, IsReplyLine, IsReviewText, IsStateLine, book_after, book_after_all, book_after_reply, state_line}
 use Rattle.outcome.proofs.ReviewLines.{behind_supply}
 
 -- an edit that is answered Ok keeps the rules of a book
@@ -36,10 +36,10 @@ edited-within book (Remove j lots) is count ok =
     (book-order book j is has.0.some has.0.known) at.inside at.own)) taken
 
 -- and so does each edit
-behind-within : (book : Book) (e : Edit) → IsBookWithinLimits book → length (edit_lots e) ≡ length book.supply → IsBookWithinLimits (behind book e)
+behind-within : (book : Book) (e : Edit) → IsBookWithinLimits book → length (edit_lots e) ≡ length book.supply → IsBookWithinLimits (book_after book e)
 behind-within book e is count = by_reply (edit_reply book e) refl
   where
-    by_reply : (r : EditReply) → edit_reply book e ≡ r → IsBookWithinLimits (behind_reply r book e)
+    by_reply : (r : EditReply) → edit_reply book e ≡ r → IsBookWithinLimits (book_after_reply r book e)
     by_reply reply.Ok same = edited-within book e is count same
     by_reply reply.Unknown same = is
     by_reply (reply.Supply category) same = is
@@ -56,13 +56,13 @@ behind-within book e is count = by_reply (edit_reply book e) refl
 abbrev pub AreCounted : Book → List Edit → Type 0
 AreCounted book edits = AllByRecursion (λ (e : Edit). length (edit_lots e) ≡ length book.supply) edits
 
-counted-behind : (book : Book) (e : Edit) (edits : List Edit) → AreCounted book edits → AreCounted (behind book e) edits
+counted-behind : (book : Book) (e : Edit) (edits : List Edit) → AreCounted book edits → AreCounted (book_after book e) edits
 counted-behind book e edits are = subst (λ (supply : List ℕ). AllByRecursion (λ (d : Edit). length (edit_lots d) ≡ length supply) edits)
     (sym (behind_supply book e)) are
 
-all-within : (book : Book) (edits : List Edit) → IsBookWithinLimits book → AreCounted book edits → IsBookWithinLimits (behind_all book edits)
+all-within : (book : Book) (edits : List Edit) → IsBookWithinLimits book → AreCounted book edits → IsBookWithinLimits (book_after_all book edits)
 all-within book [] is are = is
-all-within book (e ∷ edits) is are = all-within (behind book e) edits (behind-within book e is are.0) (counted-behind book e edits are.1)
+all-within book (e ∷ edits) is are = all-within (book_after book e) edits (behind-within book e is are.0) (counted-behind book e edits are.1)
 
 module _ (choices : (m : Market) (c d : List ℕ) → IsMarket m → IsWinning m c → IsWinning m d → c ≡ d)
     (markets : (book : Book) → length book.bidders < 2 ^ 16 → ((j i : ℕ) → i ≤ length (bids_of book j) → pos 0 ≤ℤ net_of book j i)
@@ -94,8 +94,8 @@ module _ (choices : (m : Market) (c d : List ℕ) → IsMarket m → IsWinning m
   one-lines before book [] a b is are x y = x ∙ sym y
   one-lines before book (e ∷ edits) a b is are (p, q, x, xs, whole) (s, t, y, ys, other) =
       let next = behind-within book e is are.0 in
-      let first = one-reply (edit_reply book e) (suc before) (behind book e) p s next x y in
-      let rest = one-lines (suc before) (behind book e) edits q t next (counted-behind book e edits are.1) xs ys in
+      let first = one-reply (edit_reply book e) (suc before) (book_after book e) p s next x y in
+      let rest = one-lines (suc before) (book_after book e) edits q t next (counted-behind book e edits are.1) xs ys in
       whole ∙ (λ i. first i ++ rest i) ∙ sym other
 
   -- edits of a book within its limits have one text, where each has a count for each category
@@ -104,5 +104,5 @@ module _ (choices : (m : Market) (c d : List ℕ) → IsMarket m → IsWinning m
   one-text book edits a b is are x y =
       let first = one-state 0 book x.first y.first is x.is_first y.is_first in
       let lines = one-lines 0 book edits x.lines y.lines is are x.are_lines y.are_lines in
-      let winners = one-choice (behind_all book edits) x.winners y.winners (all-within book edits is are) x.winning y.winning in
-      x.whole ∙ (λ i. first i ++ lines i ++ win_text (behind_all book edits) (winners i)) ∙ sym y.whole
+      let winners = one-choice (book_after_all book edits) x.winners y.winners (all-within book edits is are) x.winning y.winning in
+      x.whole ∙ (λ i. first i ++ lines i ++ win_text (book_after_all book edits) (winners i)) ∙ sym y.whole

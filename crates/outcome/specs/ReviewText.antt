@@ -43,24 +43,24 @@ IsReplyLine reply.Ok n book line = IsStateLine n book line
 IsReplyLine r n book line = line ≡ decimal n ++ 32 ∷ refusal_text r ++ codes "\n"
 
 -- the book after an edit, by its reply: a refused edit changes nothing
-abbrev pub behind_reply : EditReply → Book → Edit → Book
-behind_reply reply.Ok book edit = edited book edit
-behind_reply r book edit = book
+abbrev pub book_after_reply : EditReply → Book → Edit → Book
+book_after_reply reply.Ok book edit = edited book edit
+book_after_reply r book edit = book
 
-abbrev pub behind : Book → Edit → Book
-behind book edit = behind_reply (edit_reply book edit) book edit
+abbrev pub book_after : Book → Edit → Book
+book_after book edit = book_after_reply (edit_reply book edit) book edit
 
 -- the book after all edits
-abbrev pub behind_all : Book → List Edit → Book
-behind_all book [] = book
-behind_all book (e ∷ es) = behind_all (behind book e) es
+abbrev pub book_after_all : Book → List Edit → Book
+book_after_all book [] = book
+book_after_all book (e ∷ es) = book_after_all (book_after book e) es
 
 -- the lines of these edits of a book, after that many others
 abbrev pub AreEditLines : ℕ → Book → List Edit → List ℕ → Type 0
 AreEditLines before book [] text = text ≡ []
 AreEditLines before book (e ∷ es) text =
-    (line rest : List ℕ) × IsReplyLine (edit_reply book e) (suc before) (behind book e) line
-    × AreEditLines (suc before) (behind book e) es rest × (text ≡ line ++ rest)
+    (line rest : List ℕ) × IsReplyLine (edit_reply book e) (suc before) (book_after book e) line
+    × AreEditLines (suc before) (book_after book e) es rest × (text ≡ line ++ rest)
 
 -- The whole text of the edits of a book: the line of the book as it is, with number 0, the lines of the edits, and the winners of the book
 -- after all of them.
@@ -70,5 +70,5 @@ pub record IsReviewText (book : Book) (edits : List Edit) (text : List ℕ) : Ty
   pub lines : List ℕ
   pub are_lines : AreEditLines 0 book edits lines
   pub winners : List ℕ
-  pub winning : IsWinning (market_of (behind_all book edits)) winners
-  pub whole : text ≡ first ++ lines ++ win_text (behind_all book edits) winners
+  pub winning : IsWinning (market_of (book_after_all book edits)) winners
+  pub whole : text ≡ first ++ lines ++ win_text (book_after_all book edits) winners

@@ -146,19 +146,19 @@ fn best_after(
         set,
         first,
         0,
-        behind(search, set, first, greater),
+        best_joined(search, set, first, greater),
     )?;
     for k in 0..search.slots.bidders() {
         let j = k as u16 + 1;
         if !is_in(set, j) {
-            best = with_bidder(alloc, search, set, j, behind(search, set, j, greater), best)?;
+            best = with_bidder(alloc, search, set, j, best_joined(search, set, j, greater), best)?;
         }
     }
     Ok(best)
 }
 
 /// The best choice after a set with one bidder more.
-fn behind<'b>(search: &Search, set: usize, j: u16, greater: &'b [Best]) -> &'b Best
+fn best_joined<'b>(search: &Search, set: usize, j: u16, greater: &'b [Best]) -> &'b Best
     requires bidder { (0 < j) × (j ≤ (searched search.now).bidders) }
     requires new { IsFalse (holds set j) }
     requires greater { AreBests search.now (set + 1) greater.now }

@@ -75,32 +75,32 @@ fn long_number(text: &[u8]) -> Result<(u64, &[u8]), NoNumber>
 fn short_number(text: &[u8]) -> Option<(u64, &[u8])>
     ensures { IfSome result (λ p. (p.0 ≤ MOST_AMOUNT) × IsField text.now (decimal p.0) p.1.now) }
 {
-    let behind = behind_space(text)?;
-    let (number, stop) = short_field(behind)?;
+    let rest = after_space(text)?;
+    let (number, stop) = short_field(rest)?;
     if number > MOST_AMOUNT {
         return None;
     }
-    Some((number, &behind[stop..]))
+    Some((number, &rest[stop..]))
 }
 
 /// The first field of a text, which has to follow a space, and what follows it.
 fn first_field(text: &[u8]) -> Option<(&[u8], &[u8])>
     ensures found { IfSome result (λ parts. IsField text.now parts.0.now parts.1.now) }
-    ensures none { IfNone result ((behind : List ℕ) → text.now ≡ 32 ∷ behind → ⊥) }
+    ensures none { IfNone result ((rest : List ℕ) → text.now ≡ 32 ∷ rest → ⊥) }
 {
-    match behind_space(text) {
-        Some(behind) => Some(behind.split_at(field_len(behind))),
+    match after_space(text) {
+        Some(rest) => Some(rest.split_at(field_len(rest))),
         None => None,
     }
 }
 
 /// What follows the space that a text begins with.
-fn behind_space(text: &[u8]) -> Option<&[u8]>
-    ensures found { IfSome result (λ behind. text.now ≡ 32 ∷ behind.now) }
-    ensures none { IfNone result ((behind : List ℕ) → text.now ≡ 32 ∷ behind → ⊥) }
+fn after_space(text: &[u8]) -> Option<&[u8]>
+    ensures found { IfSome result (λ rest. text.now ≡ 32 ∷ rest.now) }
+    ensures none { IfNone result ((rest : List ℕ) → text.now ≡ 32 ∷ rest → ⊥) }
 {
     match text {
-        [b' ', behind @ ..] => Some(behind),
+        [b' ', rest @ ..] => Some(rest),
         _ => None,
     }
 }

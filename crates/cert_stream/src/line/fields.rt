@@ -2,7 +2,7 @@
 ghost use Rattle.std.specs.Prelude.{◌≡◌, ◌+◌, ◌≤◌, ◌<◌, ◌^◌, List, ◌++◌, length, Bool, IfSome, IsTrue, ℕ};
 ghost use Rattle.cert_stream.specs.declared.line.form.Form.{Form};
 ghost use Rattle.line_format.specs.LineText.{IsLine};
-ghost use Rattle.cert_stream.specs.Fields.{IsField, IsFront, behind_space};
+ghost use Rattle.cert_stream.specs.Fields.{IsField, IsFront, after_space};
 ghost use Rattle.cert_stream.specs.LineParts.{IsPart};
 ghost use Rattle.cert_stream.specs.Pieces.{between};
 
@@ -122,8 +122,8 @@ pub(crate) fn put_fields(
     ensures to { result.end ≤ length piece.now }
     ensures line { IsLine (between at result.end piece.now) }
     ensures part { (word : List ℕ) (beyond : Bool) (bytes : List ℕ)
-        → IsPart word (Form.Signed most) (behind_space count beyond) out.old bytes
-        → IsPart word (Form.Signed most) (behind_space result.count beyond) out.new
+        → IsPart word (Form.Signed most) (after_space count beyond) out.old bytes
+        → IsPart word (Form.Signed most) (after_space result.count beyond) out.new
         (bytes ++ between at result.end piece.now) }
     ensures room { length out.new ≡ length out.old }
 {

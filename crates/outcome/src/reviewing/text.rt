@@ -2,7 +2,7 @@
 ghost use Rattle.std.specs.Prelude.{◌≡◌, ◌++◌, List, ℕ, IfOk, OnErr, OnOk, length};
 ghost use Rattle.std.specs.List.{AllByRecursion};
 ghost use Rattle.review.specs.Edits.{edit_lots, edit_reply};
-ghost use Rattle.outcome.specs.ReviewText.{IsReplyLine, IsReviewText, behind};
+ghost use Rattle.outcome.specs.ReviewText.{IsReplyLine, IsReviewText, book_after};
 
 use crate::reviewing::lines::{add_refusal, add_state};
 use crate::win_text;
@@ -48,9 +48,9 @@ fn add_edit(
     requires { length (edit_lots edit.now) ≡ length review.old.book.supply }
     ensures line { OnOk result
         ((line : List ℕ)
-        × IsReplyLine (edit_reply review.old.book edit.now) n (behind review.old.book edit.now) line
+        × IsReplyLine (edit_reply review.old.book edit.now) n (book_after review.old.book edit.now) line
         × (text.new ≡ text.old ++ line)) }
-    ensures book { OnOk result (review.new.book ≡ behind review.old.book edit.now) }
+    ensures book { OnOk result (review.new.book ≡ book_after review.old.book edit.now) }
 {
     match take_edit(alloc, review, edit)? {
         EditReply::Ok => add_state(text, n, review),
@@ -63,7 +63,7 @@ fn add_edit(
 fn take_edit(alloc: Global, review: &mut Review, edit: &Edit) -> Result<EditReply, AllocError>
     requires { length (edit_lots edit.now) ≡ length review.old.book.supply }
     ensures reply { IfOk result (λ reply. reply ≡ edit_reply review.old.book edit.now) }
-    ensures book { OnOk result (review.new.book ≡ behind review.old.book edit.now) }
+    ensures book { OnOk result (review.new.book ≡ book_after review.old.book edit.now) }
     ensures memory { OnErr result (edit_reply review.old.book edit.now ≡ EditReply.Ok) }
     ensures unchanged { OnErr result (review.new ≡ review.old) }
 {

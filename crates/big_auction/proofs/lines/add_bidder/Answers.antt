@@ -1,6 +1,6 @@
 use Rattle.std.proofs.Common.{◌≡◌, ◌+◌, arith, rules, ℕ, subst}
 use Rattle.std.specs.Prelude.{if◌then◌else◌, nat_le}
-use Rattle.big_auction.specs.Draws.{behind}
+use Rattle.big_auction.specs.Draws.{advanced}
 use Rattle.big_auction.specs.Parts.{counts_of, figures_of}
 use Rattle.big_auction.proofs.LinesAdded.{IsDrafted, drafted-none, drafted-more, state-behind}
 use Rattle.big_auction.proofs.lines.add_bidder.Goals as goal
@@ -23,7 +23,7 @@ returns-clause-state c =
     (counts_of c.args.bidder.now.last) 100 c.loop-draft.draws.state c.args.text.now c.loop-draft.text =
     subst (λ (n : ℕ). IsDrafted c.args.draws.now.state c.args.bidder.now.number (figures_of c.args.prices.now) (counts_of c.args.bidder.now.own)
     (counts_of c.args.bidder.now.last) n c.loop-draft.draws.state c.args.text.now c.loop-draft.text) all c.loop-draft.invariant in
-    let state : c.add_last.new.draws.state ≡ behind c.args.draws.now.state (500 + (if nat_le c.args.bidder.now.number 4 then 1 else 0)) =
+    let state : c.add_last.new.draws.state ≡ advanced c.args.draws.now.state (500 + (if nat_le c.args.bidder.now.number 4 then 1 else 0)) =
     state-behind c.args.draws.now.state c.args.bidder.now.number c.loop-draft.draws.state c.add_last.new.draws.state
     (if nat_le c.args.bidder.now.number 4 then 1 else 0)
     (figures_of c.args.prices.now) (counts_of c.args.bidder.now.own) (counts_of c.args.bidder.now.last) c.args.text.now c.loop-draft.text drafted

@@ -7,5 +7,5 @@ returns c =
     let n = c.in_ok-number.number in
     let small = c.if-number-gt-MOST_AMOUNT.false in (
       omega (arith, small),
-      short_found c.args.text.now c.in_ok-behind.behind.now n c.in_ok-number.stop c.in_ok-behind.ensures.found c.in_ok-number.ensures.found (omega (arith, small)),
+      short_found c.args.text.now c.in_ok-rest.rest.now n c.in_ok-number.stop c.in_ok-rest.ensures.found c.in_ok-number.ensures.found (omega (arith, small)),
     )

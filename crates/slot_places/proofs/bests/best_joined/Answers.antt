@@ -2,7 +2,7 @@ use Rattle.std.proofs.Common.{◌≡◌, ◌+◌, ◌-◌, ◌^◌, ◌<◌, ℕ
 use Rattle.slot_places.specs.Steps.{IsBestOf}
 use Rattle.slot_places.specs.declared.bests.Best.{Best}
 use Rattle.slot_places.proofs.SetBits.{joined-small, power-positive}
-use Rattle.slot_places.proofs.bests.behind.Goals as goal
+use Rattle.slot_places.proofs.bests.best_joined.Goals as goal
 
 within : (set m n j w : ℕ) → set + 1 + m ≡ n → w ≡ 2 ^ (j - 1) → 0 < 2 ^ (j - 1) → set + 2 ^ (j - 1) < n → w - 1 < m
 within set m n j w e is positive small = omega (arith, e, is, positive, small)
