@@ -96,12 +96,15 @@ def without_comments(file: bytes) -> bytes:
 
 def plain_log(file: bytes) -> bytes:
     """The plain spelling of a log: without a byte order mark, quotes, blank lines and other line ends."""
-    csv.field_size_limit(len(file) + 1)
     rows = csv.reader(io.StringIO(file.removeprefix(b"\xef\xbb\xbf").decode("latin-1"), newline=""))
+    limit = csv.field_size_limit(len(file) + 1)
     try:
         records = [row for row in rows if row]
     except csv.Error as fault:
         raise NotPlain(f"the log isn't CSV: {fault}") from fault
+    finally:
+        # (the limit is one for all readers of the process)
+        csv.field_size_limit(limit)
     for number, record in enumerate(records, 1):
         if any(mark in field for field in record for mark in ',"\r\n'):
             raise NotPlain(f"record {number} has a comma, a quote or a line end in a field")

@@ -133,11 +133,17 @@ class Plain(unittest.TestCase):
         self.assertEqual(plain_log(log), log)
         other = b"\xef\xbb\xbf" + log.replace(b"\n", b"\r\n").replace(b"everest", b'"everest"') + b"\r\n"
         self.assertEqual(plain_log(other), log)
-        # (the limit in a process of its own; tools/audit, which other tests load, allows longer fields)
-        self.addCleanup(csv.field_size_limit, csv.field_size_limit(131_072))
         for faulty in (b'bid,"a,b",1,\n', b'bid,"a\nb",1,\n'):
             with self.assertRaises(NotPlain):
                 plain_log(faulty)
+
+    def test_limit_of_fields(self) -> None:
+        """Reading a log leaves csv's limit of a field as it was."""
+        limit = csv.field_size_limit()
+        plain_log(LOG.read_bytes())
+        with self.assertRaises(NotPlain):
+            plain_log(b'bid,"a,b",1,\n')
+        self.assertEqual(csv.field_size_limit(), limit)
 
 
 class Fields(unittest.TestCase):
