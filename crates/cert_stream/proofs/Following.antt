@@ -12,7 +12,7 @@ use Rattle.line_format.proofs.FieldRuns.{out-push}
 use Rattle.cert_text.proofs.SmallNumbers.{numbers_push}
 use Rattle.cert_stream.specs.declared.line.form.Form.{Form}
 use Rattle.cert_stream.specs.declared.line.form.Form.TheVariants.{Nothing, Just, Both, Signed, Chosen, Counted, Members}
-use Rattle.cert_stream.specs.declared.line.phase.Kept.{Kept}
+use Rattle.cert_stream.specs.declared.line.phase.ReadNumber.{ReadNumber}
 use Rattle.cert_stream.specs.Tallies.{IsKept}
 use Rattle.cert_stream.specs.Forms.{numbers_of, room_for, MayBegin, MayFollow, Keeps, last_of}
 
@@ -99,7 +99,7 @@ within_room (Counted bidders) ns begins = begins.0
 within_room (Members bidders) ns begins = let few = rise_few bidders 0 (pos 0) ns refl begins (omega arith) in omega (arith, few)
 
 -- one number more is kept
-pub keeps_more : (ns out : List ℤ) (count : ℕ) (beyond : Bool) (k : Kept) (z : ℤ) → Keeps ns out count beyond → IsKept k z → count < length out
+pub keeps_more : (ns out : List ℤ) (count : ℕ) (beyond : Bool) (k : ReadNumber) (z : ℤ) → Keeps ns out count beyond → IsKept k z → count < length out
     → Keeps (ns ++ z ∷ []) (set out count k.number) (count + 1) (beyond || k.beyond)
 keeps_more ns out count beyond k z keeps kept lt = record {
   many = omega (arith, keeps.many, more_long ns z []);

@@ -2,7 +2,7 @@
 use Rattle.std.specs.Prelude.{◌≡◌, ℕ, ◌≤◌, ◌<◌, ◌↔◌, IsTrue, Bool, false, List, [], ◌∷◌, ◌++◌, length, take, ℤ, pos, ◌≤ℤ◌, ◌<ℤ◌}
 use Rattle.cert_grammar.specs.Lines.{AreNumbers, FitNumbers, Numbers, Rise, chosen, counted, headed, members, ordered_count, ordered_head, signed, these}
 use Rattle.line_format.specs.Range.{any_out}
-use Rattle.cert_stream.specs.declared.line.phase.Kept.{Kept}
+use Rattle.cert_stream.specs.declared.line.phase.ReadNumber.{ReadNumber}
 use Rattle.cert_stream.specs.Tallies.{IsKept}
 use Rattle.cert_stream.specs.declared.line.form.Form.{Form}
 use Rattle.cert_stream.specs.declared.line.form.Form.TheVariants.{Nothing, Just, Both, Signed, Chosen, Counted, Members}
@@ -61,6 +61,6 @@ pub record Keeps (ns out : List ℤ) (count : ℕ) (beyond : Bool) : Type 0 wher
   pub same : beyond ≡ false → take count out ≡ ns
 
 -- whether a number may be the next, by what is kept
-abbrev pub Decides : Form → List ℤ → ℕ → Kept → Bool → Type 0
+abbrev pub Decides : Form → List ℤ → ℕ → ReadNumber → Bool → Type 0
 Decides form out count kept answer = (ns : List ℤ) (z : ℤ) (beyond : Bool) → Keeps ns out count beyond
     → MayBegin (numbers_of form) ns → IsKept kept z → IsTrue answer ↔ MayFollow (numbers_of form) ns z

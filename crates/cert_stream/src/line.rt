@@ -19,7 +19,7 @@ use crate::line::digits::{is_zero, read_digits};
 use crate::line::fields::put_fields;
 use crate::line::form::Form;
 use crate::line::numbers::{is_whole, may_follow};
-use crate::line::phase::{Kept, Phase, Step, advance};
+use crate::line::phase::{Advance, Phase, ReadNumber, advance};
 
 /// How far a line has come: what its last bytes are, how many whole numbers it has, and whether one of them is out of range.
 #[derive(Clone, Copy, Debug, PartialEq, Eq)]
@@ -61,18 +61,18 @@ impl LinePart {
         ensures room { length out.new ≡ length out.old }
     {
         match advance(self.phase, word, byte) {
-            Step::Open(phase) => {
+            Advance::Open(phase) => {
                 self.phase = phase;
                 Outcome::Open
             }
-            Step::Field(kept) => {
+            Advance::Field(kept) => {
                 if !self.keep(form, out, kept) {
                     return Outcome::Fault;
                 }
                 self.phase = Phase::Space;
                 Outcome::Open
             }
-            Step::Last(kept) => {
+            Advance::Last(kept) => {
                 if !self.keep(form, out, kept) {
                     return Outcome::Fault;
                 }
@@ -81,18 +81,18 @@ impl LinePart {
                 }
                 Outcome::Whole
             }
-            Step::Bare => {
+            Advance::Bare => {
                 if !is_whole(form, 0) {
                     return Outcome::Fault;
                 }
                 Outcome::Whole
             }
-            Step::Fault => Outcome::Fault,
+            Advance::Fault => Outcome::Fault,
         }
     }
 
     /// Keeps a whole number, where it may follow those that are kept.
-    fn keep(&mut self, form: Form, out: &mut [i128], kept: Kept) -> bool
+    fn keep(&mut self, form: Form, out: &mut [i128], kept: ReadNumber) -> bool
         requires room { room_for form ≤ length out.old }
         requires some { (ns : List ℤ) × (z : ℤ) × Keeps ns out.old self.old.count self.old.beyond
             × MayBegin (numbers_of form) ns × IsKept kept z }

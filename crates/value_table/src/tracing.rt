@@ -80,7 +80,7 @@ fn place_left(lowered: &LoweredBids, j: u16, i: u16, place: usize) -> usize
 
 /// What a bidder has in the walk through the lines.
 #[derive(Clone, Copy)]
-struct Step {
+struct WalkStep {
     /// The number of its bid.
     number: u16,
     /// The place of what it leaves.
@@ -88,7 +88,13 @@ struct Step {
 }
 
 /// One step of the walk: bidder `j` has the first number that reaches the entry of a place, and goes on to the place of what it leaves.
-fn next_step<C: Cell>(lowered: &LoweredBids, j: u16, place: usize, here: i128, below: &[C]) -> Step
+fn next_step<C: Cell>(
+    lowered: &LoweredBids,
+    j: u16,
+    place: usize,
+    here: i128,
+    below: &[C],
+) -> WalkStep
     requires bidder { (0 < j) × (j ≤ length lowered.now.book.now.bidders) }
     requires place { place < states_of lowered.now.book.now.supply }
     requires here { IsEntry (counted_bids lowered.now) (counted lowered.now) (j - 1)
@@ -103,11 +109,11 @@ fn next_step<C: Cell>(lowered: &LoweredBids, j: u16, place: usize, here: i128, b
 {
     let number = first_number(lowered, j, place, here, below);
     let place = place_left(lowered, j, number, place);
-    Step { number, place }
+    WalkStep { number, place }
 }
 
 /// One step of the walk over the lines of a table, each in the size in which it is kept.
-fn grid_step(lowered: &LoweredBids, j: u16, place: usize, lines: &Grid) -> Step
+fn grid_step(lowered: &LoweredBids, j: u16, place: usize, lines: &Grid) -> WalkStep
     requires bidder { (0 < j) × (j ≤ length lowered.now.book.now.bidders) }
     requires place { place < states_of lowered.now.book.now.supply }
     requires table { IsCountedTable lowered.now lines.now }

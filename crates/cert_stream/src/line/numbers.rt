@@ -5,11 +5,11 @@ ghost use Rattle.cert_stream.specs.Forms.{numbers_of, MayBegin, Keeps, last_of, 
 ghost use Rattle.cert_stream.specs.Tallies.{IsKept};
 
 use crate::line::form::Form;
-use crate::line::phase::Kept;
+use crate::line::phase::ReadNumber;
 use limits::{MOST_CHOSEN, MOST_ROWS};
 
 /// Whether a number may follow those that are kept.
-pub(crate) fn may_follow(form: Form, out: &[i128], count: usize, kept: Kept) -> bool
+pub(crate) fn may_follow(form: Form, out: &[i128], count: usize, kept: ReadNumber) -> bool
     requires { count ≤ length out.now }
     ensures { Decides form out.now count kept result }
 {
@@ -25,13 +25,13 @@ pub(crate) fn may_follow(form: Form, out: &[i128], count: usize, kept: Kept) -> 
     }
 }
 
-fn none_follows(out: &[i128], count: usize, kept: Kept) -> bool
+fn none_follows(out: &[i128], count: usize, kept: ReadNumber) -> bool
     ensures { Decides Form.Nothing out.now count kept result }
 {
     false
 }
 
-fn one_follows(out: &[i128], count: usize, kept: Kept, number: u16) -> bool
+fn one_follows(out: &[i128], count: usize, kept: ReadNumber, number: u16) -> bool
     ensures { Decides (Form.Just number) out.now count kept result }
 {
     if count > 0 {
@@ -40,7 +40,7 @@ fn one_follows(out: &[i128], count: usize, kept: Kept, number: u16) -> bool
     is_between(kept, number as i128 - 1, number as i128)
 }
 
-fn both_follow(out: &[i128], count: usize, kept: Kept, first: u16, second: u16) -> bool
+fn both_follow(out: &[i128], count: usize, kept: ReadNumber, first: u16, second: u16) -> bool
     ensures { Decides (Form.Both first second) out.now count kept result }
 {
     if count > 1 {
@@ -58,7 +58,7 @@ fn first_or_second(count: usize, first: u16, second: u16) -> u16
     if count == 0 { first } else { second }
 }
 
-fn count_follows(out: &[i128], count: usize, kept: Kept, bidders: u16) -> bool
+fn count_follows(out: &[i128], count: usize, kept: ReadNumber, bidders: u16) -> bool
     ensures { Decides (Form.Counted bidders) out.now count kept result }
 {
     if count > 0 {
@@ -67,7 +67,7 @@ fn count_follows(out: &[i128], count: usize, kept: Kept, bidders: u16) -> bool
     is_between(kept, -1, most_rows(bidders))
 }
 
-fn member_follows(out: &[i128], count: usize, kept: Kept, bidders: u16) -> bool
+fn member_follows(out: &[i128], count: usize, kept: ReadNumber, bidders: u16) -> bool
     requires { count ≤ length out.now }
     ensures { Decides (Form.Members bidders) out.now count kept result }
 {
@@ -76,7 +76,7 @@ fn member_follows(out: &[i128], count: usize, kept: Kept, bidders: u16) -> bool
 }
 
 /// Whether a number is above one and at most another.
-fn is_between(kept: Kept, above: i128, most: i128) -> bool
+fn is_between(kept: ReadNumber, above: i128, most: i128) -> bool
     requires above { pos 0 ≤ℤ (above +ℤ pos 1) }
     requires most { most <ℤ pos (2 ^ 120) }
     ensures { (z : ℤ) → IsKept kept z → IsTrue result ↔ ((above <ℤ z) × (z ≤ℤ most)) }

@@ -21,20 +21,20 @@ pub(crate) enum Phase {
 
 /// A number. One that is out of range stands as 0.
 #[derive(Clone, Copy, Debug, PartialEq, Eq)]
-pub(crate) struct Kept {
+pub(crate) struct ReadNumber {
     pub(crate) number: i128,
     pub(crate) beyond: bool,
 }
 
 /// What one more byte makes of a line.
 #[derive(Clone, Copy)]
-pub(crate) enum Step {
+pub(crate) enum Advance {
     /// The line goes on.
     Open(Phase),
     /// A space ends a number.
-    Field(Kept),
+    Field(ReadNumber),
     /// The line feed ends the last number.
-    Last(Kept),
+    Last(ReadNumber),
     /// The line feed ends the word.
     Bare,
     /// No line of the word and numbers has this byte there.
@@ -42,7 +42,7 @@ pub(crate) enum Step {
 }
 
 /// One more byte.
-pub(crate) fn advance(phase: Phase, word: &[u8], byte: u8) -> Step
+pub(crate) fn advance(phase: Phase, word: &[u8], byte: u8) -> Advance
     ensures { (ns : List ℤ) (bytes : List ℕ) → Partway word.now ns phase bytes → StepsTo word.now ns bytes byte result }
 {
     match phase {
@@ -53,49 +53,49 @@ pub(crate) fn advance(phase: Phase, word: &[u8], byte: u8) -> Step
     }
 }
 
-fn word_step(count: usize, word: &[u8], byte: u8) -> Step
+fn word_step(count: usize, word: &[u8], byte: u8) -> Advance
     ensures { (ns : List ℤ) (bytes : List ℕ) → Partway word.now ns (Phase.Word count) bytes
         → StepsTo word.now ns bytes byte result }
 {
     if count < word.len() {
         if byte == word[count] && byte != b'\n' {
-            return Step::Open(Phase::Word(count + 1));
+            return Advance::Open(Phase::Word(count + 1));
         }
-        return Step::Fault;
+        return Advance::Fault;
     }
     if byte == b' ' {
-        return Step::Open(Phase::Space);
+        return Advance::Open(Phase::Space);
     }
     if byte == b'\n' {
-        return Step::Bare;
+        return Advance::Bare;
     }
-    Step::Fault
+    Advance::Fault
 }
 
-fn space_step(byte: u8) -> Step
+fn space_step(byte: u8) -> Advance
     ensures { (word : List ℕ) (ns : List ℤ) (bytes : List ℕ) → Partway word ns Phase.Space bytes
         → StepsTo word ns bytes byte result }
 {
     if byte == b'-' {
-        return Step::Open(Phase::Minus);
+        return Advance::Open(Phase::Minus);
     }
     if !byte.is_ascii_digit() {
-        return Step::Fault;
+        return Advance::Fault;
     }
-    Step::Open(Phase::Digits {
+    Advance::Open(Phase::Digits {
         negative: false,
         tally: first(byte - b'0'),
     })
 }
 
-fn minus_step(byte: u8) -> Step
+fn minus_step(byte: u8) -> Advance
     ensures { (word : List ℕ) (ns : List ℤ) (bytes : List ℕ) → Partway word ns Phase.Minus bytes
         → StepsTo word ns bytes byte result }
 {
     if !begins_below_zero(byte) {
-        return Step::Fault;
+        return Advance::Fault;
     }
-    Step::Open(Phase::Digits {
+    Advance::Open(Phase::Digits {
         negative: true,
         tally: first(byte - b'0'),
     })
@@ -108,37 +108,37 @@ fn begins_below_zero(byte: u8) -> bool
     b'0' < byte && byte <= b'9'
 }
 
-fn digit_step(negative: bool, tally: Magnitude, byte: u8) -> Step
+fn digit_step(negative: bool, tally: Magnitude, byte: u8) -> Advance
     ensures { (word : List ℕ) (ns : List ℤ) (bytes : List ℕ) → Partway word ns (Phase.Digits negative tally) bytes
         → StepsTo word ns bytes byte result }
 {
     if byte == b' ' {
-        return Step::Field(whole_number(negative, tally));
+        return Advance::Field(whole_number(negative, tally));
     }
     if byte == b'\n' {
-        return Step::Last(whole_number(negative, tally));
+        return Advance::Last(whole_number(negative, tally));
     }
     if !byte.is_ascii_digit() || is_zero(tally) {
-        return Step::Fault;
+        return Advance::Fault;
     }
-    Step::Open(Phase::Digits {
+    Advance::Open(Phase::Digits {
         negative,
         tally: more(tally, byte - b'0'),
     })
 }
 
 /// The number that ends.
-fn whole_number(negative: bool, tally: Magnitude) -> Kept
+fn whole_number(negative: bool, tally: Magnitude) -> ReadNumber
     ensures { (z : ℤ) → IsOpen negative tally z → IsKept result z }
 {
     if tally.beyond {
-        return Kept {
+        return ReadNumber {
             number: 0,
             beyond: true,
         };
     }
     let size = tally.size as i128;
-    Kept {
+    ReadNumber {
         number: if negative { -size } else { size },
         beyond: false,
     }
