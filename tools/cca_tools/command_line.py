@@ -29,7 +29,7 @@ INTERRUPTED = 130  # the status of a run that Ctrl-C stops
 
 
 class Alone(argparse.Action):
-    """An option that is answered before words are read, and so is wrong among others."""
+    """An option that acts before arguments are read, and so must be the only one."""
 
     def __call__(
         self,
@@ -38,13 +38,13 @@ class Alone(argparse.Action):
         values: object,
         option_string: str | None = None,
     ) -> None:
-        parser.error(f"{option_string} has to be the only word")
+        parser.error(f"{option_string} must be the only argument")
 
 
 class Parser(argparse.ArgumentParser):
-    """The words of a command: a fault of them is a `Stop` that names the wrong word, and an option is written in full.
+    """The arguments of a command: a fault is a `Stop` that names the wrong argument, and options are written in full.
 
-    `-h` and `--help` are taken as the only word alone, so that a status of 0 never comes from a word among others.
+    `-h` and `--help` are accepted only without other arguments, so that a status of 0 never hides an unread argument.
     """
 
     def __init__(
@@ -65,8 +65,8 @@ class Parser(argparse.ArgumentParser):
         )
         self.agrees, self.colour_of = agrees, colour_of
         self.files: list[str] = []
-        self.add_argument("-h", "--help", action=Alone, nargs=0, help="print this, where it is the only word")
-        self.add_argument("--version", action=Alone, nargs=0, help="print the version, where it is the only word")
+        self.add_argument("-h", "--help", action=Alone, nargs=0, help="print this help; no other argument is allowed")
+        self.add_argument("--version", action=Alone, nargs=0, help="print the version; no other argument is allowed")
 
     def add_file(self, name: str, about: str, nargs: str = "") -> None:
         """A word that names a file, or several. The names of all files of a command differ."""

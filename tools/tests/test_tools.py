@@ -184,7 +184,7 @@ class Words(WithFiles):
                 text, status, said = called(name, "--version")
                 self.assertEqual((re.match(rf"tools/{name} \S", text) is not None, status, said), (True, 0, ""))
                 for word in ("--help", "-h", "--version"):
-                    self.assertIn(f"{word} has to be the only word", self.fault(name, *self.right(name), word))
+                    self.assertIn(f"{word} must be the only argument", self.fault(name, *self.right(name), word))
 
     def test_files_are_named_once_and_not_empty(self):
         for name in RIGHT:

@@ -1,6 +1,6 @@
-"""Makes a book of bids in a table or in JSON, and prints it. Each change that this takes is said on standard
-error: names are made small, bids sorted by their packages, of equal packages the greatest is kept, and where amounts
-have decimals all are multiplied by a power of ten.
+"""Makes a book of bids in a table or in JSON, and prints it. It reports each change on standard error:
+names become lower case, bids are sorted by package, of several bids for one package the greatest is kept, and if
+amounts have decimals, all are multiplied by a power of ten.
 
 A table (CSV with `,`, `;` or tabs) has a row for each bid: the bidder, a count for each category or one cell with all
 counts, and the amount. A first row with names of columns may come before (`bidder`, `package`, `amount`); without it
@@ -17,8 +17,8 @@ or a list of records with the keys of a table's heads, as pandas and R write fra
 from --award, or from the JSON. A file that is a book already is read as it is, and --as csv or --as json prints it in
 the other forms.
 
-Statuses are those of `cca`; 3 where a row states no bid, with the row. What it doesn't test: that a bid above its
-bidder's means was meant. Bidders are in the order in which they come first, and that order decides ties.
+Statuses are as in docs/FORMATS.md; 3 if a row isn't a bid, and the message names the row. What it doesn't test: whether
+a bidder meant what it bid. The order of the bidders is the order of their first rows, and it decides ties.
 """
 
 from __future__ import annotations

@@ -11,16 +11,15 @@ words:
     package 2 0 4 0 listed 660000 least 506000 round 3 held 1 0 4 0 stands 430000
         prices 231000 275700 18200 300 cap 661000
 
-`round` is the package's constraining round, `held` what the bidder asked for in it, `stands` the highest amount that
-the bidder named for that, in the clock or on its list, and `prices` those of the round; the cap is that amount, and
-what the package costs more than what was held. In an award of version 2 a line `final` says the same of the final
-round, and the lesser holds.
+`round` is the package's constraining round, `held` the package that the bidder asked for in it, `stands` the highest
+amount that the bidder named for that package, in the clock or on its list, and `prices` the prices of that round. The
+cap is the amount after `stands`, plus the difference of the two packages' costs. In an award of version 2 a line
+`final` shows this for the final round, and the lesser cap applies.
 
---fit gives the greatest list that is admitted of those in which no amount is above the drafted one, and the lines that
-lead to it.
+--fit prints the greatest list that is admitted with no amount above the drafted one, and the lines that lead to it.
 
 The bidder's own lines and what the closes posted are enough. So LOG may be the whole log, or the bidder's own view of
-it: a file of the same form that has its own lines alone, and in the third field of each close what it posted, the
+it: a file of the same form that has only its own lines, and in the third field of each close what it posted, the
 prices of the next round, `sealed` or `closed`:
 
     bid,everest,2 0 4 0,
@@ -29,8 +28,8 @@ prices of the next round, `sealed` or `closed`:
     close,,sealed,
     draft,everest,2 0 4 0,660000
 
-Statuses are those of `cca`; 1 if there is no list to fit. What it doesn't test: that a view has the prices that were
-posted, and all lines that the bidder sent.
+Statuses are as in docs/FORMATS.md; 1 if no list can be fitted. What it doesn't test: that a view has the prices that
+were posted, and all lines that the bidder sent.
 """
 
 from __future__ import annotations

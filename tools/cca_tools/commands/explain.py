@@ -1,18 +1,17 @@
 """Says in words what the answer of a command of `cca` means for its files. COMMAND and FILES are what the command was
 called with; what it only writes may be left out:
 
-    tools/explain auction AWARD LOG            each refused line with its reason, then why there is no book, if so
+    tools/explain auction AWARD LOG            each refused line with its reason, then why no book is made, if so
     tools/explain award AWARD LOG              tools/explain audit AWARD LOG CERT
     tools/explain win BOOK                     tools/explain price BOOK           tools/explain check BOOK CERT
     tools/explain weigh BOOK WEIGHTS           tools/explain weigh-check BOOK WEIGHTS CERT
     tools/explain place SLOTS                  tools/explain place-check SLOTS CERT
     tools/explain review BOOK EDITS            each refused edit with its reason
 
-It takes the steps of the command by the second program up to the first fault, and says the line that `cca` prints,
-where that is in an editor, what was read there and what is allowed; of a test that fails, the bidder, the place and
-both sides of the comparison. With --bidder it says of a log why lines of this bidder are refused, and LOG may be the
-bidder's own view (tools/caps --help has its form). One file may be `-`, which is standard input. The status is that of
-the command.
+It runs the command's steps by the second program up to the first fault. It prints the line that `cca` prints, its place
+for an editor, what was read there and what is allowed. For a test that fails it prints the bidder, the place and both
+sides of the comparison. With --bidder it explains why lines of this bidder are refused, and LOG may be the bidder's own
+view (tools/caps --help has its form). One file may be `-`, which is standard input. The status is the command's.
 
 What it doesn't explain: faults of writing, a lack of memory, and whether the bids are what the bidders meant.
 """

@@ -9,11 +9,11 @@ the answer about the certificate is proved: prices that it says yes to are right
     cca: limit bytes 67108865    the certificate would have too many bytes
     cca: limit digits 38    a number of the certificate would have too many digits
 
-are status 7, and nothing is written. --search looks for fewer rows for so many seconds; the prices stay the same.
---json and --rounds are those of `cca price`: the prices as one line, and a line for each turn.
+are status 7, and nothing is written. --search SECONDS looks longer for fewer rows; the prices stay the same.
+--json and --rounds print what they print for `cca price`: the prices as one line, and a line for each turn.
 
-The program is that of CCA_PROGRAM, or the one that ./cca has built. If it isn't there, tools/check or tools/audit
-tests the certificate, and a line on standard error says so. python3-numpy makes it some ten times as fast.
+CCA_PROGRAM names the program; without it the one that ./cca has built is used. If it isn't there, tools/check or
+tools/audit tests the certificate, and a line on standard error says so. python3-numpy makes it some ten times as fast.
 """
 
 from __future__ import annotations

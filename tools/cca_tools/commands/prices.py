@@ -4,11 +4,11 @@ decimal is exact, and so the price also comes as a decimal with six digits. A lo
 With --json it is one object a line, with numbers. With --decimal , the decimal mark is a comma, and semicolons are
 between the cells.
 
-Prices come from the program: that of CCA_PROGRAM, or the one that ./cca has built. If more bidders win than it prices,
+Prices come from the program that CCA_PROGRAM names, or that ./cca has built. If more bidders win than it prices,
 tools/price finds the prices and the program tests them; the column `found_by` says `cca` or `tools/price`. Books are
-priced on all processors, and come in the order of the words. A book beyond a limit doesn't stop the others: its rows
-have the limit in the column `stopped`. Another fault of a book ends the run with its status, which is that of
-`cca`. `tools/book` makes books of tables; --unit is what it multiplied amounts by.
+priced on all processors, and come in the order of the arguments. A book beyond a limit doesn't stop the others: its
+rows have the limit in the column `stopped`. Another fault of a book ends the run with the status that `cca` has for it.
+`tools/book` makes books of tables; --unit is what it multiplied amounts by.
 """
 
 from __future__ import annotations

@@ -1,6 +1,6 @@
 """Makes the set of files that is published after an auction, in a new folder:
 
-    auction.award auction.log auction.cert   the three files, with which everybody can test the auction
+    auction.award auction.log auction.cert   the three files that everybody can test
     report.html report.txt                   the report
     bidders/NAME.html bidders/NAME.txt       what each bidder sees of it
     tables/NAME.csv                          winners, rounds, prices and bids, for a spreadsheet
@@ -18,8 +18,8 @@ that the last of them is `publish`, which seals all of the log. If a test fails,
 ever made again. Prints the winners and prices, and the checksum of SHA256SUMS. A program is called proved only if its
 own mark and its checksum say so.
 
-Statuses are those of `cca`; 1 if a test fails. What it doesn't test: that the log has what the bidders sent, and that
-these are the lines that people saw posted. The page of the set says how those who noted some can test that.
+Statuses are as in docs/FORMATS.md; 1 if a test fails. What it doesn't test: that the log has what the bidders sent, and
+that these are the lines that people saw posted. The page of the set says how those who noted some can test that.
 """
 
 from __future__ import annotations

@@ -6,7 +6,7 @@ machine:
     [[bidder]]
     names = ["everest", "harbour"]         # without it, all bidders that no other table has
     model = "additive"
-    lot = [[90, 140], 60]                  # of each category the value of a lot, or the range in which it is drawn
+    lot = [[90, 140], 60]                  # of each category the value of a lot, or the range of its draws
     decrease = [10, 30]                    # each further lot is worth this percentage less; without it, all are drawn
     complement = [{ lots = [1, 1], value = [20, 40] }]
 
@@ -16,12 +16,12 @@ pairs of categories; in both `most` is the greatest number of lots that is worth
 
 In the clock each bidder is straightforward: it asks for the package of greatest profit within its points, its spectrum
 caps and the supply; of several for one with the most points, and of these for the first in the order of packages; for
-none where no profit is 0 or more. In the sealed round it lists each package (at most 300) with its value, or a share of
+none if no profit is 0 or more. In the sealed round it lists each package (at most 300) with its value, or a share of
 it, and submits. With --fit entries above their caps are lowered to them first; without it such a list is refused.
 
 With --pace the lines come one by one. With --desk the closes are left to you: LOG is watched, and the bidders go on
-when it has a close, so that a team can rehearse its day. Slips are lines as people send them by mistake; they
-are refused, and change no result. Statuses are those of `cca`. What it isn't: a model of bidders that guess at each
+when it has a close, so that a team can rehearse its day. Slips are lines that people send by mistake; they
+are refused, and change no result. Statuses are as in docs/FORMATS.md. It doesn't model bidders that guess at each
 other.
 """
 

@@ -1,13 +1,13 @@
 """The auction on one page: its rounds, lines, bids, winners and prices, for a browser without network or script. On a
 terminal, or with --text, it is plain text.
 
-A file that begins with "book " is taken as a book. A log may be incomplete: the report is of what there is. Where no
-certificate is given and the program is there, the program works one out; it is the one that CCA_PROGRAM names, or that
-./cca has built here. The program also gives the turns of pricing; without it the coalitions that raise prices are shown
-from the certificate alone. One file may be `-`, which is standard input.
+A file that begins with "book " is taken as a book. A log may be incomplete: the report is of what there is. Without a
+certificate the program makes one, if it is there: CCA_PROGRAM names it, or ./cca has built it here. The program also
+reports the turns of pricing; without it the coalitions that raise prices are taken only from the certificate. One file
+may be `-`, which is standard input.
 
-What it doesn't test: that the log has what the bidders sent. Statuses are those of the program: 0 where the report is
-printed, and 1 where its certificate fails a test.
+What it doesn't test: that the log has what the bidders sent. Statuses are as in docs/FORMATS.md: 0 if the report is
+printed, and 1 if its certificate fails a test.
 """
 
 from __future__ import annotations

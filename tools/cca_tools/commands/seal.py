@@ -5,8 +5,8 @@
     tools/seal check KEY AWARD LOG NOTED         after publication: tests lines that somebody noted, in any order
 
 The desk does the first two itself, and its POSTED is LOG.posted. POSTED begins with the checksums of key and award.
-Then it has a numbered line for each public event, with its time and a seal: `close C`, `end`, and if a round was held
-again `back to close C` or `close C taken back`. No line is ever removed. If LOG lacks a close that was posted, `sum`
+Then it has a numbered line for each public event, with its time and a seal: `close C`, `end`, and if a round was
+repeated `back to close C` or `close C taken back`. No line is ever removed. If LOG lacks a close that was posted, `sum`
 asks for --why, and posts that the close is void. Keep KEY secret until the end. Then run `sum --publish`, which seals
 late lines too, and publish KEY with POSTED.
 
@@ -14,7 +14,7 @@ late lines too, and publish KEY with POSTED.
 is NOT of these files. A note may have other text between its lines, and leave out number, time and reason, but no digit
 of a seal: two logs with the same eight digits are found within seconds. With --journal (of the desk) the whole record
 is tested first. Without it, --posted names the published lines (NOTED itself if it is that file), and --cut each log
-that was kept when a round was held again.
+that was kept when a round was repeated.
 
 With other tools: a file's checksum is what `sha256sum` prints, and a seal is what `openssl dgst -sha256 -mac HMAC
 -macopt hexkey:$(cat KEY)` prints for these lines, each with a line feed:
@@ -27,8 +27,8 @@ With other tools: a file's checksum is what `sha256sum` prints, and a seal is wh
     posted CHECKSUM   head -n P POSTED | sha256sum, if line P + 1 of POSTED is this one
     N TIME EVENT      the line without its seal; `N TIME EVENT: REASON` if it has a reason
 
-Statuses are those of `cca`. What it doesn't test: who noted a line, and when. Once the key is published anybody can
-make lines for other files, so `NOT of these files` doesn't say which side is wrong.
+Statuses are as in docs/FORMATS.md. What it doesn't test: who noted a line, and when. Once the key is published anybody
+can make lines for other files, so `NOT of these files` doesn't say which side is wrong.
 """
 
 from __future__ import annotations

@@ -1,4 +1,4 @@
-"""Shows where an auction is, on one screen: the posted prices, demand and supply of each category, what each bidder
+"""Shows the state of an auction on one screen: the posted prices, demand and supply of each category, what each bidder
 asks for and what a close would do. While lists are taken: the drafts and the submitted list of each bidder, whether a
 submission would be refused, and each entry above its cap with by how much. Once the auction is closed: ties.
 
@@ -17,7 +17,7 @@ The names for people are a file of TOML, which no rule reads. Each key may be le
     [bidder.aurora]
     name = "Aurora Telecom plc"
 
-Look before each close. Lines that begin with ! are warnings. Statuses are those of `cca`.
+Look before each close. Lines that begin with ! are warnings. Statuses are as in docs/FORMATS.md.
 """
 
 from __future__ import annotations

@@ -14,7 +14,7 @@ with pictures. The plan is TOML; its files are looked up from its folder:
     reserve = 100                  # the award's reserves, in percent of them
 
 Each choice of what varies is a case. An auction of the same number has the same values in all cases, so differences
-between cases are taken auction by auction. An auction can be held again alone, with the seed of its row, by
+between cases are taken auction by auction. One auction can be run again with the seed of its row, by
 tools/rehearse --fit. The folder of --out (the plan's name without its end) gets `table.csv`, `page.html`, its pictures,
 `rows.jsonl`, and in `inputs` the plan and its files. Table, page and rows name the program by its SHA-256, the version
 and commit of the tools, and the plan. A study that was stopped goes on if it is run again, also with more auctions, by
@@ -24,14 +24,14 @@ In `table.csv` money is gross and in the award's unit. `value` is what all lots 
 what they could be worth, both by true values, with unsold lots at their reserve; `efficiency` is the one over the
 other. `core`, `vickrey` and `bids` are what the winners pay by each rule for the same bids, `raised` is whether the
 core raised a price above Vickrey's, a bidder's `profit` is its value less its price, and its `regret` its price less
-its Vickrey price, the most that it gains if it alone bids otherwise (Day and Milgrom 2008). Of every hundredth auction,
+its Vickrey price, the most that it gains if only it bids otherwise (Day and Milgrom 2008). Of every hundredth auction,
 the first one too, the certificate is tested by the rules of tools/audit (`audit`); one that fails stops the study. An
 auction beyond a limit of the program has that in `stopped`, and no prices.
 
-Prices come from the program, that of CCA_PROGRAM or the one that ./cca has built. All processors work, or with
---scheduler the workers of Dask, as at tcp://127.0.0.1:8786: each needs python3-distributed and the program, at the
-same path or where its own CCA_PROGRAM says. Statuses are those of `cca`; 70 where a certificate fails or something is
-missing.
+Prices come from the program that CCA_PROGRAM names, or that ./cca has built. All processors work, or with --scheduler
+the workers of Dask, such as those at tcp://127.0.0.1:8786: each needs python3-distributed and the program, at the same
+path or at the path of its own CCA_PROGRAM. Statuses are as in docs/FORMATS.md; 70 if a certificate fails or something
+is missing.
 """
 
 from __future__ import annotations

@@ -1,16 +1,15 @@
 """The first form says what another log would lead to: edit a copy of the log, and see which lines are new or gone with
-their replies, which other lines are answered otherwise and why, how the book changes, and the winners with their prices
+their replies, which other lines get another reply and why, how the book changes, and the winners with their prices
 before and after. The edited log is taken through all rules, the caps too.
 
-The second finds the least amount with which a bidder would win a package, all other bids of the book as they are; says
-whether the rules would admit it on the bidder's submitted list, and if they wouldn't, on which list they would and what
-that list wins, and shows what would be paid. PACKAGE is its counts.
+The second finds the least amount that would win a package for a bidder, with all other bids of the book unchanged. It
+reports whether the rules admit this amount on the bidder's submitted list, and if not, on which list they do and what
+that list wins. It shows what would be paid. PACKAGE is its counts.
 
-Prices come from the program, that of CCA_PROGRAM or the one that ./cca has built; without it only the winners are
-shown. One file may be `-`, which is standard input. Statuses are those of `cca`; 1 where no amount wins. No file is
-changed.
+Prices come from the program that CCA_PROGRAM names, or that ./cca has built; without it only the winners are shown. One
+file may be `-`, which is standard input. Statuses are as in docs/FORMATS.md; 1 if no amount wins. No file is changed.
 
-What it doesn't say: what the others would have done, had these lines come; it leaves their lines as they are.
+What it doesn't say: what the others would have done, had these lines come; it keeps their lines.
 """
 
 from __future__ import annotations

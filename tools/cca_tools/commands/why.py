@@ -1,7 +1,7 @@
 """Says why the winners pay what they pay: for each winner one sentence, then who would win without it and the sum that
 is its Vickrey price, then each coalition that asks winners for more, and how that is shared between them. Amounts are
-as they are bid and paid, with the reserve in them; those net of reserve are beside them. The certificate is tested
-first, and one that fails is answered as tools/check answers it. One file may be `-`, which is standard input.
+gross, as they are bid and paid, and the amounts net of reserve follow them. The certificate is tested first; for one
+that fails the output is what tools/check prints. One file may be `-`, which is standard input.
 
 What it doesn't show: coalitions that ask for no more than others do. What it rests on: what the certificate shows, by
 docs/CERTIFICATES.md.
