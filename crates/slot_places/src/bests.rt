@@ -151,7 +151,14 @@ fn best_after(
     for k in 0..search.slots.bidders() {
         let j = k as u16 + 1;
         if !is_in(set, j) {
-            best = with_bidder(alloc, search, set, j, best_joined(search, set, j, greater), best)?;
+            best = with_bidder(
+                alloc,
+                search,
+                set,
+                j,
+                best_joined(search, set, j, greater),
+                best,
+            )?;
         }
     }
     Ok(best)
