@@ -1,4 +1,4 @@
-"""Times `cca price` on books at the limits, beside a plain Rust program with the best loops known and general solvers.
+"""Times `cca price` on books at the limits, next to a plain Rust program with the best loops known and general solvers.
 
 Each book has 16 bidders with 600 bids each over 15,876 states, and at most six winners; each run of cca writes a fresh
 certificate. The solvers cbc and glpsol, where they are installed, get the same winner

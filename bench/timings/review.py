@@ -1,4 +1,4 @@
-"""Times an edit of `cca review` on books at the limits, beside `cca win` from scratch.
+"""Times an edit of `cca review` on books at the limits, next to `cca win` from scratch.
 
 The books are those of `price`. Raises are of a bid of the first, a middle and the last bidder, and change no winner as
 long as the

@@ -1,4 +1,4 @@
-"""Times `cca win` on books at the limits, beside a plain Rust program with the best loop known and general solvers.
+"""Times `cca win` on books at the limits, next to a plain Rust program with the best loop known and general solvers.
 
 The books are those of `price`, and two kinds whose bids nearly all matter. Printed is the least CPU time of the runs in
 milliseconds, less that of a start on the smallest book, and whether both programs print the same. The solvers cbc and

@@ -1,4 +1,4 @@
-"""Compares the line that tools/explain says first, and its status, with those of the program, on damaged files of each
+"""Compares the first line of tools/explain, and its status, with the program's, on damaged files of each
 command.
 
 NUMBER runs are made on the samples, each with some of its files damaged. Printed is how many differ, and how often each

@@ -1,4 +1,4 @@
-"""Compares `cca make` with a generator that is written from the rules alone, and runs the made auctions through `award`
+"""Compares `cca make` with a generator that is written only from the rules, and runs the made auctions through `award`
 and `audit`.
 
 The numbers are 0, 7, the greatest one and NUMBER drawn ones. For each two runs of `make` have to append the generator's

@@ -1,4 +1,4 @@
-"""Compares the programs that are extracted from the second proof with `cca`: what they print, and with which status
+"""Compares the programs that are extracted from the second proof with `cca`: their output and status
 they end.
 
 `check`, `weigh-check` and `place-check` are run on certificates that `cca` wrote of drawn books and slots: as they were

@@ -1,4 +1,4 @@
-"""Tests what theory says of whole auctions of bidders that follow their values, on drawn awards and values.
+"""Tests the predictions of theory for whole auctions of bidders that follow their values, on drawn awards and values.
 
 NUMBER auctions of award version 1, from number FIRST on, with bidders that are straightforward in the clock and list
 every package with its value: each line has to be admitted by the program, no winner may pay more than its value, and
