@@ -4,8 +4,8 @@ use Rattle.line_format.specs.Numeral.{numbers_text}
 use Rattle.cert_stream.specs.declared.line.tally.Magnitude.{Magnitude}
 use Rattle.cert_stream.specs.declared.line.phase.Phase.{Phase}
 use Rattle.cert_stream.specs.declared.line.phase.Phase.TheVariants.{Word, Space, Minus, Digits}
-use Rattle.cert_stream.specs.declared.line.phase.Advance.{Advance}
-use Rattle.cert_stream.specs.declared.line.phase.Advance.TheVariants.{Open, Field, Last, Bare, Fault}
+use Rattle.cert_stream.specs.declared.line.phase.NextPhase.{NextPhase}
+use Rattle.cert_stream.specs.declared.line.phase.NextPhase.TheVariants.{Open, Field, Last, Bare, Fault}
 use Rattle.cert_stream.specs.Tallies.{IsTally, IsKept}
 
 -- the sign of a number: a minus is only before a number below 0
@@ -33,7 +33,7 @@ pub record IsRefused (word bytes : List ℕ) (byte : ℕ) : Type 0 where
   pub inside : byte ≢ 10 → (ns : List ℤ) (rest : List ℕ) → bytes ++ byte ∷ rest ≡ word ++ numbers_text ns → ⊥
 
 -- what one more byte makes of it
-abbrev pub StepsTo : List ℕ → List ℤ → List ℕ → ℕ → Advance → Type 0
+abbrev pub StepsTo : List ℕ → List ℤ → List ℕ → ℕ → NextPhase → Type 0
 StepsTo word ns bytes byte (Open phase) = (byte ≢ 10) × Partway word ns phase (bytes ++ byte ∷ [])
 StepsTo word ns bytes byte (Field kept) = (byte ≡ 32)
     × ((z : ℤ) × IsKept kept z × (bytes ≡ word ++ numbers_text (ns ++ z ∷ []))

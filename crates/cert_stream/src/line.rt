@@ -19,7 +19,7 @@ use crate::line::digits::{is_zero, read_digits};
 use crate::line::fields::put_fields;
 use crate::line::form::Form;
 use crate::line::numbers::{is_whole, may_follow};
-use crate::line::phase::{Advance, Phase, ReadNumber, advance};
+use crate::line::phase::{NextPhase, Phase, ReadNumber, advance};
 
 /// How far a line has come: what its last bytes are, how many whole numbers it has, and whether one of them is out of range.
 #[derive(Clone, Copy, Debug, PartialEq, Eq)]
@@ -61,18 +61,18 @@ impl LinePart {
         ensures room { length out.new ≡ length out.old }
     {
         match advance(self.phase, word, byte) {
-            Advance::Open(phase) => {
+            NextPhase::Open(phase) => {
                 self.phase = phase;
                 Outcome::Open
             }
-            Advance::Field(kept) => {
+            NextPhase::Field(kept) => {
                 if !self.keep(form, out, kept) {
                     return Outcome::Fault;
                 }
                 self.phase = Phase::Space;
                 Outcome::Open
             }
-            Advance::Last(kept) => {
+            NextPhase::Last(kept) => {
                 if !self.keep(form, out, kept) {
                     return Outcome::Fault;
                 }
@@ -81,13 +81,13 @@ impl LinePart {
                 }
                 Outcome::Whole
             }
-            Advance::Bare => {
+            NextPhase::Bare => {
                 if !is_whole(form, 0) {
                     return Outcome::Fault;
                 }
                 Outcome::Whole
             }
-            Advance::Fault => Outcome::Fault,
+            NextPhase::Fault => Outcome::Fault,
         }
     }
 

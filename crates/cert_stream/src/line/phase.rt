@@ -28,7 +28,7 @@ pub(crate) struct ReadNumber {
 
 /// What one more byte makes of a line.
 #[derive(Clone, Copy)]
-pub(crate) enum Advance {
+pub(crate) enum NextPhase {
     /// The line goes on.
     Open(Phase),
     /// A space ends a number.
@@ -42,7 +42,7 @@ pub(crate) enum Advance {
 }
 
 /// One more byte.
-pub(crate) fn advance(phase: Phase, word: &[u8], byte: u8) -> Advance
+pub(crate) fn advance(phase: Phase, word: &[u8], byte: u8) -> NextPhase
     ensures { (ns : List ℤ) (bytes : List ℕ) → Partway word.now ns phase bytes → StepsTo word.now ns bytes byte result }
 {
     match phase {
@@ -53,49 +53,49 @@ pub(crate) fn advance(phase: Phase, word: &[u8], byte: u8) -> Advance
     }
 }
 
-fn word_step(count: usize, word: &[u8], byte: u8) -> Advance
+fn word_step(count: usize, word: &[u8], byte: u8) -> NextPhase
     ensures { (ns : List ℤ) (bytes : List ℕ) → Partway word.now ns (Phase.Word count) bytes
         → StepsTo word.now ns bytes byte result }
 {
     if count < word.len() {
         if byte == word[count] && byte != b'\n' {
-            return Advance::Open(Phase::Word(count + 1));
+            return NextPhase::Open(Phase::Word(count + 1));
         }
-        return Advance::Fault;
+        return NextPhase::Fault;
     }
     if byte == b' ' {
-        return Advance::Open(Phase::Space);
+        return NextPhase::Open(Phase::Space);
     }
     if byte == b'\n' {
-        return Advance::Bare;
+        return NextPhase::Bare;
     }
-    Advance::Fault
+    NextPhase::Fault
 }
 
-fn space_step(byte: u8) -> Advance
+fn space_step(byte: u8) -> NextPhase
     ensures { (word : List ℕ) (ns : List ℤ) (bytes : List ℕ) → Partway word ns Phase.Space bytes
         → StepsTo word ns bytes byte result }
 {
     if byte == b'-' {
-        return Advance::Open(Phase::Minus);
+        return NextPhase::Open(Phase::Minus);
     }
     if !byte.is_ascii_digit() {
-        return Advance::Fault;
+        return NextPhase::Fault;
     }
-    Advance::Open(Phase::Digits {
+    NextPhase::Open(Phase::Digits {
         negative: false,
         tally: first(byte - b'0'),
     })
 }
 
-fn minus_step(byte: u8) -> Advance
+fn minus_step(byte: u8) -> NextPhase
     ensures { (word : List ℕ) (ns : List ℤ) (bytes : List ℕ) → Partway word ns Phase.Minus bytes
         → StepsTo word ns bytes byte result }
 {
     if !begins_below_zero(byte) {
-        return Advance::Fault;
+        return NextPhase::Fault;
     }
-    Advance::Open(Phase::Digits {
+    NextPhase::Open(Phase::Digits {
         negative: true,
         tally: first(byte - b'0'),
     })
@@ -108,20 +108,20 @@ fn begins_below_zero(byte: u8) -> bool
     b'0' < byte && byte <= b'9'
 }
 
-fn digit_step(negative: bool, tally: Magnitude, byte: u8) -> Advance
+fn digit_step(negative: bool, tally: Magnitude, byte: u8) -> NextPhase
     ensures { (word : List ℕ) (ns : List ℤ) (bytes : List ℕ) → Partway word ns (Phase.Digits negative tally) bytes
         → StepsTo word ns bytes byte result }
 {
     if byte == b' ' {
-        return Advance::Field(whole_number(negative, tally));
+        return NextPhase::Field(whole_number(negative, tally));
     }
     if byte == b'\n' {
-        return Advance::Last(whole_number(negative, tally));
+        return NextPhase::Last(whole_number(negative, tally));
     }
     if !byte.is_ascii_digit() || is_zero(tally) {
-        return Advance::Fault;
+        return NextPhase::Fault;
     }
-    Advance::Open(Phase::Digits {
+    NextPhase::Open(Phase::Digits {
         negative,
         tally: more(tally, byte - b'0'),
     })
