@@ -1,6 +1,7 @@
 """tools/state in each stage, and what a close does, against the log with that close."""
 import contextlib
 import os
+import pathlib
 import pty
 import re
 import subprocess
@@ -10,7 +11,9 @@ import unittest
 import unittest.mock
 
 from checks.cases.drawn import Drawing
+from checks.cases.program import PROGRAM, with_program
 from checks.cases.samples import EXAMPLES, TOOLS, called, lines, sample
+from cca_tools.desk.answers import Answers
 from cca_tools.rules.auction import replay
 from cca_tools.rules.award import read_award
 from cca_tools.rules.log import read_log
@@ -266,6 +269,48 @@ class Closed(unittest.TestCase):
         head = "! There is a tie: one other choice has the same net value. The order of the bidders, then that of their"
         at = rows.index(f"{head} packages, decides.")
         self.assertEqual(rows[at + 1], "!   west 2 instead of east 2")
+
+
+class ManyWinners(unittest.TestCase):
+    """Eight bidders ask for two of eight lots each, and four of them ask no more. Then each lists one lot at the last
+    price, one bidder after the other. All lots are worth alike by then, and of choices with the greatest value that
+    with the smaller package of the first bidder comes first. So four win, until the fifth list makes room for five."""
+
+    award = "version = 1 / tick = 1 / [[step]] / excess = 1 / permille = 100 / [[category]] / name = 'c' / supply = 8"
+    award += " / points = 1 / reserve = 10" + "".join(
+        f" / [[bidder]] / name = 'b{j}' / eligibility = 2" for j in range(1, 9)
+    )
+    log = [f"bid,b{j},2," for j in range(1, 9)] + ["close,,,"] + [f"bid,b{j},2," for j in range(1, 5)] + ["close,,,"]
+    log += [line for j in range(1, 9) for line in (f"draft,b{j},1,11", f"submit,b{j},,")] + ["close,,,"]
+
+    def prefixes(self):
+        """The log up to each line, with how many win by the bids that count by then."""
+        for count in range(len(self.log) + 1):
+            text = "".join(f"{line}\n" for line in self.log[:count])
+            yield text, max(4, text.count("submit")) if "close" in text else 0
+
+    def test_the_winners_that_are_foretold(self):
+        for text, winners in self.prefixes():
+            rows = shown(lines(self.award), text)[0].splitlines()
+            foretold = [row for row in rows if re.search(r"\d bidders (could )?win", row)]
+            if text.count("close") < 3:
+                self.assertEqual(len(foretold), 1, rows)
+                self.assertTrue(foretold[0].startswith("! Up to 8 bidders could win. `cca award` prices at most 6"))
+                self.assertLessEqual(winners, 8)
+            else:
+                self.assertEqual(winners, 8)
+                self.assertEqual(
+                    foretold, ["8 bidders win. `cca award` prices at most 6: use `tools/price AWARD LOG CERT`."]
+                )
+
+    @with_program
+    def test_the_desk_counts_the_winners_of_the_bids_as_they_are(self):
+        with tempfile.TemporaryDirectory() as folder:
+            path = pathlib.Path(folder, "an.award")
+            path.write_bytes(lines(self.award))
+            answers = Answers(path, pathlib.Path(PROGRAM))
+            for text, winners in self.prefixes():
+                self.assertEqual(answers.winners(text.encode()), winners, text)
 
 
 class Words(unittest.TestCase):
