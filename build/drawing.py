@@ -1,26 +1,34 @@
-"""The pictures of docs/pictures, drawn as those of reports are: letters stay letters, and each has its title, what it
-shows in words,
-and a ground of its own with colours for a white and for a dark page."""
-import os
+"""The pictures of docs/pictures, drawn as the pictures of reports are: letters stay letters, and each picture has its
+title, a description, and a ground of its own with colours for a white and for a dark page.
 
-__all__ = ["Drawing", "WIDTH", "draw_key", "keep"]
-HERE = os.path.dirname(os.path.realpath(__file__))
-PICTURES = os.path.join(HERE, "..", "docs", "pictures")
-# The most units that a picture is wide. A printed page shrinks it to 694, and its letters can still be read.
-WIDTH = 720
+Every viewer draws them: the colours on white are attributes of the marks, and no style sheet is needed for them.
+"""
+
+from __future__ import annotations
+
+import pathlib
+from collections.abc import Sequence
+from typing import TypeAlias
+
 from cca_tools.page.ink import as_file
 from cca_tools.page.svg import Drawing, width_of
 
+__all__ = ["Drawing", "Mark", "WIDTH", "draw_key", "keep"]
+# How many units a picture is wide at most. A phone shows it as wide as its screen, and its letters can still be read.
+WIDTH = 374
+# A mark of a key: its colour, its edge or None for a line, whether it is hatched, and its words.
+Mark: TypeAlias = tuple[str, str | None, bool, str]
 
-def keep(drawing, size, title, about, folder=PICTURES):
-    """Keeps a drawing of this width and height under the name of its key."""
-    os.makedirs(folder, exist_ok=True)
-    with open(os.path.join(folder, drawing.key + ".svg"), "w") as file:
-        file.write(as_file(drawing.key, title, about, size, drawing.inner()))
+
+def keep(folder: pathlib.Path, drawing: Drawing, height: int, title: str, about: str) -> None:
+    """Keeps a drawing in the folder under the name of its key."""
+    folder.mkdir(parents=True, exist_ok=True)
+    text = as_file(drawing.key, title, about, (WIDTH, height), drawing.inner())
+    (folder / f"{drawing.key}.svg").write_text(text, encoding="utf-8")
 
 
-def draw_key(drawing, x, y, marks):
-    """A row of marks with their words: each is a colour, an edge or None, whether it is hatched, and the words."""
+def draw_key(drawing: Drawing, x: float, y: float, marks: Sequence[Mark]) -> None:
+    """A row of marks with their words."""
     for fill, edge, is_hatched, words in marks:
         if edge:
             drawing.rect(x, y - 10, 14, 12, fill, edge)
@@ -29,4 +37,4 @@ def draw_key(drawing, x, y, marks):
         else:
             drawing.line(x, y - 4, x + 14, y - 4, fill, 2)
         drawing.text(x + 20, y, words)
-        x += 44 + width_of(words)
+        x += 36 + width_of(words)

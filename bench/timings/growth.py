@@ -1,20 +1,18 @@
-"""Times `cca win`, `price` and `check` as a book grows to the limits, and draws docs/pictures/growth.svg.
+"""Times `cca win`, `price` and `check` as a book grows to the limits, and keeps the times in bench/growth.csv.
 
 Bidders, bids of each bidder and states double one after the other, up to 16, 600 and 16,384, while the other two are at
-their
-limit. At most five bidders win. Printed is the CPU time in milliseconds, the least of the runs, with the bytes of the
-certificate. Then an edit of `cca review` that raises a bid of a middle bidder by 1, in microseconds, and `price` on a
-book with six winners and as
-many turns as were found, whose points take the most work; more than a second is an error. And `place` and `place-check`
-on slots at their limits, a
-band of 40 with a bid on each slot where a bidder may begin, as bidders grow to 6.
+their limit. At most five bidders win. Printed is the CPU time in milliseconds, the least of the runs, with the bytes of
+the certificate; `build/draw pictures` draws docs/pictures/growth.svg from what is kept. Then an edit of `cca review`
+that raises a bid of a middle bidder by 1, in microseconds, and `price` on a book with six winners and as many turns as
+were found, whose points take the most work; more than a second is an error. And `place` and `place-check` on slots at
+their limits, a band of 40 with a bid on each slot where a bidder may begin, as bidders grow to 6.
 """
+import csv
 import itertools
-import math
 import os
 import random
 import sys
-from build.drawing import WIDTH, Drawing, keep
+from build.drawings.growth import FIELDS, MEASURED
 from checks.cases.limit_books import CCA, OUT, build_cca, price, timed
 
 FEW, MANY = 10, 510
@@ -28,8 +26,7 @@ SUPPLIES = {
 RESERVE = (1000, 300, 150, 60, 25)
 MOST = {"bidders": 16, "bids": 600, "states": 16384}
 STEPS = {"bidders": (2, 4, 8, 16), "bids": (75, 150, 300, 600), "states": tuple(SUPPLIES)}
-ROLES = {"win": "green", "price": "orange", "check": "blue"}
-COMMANDS = tuple(ROLES)
+COMMANDS = ("win", "price", "check")
 
 
 def write_book(bidders, bids, states):
@@ -82,31 +79,6 @@ def times_of(sizes, runs):
     }
     times = {command: min(of[command]()[0] for _ in range(runs)) for command in COMMANDS}
     return times, os.path.getsize(cert), of["win"]()[1].count("winner ")
-
-
-def points_of(rows, kind, command):
-    return [(sizes[kind], times[command]) for grown, sizes, times, *_ in rows if grown == kind]
-
-
-def draw_kind(drawing, rows, kind, left, height):
-    """The times of the commands as one size doubles, on scales that double."""
-    low, high = math.log2(STEPS[kind][0]), math.log2(STEPS[kind][-1])
-
-    def across(size):
-        return left + 16 + (math.log2(size) - low) / (high - low) * 176
-
-    for size in STEPS[kind]:
-        drawing.line(across(size), 52, across(size), 250, "rule", 1)
-        drawing.text(across(size), 268, f"{size:,}", side="middle")
-    drawing.text(left + 104, 288, {"bids": "bids of each bidder"}.get(kind, kind), "ink", "middle")
-    for command, role in ROLES.items():
-        points = points_of(rows, kind, command)
-        drawing.path([(across(size), height(time)) for size, time in points], role)
-        for size, time in points:
-            drawing.dot(across(size), height(time), 3.5, role, f"{command}, {size:,} {kind}: {time:,.0f} ms")
-    for (size, time), winners in zip(points_of(rows, kind, "win"), [row[-1] for row in rows if row[0] == kind]):
-        # (with fewer winners there are fewer tables)
-        drawing.text(across(size), height(time) + 17, f"{winners} win", side="middle", under="ground")
 
 
 def write_turns():
@@ -162,34 +134,13 @@ def place_times(bidders, runs):
     return placed, min(timed([CCA, "place-check", slots, cert])[0] for _ in range(runs))
 
 
-def draw(rows):
-    drawing = Drawing("growth")
-    most = max(max(times.values()) for _, _, times, *_ in rows)
-    least = min(min(times.values()) for _, _, times, *_ in rows)
-    low, high = math.log10(least / 2.2), math.log10(1.6 * most)
-
-    def height(time):
-        return 250 - (math.log10(time) - low) / (high - low) * 198
-
-    for mark in [
-        n * 10**power for power in range(-1, 5) for n in (1, 2, 5) if least / 2 <= n * 10**power <= 1.5 * most
-    ]:
-        drawing.line(60, height(mark), WIDTH - 8, height(mark), "rule", 1)
-        drawing.text(54, height(mark) + 4, f"{mark:g}", side="end")
-    for place, kind in enumerate(STEPS):
-        draw_kind(drawing, rows, kind, 60 + 220 * place, height)
-    drawing.text(4, 16, "CPU time in milliseconds, on one machine, as one of three sizes doubles;")
-    drawing.text(4, 32, "the others are 16 bidders, 600 bids, 16,384 states")
-    for place, (command, role) in enumerate(ROLES.items()):
-        drawing.dot(516 + 70 * place, 28, 4, role)
-        drawing.text(526 + 70 * place, 32, command, role)
-    keep(drawing, (WIDTH, 300), "CPU time of win, price and check as books grow", " ".join(map(said, rows)))
-
-
-def said(row):
-    _, sizes, times, _, winners = row
-    spent = ", ".join(f"{command} {times[command]:.0f}" for command in COMMANDS)
-    return f"{sizes['bidders']} bidders, {sizes['bids']} bids, {sizes['states']:,} states, of whom {winners} win: {spent} ms."
+def keep(rows):
+    """Keeps the times in bench/growth.csv, from which `build/draw pictures` draws docs/pictures/growth.svg."""
+    with open(MEASURED, "w", newline="", encoding="utf-8") as file:
+        writer = csv.writer(file, lineterminator="\n")
+        writer.writerow(FIELDS)
+        for grown, sizes, times, _, winners in rows:
+            writer.writerow([grown, *sizes.values(), *(f"{times[command]:.1f}" for command in COMMANDS), winners])
 
 
 def main(runs):
@@ -210,7 +161,7 @@ def main(runs):
                 + f"{length:13,}{winners:9}",
                 flush=True,
             )
-    draw(rows)
+    keep(rows)
     print(
         f"an edit on the largest book: {edit_time(write_book(**MOST), (MOST['bidders'] + 1) // 2, runs):.0f} microseconds"
     )

@@ -59,6 +59,20 @@ class Winners(unittest.TestCase):
                 with self.subTest(ground=ground, sight=name, one=one, other=other):
                     self.assertGreater(apart(ROLES[f"w{one}"][ground], ROLES[f"w{other}"][ground], sight), 14)
 
+    def test_a_winner_is_no_price(self):
+        """What is paid has another colour than any winner."""
+        for ground, number, role in itertools.product((0, 1), NUMBERS, ("blue", "bluish")):
+            with self.subTest(ground=ground, number=number, role=role):
+                colours = (ROLES[name][ground] for name in (f"w{number}", role))
+                self.assertGreater(apart(*colours, SIGHT["all cones"]), 20)
+
+    def test_lots_are_seen_on_their_ground(self):
+        """A lot isn't taken for an empty place: its edges have the contrast that WCAG 2.1 asks of graphics (1.4.11)."""
+        for ground, number in itertools.product((0, 1), NUMBERS):
+            with self.subTest(ground=ground, number=number):
+                self.assertGreater(contrast(ROLES["ground"][ground], ROLES[f"w{number}"][ground]), 1.3)
+                self.assertGreater(contrast(ROLES["ground"][ground], ROLES[f"l{number}"][ground]), 3)
+
     def test_letters_are_legible(self):
         for ground, number in itertools.product((0, 1), NUMBERS):
             with self.subTest(ground=ground, number=number):

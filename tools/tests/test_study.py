@@ -185,7 +185,10 @@ class Pages(WithPlan):
         self.assertEqual((plan.title, cases.title), ("What was tried", "What came out"))
         self.assertEqual(differences.title, "What differs, auction by auction")
         (figures,) = [it for it in plan.blocks if isinstance(it, Figures)]
-        self.assertEqual(figures.pairs, [("auctions", "3"), ("cases", "2"), ("first seed", "5")])
+        self.assertEqual(
+            figures.pairs,
+            [("auctions of each case", "3"), ("cases", "2"), ("auctions in all", "6"), ("first seed", "5")],
+        )
         (fields,) = [it for it in plan.blocks if isinstance(it, Table)]
         self.assertIn(["version", "1, 2"], [row[:2] for row in fields.rows])
         self.assertIn("1 auction was stopped by a limit, and is left out below.", plain.text(self.page))
@@ -204,7 +207,14 @@ class Pages(WithPlan):
         """The first two auctions alone have both. In percent of the first case's best value, 100, revenue is 90 and 40
         more, and profit 20 less and 30 more."""
         rules, pair = drawings(self.results)
-        self.assertEqual((rules.key, pair.title), ("rules", "version 2 against 1"))
+        self.assertEqual(
+            (rules.key, pair.title), ("rules", "with the final cap (version 2) against without (version 1)")
+        )
+        self.assertEqual(
+            pair.caption,
+            "Efficiency isn't seen to change (5.00 ± 5.00) and revenue rises by 65.00 ± 25.00, in % of what the best"
+            " allocation of the first case is worth",
+        )
         found = {name: (spread.count, spread.mean, spread.error) for name, spread, _ in pair.flat}
         self.assertEqual(
             found,
@@ -249,7 +259,7 @@ class Runs(WithPlan):
     def test_a_study_that_is_stopped_goes_on(self):
         printed, said = self.run_study("whole")
         self.assertIn("12 of 12 auctions", said)
-        self.assertIn("version 2 against 1, share 100, in % of the best value", printed)
+        self.assertIn("(version 2) against without (version 1), share 100, in % of the best value", printed)
         rows = list(csv.DictReader(io.StringIO(self.table("whole"))))
         self.assertEqual(
             [(row["version"], row["share"], row["auction"]) for row in rows[:4]],
@@ -286,7 +296,7 @@ class Runs(WithPlan):
         pictures = {path.name: path.read_text() for path in (self.folder / "whole").glob("*.svg")}
         self.assertEqual(sorted(pictures), ["pair1.svg", "pair2.svg", "pair3.svg", "pair4.svg", "rules.svg"])
         self.assertEqual((page.count("<svg"), page.count("share 60 against 100")), (5, 6))
-        self.assertIn("version 2 against 1", pictures["pair2.svg"])
+        self.assertIn("with the final cap (version 2) against without", pictures["pair2.svg"])
 
     def test_what_made_it(self):
         """Rows, table and page name the program by the checksum of its file, and another one doesn't go on."""

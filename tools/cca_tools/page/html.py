@@ -26,7 +26,7 @@ from cca_tools.page.document import (
     Table,
     Words,
 )
-from cca_tools.page.ink import variables
+from cca_tools.page.ink import page_rules, variables
 
 TEMPLATES = pathlib.Path(__file__).parent / "templates"
 
@@ -228,7 +228,7 @@ def style(foot: str) -> str:
     white, dark = variables("white"), variables("dark")
     return (
         f":root {{ {white} }}\n@media (prefers-color-scheme: dark) {{ :root {{ {dark} }} }}\n"
-        f"@media print {{ :root {{ {white} }} }}\n"
+        f"@media print {{ :root {{ {white} }} }}\n{page_rules()}"
         f"{above}{''.join(stacked.replace('WIDTH', str(width)) for width in STACKS)}{below}"
     )
 

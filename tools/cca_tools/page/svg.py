@@ -9,7 +9,7 @@ from collections.abc import Sequence
 from html import escape
 from typing import Literal, TypeAlias
 
-from cca_tools.page.ink import ink, pattern
+from cca_tools.page.ink import painted, pattern
 
 Place: TypeAlias = float | str
 Side: TypeAlias = Literal["start", "middle", "end"]
@@ -32,11 +32,11 @@ def width_of(words: str, size: float = LETTER) -> float:
 
 
 def paint(fill: str | None, stroke: str | None, width: float, dash: str = "") -> str:
-    """The style of a mark."""
-    parts = [f"fill:{ink(fill) if fill else 'none'}"]
+    """The attributes of a mark: its colours, and how wide and how broken its line is."""
+    parts = [painted(fill, stroke)]
     if stroke:
-        parts.append(f"stroke:{ink(stroke)};stroke-width:{width:g}")
-    return ";".join(parts + ([f"stroke-dasharray:{dash}"] if dash else []))
+        parts.append(f'stroke-width="{width:g}"')
+    return " ".join(parts + ([f'stroke-dasharray="{dash}"'] if dash else []))
 
 
 class Drawing:
@@ -52,10 +52,10 @@ class Drawing:
         defined = f"<defs>{''.join(self.patterns.values())}</defs>\n" if self.patterns else ""
         return defined + "".join(self.parts)
 
-    def mark(self, name: str, places: str, style: str, says: str = "") -> None:
+    def mark(self, name: str, places: str, paint_: str, says: str = "") -> None:
         """A mark, and what it says under the mouse."""
         end = f"><title>{escape(says)}</title></{name}>\n" if says else "/>\n"
-        self.parts.append(f'<{name} {places} style="{style}"{end}')
+        self.parts.append(f"<{name} {places} {paint_}{end}")
 
     def hatch(self, role: str, number: int | None = None) -> str:
         """The fill of a pattern: of a winner's number, or hatched."""
@@ -108,7 +108,7 @@ class Drawing:
     ) -> None:
         """A polygon."""
         places = f'd="M{"L".join(f"{spot(x)} {spot(y)}" for x, y in points)}Z"'
-        self.mark("path", places, paint(fill, stroke, width) + ";stroke-linejoin:round", says)
+        self.mark("path", places, paint(fill, stroke, width) + ' stroke-linejoin="round"', says)
 
     def dot(self, x: Place, y: float, radius: float, role: str, says: str = "") -> None:
         """A filled circle."""
@@ -130,10 +130,11 @@ class Drawing:
         is_bold: bool = False,
     ) -> None:
         """Letters on the line y; where they lie over a pattern they have an edge of this colour."""
-        style = f"fill:{ink(role)};font-size:{size:g}px"
+        parts = [painted(role, under or None), f'font-size="{size:g}"']
         if under:
-            style += f";stroke:{ink(under)};stroke-width:4px;paint-order:stroke;stroke-linejoin:round"
+            parts.append('stroke-width="4" paint-order="stroke" stroke-linejoin="round"')
         if is_bold:
-            style += ";font-weight:600"
-        anchor = f' text-anchor="{side}"' if side != "start" else ""
-        self.parts.append(f'<text x="{spot(x)}" y="{spot(y)}"{anchor} style="{style}">{escape(words)}</text>\n')
+            parts.append('font-weight="600"')
+        if side != "start":
+            parts.append(f'text-anchor="{side}"')
+        self.parts.append(f'<text x="{spot(x)}" y="{spot(y)}" {" ".join(parts)}>{escape(words)}</text>\n')

@@ -38,6 +38,11 @@ def number(value: int) -> str:
     return f"{value:,}"
 
 
+def minus(text: str) -> str:
+    """A text with the sign of minus, as it is set, before its negative numbers."""
+    return re.sub(r"(?<![\w.])-(?=[\d.])", "\N{MINUS SIGN}", text)
+
+
 def commas(text: str) -> str:
     """A text with commas in its numbers of more than three digits, and with fractions as people write them."""
     text = re.sub(r"(?<![\w.+])(\d+)\+(\d+/\d+)\b", lambda it: price(int(it[1]) + Fraction(it[2])), text)

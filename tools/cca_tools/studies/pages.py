@@ -7,7 +7,7 @@ from dataclasses import dataclass
 
 from cca_tools.page.document import Block, Card, Cards, Content, Figures, Key, Page, Picture, Section, Table, Words
 from cca_tools.page.document import columns as heads
-from cca_tools.page.words import count
+from cca_tools.page.words import count, listed, minus
 from cca_tools.studies import pictures
 from cca_tools.studies.measures import MEASURES, RULES, Measure, OfBest, Pair, Results, Spread, pairs_of, per_cent
 from cca_tools.studies.origin import Origin
@@ -24,18 +24,26 @@ MEANS = {
 }
 SPREAD_NOTE = (
     "A line goes from the value below which 5 % of the auctions are to that of 95 %, a box from 25 % to 75 % with the"
-    " median in it; a point is the mean, which is also printed to the right."
+    " median in it; a point is the mean, which is also printed above it."
 )
 
 
 def tried(plan: Plan, limits: int) -> Iterator[Block]:
     """What the plan says."""
-    yield Figures([("auctions", f"{plan.auctions:,}"), ("cases", str(len(plan.cases))), ("first seed", str(plan.seed))])
+    whole = plan.auctions * len(plan.cases)
+    yield Figures(
+        [
+            ("auctions of each case", f"{plan.auctions:,}"),
+            ("cases", str(len(plan.cases))),
+            ("auctions in all", f"{whole:,}"),
+            ("first seed", str(plan.seed)),
+        ]
+    )
     rows: list[list[Content]] = [
         [name, ", ".join(dict.fromkeys(str(getattr(case, name)) for case in plan.cases)), MEANS[name]]
         for name in FIELDS
     ]
-    yield Table("", heads("Field", "Values", "What it is"), rows)
+    yield Table("What the plan varies", heads("Field", "Values", "What it is"), rows)
     yield Words(
         "An auction of the same number has the same values of bidders in all cases. Bidders are straightforward in the"
         " clock, and list their values, or the share of them, within their caps."
@@ -52,7 +60,7 @@ def case_rows(results: Results) -> list[list[Content]]:
         [
             plan.label(case),
             f"{len(results.rows[case]):,}",
-            *(results.spread(case, measure).words() for measure in MEASURES.values()),
+            *(minus(results.spread(case, measure).words()) for measure in MEASURES.values()),
         ]
         for case in plan.cases
         if results.rows[case]
@@ -65,14 +73,14 @@ def spread_table(title: str, bars: Sequence[Bar]) -> Table:
         [
             name,
             f"{spread.count:,}",
-            spread.words(),
-            spread.interval_words(),
-            *(f"{spread.quantiles[at]:.2f}" for at in (0, 2, 4)),
+            minus(spread.words()),
+            minus(spread.interval_words()),
+            *(minus(f"{spread.quantiles[at]:.2f}") for at in (0, 2, 4)),
         ]
         for name, spread, _ in bars
     ]
     columns = heads(
-        "", "Auctions #", "Mean, standard error #", "95 % interval of the mean #", "5 % #", "Median #", "95 % #"
+        "What", "Auctions #", "Mean, standard error #", "95 % interval of the mean #", "5 % #", "Median #", "95 % #"
     )
     return Table(title, columns, rows)
 
@@ -96,7 +104,7 @@ class Drawing:
     @property
     def about(self) -> str:
         """What is shown, in words."""
-        means = "; ".join(f"{label} {spread.mean:.2f}" for label, spread, _ in self.flat)
+        means = minus("; ".join(f"{label} {spread.mean:.2f}" for label, spread, _ in self.flat))
         return f"{self.title}: means in {self.what}. {means}."
 
     def text(self, is_file: bool = False) -> str:
@@ -106,7 +114,8 @@ class Drawing:
 
     def picture(self) -> Picture:
         """The picture with its table."""
-        return Picture(self.title, self.about, self.text, spread_table("", self.flat), self.caption)
+        table = spread_table(f"{self.title}, in {self.what}", self.flat)
+        return Picture(self.title, self.about, self.text, table, self.caption)
 
 
 def distribution(results: Results) -> Drawing:
@@ -120,7 +129,18 @@ def distribution(results: Results) -> Drawing:
         if results.rows[case]
     ]
     title = "Revenue of the winning bids by each rule"
-    return Drawing("rules", title, groups, "% of what the best allocation is worth", False)
+    return Drawing("rules", title, groups, "% of what the best allocation is worth", False, rules_words(groups))
+
+
+def rules_words(groups: Sequence[tuple[str, Sequence[Bar]]]) -> str:
+    """What each rule brings in on average, over the cases, in a sentence."""
+    found = []
+    for at, rule in enumerate(RULES):
+        means = [of_one[at][1].mean for _, of_one in groups]
+        low, high = f"{min(means):.1f}", f"{max(means):.1f}"
+        found.append(f"{rule} {low if low == high else f'{low} to {high}'} %")
+    over = f" over the {len(groups)} cases" if len(groups) > 1 else ""
+    return minus(f"Mean revenue{over}, of what the best allocation is worth: {listed(found)}")
 
 
 def measures_of(names: Sequence[str]) -> dict[str, Measure]:
@@ -131,7 +151,24 @@ def measures_of(names: Sequence[str]) -> dict[str, Measure]:
 
 def pair_title(pair: Pair) -> str:
     """What a pair compares."""
+    if pair.field == "version":
+        with_cap = "with the final cap (version 2)", "without (version 1)"
+        return " against ".join(with_cap if pair.second.version == 2 else with_cap[::-1])
     return f"{pair.field} {getattr(pair.second, pair.field)} against {getattr(pair.first, pair.field)}"
+
+
+def change_words(name: str, spread: Spread) -> str:
+    """How a measure differs, in words: whether it isn't seen to, or by how much it rises or falls."""
+    if pictures.is_even(spread):
+        return f"{name} isn't seen to change ({minus(spread.words())})"
+    error = "" if spread.error is None else f" ± {spread.error:.2f}"
+    return f"{name} {'rises' if spread.mean > 0 else 'falls'} by {abs(spread.mean):.2f}{error}"
+
+
+def difference_words(bars: Sequence[Bar]) -> str:
+    """What differs, in a sentence: efficiency and revenue, which come first."""
+    changes = " and ".join(change_words(name, spread) for name, spread, _ in bars[:2])
+    return f"{changes[:1].upper()}{changes[1:]}, in % of what the best allocation of the first case is worth"
 
 
 def others(results: Results, pair: Pair) -> str:
@@ -153,7 +190,7 @@ def differences(results: Results) -> Iterator[tuple[Pair, Drawing]]:
     for number, pair in enumerate(pairs_of(results), 1):
         bars = difference_bars(results, pair)
         words = (f"pair{number}", pair_title(pair), [("", bars)], "% of the best value", True)
-        yield pair, Drawing(*words, "The differences, in % of what the best allocation of the first case is worth")
+        yield pair, Drawing(*words, difference_words(bars))
 
 
 def drawings(results: Results) -> Iterator[Drawing]:
@@ -174,7 +211,7 @@ def sections_of(results: Results) -> Iterator[Section]:
     yield Section("plan", "What was tried", list(tried(results.plan, stopped(results))))
     if not any(results.rows.values()):
         return
-    table = Table("", heads("Case", "Auctions #", *(f"{name} #" for name in MEASURES)), case_rows(results))
+    table = Table("Means by case", heads("Case", "Auctions #", *(f"{name} #" for name in MEASURES)), case_rows(results))
     marks = [("blue", "box", "core"), ("orange", "box", "Vickrey"), ("green", "box", "pay as bid, for the same bids")]
     yield Section(
         "cases",
@@ -216,7 +253,9 @@ def made_with(origin: Origin) -> Section:
         ["plan, without the number of auctions", f"SHA-256 {origin.plan}"],
     ]
     rows += [[f"inputs/{name}", f"SHA-256 {total}"] for name, total in origin.files.items()]
-    return Section("origin", "What made it", [Table("", heads("What", "Which"), rows)])
+    return Section(
+        "origin", "What made it", [Table("Programs and files, by their checksums", heads("What", "Which"), rows)]
+    )
 
 
 def page_of(results: Results, title: str, origin: Origin) -> Page:
