@@ -29,7 +29,7 @@ def median(runs):
     return statistics.median(spent for spent, _ in runs)
 
 
-def tell(word, ours, theirs, same):
+def tell(word, ours, theirs, same) -> None:
     ours, theirs = median(ours), median(theirs)
     print(f"  {word:<7}{ours:>8.1f} ms{theirs:>8.1f} ms{ours / theirs:>7.2f}  {same}")
 
@@ -48,7 +48,7 @@ def broken_verdicts(kind, book, cert, plain):
     return judged, differ
 
 
-def compare(kind, plain, runs, seconds):
+def compare(kind, plain, runs, seconds) -> None:
     cert, plain_cert = (os.path.join(OUT, name) for name in ("check.cert", "plain.cert"))
     book, bids = priced_book(kind)
     ours = {"win": [timed([CCA, "win", book]) for _ in range(runs)]}
@@ -77,7 +77,7 @@ def compare(kind, plain, runs, seconds):
         print(told(solver, median(ours["check"]), *beside(solver, bids, wanted_of(printed), seconds)), flush=True)
 
 
-def main(runs, seconds):
+def main(runs, seconds) -> None:
     build_cca()
     plain = build_plain()
     for kind in KINDS:

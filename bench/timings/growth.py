@@ -134,7 +134,7 @@ def place_times(bidders, runs):
     return placed, min(timed([CCA, "place-check", slots, cert])[0] for _ in range(runs))
 
 
-def keep(rows):
+def keep(rows) -> None:
     """Keeps the times in bench/growth.csv, from which `build/draw pictures` draws docs/pictures/growth.svg."""
     with open(MEASURED, "w", newline="", encoding="utf-8") as file:
         writer = csv.writer(file, lineterminator="\n")
@@ -143,7 +143,7 @@ def keep(rows):
             writer.writerow([grown, *sizes.values(), *(f"{times[command]:.1f}" for command in COMMANDS), winners])
 
 
-def main(runs):
+def main(runs) -> None:
     build_cca()
     rows, known = [], {}
     print(f"{'bidders':>8}{'bids':>6}{'states':>8}{'win':>9}{'price':>9}{'check':>9}{'bytes':>13}{'winners':>9}")

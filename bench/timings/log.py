@@ -31,7 +31,7 @@ def cost(terms, log, runs):
     return statistics.median(spent), last
 
 
-def main(runs):
+def main(runs) -> None:
     build_cca()
     terms = file_of("log.award", award())
     start, _ = cost(terms, file_of("empty.log", ""), runs)

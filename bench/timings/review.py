@@ -64,7 +64,7 @@ def winning_bids(book, bids):
         yield j, next(bid for bid in bids[j - 1] if list(bid[0]) == [int(n) for n in row[2:-1]])
 
 
-def row(kind, what, book, j, edits_of, bid, after, scratch, runs):
+def row(kind, what, book, j, edits_of, bid, after, scratch, runs) -> None:
     few, _ = least_cpu([CCA, "review", book, edits_file(edits_of(j, bid, FEW))], runs)
     many, text = least_cpu([CCA, "review", book, edits_file(edits_of(j, bid, MANY))], runs)
     edit = max(many - few, 0) / (MANY - FEW)
@@ -73,7 +73,7 @@ def row(kind, what, book, j, edits_of, bid, after, scratch, runs):
     print(f"{kind:<8}{what:<7}{j:>7}{edit:>10.3f}ms{scratch:>9.2f}ms{edit / scratch:>8.3f}  {same}")
 
 
-def main(runs):
+def main(runs) -> None:
     build_cca()
     tiny = written("tiny.book", ["book 1", "supply 1", "reserve 0", "end"])
     start = least_cpu([CCA, "win", tiny], runs)[0]

@@ -16,7 +16,7 @@ def least_cpu(words, runs):
     return min(spent for spent, _ in found), found[-1][1]
 
 
-def main(runs, seconds):
+def main(runs, seconds) -> None:
     build_cca()
     plain = build_plain()
     tiny = os.path.join(OUT, "tiny.book")

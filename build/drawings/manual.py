@@ -94,7 +94,7 @@ def manual(text):
     return "\n".join(made) + "\n" + TAIL
 
 
-def main(root):
+def main(root) -> None:
     """Writes docs/cca.1 below this folder."""
     (root / "docs").mkdir(parents=True, exist_ok=True)
     (root / "docs" / "cca.1").write_text(manual((DOCS / "FORMATS.md").read_text()))

@@ -32,7 +32,7 @@ def made(name):
     ).stdout.decode()
 
 
-def main(root):
+def main(root) -> None:
     """Writes the reports of examples/ below this folder."""
     build_cca()
     (root / "examples").mkdir(parents=True, exist_ok=True)

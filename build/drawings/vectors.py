@@ -20,7 +20,7 @@ PROGRAM = os.environ.get("CCA_PROGRAM") and os.path.abspath(os.environ["CCA_PROG
 class Vectors:
     """The cases so far, and the bytes of the files that they name."""
 
-    def __init__(self, folder):
+    def __init__(self, folder) -> None:
         self.folder, self.files, self.blocks, self.names = folder, {}, [], set()
         self.auctions = []  # of each case of `auction` its name, why, award and log
 
@@ -32,7 +32,7 @@ class Vectors:
         pathlib.Path(self.folder, known).write_bytes(text)
         return known
 
-    def case(self, name, why, command, texts, answer=None, made=()):
+    def case(self, name, why, command, texts, answer=None, made=()) -> None:
         """A case of a command: its texts, or names of files as str that are there or missing, and the first line of its answer where it is known."""
         if name in self.names:
             raise ValueError(f"two cases {name}")
@@ -100,7 +100,7 @@ def auction_answer(paths):
     return printed.removesuffix("\n"), status
 
 
-def main(root):
+def main(root) -> None:
     """Writes vectors/ below this folder."""
     from checks.cases.vector_cases import add_all
     from checks.cases.vector_winners import add_winners

@@ -99,7 +99,7 @@ class Files:
 class Clock:
     """A clock that is a second later at each call."""
 
-    def __init__(self):
+    def __init__(self) -> None:
         self.time = START
 
     def now(self):
@@ -111,7 +111,7 @@ class Clock:
 class Day:
     """A day at the desk's log, by steps."""
 
-    def __init__(self, folder, award, key, about):
+    def __init__(self, folder, award, key, about) -> None:
         self.path, self.award, self.rules = pathlib.Path(folder, "day.log"), award, read_award(award)
         pathlib.Path(f"{self.path}.key").write_bytes(key)
         self.log = LogFile(self.path, {"award": sum_of(award), "program": sum_of(b"program")}, about=about)
@@ -122,7 +122,7 @@ class Day:
             -text.count(b"\n") :
         ]
 
-    def do(self, step):
+    def do(self, step) -> None:
         """Does a step, and posts what is due."""
         data = self.log.read()
         base = self.log.base(data)

@@ -47,7 +47,7 @@ class Ended:
     calls: tuple
 
 
-def child(act, ready, out):
+def child(act, ready, out) -> None:
     """The child: waits until it is traced, acts, says what came of it, and is gone."""
     try:
         ctypes.CDLL(None).prctl(PR_SET_PTRACER, ctypes.c_ulong(ANY), 0, 0, 0)
@@ -110,7 +110,7 @@ def numbered(calls):
         yield name, seen[name]
 
 
-def need(right, *what):
+def need(right, *what) -> None:
     if not right:
         raise AssertionError(what)
 
@@ -126,13 +126,13 @@ class Scene:
     name = ""
     before = FIRST
 
-    def __init__(self, folder):
+    def __init__(self, folder) -> None:
         self.path = pathlib.Path(folder, "a.log")
 
     def open(self):
         return LogFile(self.path, PINS)
 
-    def prepare(self):
+    def prepare(self) -> None:
         """The log before: all of it answered. `self.base` is that of the child's page."""
         log = self.open()
         if self.before:
@@ -150,7 +150,7 @@ class Scene:
         """Starts a desk on what is left, mends it, and does it again. Raises `AssertionError`."""
         raise NotImplementedError
 
-    def check_whole(self, log, wanted):
+    def check_whole(self, log, wanted) -> None:
         """The log is the one that is wanted, nothing is wrong, and the journal alone leads to it."""
         need(log.stop() is None, "a stop", log.stop())
         need(log.read() == wanted, "the log", log.read(), wanted)
@@ -177,7 +177,7 @@ class Write(Scene):
         last = Journal(pathlib.Path(f"{self.path}.desk")).last()
         return "answered" if last.length == len(data) else "there, not answered"
 
-    def check(self):
+    def check(self) -> None:
         left = self.path.read_bytes()
         log = self.open()
         whole = self.answered + self.text
@@ -219,7 +219,7 @@ class Cut(Scene):
             return "cut"
         return "begun, not ended" if self.open().stop() else "not begun"
 
-    def check(self):
+    def check(self) -> None:
         left = self.path.read_bytes()
         need(left in (FIRST, self.answered), "the log after a kill", left)
         log = self.open()
@@ -244,7 +244,7 @@ class Mend(Scene):
 
     mend, spoilt, wanted = "none", b"", b""
 
-    def prepare(self):
+    def prepare(self) -> None:
         super().prepare()
         self.path.write_bytes(self.spoilt)
         self.left_before = kept_beside(self.path)
@@ -255,7 +255,7 @@ class Mend(Scene):
     def outcome(self):
         return "to mend still" if self.open().stop() else "mended"
 
-    def check(self):
+    def check(self) -> None:
         log = self.open()
         if stop := log.stop():
             need(stop.allows(self.mend), "a stop", stop)
@@ -299,7 +299,7 @@ class Start(Scene):
 
     name = "first start"
 
-    def prepare(self):
+    def prepare(self) -> None:
         self.answered = b""
 
     def act(self):
@@ -308,7 +308,7 @@ class Start(Scene):
     def outcome(self):
         return f"{len([kind for kind in ('', '.key', '.desk') if pathlib.Path(f'{self.path}{kind}').exists()])} files"
 
-    def check(self):
+    def check(self) -> None:
         log = self.open()
         need(re.fullmatch(rb"[0-9a-f]{64}\n", log.key), "the key", log.key)
         self.check_whole(log, b"")
@@ -322,7 +322,7 @@ class Found(Write):
 
     name = "found"
 
-    def prepare(self):
+    def prepare(self) -> None:
         super().prepare()
         with open(self.path, "ab") as file:
             file.write(self.text)
@@ -339,7 +339,7 @@ class Copies(Scene):
     def open(self):
         return LogFile(self.path, PINS, self.path.parent / "copies")
 
-    def prepare(self):
+    def prepare(self) -> None:
         (self.path.parent / "copies").mkdir()
         super().prepare()
         log = self.open()
@@ -353,7 +353,7 @@ class Copies(Scene):
     def outcome(self):
         return "old" if (self.path.parent / "copies" / "a.log").read_bytes() == FIRST else "new"
 
-    def check(self):
+    def check(self) -> None:
         names = "a.log", "a.log.desk", "a.log.key", "a.log.posted"
         now = {name: (self.path.parent / name).read_bytes() for name in names}
         copies = {name: (self.path.parent / "copies" / name).read_bytes() for name in names}
@@ -401,7 +401,7 @@ def kill(scene, call, number):
 # Races
 
 
-def racer(read, write):
+def racer(read, write) -> None:
     """A process that writes what it is asked to, when it is asked."""
     with open(read) as words, open(write, "w", buffering=1) as out:
         for row in words:
@@ -421,7 +421,7 @@ def racer(read, write):
 class Racers:
     """Two processes that write at the same time."""
 
-    def __init__(self):
+    def __init__(self) -> None:
         self.both = []
         for _ in range(2):
             self.both.append(self.started())
@@ -447,7 +447,7 @@ class Racers:
             print(path, base.text(), text, when, sep="\t", file=to)
         return tuple(sorted(back.readline().strip() for _, _, back in self.both))
 
-    def end(self):
+    def end(self) -> None:
         for pid, to, back in self.both:
             to.close(), back.close()
             os.waitpid(pid, 0)

@@ -28,7 +28,7 @@ def award_of(draw, version):
 class Drawing:
     """An auction that is drawn line by line."""
 
-    def __init__(self, number, version=1):
+    def __init__(self, number, version=1) -> None:
         self.draw = random.Random(f"{number} {version}")
         self.text = award_of(self.draw, version)
         self.award = read_award(self.text.encode())
@@ -44,13 +44,13 @@ class Drawing:
     def bidders(self):
         return range(1, len(self.award.names) + 1)
 
-    def ask(self, j, most):
+    def ask(self, j, most) -> None:
         """One bid of about this many lots that is admitted, if one of six is, then one of at most this many."""
         near = [package for package in self.packages if most - 2 <= sum(package) <= most] or self.packages[:1]
         less = [package for package in self.packages if sum(package) <= most]
         any(self.take("bid", j, self.draw.choice(found)).is_ok for found in [near] * 6 + [less] * 3)
 
-    def clock(self, most_rounds=40):
+    def clock(self, most_rounds=40) -> None:
         """Rounds until nothing is asked for above the supply."""
         for number in range(most_rounds):
             for j in self.bidders():
@@ -60,7 +60,7 @@ class Drawing:
                 return
         raise AssertionError("the clock doesn't end")
 
-    def lists(self, above=25):
+    def lists(self, above=25) -> None:
         """A submitted list of each bidder: entries that are refused are set to their caps, or dropped."""
         for j in self.bidders():
             for package in self.draw.sample(self.packages, min(len(self.packages), self.draw.randint(0, 6))):
@@ -68,7 +68,7 @@ class Drawing:
                 self.take("draft", j, package, least + self.draw.randint(0, above))
             self.submit(j)
 
-    def submit(self, j):
+    def submit(self, j) -> None:
         """Submits the list, mended until it is admitted."""
         while (reply := self.take("submit", j)).word == "relative-cap":
             entry, most = reply.numbers

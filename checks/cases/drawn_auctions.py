@@ -278,7 +278,7 @@ def broken_award(rng):
     return text_of(terms, [key for key in TABLES if isinstance(terms.get(key), list) and rng.random() < 0.15])
 
 
-def break_field(rng, terms):
+def break_field(rng, terms) -> None:
     key = rng.choice([key for key in ["version", "tick", *TABLES] if key in terms])
     table = rng.choice(terms[key]) if key in TABLES and isinstance(terms[key], list) and terms[key] else terms
     field = rng.choice(TABLES[key]) if table is not terms else key
@@ -325,7 +325,7 @@ def damaged(rng, text, signs):
 class Lines:
     """Draws the lines of a log. `desk` takes them, and says the stage and the amounts at which an answer may turn."""
 
-    def __init__(self, rng, desk, supply, bidders):
+    def __init__(self, rng, desk, supply, bidders) -> None:
         self.rng, self.desk, self.supply, self.bidders = rng, desk, supply, bidders
         self.asked, self.since_close, self.patience = {}, 0, rng.choice([0.1, 0.2, 0.5])
 

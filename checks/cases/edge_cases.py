@@ -65,7 +65,7 @@ def ended(words, code, line=None, **how):
     return made.stdout
 
 
-def samples():
+def samples() -> None:
     """The samples in this folder, with the certificates that belong to them."""
     for kind, name in SAMPLES.items():
         shutil.copyfile(os.path.join(EXAMPLES, name), kind)
@@ -93,7 +93,7 @@ def other_names(name):
     ]
 
 
-def one_file_under_two_words():
+def one_file_under_two_words() -> None:
     for command, inputs, output in WRITERS:
         for kind in inputs:
             samples()
@@ -108,7 +108,7 @@ def one_file_under_two_words():
                 os.remove(name)
 
 
-def two_outputs_that_are_one_file():
+def two_outputs_that_are_one_file() -> None:
     ended(("make", "7", "award", "log"), 0)
     award = text_of("award")
     with open("x", "wb") as f:
@@ -121,7 +121,7 @@ def two_outputs_that_are_one_file():
     assert text_of("x") == award
 
 
-def words_that_name_no_file():
+def words_that_name_no_file() -> None:
     samples()
     for command, words, flag in (("award", ("award", "log", "new"), "--json"), ("price", ("book", "new"), "--rounds")):
         open("new", "wb").close()
@@ -140,7 +140,7 @@ def fed(text, pieces):
     """A named pipe that gets the text in this many pieces, and the process that writes it."""
     os.mkfifo("fifo")
 
-    def write():
+    def write() -> None:
         with open("fifo", "wb", buffering=0) as f:
             for k in range(pieces):
                 f.write(text[len(text) * k // pieces : len(text) * (k + 1) // pieces])
@@ -160,7 +160,7 @@ def made_by(words, new, **how):
     return printed, made
 
 
-def through_a_pipe(command, inputs, place, new, wanted):
+def through_a_pipe(command, inputs, place, new, wanted) -> None:
     """One input as the standard input, and as a named pipe that gets it in three pieces."""
     text = text_of(inputs[place])
     words = [(command, *inputs[:place], name, *inputs[place + 1 :]) for name in ("/dev/stdin", "fifo")]
@@ -171,7 +171,7 @@ def through_a_pipe(command, inputs, place, new, wanted):
     os.remove("fifo")
 
 
-def pipes_to_read():
+def pipes_to_read() -> None:
     samples()
     for command, inputs, *output in [*READERS, *WRITERS]:
         new = ["new"] if output else []
@@ -180,13 +180,13 @@ def pipes_to_read():
             through_a_pipe(command, inputs, place, new, wanted)
 
 
-def pipes_to_append_to():
+def pipes_to_append_to() -> None:
     samples()
     printed = ended(("price", "book", "new"), 0)
     assert ended(("price", "book", "/dev/stdout"), 0) == text_of("new") + printed
 
 
-def devices_and_folders():
+def devices_and_folders() -> None:
     samples()
     os.mkdir("folder")
     ended(("price", "book", "/dev/null"), 0)
@@ -227,7 +227,7 @@ def full_pipe():
     return reading, writing
 
 
-def stopped_run():
+def stopped_run() -> None:
     """A run that is stopped holds its file until it is killed; its output is a pipe that is full, so it can't end."""
     samples()
     ended(("price", "book", "whole"), 0)
@@ -284,17 +284,17 @@ def syncs():
     return True
 
 
-def signals():
+def signals() -> None:
     samples()
     reading, writing = os.pipe()
     os.close(reading)
     ended(("win", "book"), 5, stdout=writing)
     os.close(writing)
 
-    def small():
+    def small() -> None:
         resource.setrlimit(resource.RLIMIT_FSIZE, (100, 100))
 
-    def small_and_ignored():
+    def small_and_ignored() -> None:
         small()
         signal.signal(signal.SIGXFSZ, signal.SIG_IGN)
 
@@ -305,7 +305,7 @@ def signals():
     assert len(text_of("new")) == 100
 
 
-def closed_streams():
+def closed_streams() -> None:
     """A stream that is closed leaves its number free; no file of the command may take it."""
     samples()
     ended(("price", "book", "whole"), 0)
@@ -318,7 +318,7 @@ def closed_streams():
     ended(("check", "book", "/dev/stdin"), 4, b"cca: read fault cert", preexec_fn=lambda: os.close(0))
 
 
-def run_all():
+def run_all() -> None:
     cases = [
         one_file_under_two_words,
         two_outputs_that_are_one_file,

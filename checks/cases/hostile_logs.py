@@ -29,7 +29,7 @@ def line(kind, j, package, amount=""):
 class Clock:
     """300 rounds in which bidder 1 falls by one point a round while bidder 2 asks for all, and the final one."""
 
-    def __init__(self):
+    def __init__(self) -> None:
         self.lines, self.prices, prices = [], [], [1000, 1000]
         for r in range(1, ROUNDS):
             held = package_of(MOST - r)

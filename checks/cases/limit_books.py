@@ -16,7 +16,7 @@ KINDS = ("small", "random", "halves")
 DENSE_KINDS = ("dense", "additive")
 
 
-def build_cca():
+def build_cca() -> None:
     """Has ./cca prove and build the program, where CCA_PROGRAM names none."""
     os.makedirs(OUT, exist_ok=True)
     if os.environ.get("CCA_PROGRAM"):

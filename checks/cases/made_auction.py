@@ -5,7 +5,7 @@ BIDDERS, FULL_ROUNDS, STAYING, DRAFTS = 12, 9, 4, 100
 
 
 class Draws:
-    def __init__(self, number):
+    def __init__(self, number) -> None:
         self.state = number % 2**31
 
     def draw(self, bound):

@@ -44,10 +44,10 @@ def replies(text):
 class Acting:
     """The child: a day of drawn steps. `report` is called with what was seen after each."""
 
-    def __init__(self, path, draw, report):
+    def __init__(self, path, draw, report) -> None:
         self.path, self.draw, self.report = path, draw, report
 
-    def act(self):
+    def act(self) -> None:
         """Does all steps."""
         self.log = LogFile(self.path, PINS)
         self.seen("started")
@@ -57,7 +57,7 @@ class Acting:
             self.write(CLOSE)
         self.posted(True)
 
-    def step(self):
+    def step(self) -> None:
         """Does a drawn step."""
         data = self.log.read()
         ends, _ = closes(data)
@@ -73,24 +73,24 @@ class Acting:
         else:
             self.write(b"".join(self.draw.choices(BIDS, k=1 if kind == "line" else 3)))
 
-    def seen(self, doing):
+    def seen(self, doing) -> None:
         """Reports what anybody has seen, and what is done next."""
         self.report({"log": self.log.read().decode(), "posted": self.log.posted().decode(), "doing": doing})
 
-    def write(self, text):
+    def write(self, text) -> None:
         """Writes lines; nobody has their replies before that."""
         self.seen("write")
         self.log.append(self.log.base(self.log.read()), text, replies(text))
         self.seen("post")
         self.posted(False)
 
-    def cut(self, data, length, stay):
+    def cut(self, data, length, stay) -> None:
         """Cuts the log."""
         self.seen("cut")
         self.log.cut(self.log.base(data), length, "a reason", stay)
         self.posted(False)
 
-    def change(self, data):
+    def change(self, data) -> None:
         """Somebody changes the log with an editor, and it is put back or kept."""
         self.seen("hand")
         other = data.replace(b"bid,east", b"bid,west", 1)
@@ -99,7 +99,7 @@ class Acting:
             self.log.mend(self.draw.choice(("put back", "keep changed log")), "a reason")
             self.posted(False)
 
-    def posted(self, is_publish):
+    def posted(self, is_publish) -> None:
         """Posts what is due."""
         self.log.post(closes, is_publish)
         self.seen("posted")
@@ -108,7 +108,7 @@ class Acting:
 class Killer:
     """Kills this process at a number of its calls, and before that lets them through."""
 
-    def __init__(self, number, draw):
+    def __init__(self, number, draw) -> None:
         self.left, self.draw = number, draw
         for name in CALLS:
             setattr(os, name, self.watched(name, getattr(os, name)))
@@ -127,11 +127,11 @@ class Killer:
         return counted
 
 
-def child(path, number, draw, out):
+def child(path, number, draw, out) -> None:
     """The child process."""
     write = os.write
 
-    def report(state):
+    def report(state) -> None:
         write(out, json.dumps(state).encode() + b"\n")
 
     try:
@@ -158,7 +158,7 @@ def run(path, number, draw):
     return os.WIFSIGNALED(status), seen
 
 
-def need(right, *what):
+def need(right, *what) -> None:
     if not right:
         raise AssertionError(what)
 
@@ -193,7 +193,7 @@ def check(path, seen):
     return "LOG.posted was short" if 0 < left < posted.count(b"\n") else "LOG.posted was whole"
 
 
-def need_answered(last, log):
+def need_answered(last, log) -> None:
     """Tests that every answered line is in the log, if nothing was under way that takes lines away."""
     answered = last["log"].encode()
     if last["doing"] in ("write", "post", "posted", "started"):
@@ -205,7 +205,7 @@ def need_answered(last, log):
         need(log in (answered, changed), "the log after a change", last, log)
 
 
-def need_agreed(path, log):
+def need_agreed(path, log) -> None:
     """Tests that log, journal and LOG.posted agree in all parts."""
     journal = path.with_name("a.log.desk").read_bytes()
     record = Tester(AWARD, log.key).record(journal)

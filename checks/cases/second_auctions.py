@@ -11,14 +11,14 @@ from cca_tools.rules.stops import Stop, load
 class Desk:
     """Takes the lines of a log that is drawn."""
 
-    def __init__(self, award):
+    def __init__(self, award) -> None:
         self.auction = Auction(award)
 
     @property
     def stage(self):
         return self.auction.stage
 
-    def take(self, line):
+    def take(self, line) -> None:
         for one in read_log(line.encode(), self.auction.award):
             self.auction.take(one)
 

@@ -16,7 +16,7 @@ class Prices:
     that are tight.
     """
 
-    def __init__(self, choices, nets, weights):
+    def __init__(self, choices, nets, weights) -> None:
         self.choice, self.value = winning(choices)
         self.winners = [j for j, number in enumerate(self.choice) if number]
         own = {j: nets[j][self.choice[j] - 1] for j in self.winners}

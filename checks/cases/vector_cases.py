@@ -19,7 +19,7 @@ def edited(text, was, put):
     return text.replace(was, put, 1)
 
 
-def add_all(v):
+def add_all(v) -> None:
     """Adds all cases."""
     for add in (
         right,
@@ -54,7 +54,7 @@ def add_all(v):
 # ---- certificates of books ----
 
 
-def right(v):
+def right(v) -> None:
     """Certificates that pass."""
     v.case("day-cramton", "the example of docs/CERTIFICATES.md", "check", (BOOK, CERT), "yes")
     scaled = certificate_of((1, 1), DAY_BIDS, DAY, DAY_WITHOUT, 3, (51, 45, 0, 0, 0), [((1, 2), 3, 9, (0, 0, 1, 0, 0))])
@@ -305,13 +305,13 @@ DAY_LOG = lines(
 )
 
 
-def both(v, name, why, cert, answer):
+def both(v, name, why, cert, answer) -> None:
     """A certificate of the book of Day and Cramton, by its book and by its auction."""
     v.case(name, why, "check", (BOOK, cert), answer)
     v.case(f"{name}-audited", why, "audit", (DAY_AWARD, DAY_LOG, cert), answer)
 
 
-def certificate_tests(v):
+def certificate_tests(v) -> None:
     v.case("day-cramton-audited", "an auction with the book of the example", "audit", (DAY_AWARD, DAY_LOG, CERT), "yes")
     for number, (was, put, answer, why) in enumerate(TESTS, 1):
         both(v, f"test-{number}", why, edited(CERT, was, put), answer)
@@ -330,10 +330,10 @@ def day(**changes):
     return certificate_of((1, 1), DAY_BIDS, *(parts[key] for key in ("choice", "without", "den", "pay", "rows")))
 
 
-def alone(v):
+def alone(v) -> None:
     """Certificates of which one test fails at one place, and all else holds: who leaves this test out says yes."""
 
-    def add(name, why, book, cert, answer):
+    def add(name, why, book, cert, answer) -> None:
         """Adds a case of a book, and of an auction that has this book; a book is its text, or supply and bids."""
         text, auction = (book, (DAY_AWARD, DAY_LOG)) if book == BOOK else (book_of(*book), auction_of(*book))
         v.case(f"alone-{name}", f"nothing else fails: {why}", "check", (text, cert), answer)
@@ -559,7 +559,7 @@ def alone(v):
     )
 
 
-def ties(v):
+def ties(v) -> None:
     """Choices of the same value, of which the first wins."""
 
     def of(supply, bids, choice, without, pay, rows):
@@ -732,7 +732,7 @@ FORMS = [
 ]
 
 
-def certificate_forms(v):
+def certificate_forms(v) -> None:
     for number, (was, put, place, why) in enumerate((row for row in FORMS if row[3]), 1):
         both(v, f"cert-form-{number}", why, edited(CERT, was, put), f"cca: refused cert {place}")
     for count in (0, 1, 6, 100, 475):
@@ -768,7 +768,7 @@ def certificate_forms(v):
         )
 
 
-def numbers(v):
+def numbers(v) -> None:
     """Numbers about the ends of 128 bits, where a checker with numbers of some size may go wrong."""
     one = [[((1,), 1)]]
     book = book_of((1,), one)
@@ -879,7 +879,7 @@ BOOKS = [
 ]
 
 
-def books(v):
+def books(v) -> None:
     for number, (text, place, why) in enumerate(BOOKS, 1):
         v.case(f"book-form-{number}", why, "check", (lines(text), b""), f"cca: refused book {place}")
     v.case("book-empty", "an empty file", "check", (b"", b""), "cca: refused book 0")
@@ -912,7 +912,7 @@ def books(v):
         )
 
 
-def book_limits(v):
+def book_limits(v) -> None:
     for supply, answer, why in [
         ("1 1 1 1 1 1 1", "categories 7", "seven categories"),
         ("41", "lots 41", "41 lots"),
@@ -998,8 +998,8 @@ def book_limits(v):
 WEIGHED = certificate_of((1, 1), DAY_BIDS, DAY, DAY_WITHOUT, 2, (31, 33, 0, 0, 0), [((1, 2), 2, 3, (0, 0, 1, 0, 0))])
 
 
-def weighings(v):
-    def add(name, why, answer, weights=WEIGHTS, cert=WEIGHED, book=BOOK):
+def weighings(v) -> None:
+    def add(name, why, answer, weights=WEIGHTS, cert=WEIGHED, book=BOOK) -> None:
         v.case(f"weights-{name}", why, "weigh-check", (book, weights, cert), answer)
 
     add(
@@ -1125,7 +1125,7 @@ PLACE_TESTS = [
 ]
 
 
-def placements(v):
+def placements(v) -> None:
     v.case("places", "the example of docs/CERTIFICATES.md", "place-check", (SLOTS, PLACED), "* placed z 3 1")
     v.case(
         "places-nobody",
@@ -1192,12 +1192,12 @@ def certificate_lines(den):
     )
 
 
-def placement_faults(v):
+def placement_faults(v) -> None:
     for number, (was, put, answer, why) in enumerate(PLACE_TESTS, 1):
         v.case(f"place-test-{number}", why, "place-check", (SLOTS, edited(PLACED, was, put)), answer)
 
 
-def slot_forms(v):
+def slot_forms(v) -> None:
     rows = [
         ("slots 1", "slots 2", 0, "another version"),
         ("end\n", "put\n", len(SLOTS) - 4, "a last line as long as `end`"),
@@ -1334,11 +1334,11 @@ AWARDS = [
 ]
 
 
-def audits(v, name, why, award, log, cert, answer):
+def audits(v, name, why, award, log, cert, answer) -> None:
     v.case(name, why, "audit", (award, lines(log) if isinstance(log, str) else log, cert), answer)
 
 
-def awards(v):
+def awards(v) -> None:
     audits(
         v,
         "auction",
@@ -1437,7 +1437,7 @@ TOML = [
 ]
 
 
-def toml(v):
+def toml(v) -> None:
     """Spellings of the small sale."""
     audits(v, "toml-line-ends", "line ends CR LF", SALE.replace(b"\n", b"\r\n"), ROW, SALE_CERT, "yes")
     for number, (was, put, why) in enumerate(TOML, 1):
@@ -1532,7 +1532,7 @@ LOGS = [
 ]
 
 
-def logs(v):
+def logs(v) -> None:
     for number, text in enumerate(LOGS, 1):
         audits(
             v,
@@ -1605,7 +1605,7 @@ def logs(v):
     )
 
 
-def csv_texts(v):
+def csv_texts(v) -> None:
     """Spellings of one log, of which the book is the same."""
     text = lines(ROW)
     rows = [
@@ -1652,10 +1652,10 @@ FULL = (
 )
 
 
-def replies(v):
+def replies(v) -> None:
     """Each reply, as `auction` prints it; the first reason that holds is reported."""
 
-    def add(name, why, award, log, answer):
+    def add(name, why, award, log, answer) -> None:
         v.case(f"reply-{name}", why, "auction", (award, lines(log), "/dev/null"), answer)
 
     add("all-of-a-small-sale", "admitted lines, a refused submission, and closes", SALE, ROW, "* 9 relative-cap 2 44")
@@ -1752,7 +1752,7 @@ def replies(v):
     )
 
 
-def relative_caps(v):
+def relative_caps(v) -> None:
     two = (
         'version = {}\ntick = 1\ncategory = [{{name = "a", supply = 2, points = 1, reserve = 10}}, {{name = "c", supply = 3, points = 1, reserve = 10}}]\n'
         'bidder = [{{name = "east", eligibility = 3}}, {{name = "west", eligibility = 1}}]\nstep = [{{excess = 1, permille = 1000}}]\n'
@@ -1803,7 +1803,7 @@ def relative_caps(v):
     )
 
 
-def ends(v):
+def ends(v) -> None:
     """Logs whose book depends on a rule: who gets the rule wrong says another verdict."""
     audits(
         v,
@@ -1943,7 +1943,7 @@ def ends(v):
     )
 
 
-def full_lists(v):
+def full_lists(v) -> None:
     """A list of 300 drafts, in which another package would win by the order of ties, and one of them at another amount."""
     packages = [(a, b) for a in range(20) for b in range(20)][1:300] + [(19, 19)]
     drafts = [f"draft,east,{a} {b},{10 * (a + b) + (500 if a == b == 19 else 0)}" for a, b in packages]
@@ -2010,7 +2010,7 @@ def spaced(counts):
     return " ".join(map(str, counts))
 
 
-def ties_audited(v):
+def ties_audited(v) -> None:
     """Ties in auctions: who is first in the award, and which package is first, decides."""
     same, tie = [[((1,), 9)], [((1,), 9)]], [[((1,), 5), ((2,), 9)], [((1,), 4)]]
     first = certificate_of((1,), same, (1, 0), {1: (0, 1)}, 1, (9, 0), [((1,), 1, 0, (0, 1))])
@@ -2054,7 +2054,7 @@ def ties_audited(v):
     )
 
 
-def books_of_replies(v):
+def books_of_replies(v) -> None:
     """Each auction whose replies are a case, with a close for its end: its book, shown by a certificate."""
     for name, why, award, log in v.auctions:
         text = log + b"close,,,\n"
@@ -2086,7 +2086,7 @@ def category(name, supply, points=1, reserve=0):
 STEP = ("step", {"excess": 1, "permille": 1})
 
 
-def last_allowed(v):
+def last_allowed(v) -> None:
     """Each limit at the greatest value that it allows: the answer is what comes after it."""
     top = "version = 2\ntick = 68719476736\n"
     bidders = [
@@ -2137,7 +2137,7 @@ def last_allowed(v):
         )
 
 
-def orders_of_limits(v):
+def orders_of_limits(v) -> None:
     """Awards above several limits, of which the first is reported."""
     for supply, bidders, answer in (
         ((9,) * 7, 17, "categories 7"),
@@ -2151,7 +2151,7 @@ def orders_of_limits(v):
         audits(v, f"award-order-{answer.split()[0]}", why, filled(*tables, STEP), "", b"", f"cca: limit {answer}")
 
 
-def words(v):
+def words(v) -> None:
     v.case("words-none", "no file", "check", (), "cca: words")
     v.case("words-one", "a file too few", "check", (BOOK,), "cca: words")
     v.case("words-three", "a file too many", "check", (BOOK, CERT, "more"), "cca: words")

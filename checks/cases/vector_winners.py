@@ -45,10 +45,10 @@ def own_rows(count, losers=FIRST_LOSERS, left_out=()):
     return certificate([100] * count, losers, [50] * count, rows, (0,))
 
 
-def add_winners(v):
+def add_winners(v) -> None:
     """Adds the cases."""
 
-    def both(name, why, amounts, losers, cert, answer):
+    def both(name, why, amounts, losers, cert, answer) -> None:
         """A case of the book, and one of an auction with this book."""
         supply, bids = sale(amounts, losers)
         v.case(name, why, "check", (book_of(supply, bids), cert), answer)
@@ -80,7 +80,7 @@ def add_winners(v):
     weighted(v)
 
 
-def weighted(v):
+def weighted(v) -> None:
     """By weights of 1 to 8 the winners pay 2 to 16 of the 72 that the ninth asks for."""
     book = book_of(*sale(EIGHT, [(8, 72)]))
     weights = lines(" / ".join(["weights 1", *(f"weight b{j} {j}" for j in range(1, 9)), "weight b9 1", "end"]))

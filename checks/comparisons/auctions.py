@@ -58,10 +58,10 @@ def second_audit(*names):
 class Tally:
     """How many runs of each kind there were, how many differ, and which answers came."""
 
-    def __init__(self):
+    def __init__(self) -> None:
         self.runs, self.differ, self.answers = collections.Counter(), collections.Counter(), collections.Counter()
 
-    def add(self, kind, is_same, text, files):
+    def add(self, kind, is_same, text, files) -> None:
         self.runs[kind] += 1
         self.answers.update(answer_of(line) for line in text.splitlines())
         if not is_same:
@@ -69,7 +69,7 @@ class Tally:
             for name, data in files.items():
                 path_of(f"differs-{kind.replace(' ', '-')}-{self.differ[kind]}.{name}", data)
 
-    def print(self):
+    def print(self) -> None:
         for kind, count in self.runs.items():
             print(f"{count} {kind}, {self.differ[kind]} differ")
         print(f"{self.runs.total()} runs, {self.differ.total()} differ")
@@ -119,13 +119,13 @@ def altered(rng, cert):
     )
 
 
-def compare_audit(tally, kind, files):
+def compare_audit(tally, kind, files) -> None:
     names = [path_of(f"audited.{name}", data) for name, data in files.items()]
     printed, status = ours("audit", *names)
     tally.add(kind, (printed, status) == second_audit(*names), printed, files)
 
 
-def compare_audits(rng, tally, names):
+def compare_audits(rng, tally, names) -> None:
     """Audits of the certificate that `award` writes: as it is, altered, and with another award or log."""
     cert = path_of("random.cert")
     if ours("award", *names, cert)[1] != 0:
@@ -142,7 +142,7 @@ def compare_audits(rng, tally, names):
     compare_audit(tally, "audits of other awards", {**files, "award": other})
 
 
-def compare_words(tally):
+def compare_words(tally) -> None:
     """The words, missing files and long ones."""
     award, log, cert = (os.path.join(EXAMPLES, name) for name in ("spectrum.award", "spectrum.log", "day-cramton.cert"))
     long_award, long_log = path_of("long.award", read(award) + b"#" * 65_536), path_of("long.log", b"\n" * 8_388_609)
@@ -187,7 +187,7 @@ def compare_words(tally):
         )
 
 
-def compare_samples(rng, tally):
+def compare_samples(rng, tally) -> None:
     """The samples, and two made auctions."""
     files = [(read(os.path.join(EXAMPLES, "spectrum.award")), read(os.path.join(EXAMPLES, "spectrum.log")))]
     files += [(award_text().encode(), log_text(number).encode()) for number in (0, 4294967295)]
@@ -195,7 +195,7 @@ def compare_samples(rng, tally):
         compare_audits(rng, tally, compare_auction(tally, "samples and made auctions", award, log))
 
 
-def compare_long_logs(tally):
+def compare_long_logs(tally) -> None:
     """Logs of 100,000 records, ordinary and hostile ones."""
     for kind in hostile_logs.LOGS:
         compare_auction(tally, "long logs", hostile_logs.award().encode(), hostile_logs.text_of(kind).encode())

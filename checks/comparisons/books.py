@@ -35,14 +35,14 @@ BREAKS, SLIPS, INPUTS = 5, 4, 2
 class Comparison:
     """Counts by kind and by answer, and the cases that differ."""
 
-    def __init__(self):
+    def __init__(self) -> None:
         self.kinds, self.answers, self.differ = collections.Counter(), collections.Counter(), 0
 
-    def tell(self, kind, what):
+    def tell(self, kind, what) -> None:
         self.differ += 1
         print(f"{kind}: {what}", flush=True)
 
-    def prices(self, kind, words, wanted):
+    def prices(self, kind, words, wanted) -> None:
         """A command that prices has to print what the search finds. It appends to a fresh file."""
         if os.path.exists(words[-1]):
             os.remove(words[-1])
@@ -51,7 +51,7 @@ class Comparison:
         if printed != wanted + "\n":
             self.tell(kind, f"printed\n{printed}wanted\n{wanted}\nof " + "\n".join(map(read, words[1:-1])))
 
-    def answers_of(self, kind, command, tool, names):
+    def answers_of(self, kind, command, tool, names) -> None:
         """Both programs have to answer alike. The names are in the order of the second program, which has the weights
         last."""
         words = [names[0], names[2], names[1]] if len(names) == 3 else names
@@ -158,7 +158,7 @@ def changed(rng, text):
     yield from (("a slip", slipped(rng, text)) for _ in range(SLIPS))
 
 
-def compare_certs(comparison, rng, command, tool, names):
+def compare_certs(comparison, rng, command, tool, names) -> None:
     """The certificate, the second of the names, as it is and changed."""
     if command != "place-check":
         compare_why(comparison, names)
@@ -169,7 +169,7 @@ def compare_certs(comparison, rng, command, tool, names):
         )
 
 
-def compare_why(comparison, names):
+def compare_why(comparison, names) -> None:
     """What tools/why says of a certificate has to come to what is paid, winner by winner and coalition by coalition."""
     book = read_book(load(names[0], "book"))
     weights = read_weights(load(names[2], "weights"), book) if len(names) == 3 else None
@@ -187,7 +187,7 @@ def compare_why(comparison, names):
         comparison.tell("why", f"{sums} of " + "\n".join(map(read, names)))
 
 
-def compare_inputs(comparison, rng, command, tool, names, at, kind):
+def compare_inputs(comparison, rng, command, tool, names, at, kind) -> None:
     """The input at a place of the names, changed, with the certificate that was made."""
     text = read(names[at])
     for worse in [f(rng, text) for f in (slipped, broken) for _ in range(INPUTS)]:
@@ -195,7 +195,7 @@ def compare_inputs(comparison, rng, command, tool, names, at, kind):
         comparison.answers_of(f"{command}, {kind}", command, tool, put)
 
 
-def compare_book(comparison, rng):
+def compare_book(comparison, rng) -> None:
     book = random_book(rng)
     names = [write(out("book"), book_text(*book)), out("cert")]
     comparison.prices("price", ["price", *names], book_prices(book))
@@ -208,7 +208,7 @@ def compare_book(comparison, rng):
     compare_weights(comparison, rng, book, names)
 
 
-def compare_weights(comparison, rng, book, names):
+def compare_weights(comparison, rng, book, names) -> None:
     weights = [rng.choice([1, 1, 2, 3, 7, 20]) for _ in book[2]]
     names = [*names, write(out("weights"), weights_text(weights))]
     comparison.answers_of("weigh-check, certificate: without these weights", "weigh-check", "check", names)
@@ -223,7 +223,7 @@ def compare_weights(comparison, rng, book, names):
     compare_inputs(comparison, rng, "weigh-check", "check", names, 2, "weights")
 
 
-def compare_slots(comparison, rng):
+def compare_slots(comparison, rng) -> None:
     band, bidders = random_slots(rng)
     names = [write(out("slots"), slots_text(band, bidders)), out("places.cert")]
     comparison.prices("place", ["place", *names], place_prices(bidders))
@@ -274,7 +274,7 @@ def slots_about_limits():
         yield "slots 1\n" + "#" * (more - 8)
 
 
-def compare_limits(comparison):
+def compare_limits(comparison) -> None:
     cert = write(out("other.cert"), "cert 1\n")
     for text in books_about_limits():
         comparison.answers_of("check, book about limits", "check", "check", [write(out("book"), text), cert])
@@ -293,7 +293,7 @@ def compare_limits(comparison):
     compare_words(comparison, book)
 
 
-def compare_words(comparison, book):
+def compare_words(comparison, book) -> None:
     """Words that aren't the names of two files, files that are missing, and folders."""
     missing = out("missing")
     for words in [

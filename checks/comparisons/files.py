@@ -153,7 +153,7 @@ def changed(rng, text, other):
 def limited(memory, size):
     """What a run begins with: a limit of memory and one of file size, both in bytes, each perhaps none."""
 
-    def begin():
+    def begin() -> None:
         signal.signal(signal.SIGXFSZ, signal.SIG_IGN)
         for which, most in ((resource.RLIMIT_AS, memory), (resource.RLIMIT_FSIZE, size)):
             if most is not None:

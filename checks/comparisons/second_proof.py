@@ -433,7 +433,7 @@ def drawn_log(rng, award, supply, bidders):
 class Comparison:
     """Runs of both programs, and what they came to."""
 
-    def __init__(self, cca, folder):
+    def __init__(self, cca, folder) -> None:
         self.cca, self.folder = cca, folder
         self.kinds, self.answers, self.replies, self.differ = (collections.Counter() for _ in range(4))
 
@@ -447,7 +447,7 @@ class Comparison:
                 f.write(text)
         return path
 
-    def count(self, kind, same, answer, texts):
+    def count(self, kind, same, answer, texts) -> None:
         self.kinds[kind] += 1
         self.answers[re.sub(r"^(no \w\d|cca: refused \w+) .*", r"\1", answer)] += 1
         if not same:
@@ -458,11 +458,11 @@ class Comparison:
                     f.write(text)
             print(f"{kind}: differs, see {keep}")
 
-    def check(self, kind, command, texts):
+    def check(self, kind, command, texts) -> None:
         """Both programs on these files, in the order of the command's words."""
         self.both(kind, [command] + [self.path(name, text) for name, text in texts.items()], texts)
 
-    def both(self, kind, words, texts):
+    def both(self, kind, words, texts) -> None:
         """Both programs with these words."""
         ours, theirs = (
             subprocess.run([program, *words], capture_output=True, text=True) for program in (self.cca, CHECKER)
@@ -482,7 +482,7 @@ class Comparison:
         with open(cert) as f:
             return f.read()
 
-    def log(self, rng):
+    def log(self, rng) -> None:
         award, supply, bidders = drawn_award(rng)
         texts = {"award": plain_award(award.encode()).decode(), "log": drawn_log(rng, award, supply, bidders)}
         names = [self.path(name, text) for name, text in texts.items()]
@@ -496,7 +496,7 @@ class Comparison:
         self.count("logs", same, last, {**texts, "cca.said": ours.stdout + book, "checker.said": theirs.stdout})
         self.audits(rng, texts)
 
-    def audits(self, rng, texts):
+    def audits(self, rng, texts) -> None:
         """Audits of one log: of its certificate as made, altered and damaged, or of one of no form."""
         cert = self.certificate("award", texts)
         if cert is None:
@@ -522,7 +522,7 @@ def drawn_subject(rng):
     return "price", "check", {"book": book}
 
 
-def runs_of(rng, comparison):
+def runs_of(rng, comparison) -> None:
     """The runs on one subject: certificates as made, altered and damaged, and damaged subjects."""
     write, test, files = drawn_subject(rng)
     cert = comparison.certificate(write, files)
@@ -540,7 +540,7 @@ def runs_of(rng, comparison):
     runs_of_subject(rng, comparison, test, files, cert)
 
 
-def runs_of_subject(rng, comparison, test, files, cert):
+def runs_of_subject(rng, comparison, test, files, cert) -> None:
     """The certificate with a damaged and with another book, weights or slots."""
     another = lambda fields: fields[:-1] + [str(rng.randint(1, 20))] if fields else fields
     for name, text in files.items():
@@ -549,7 +549,7 @@ def runs_of_subject(rng, comparison, test, files, cert):
         comparison.check(f"{test}, another {name}", test, {**files, name: other, "cert": cert})
 
 
-def run_limits(comparison):
+def run_limits(comparison) -> None:
     for book in limit_books():
         comparison.check("check, limits", "check", {"book": book, "cert": "cert 1\n"})
     for slots in limit_slots():
@@ -562,7 +562,7 @@ def run_limits(comparison):
         comparison.check("weigh-check, limits", "weigh-check", {"book": book, "weights": weights, "cert": "cert 1\n"})
 
 
-def run_words(comparison):
+def run_words(comparison) -> None:
     """Words of no plain form, and files that are missing."""
     book, cert, missing = (
         comparison.path("book", "book 1\nsupply 1\nreserve 0\nend\n"),
@@ -589,7 +589,7 @@ def run_words(comparison):
         comparison.both("words and missing files", words, {})
 
 
-def run_spectrum(rng, comparison):
+def run_spectrum(rng, comparison) -> None:
     """The sample of the spectrum, whose certificate is some 300 kilobytes."""
     with open(os.path.join(HERE, "..", "examples", "six-bidders.book")) as f:
         book = f.read()
@@ -600,7 +600,7 @@ def run_spectrum(rng, comparison):
         comparison.check("check, spectrum", "check", {"book": book, "cert": text})
 
 
-def run_all(rng, number, comparison):
+def run_all(rng, number, comparison) -> None:
     """Drawn files, and then words, limits and the sample."""
     while sum(comparison.kinds.values()) < number:
         runs_of(rng, comparison)

@@ -58,7 +58,7 @@ def programs():
 
 
 class Bench(unittest.TestCase):
-    def test_each_program_has_help(self):
+    def test_each_program_has_help(self) -> None:
         """It names its words, says what its docstring says, and runs nothing."""
         for name in programs():
             with self.subTest(name=name):
@@ -67,11 +67,11 @@ class Bench(unittest.TestCase):
                 self.assertTrue(done.stdout.startswith(f"usage: {name} [-h]"), done.stdout)
                 self.assertIn(ast.get_docstring(ast.parse((ROOT / name).read_text())), done.stdout)
 
-    def test_each_comparison_is_run_or_named(self):
+    def test_each_comparison_is_run_or_named(self) -> None:
         self.assertEqual(set(words_of("checks/compare")), {*SMALL, *NOT_RUN})
 
     @with_program
-    def test_comparisons(self):
+    def test_comparisons(self) -> None:
         for what, (words, line) in SMALL.items():
             with self.subTest(what=what):
                 done = ran("checks/compare", what, *words)
@@ -79,11 +79,11 @@ class Bench(unittest.TestCase):
                 self.assertRegex(done.stdout, re.compile(line, re.MULTILINE))
 
     @with_program
-    def test_what_is_drawn_is_kept(self):
+    def test_what_is_drawn_is_kept(self) -> None:
         done = ran("build/draw", "pictures", "reports", "manual", "--compare")
         self.assertEqual((done.returncode, done.stdout, done.stderr), (0, "nothing differs\n", ""))
 
-    def test_a_difference_is_seen(self):
+    def test_a_difference_is_seen(self) -> None:
         """A copy in which a page isn't what is drawn."""
         with tempfile.TemporaryDirectory() as folder:
             for part in ("build", "checks", "docs"):
@@ -96,7 +96,7 @@ class Bench(unittest.TestCase):
             self.assertEqual((done.returncode, done.stderr), (1, ""))
             self.assertTrue(done.stdout.startswith("docs/cca.1 isn't as it is made now"))
 
-    def test_each_task_has_help(self):
+    def test_each_task_has_help(self) -> None:
         for name in ("checks/compare", "bench/times"):
             for what in words_of(name):
                 with self.subTest(name=name, what=what):
@@ -104,7 +104,7 @@ class Bench(unittest.TestCase):
                     self.assertEqual((done.returncode, done.stderr), (0, ""))
                     self.assertTrue(done.stdout.startswith(f"usage: {name} {what} "))
 
-    def test_wrong_words(self):
+    def test_wrong_words(self) -> None:
         for words in (
             ["checks/compare"],
             ["checks/compare", "nothing"],
@@ -133,11 +133,11 @@ class Bench(unittest.TestCase):
                 self.assertEqual((done.returncode, done.stdout), (2, ""))
                 self.assertTrue(done.stderr.startswith(f"usage: {words[0]} "))
 
-    def test_each_exported_function_is_called(self):
+    def test_each_exported_function_is_called(self) -> None:
         done = ran("checks/uncalled")
         self.assertEqual((done.returncode, done.stdout, done.stderr), (0, "", ""))
 
-    def test_an_uncalled_function_is_seen(self):
+    def test_an_uncalled_function_is_seen(self) -> None:
         """A crate that exports a function that is called, and three that are not: one calls itself, one is named by a method, one by a text."""
         source = {
             "lib.rt": "mod a;\n\npub use a::{Kind, again, law, named, told, used};\n",
@@ -157,7 +157,7 @@ class Bench(unittest.TestCase):
         lines = [f"box::{name}: exported, and called by nothing" for name in ("again", "named", "told")]
         self.assertEqual((done.returncode, done.stdout.splitlines(), done.stderr), (1, lines, ""))
 
-    def test_every_program_is_named(self):
+    def test_every_program_is_named(self) -> None:
         """A folder's README names each program of the folder, and no other."""
         for folder in FOLDERS:
             rows = re.findall(r"^\| (`.*?) \|", (ROOT / folder / "README.md").read_text(), re.MULTILINE)
@@ -166,7 +166,7 @@ class Bench(unittest.TestCase):
                 {f"{folder}/{name}" for name in named}, {it for it in programs() if it.startswith(f"{folder}/")}
             )
 
-    def test_site(self):
+    def test_site(self) -> None:
         if not shutil.which("mkdocs"):
             self.skipTest("the package mkdocs isn't installed")
         with tempfile.TemporaryDirectory() as folder:

@@ -45,7 +45,7 @@ def pairs(edit):
 
 
 class EditTests(unittest.TestCase):
-    def test_each_applies(self):
+    def test_each_applies(self) -> None:
         for edit in OF_THE_GATE + MORE:
             with self.subTest(edit=edit.name):
                 name, old, new = pairs(edit)
@@ -55,15 +55,15 @@ class EditTests(unittest.TestCase):
                 for line in old:
                     self.assertEqual(text.count(line), 1, line)
 
-    def test_at_most_four_for_a_crate(self):
+    def test_at_most_four_for_a_crate(self) -> None:
         for crate in {it.parents[1] for it in OF_THE_GATE}:
             self.assertLessEqual(len(list(crate.glob("must-fail/*.edit"))), 4, crate.name)
 
-    def test_the_gate_has_those_that_are_named(self):
+    def test_the_gate_has_those_that_are_named(self) -> None:
         there = {(it.parents[1].name, it.stem) for it in OF_THE_GATE}
         self.assertEqual({(crate, name) for crate, names in NAMED.items() for name in names} - there, set())
 
-    def test_no_name_stands_twice(self):
+    def test_no_name_stands_twice(self) -> None:
         names = [it.stem for it in OF_THE_GATE + MORE]
         self.assertEqual(len(names), len(set(names)))
 

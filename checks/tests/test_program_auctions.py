@@ -73,7 +73,7 @@ class BesideTheSecondProgram(unittest.TestCase):
         self.assertEqual(run("auction", "award", "log", "book", award=award, log=log), wanted)
         return wanted
 
-    def test_drawn_auctions(self):
+    def test_drawn_auctions(self) -> None:
         rng, texts, turned = random.Random(SEED), [], collections.Counter()
         for number in range(NUMBER):
             award, log = (text.encode() for text in drawn(rng)[:2])
@@ -88,7 +88,7 @@ class BesideTheSecondProgram(unittest.TestCase):
             with self.subTest(version=version):
                 self.assertGreater(turned[version], 2, "too few logs in which the final cap turns a reply")
 
-    def test_draft_list_of_300(self):
+    def test_draft_list_of_300(self) -> None:
         drafts = [f"draft,b1,{a} {b},{10 * a + 7 * b}" for a, b in itertools.product(range(18), range(17))]
         ended = self.agreed(LONG, lines(" / ".join(["close,,,", *drafts, "submit,b1,,", "close,,,"])))
         self.assertIn("\n302 ok\n303 full 300\n", ended.printed)

@@ -118,7 +118,7 @@ LIMITS = [
 
 @with_program
 class FaultyAwards(unittest.TestCase):
-    def stopped(self, award, line, status):
+    def stopped(self, award, line, status) -> None:
         """Nothing but this line is printed of the award, and no book is written."""
         award = award if isinstance(award, bytes) else award.encode()
         with self.subTest(award=award):
@@ -127,33 +127,33 @@ class FaultyAwards(unittest.TestCase):
                 Ended(f"cca: {line}\n", status, {"award": award, "log": LOG}),
             )
 
-    def refused(self, award, numbers):
+    def refused(self, award, numbers) -> None:
         self.stopped(award, f"refused award {numbers}", 3)
 
-    def test_top(self):
+    def test_top(self) -> None:
         for text, numbers in TOPS:
             self.refused(text, numbers)
 
-    def test_lists(self):
+    def test_lists(self) -> None:
         for top, behind, numbers in LISTS:
             self.refused(TOP + top + LOT + behind, numbers)
 
-    def test_categories(self):
+    def test_categories(self) -> None:
         for text, numbers in CATEGORIES:
             self.refused(TOP + LOT + "[[category]]\n" + text, numbers)
         for text, numbers in OTHER_KEYS:
             self.refused(TOP + LOT + text, numbers)
 
-    def test_bidders_and_steps(self):
+    def test_bidders_and_steps(self) -> None:
         for name, rows in TABLES.items():
             for text, numbers in rows:
                 self.refused(f"{TOP}{LOT}[[{name}]]\n{text}", numbers)
 
-    def test_caps(self):
+    def test_caps(self) -> None:
         for text, numbers in SPECTRUM_CAPS:
             self.refused(TOP + LOT + STEP + "[[cap]]\n" + text, numbers)
 
-    def test_20_steps_and_20_caps(self):
+    def test_20_steps_and_20_caps(self) -> None:
         award = (TOP + LOT + STEPS + CAPS).encode()
         book = lines("book 1 / supply 3 / reserve 10 / end")
         self.assertEqual(
@@ -163,11 +163,11 @@ class FaultyAwards(unittest.TestCase):
         self.refused(TOP + LOT + STEPS + "[[step]]\nexcess = 21\npermille = 1\n", "12 0")
         self.refused(TOP + LOT + STEP + CAPS + "[[cap]]\nweight = [1]\nlimit = 1\n", "15 0")
 
-    def test_no_toml(self):
+    def test_no_toml(self) -> None:
         for text in NO_TOML:
             self.refused(text, "0 0")
 
-    def test_limits(self):
+    def test_limits(self) -> None:
         for supplies, limit in LIMITS:
             categories = [
                 f'[[category]]\nname = "c{c}"\nsupply = {supply}\npoints = 0\nreserve = 0\n'

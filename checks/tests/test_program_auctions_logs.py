@@ -192,14 +192,14 @@ def numbered(text):
 
 
 class Auctions(unittest.TestCase):
-    def ends(self, award, log, printed, status, book=None):
+    def ends(self, award, log, printed, status, book=None) -> None:
         """These lines are printed of an award and a log, and this book alone is written."""
         files = {"award": award.encode(), "log": log if isinstance(log, bytes) else lines(log)}
         ended = run("auction", "award", "log", "book", **files)
         with self.subTest(log=files["log"][:1000]):
             self.assertEqual(ended, Ended(printed, status, files if book is None else {**files, "book": lines(book)}))
 
-    def has_replies(self, award, log, text):
+    def has_replies(self, award, log, text) -> None:
         """The log is read, gets these replies and isn't complete."""
         printed = numbered(text)
         self.ends(award, log, f"{printed}cca: refused log {printed.count(chr(10)) + 1}\n", 3)
@@ -207,16 +207,16 @@ class Auctions(unittest.TestCase):
 
 @with_program
 class Records(Auctions):
-    def test_spellings(self):
+    def test_spellings(self) -> None:
         for log, text in SPELLINGS:
             self.has_replies(PAIR, log, text)
 
-    def test_faults(self):
+    def test_faults(self) -> None:
         for log, number in FAULTS:
             for rest in b"", b"close,,,\nclose,,,\n":
                 self.ends(PAIR, log + rest, f"cca: refused log {number}\n", 3)
 
-    def test_100000_records(self):
+    def test_100000_records(self) -> None:
         log, text = b"draft,aaaaaaaaaaaaaaaaaaaa,1 2,1000000000000000000\n" * 100_000, behind(99_999, "stage", "stage")
         self.has_replies(PAIR, log, text)
         self.has_replies(PAIR, log + b"\n\n", text)
@@ -225,16 +225,16 @@ class Records(Auctions):
 
 @with_program
 class Replies(Auctions):
-    def test_twelfth_records(self):
+    def test_twelfth_records(self) -> None:
         for award, log, text in TWELFTH:
             self.assertEqual(log.count(" / "), 11)
             self.has_replies(award, log, text)
 
-    def test_twelfth_record_closes(self):
+    def test_twelfth_record_closes(self) -> None:
         log, text = in_sealed_round("close,,,", "closed")
         self.ends(PAIR, log, numbered(text), 0, "book 1 / supply 3 1 / reserve 10 1 / bidder east / bidder west / end")
 
-    def test_twelfth_record_is_above_the_greatest_price(self):
+    def test_twelfth_record_is_above_the_greatest_price(self) -> None:
         award = SMALL.replace("reserve = 10", "reserve = 68650825911").replace("permille = 200", "permille = 1")
         printed = numbered(behind(9, "stage", "ok / ok / price-top 1 68719476737")) + "cca: limit price 68719476737\n"
         self.ends(award, behind(9, "drop,east,1,", ROUND), printed, 7)
@@ -242,7 +242,7 @@ class Replies(Auctions):
 
 @with_program
 class Clock(Auctions):
-    def test_raises(self):
+    def test_raises(self) -> None:
         for tick, steps, price, excess, raised in RAISES:
             award = (
                 f'version = 1\ntick = {tick}\n[[category]]\nname = "lot"\nsupply = 5\npoints = 1\nreserve = {price}\n'
@@ -251,14 +251,14 @@ class Clock(Auctions):
             award += "".join(f"[[step]]\nexcess = {least}\npermille = {permille}\n" for least, permille in steps)
             self.has_replies(award, f"bid,east,5, / bid,west,{excess}, / close,,,", f"ok / ok / round 2 {raised}")
 
-    def test_greatest_price(self):
+    def test_greatest_price(self) -> None:
         # the second close is refused by the same price: the first one left the prices as they were
         printed = (
             numbered("ok / ok / price-top 1 82463372084 / price-top 1 82463372084") + "cca: limit price 82463372084\n"
         )
         self.ends(SMALL.replace("reserve = 10", "reserve = 68719476736"), f"{ROUND} / close,,,", printed, 7)
 
-    def test_300_rounds(self):
+    def test_300_rounds(self) -> None:
         closes = [f"round {number} {number + 9}" for number in range(2, 301)] + ["full 300"]
         printed = numbered(" / ".join(f"ok / ok / {close}" for close in closes)) + "cca: limit rounds 301\n"
         self.assertTrue(printed.endswith("897 round 300 309\n898 ok\n899 ok\n900 full 300\ncca: limit rounds 301\n"))
@@ -267,12 +267,12 @@ class Clock(Auctions):
 
 @with_program
 class Worked(Auctions):
-    def test_books(self):
+    def test_books(self) -> None:
         for name, (log, text, bids) in BOOKS.items():
             with self.subTest(name):
                 self.ends(SMALL, log, numbered(text), 0, f"book 1 / supply 3 / reserve 10 / {bids} / end")
 
-    def test_no_books(self):
+    def test_no_books(self) -> None:
         for name, (award, log, text) in NO_BOOKS.items():
             with self.subTest(name):
                 self.has_replies(award, log, text)

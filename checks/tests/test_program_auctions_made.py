@@ -77,7 +77,7 @@ def made(number):
 
 @with_program
 class MadeAuctions(unittest.TestCase):
-    def test_logs(self):
+    def test_logs(self) -> None:
         for number, size, weighed, first in LOGS:
             with self.subTest(number=number):
                 ended, award, log = made(number)
@@ -88,11 +88,11 @@ class MadeAuctions(unittest.TestCase):
                 self.assertTrue(log.endswith(b"\nsubmit,b12,,\nclose,,,\n"))
                 self.assertEqual((award.decode(), log.decode()), (award_text(), log_text(number)))
 
-    def test_award(self):
+    def test_award(self) -> None:
         award = made(7)[1]
         self.assertEqual((len(award), award[: len(FRONT)], award[-len(END) :]), (836, FRONT, END))
 
-    def test_both_are_read(self):
+    def test_both_are_read(self) -> None:
         _, award, log = made(7)
         ended = run("auction", "award", "log", "book", award=award, log=log)
         self.assertEqual((ended.status, ended.printed.count("\n")), (0, 1339))

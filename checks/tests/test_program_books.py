@@ -113,7 +113,7 @@ PAIRS = (
 
 
 class Stopping(unittest.TestCase):
-    def stops(self, words, files, line, status):
+    def stops(self, words, files, line, status) -> None:
         """Asserts that these words stop with this line and status over these files, and leave no others."""
         left = {name: text.encode() for name, text in files.items()}
         self.assertEqual(run(*words.split(" "), **files), (line + "\n", status, left))
@@ -121,7 +121,7 @@ class Stopping(unittest.TestCase):
 
 @with_program
 class Books(Stopping):
-    def test_greatest_numbers(self):
+    def test_greatest_numbers(self) -> None:
         rows = [
             (
                 FRONT + "bid 1 0 4398046511104\nbidder a_name_of_20_bytes__\nend\n",
@@ -134,7 +134,7 @@ class Books(Stopping):
             with self.subTest(book=book):
                 self.assertEqual(run("win", "book", book=book)[:2], (printed, 0))
 
-    def test_faulty_lines(self):
+    def test_faulty_lines(self) -> None:
         rows = [
             *FAULTY_HEADS,
             *((FRONT + rest, place) for rest, place in FAULTY_LINES),
@@ -145,21 +145,21 @@ class Books(Stopping):
             with self.subTest(book=book):
                 self.stops("win book", {"book": book}, f"cca: refused book {place}", 3)
 
-    def test_limits_of_the_supply(self):
+    def test_limits_of_the_supply(self) -> None:
         """The second line has its line feed before it exceeds a limit."""
         for supply, limit in ("1 1 1 1 1 1 1", "categories 7"), ("41", "lots 41"), ("3 3 3 3 7 8", "states 18432"):
             with self.subTest(supply=supply):
                 self.stops("win book", {"book": f"book 1\nsupply {supply}"}, "cca: refused book 7", 3)
                 self.stops("win book", {"book": f"book 1\nsupply {supply}\nno line\n"}, f"cca: limit {limit}", 7)
 
-    def test_seventeenth_bidder(self):
+    def test_seventeenth_bidder(self) -> None:
         """26 bytes, nine lines of 10 bytes and seven of 11 are before the line whose name is used."""
         sixteen = "book 1\nsupply 1\nreserve 0\n" + "".join(f"bidder b{j}\n" for j in range(1, 17))
         self.assertEqual(run("win", "book", book=sixteen + "end\n")[:2], ("net 0\n", 0))
         self.stops("win book", {"book": sixteen + "bidder b17\nend\n"}, "cca: limit bidders 17", 7)
         self.stops("win book", {"book": sixteen + "bidder b16\nend\n"}, "cca: refused book 193", 3)
 
-    def test_bid_of_number_601(self):
+    def test_bid_of_number_601(self) -> None:
         """All bids are worth 1, so the first wins."""
         bids = "".join(f"bid {number // 81} {number // 9 % 9} {number % 9} 1\n" for number in range(1, 601))
         book = "book 1\nsupply 8 8 8\nreserve 0 0 0\nbidder east\n" + bids
@@ -169,7 +169,7 @@ class Books(Stopping):
 
 @with_program
 class Weights(Stopping):
-    def test_faulty_lines(self):
+    def test_faulty_lines(self) -> None:
         for weights, place in FAULTY_WEIGHTS:
             with self.subTest(weights=weights):
                 self.stops(
@@ -179,13 +179,13 @@ class Weights(Stopping):
                     3,
                 )
 
-    def test_weights_of_no_bidders(self):
+    def test_weights_of_no_bidders(self) -> None:
         ended = run(
             "weigh", "book", "weights", "cert", book="book 1\nsupply 2\nreserve 0\nend\n", weights="weights 1\nend\n"
         )
         self.assertEqual(ended[:2], ("net 0\nrevenue 0\n", 0))
 
-    def test_least_and_greatest_weight(self):
+    def test_least_and_greatest_weight(self) -> None:
         """Both lots alone bring 21, the Vickrey prices are 0, and the two winners share the 21 by their weights of 1
         and 20."""
         book = "book 1\nsupply 1 1\nreserve 0 0\nbidder east\nbid 1 0 30\nbidder west_2\nbid 0 1 30\nbidder both\nbid 1 1 21\nend\n"
@@ -198,12 +198,12 @@ class Weights(Stopping):
 
 @with_program
 class Reviews(Stopping):
-    def test_faulty_lines(self):
+    def test_faulty_lines(self) -> None:
         for edits, place in FAULTY_EDITS:
             with self.subTest(edits=edits):
                 self.stops("review book edits", {"book": NO_BIDDERS, "edits": edits}, f"cca: refused edits {place}", 3)
 
-    def test_a_thousand_edits(self):
+    def test_a_thousand_edits(self) -> None:
         def edits(count):
             return "edits 1\n" + "drop b1 1\n" * count + "end\n"
 
@@ -211,7 +211,7 @@ class Reviews(Stopping):
         self.assertEqual(run("review", "book", "edits", book=NO_BIDDERS, edits=edits(1000))[:2], (printed, 0))
         self.stops("review book edits", {"book": NO_BIDDERS, "edits": edits(1001)}, "cca: limit records 1001", 7)
 
-    def test_what_each_edit_makes_of_a_book(self):
+    def test_what_each_edit_makes_of_a_book(self) -> None:
         """In the third book b1 and b4 win with 28 + 23, and without the bid of b1 the 50 of b3 is more than 14 + 20 or
         23."""
         edits = "edits 1\nraise b3 1 1 50\nadd b4 0 1 23\ndrop b1 1 0\nraise b3 1 1 50\nadd north 1 0 5\nend\n"
@@ -221,7 +221,7 @@ class Reviews(Stopping):
         )
         self.assertEqual(run("review", "book", "edits", book=DAY_CRAMTON, edits=edits)[:2], (printed, 0))
 
-    def test_each_refusal(self):
+    def test_each_refusal(self) -> None:
         book = "book 1\nsupply 2\nreserve 3\nbidder b1\nbid 1 5\nend\n"
         edits = "edits 1\nadd b1 3 9\ndrop b1 0\nadd b1 1 9\ndrop b1 2\nadd b1 2 5\nraise b1 1 4398046511105\nend\n"
         printed = (
@@ -230,7 +230,7 @@ class Reviews(Stopping):
         )
         self.assertEqual(run("review", "book", "edits", book=book, edits=edits)[:2], (printed, 0))
 
-    def test_most_bids(self):
+    def test_most_bids(self) -> None:
         """A bidder has no room for a bid past 600, and has it again once one is dropped. Bid `n` is for the lots that
         its three digits say."""
 
@@ -249,7 +249,7 @@ class Reviews(Stopping):
         )
         self.assertEqual(run("review", "book", "edits", book=book, edits=edits)[:2], (printed, 0))
 
-    def test_book_without_bidders(self):
+    def test_book_without_bidders(self) -> None:
         self.assertEqual(
             run("review", "book", "edits", book=NO_BIDDERS, edits="edits 1\nend\n")[:2], ("0 net 0 choice\nnet 0\n", 0)
         )
@@ -257,10 +257,10 @@ class Reviews(Stopping):
 
 @with_program
 class Prices(unittest.TestCase):
-    def prints(self, book, flags, printed):
+    def prints(self, book, flags, printed) -> None:
         self.assertEqual(run("price", "book", "cert", *flags, book=book)[:2], (printed, 0))
 
-    def test_json_of_day_and_cramton(self):
+    def test_json_of_day_and_cramton(self) -> None:
         self.prints(
             DAY_CRAMTON,
             ["--json"],
@@ -268,7 +268,7 @@ class Prices(unittest.TestCase):
             '{"bid":20,"name":"b2","package":[0,1],"pays":"15","vickrey":12}]}\n',
         )
 
-    def test_fractions_and_reserves(self):
+    def test_fractions_and_reserves(self) -> None:
         """Net of reserve a and b bid 15 each and win with 30, and c bids 36 less 15, which is 21.
 
         Without a or without b the best is these 21, so both Vickrey prices are 21 - 30 + 15 = 6. c offers 9 more than
@@ -289,7 +289,7 @@ class Prices(unittest.TestCase):
         self.prints(HALVES, ["--rounds", "--json"], rounds + winners)
         self.prints(HALVES, ["--json", "--rounds"], rounds + winners)
 
-    def test_fraction_of_the_revenue(self):
+    def test_fraction_of_the_revenue(self) -> None:
         """Net of reserve a, b and c bid 10 each and win with 30, and each two of them have to pay the 7 of who bids for
         both lots.
 

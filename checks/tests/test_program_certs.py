@@ -103,19 +103,19 @@ class Checks(unittest.TestCase):
     def check(self, cert, book=BOOK):
         return run("check", "book", "cert", book=book, cert=cert)[:2]
 
-    def stops(self, cert, place, book=BOOK):
+    def stops(self, cert, place, book=BOOK) -> None:
         self.assertEqual(self.check(cert, book), (f"cca: refused cert {place}\n", 3))
 
-    def test_right_certificate(self):
+    def test_right_certificate(self) -> None:
         self.assertEqual(len(CERT), 476)
         self.assertEqual(self.check(CERT), (YES, 0))
 
-    def test_faulty_heads(self):
+    def test_faulty_heads(self) -> None:
         for cert, place in FAULTY_HEADS:
             with self.subTest(cert=cert):
                 self.stops(cert, place, NOBODY)
 
-    def test_nobody(self):
+    def test_nobody(self) -> None:
         self.assertEqual(
             self.check(NOBODY_PAYS + "rows 0\nlowered\nt 0 0\nend\n", NOBODY), ("yes\nnet 0\nrevenue 0\n", 0)
         )
@@ -123,12 +123,12 @@ class Checks(unittest.TestCase):
             with self.subTest(rest=rest):
                 self.stops(NOBODY_PAYS + rest, place, NOBODY)
 
-    def test_faulty_lines_behind_the_head(self):
+    def test_faulty_lines_behind_the_head(self) -> None:
         for front, rest, place in FAULTY_LINES:
             with self.subTest(front=front, rest=rest):
                 self.stops(front + rest, place, TWO)
 
-    def test_versions(self):
+    def test_versions(self) -> None:
         for bidders, supply, cert, place in VERSIONS:
             with self.subTest(bidders=bidders, supply=supply, cert=cert):
                 self.stops(cert, place, book_of(supply, [f"b{j}" for j in range(bidders)]))
@@ -142,22 +142,22 @@ class Prices(unittest.TestCase):
         self.assertEqual(ended.status, 0, ended.printed)
         return [line for line in ended.files["cert"].decode().splitlines() if line.split(" ")[0] in starts]
 
-    def stops(self, words, line, status, **files):
+    def stops(self, words, line, status, **files) -> None:
         left = {name: text.encode() for name, text in files.items()}
         self.assertEqual(run(*words.split(" "), **files), (line + "\n", status, left))
 
-    def test_certificate_of_day_and_cramton(self):
+    def test_certificate_of_day_and_cramton(self) -> None:
         """After one turn nobody blocks."""
         ended = run("price", "book", "cert", "--rounds", book=BOOK)
         turns = "round 1 point 14 12 row 1 2 choice 0 0 1 0 0 excess 6\nround 2 point 17 15 end\n"
         self.assertEqual(ended, (turns + YES.removeprefix("yes\n"), 0, {"book": BOOK.encode(), "cert": CERT.encode()}))
 
-    def test_weights_share_what_is_above(self):
+    def test_weights_share_what_is_above(self) -> None:
         weights = weights_of(BOOK, (1, 3, 1, 1, 1))
         found = self.lines_of("weigh book weights cert", ("den", "pay", "rows", "mult"), book=BOOK, weights=weights)
         self.assertEqual(found, ["den 2", "pay 31 33 0 0 0", "rows 1", "mult 2 3"])
 
-    def test_six_winners_weigh_alike(self):
+    def test_six_winners_weigh_alike(self) -> None:
         book = book_of("6", "abcdef", "1 5")
         self.stops(
             "weigh book weights cert",
@@ -169,7 +169,7 @@ class Prices(unittest.TestCase):
         found = self.lines_of("weigh book weights cert", ("pay",), book=book, weights=weights_of(book, (1,) * 6))
         self.assertEqual(found, ["pay 0 0 0 0 0 0"])
 
-    def test_more_than_six_winners_are_counted(self):
+    def test_more_than_six_winners_are_counted(self) -> None:
         self.stops("price book cert", "cca: limit winners 7", 7, book=book_of("7", "abcdefg", "1 1"))
 
 

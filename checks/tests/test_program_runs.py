@@ -25,7 +25,7 @@ EQUALS = book_of((1,), [[((1,), 9)]] * 4, ["n1", "n2", "n3", "n4"])
 
 
 class Case(unittest.TestCase):
-    def ends(self, words, given, told, status=0, **made):
+    def ends(self, words, given, told, status=0, **made) -> None:
         """A run over the given files alone prints these lines with this status, and changes only what it made or
         appended to."""
         ended = run(*words.split(), **given)
@@ -35,7 +35,7 @@ class Case(unittest.TestCase):
 
 @with_program
 class Words(Case):
-    def test_others_are_refused(self):
+    def test_others_are_refused(self) -> None:
         for words in [
             [],
             ["win"],
@@ -134,19 +134,19 @@ WINNERS = [
 
 @with_program
 class Win(Case):
-    def test_winners(self):
+    def test_winners(self) -> None:
         for name, book, _, winners in WINNERS:
             with self.subTest(name):
                 self.ends("win BOOK", {"BOOK": book}, winners)
 
-    def test_numbers_of_the_choice(self):
+    def test_numbers_of_the_choice(self) -> None:
         """`review` says the numbers of the winning choice before any edit."""
         for name, book, numbers, winners in WINNERS:
             with self.subTest(name):
                 before = " ".join(["0", winners.split(" / ")[-1], "choice", *numbers.split()])
                 self.ends("review BOOK EDITS", {"BOOK": book, "EDITS": b"edits 1\nend\n"}, f"{before} / {winners}")
 
-    def test_faulty_books(self):
+    def test_faulty_books(self) -> None:
         for name, book, line, status in [
             (
                 "leading zero",
@@ -261,7 +261,7 @@ OBJECT = (
 
 @with_program
 class Price(Case):
-    def test_priced_and_checked(self):
+    def test_priced_and_checked(self) -> None:
         """Without the lines of the turns and with them the certificate is the same, and it passes."""
         for name, book, rounds, outcome in PRICED:
             with self.subTest(name):
@@ -270,18 +270,18 @@ class Price(Case):
                 self.ends("price BOOK CERT --rounds", {"BOOK": book}, f"{rounds} / {outcome}", CERT=cert)
                 self.ends("check BOOK CERT", {"BOOK": book, "CERT": cert}, f"yes / {outcome}")
 
-    def test_object(self):
+    def test_object(self) -> None:
         for options, rounds in ("--json", ""), ("--json --rounds", ROUNDS), ("--rounds --json", ROUNDS):
             with self.subTest(options):
                 self.ends(f"price BOOK CERT {options}", {"BOOK": DAY_CRAMTON}, OBJECT % rounds, CERT=CERT)
 
-    def test_certificate_is_appended(self):
+    def test_certificate_is_appended(self) -> None:
         for book, cert, outcome in (NOBODY, NOBODY_CERT, "net 0 / revenue 0"), (DAY_CRAMTON, CERT, PRICES):
             with self.subTest(outcome):
                 self.ends("price BOOK CERT", {"BOOK": book}, outcome, CERT=cert)
                 self.ends("price BOOK CERT", {"BOOK": book, "CERT": b"cert 1\n"}, outcome, CERT=b"cert 1\n" + cert)
 
-    def test_limit_of_winners(self):
+    def test_limit_of_winners(self) -> None:
         self.ends("price BOOK CERT --rounds", {"BOOK": ELEVEN}, "cca: limit winners 11", 7)
 
 
@@ -313,29 +313,29 @@ class Weigh(Case):
         self.ends("weigh-check BOOK WEIGHTS CERT", given | {"CERT": cert}, f"yes / {told}")
         return cert
 
-    def test_shares(self):
+    def test_shares(self) -> None:
         given = {"BOOK": DAY_CRAMTON, "WEIGHTS": ONE_HEAVY}
         cert = self.priced(given, HEAVY_PRICES)
         self.ends("weigh BOOK WEIGHTS CERT --rounds", given, f"{HEAVY_ROUNDS} / {HEAVY_PRICES}", CERT=cert)
         self.ends("weigh BOOK WEIGHTS CERT --json", given, HEAVY_OBJECT, CERT=cert)
 
-    def test_certificate_by_other_weights(self):
+    def test_certificate_by_other_weights(self) -> None:
         given = {"BOOK": DAY_CRAMTON, "CERT": CERT}
         self.ends("weigh-check BOOK WEIGHTS CERT", given | {"WEIGHTS": ONE_HEAVY}, "no C8 3", 1)
         alike = weights_of(b1=1, b2=1, b3=1, b4=1, b5=1)
         self.ends("weigh-check BOOK WEIGHTS CERT", given | {"WEIGHTS": alike}, f"yes / {PRICES}")
 
-    def test_six_winners_who_weigh_alike(self):
+    def test_six_winners_who_weigh_alike(self) -> None:
         """The six pay nothing: nobody else wants their lots."""
         told = " / ".join(f"winner {name} 1 bid 5 vickrey 0 pays 0" for name in "abcdef") + " / net 30 / revenue 0"
         self.priced({"BOOK": SIX, "WEIGHTS": SIX_ALIKE}, told)
 
-    def test_five_winners_and_a_heavy_loser(self):
+    def test_five_winners_and_a_heavy_loser(self) -> None:
         """Each of the five pays the 1 that the sixth would have paid for its lot."""
         told = " / ".join(f"winner {name} 1 bid 5 vickrey 1 pays 1" for name in "abcde") + " / net 25 / revenue 5"
         self.priced({"BOOK": FIVE_OF_SIX, "WEIGHTS": weights_of(a=1, b=1, c=1, d=1, e=1, f=20)}, told)
 
-    def test_limit_of_winners_of_other_weights(self):
+    def test_limit_of_winners_of_other_weights(self) -> None:
         for book, weights, line in [
             (SIX, weights_of(a=2, b=1, c=1, d=1, e=1, f=1), "cca: limit winners 6"),
             (FIVE_OF_SIX, weights_of(a=2, b=2, c=2, d=2, e=2, f=2), "cca: limit winners 5"),
@@ -343,7 +343,7 @@ class Weigh(Case):
             with self.subTest(line):
                 self.ends("weigh BOOK WEIGHTS CERT", {"BOOK": book, "WEIGHTS": weights}, line, 7)
 
-    def test_weights_are_read_before_the_certificate(self):
+    def test_weights_are_read_before_the_certificate(self) -> None:
         self.ends(
             "weigh-check BOOK WEIGHTS CERT", {"BOOK": DAY_CRAMTON, "WEIGHTS": SIX_ALIKE}, "cca: refused weights 10", 3
         )
@@ -354,7 +354,7 @@ RESERVED = lines("book 1 / supply 2 / reserve 10 / bidder east / bid 1 15 / bidd
 
 @with_program
 class Review(Case):
-    def test_edits(self):
+    def test_edits(self) -> None:
         for name, book, edits, told in [
             (
                 "Day and Cramton",
@@ -384,12 +384,12 @@ class Review(Case):
             with self.subTest(name):
                 self.ends("review BOOK EDITS", {"BOOK": book, "EDITS": edits}, told)
 
-    def test_faulty_edits(self):
+    def test_faulty_edits(self) -> None:
         self.ends(
             "review BOOK EDITS", {"BOOK": NOBODY, "EDITS": lines("edits 1 / add b1 0 / end")}, "cca: refused edits 8", 3
         )
 
-    def test_limit_of_edits(self):
+    def test_limit_of_edits(self) -> None:
         edits = b"edits 1\n" + b"drop b1 1\n" * 1001 + b"end\n"
         self.ends("review BOOK EDITS", {"BOOK": NOBODY, "EDITS": edits}, "cca: limit records 1001", 7)
 

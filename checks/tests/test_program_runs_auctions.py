@@ -19,7 +19,7 @@ TWO_LISTS_BOOK = "book 1 / supply 3 / reserve 10 / bidder east / bid 1 20 / bid 
 
 @with_program
 class Auction(Case):
-    def test_books(self):
+    def test_books(self) -> None:
         together = "draft,east,1,20 / draft,west,2,30 / submit,east,, / submit,west,, / close,,,"
         in_turn = "draft,east,1,20 / submit,east,, / draft,west,2,30 / submit,west,, / close,,,"
         for name, log, replies, book in [
@@ -38,7 +38,7 @@ class Auction(Case):
             with self.subTest(name):
                 self.ends("auction AWARD LOG BOOK", {"AWARD": AWARD, "LOG": log}, replies, BOOK=lines(book))
 
-    def test_no_book(self):
+    def test_no_book(self) -> None:
         """After the replies comes why there is no book."""
         greatest = AWARD.replace(b"reserve = 10\n", b"reserve = 68719476736\n")
         for award, told, status in [
@@ -48,7 +48,7 @@ class Auction(Case):
             with self.subTest(told):
                 self.ends("auction AWARD LOG BOOK", {"AWARD": award, "LOG": lines(FIRST)}, told, status)
 
-    def test_faulty_files(self):
+    def test_faulty_files(self) -> None:
         three_fields = lines(f"bid,east,3, / bid,west,2 / {SECOND}")
         for award, log, line in [
             (AWARD, three_fields, "cca: refused log 2"),
@@ -57,7 +57,7 @@ class Auction(Case):
             with self.subTest(line):
                 self.ends("auction AWARD LOG BOOK", {"AWARD": award, "LOG": log}, line, 3)
 
-    def test_limit_of_rounds(self):
+    def test_limit_of_rounds(self) -> None:
         """In each of 300 rounds too much is asked for, and the price rises by one tick."""
         given = {"AWARD": AWARD.replace(b"permille = 200", b"permille = 1"), "LOG": lines(FIRST) * 300}
         ended = run("auction", "AWARD", "LOG", "BOOK", **given)
@@ -85,7 +85,7 @@ SAMPLE_PRICES = (
 
 @with_program
 class Award(Case):
-    def test_priced_and_audited(self):
+    def test_priced_and_audited(self) -> None:
         for name, log, prices in ("entry lowered", LOWERED, LOWERED_PRICES), ("entry dropped", DROPPED, DROPPED_PRICES):
             with self.subTest(name):
                 given = {"AWARD": AWARD, "LOG": log}
@@ -93,19 +93,19 @@ class Award(Case):
                 self.ends("award AWARD LOG CERT", given, prices, CERT=cert)
                 self.ends("audit AWARD LOG CERT", given | {"CERT": cert}, f"yes / {prices}")
 
-    def test_sample(self):
+    def test_sample(self) -> None:
         """The certificate of the sample in examples/ is what the program makes of it."""
         given, cert = {"AWARD": sample("spectrum.award"), "LOG": sample("spectrum.log")}, sample("spectrum.cert")
         self.ends("award AWARD LOG CERT", given, SAMPLE_PRICES, CERT=cert)
         self.ends("audit AWARD LOG CERT", given | {"CERT": cert}, f"yes / {SAMPLE_PRICES}")
 
-    def test_turns_and_object(self):
+    def test_turns_and_object(self) -> None:
         given = {"AWARD": AWARD, "LOG": LOWERED}
         cert = run("award", "AWARD", "LOG", "CERT", **given).files["CERT"]
         self.ends("award AWARD LOG CERT --rounds", given, f"round 1 point 0 4 end / {LOWERED_PRICES}", CERT=cert)
         self.ends("award AWARD LOG CERT --json", given, LOWERED_OBJECT, CERT=cert)
 
-    def test_log_is_refused_before_the_certificate(self):
+    def test_log_is_refused_before_the_certificate(self) -> None:
         self.ends("audit AWARD LOG CERT", {"AWARD": AWARD, "LOG": lines(FIRST)}, "cca: refused log 4", 3)
 
 
@@ -126,7 +126,7 @@ MADE = "made 7 bidders 12 lines 1339\n"
 
 @with_program
 class Make(Case):
-    def test_same_bytes_twice(self):
+    def test_same_bytes_twice(self) -> None:
         made = run("make", "7", "AWARD", "LOG")
         self.assertEqual((made.printed, made.status, sorted(made.files)), (MADE, 0, ["AWARD", "LOG"]))
         self.assertEqual(made.files["AWARD"], MADE_AWARD)
@@ -138,7 +138,7 @@ class Make(Case):
         )
         self.assertEqual(run("make", "7", "AWARD", "LOG"), made)
 
-    def test_other_words_are_refused(self):
+    def test_other_words_are_refused(self) -> None:
         for words in [
             ["7", "AWARD"],
             ["7", "AWARD", "AWARD"],
@@ -155,7 +155,7 @@ class Make(Case):
             with self.subTest(words=words):
                 self.assertEqual(run("make", *words), ("cca: words\n", 2, {}))
 
-    def test_least_and_greatest_number(self):
+    def test_least_and_greatest_number(self) -> None:
         """Their auctions are priced, and the audit of the certificate prints the same prices."""
         for number in "0", "4294967295":
             with self.subTest(number):
@@ -167,7 +167,7 @@ class Make(Case):
                     run("audit", "AWARD", "LOG", "CERT", **priced.files), ("yes\n" + priced.printed, 0, priced.files)
                 )
 
-    def test_number_is_no_file(self):
+    def test_number_is_no_file(self) -> None:
         log = run("make", "7", "AWARD", "LOG").files["LOG"]
         self.assertEqual(run("make", "7", "7", "LOG"), (MADE, 0, {"7": MADE_AWARD, "LOG": log}))
 

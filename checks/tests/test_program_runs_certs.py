@@ -45,10 +45,10 @@ def two_globals_cert(*rows):
 
 @with_program
 class Books(Case):
-    def judges(self, book, cert, told, status=0):
+    def judges(self, book, cert, told, status=0) -> None:
         self.ends("check BOOK CERT", {"BOOK": book, "CERT": cert}, told, status)
 
-    def test_yes(self):
+    def test_yes(self) -> None:
         """In the last two one row of a single winner has a negative second multiplier, where its first is positive."""
         last = ((1, 2), 1, 0, (0, 0, 1, 1, 0)), ((2, 3), 0, 8, (1, 0, 0, 0, 1)), ((3,), 1, -8, (1, 1, 0, 0, 0))
         first = ((1,), 1, -8, (0, 1, 1, 0, 0)), ((2, 3), 1, 0, (1, 0, 0, 0, 1)), ((1, 2), 0, 8, (0, 0, 1, 1, 0))
@@ -62,7 +62,7 @@ class Books(Case):
             with self.subTest(name):
                 self.judges(book, cert, f"yes / {prices}")
 
-    def test_places_of_faults(self):
+    def test_places_of_faults(self) -> None:
         """The last three are certificates of other books, for other numbers of bidders or of states."""
         for name, book, cert, told, status in [
             ("equal payments", DAY_CRAMTON, CERT.replace(b"pay 17 15", b"pay 16 16"), "no C8 2", 1),
@@ -84,7 +84,7 @@ class Books(Case):
             with self.subTest(name):
                 self.judges(book, cert, told, status)
 
-    def test_edits(self):
+    def test_edits(self) -> None:
         """Each change of `test_check` ends as it does in tools/check."""
         for was, put, told in EDITS:
             with self.subTest(put=put, told=told):
@@ -92,12 +92,12 @@ class Books(Case):
                 self.assertNotEqual(cert, CERT)
                 self.judges(DAY_CRAMTON, cert, told, 1 if told.startswith("no") else 3)
 
-    def test_rows_of_one_winner_each(self):
+    def test_rows_of_one_winner_each(self) -> None:
         """Payments that are too small for the two together."""
         rows = b"pay 14 12 0 0 0\nrows 2\nrow 1\nmult 1 0\nchoice 0 1 0 1 0\nrow 2\nmult 1 0\nchoice 1 0 0 0 1\nlowered"
         self.judges(DAY_CRAMTON, re.sub(rb"pay .*lowered", rows, CERT, flags=re.DOTALL), "no C9 24", 1)
 
-    def test_fronts(self):
+    def test_fronts(self) -> None:
         """A certificate that ends early is refused at the line that holds the first byte that is missing."""
         self.assertEqual(len(CERT), 476)
         for count in range(len(CERT)):
@@ -105,7 +105,7 @@ class Books(Case):
                 start = CERT.rfind(b"\n", 0, count) + 1
                 self.judges(DAY_CRAMTON, CERT[:count], f"cca: refused cert {start}", 3)
 
-    def test_most_bytes(self):
+    def test_most_bytes(self) -> None:
         """Within the limit of bytes the text is judged, and past it nothing else is, not even a text that is refused at
         its first line."""
         for count, told, status in (67_108_864, "cca: refused cert 0", 3), (67_108_865, "cca: limit bytes 67108865", 7):
@@ -123,16 +123,16 @@ PLACEMENT = (
 
 @with_program
 class Placements(Case):
-    def test_placed_and_checked(self):
+    def test_placed_and_checked(self) -> None:
         self.ends("place SLOTS CERT", {"SLOTS": SLOTS}, PLACEMENT, CERT=PLACE_CERT)
         self.ends("place SLOTS CERT --rounds", {"SLOTS": SLOTS}, f"{ROUNDS} / {PLACEMENT}", CERT=PLACE_CERT)
         self.ends("place-check SLOTS CERT", {"SLOTS": SLOTS, "CERT": PLACE_CERT}, f"yes / {PLACEMENT}")
 
-    def test_nobody(self):
+    def test_nobody(self) -> None:
         cert = lines("pcert 1 / den 1 / value 0 / order / choice / table / t 0 / pay / rows 0 / lowered / t 0 / end")
         self.ends("place SLOTS CERT", {"SLOTS": lines("slots 1 / band 1 / end")}, "value 0 / revenue 0", CERT=cert)
 
-    def test_faulty_slots(self):
+    def test_faulty_slots(self) -> None:
         for slots, told, status in [
             ("slots 1 / band 4 / bidder x 5 / end", "cca: refused slots 15", 3),
             ("slots 1 / band 41 / end", "cca: limit lots 41", 7),
@@ -145,10 +145,10 @@ class Placements(Case):
             with self.subTest(told):
                 self.ends("place SLOTS CERT", {"SLOTS": lines(slots)}, told, status)
 
-    def test_no_certificate(self):
+    def test_no_certificate(self) -> None:
         self.ends("place-check SLOTS CERT", {"SLOTS": SLOTS}, "cca: read fault cert", 4)
 
-    def test_edits(self):
+    def test_edits(self) -> None:
         """Each change of `test_places` ends as it does in tools/check-places."""
         for was, put, told in [*PLACE_EDITS, ("order 1 3 2", "order 1 3 02", "cca: refused cert 23")]:
             with self.subTest(put=put, told=told):

@@ -149,15 +149,15 @@ def certificate_of(slots):
 
 @with_program
 class Slots(unittest.TestCase):
-    def stops(self, slots, line, status):
+    def stops(self, slots, line, status) -> None:
         self.assertEqual(run("place", "slots", "cert", slots=slots), (line + "\n", status, {"slots": slots.encode()}))
 
-    def test_faulty_lines(self):
+    def test_faulty_lines(self) -> None:
         for slots, place in FAULTY_SLOTS:
             with self.subTest(slots=slots):
                 self.stops(slots, f"cca: refused slots {place}", 3)
 
-    def test_limits(self):
+    def test_limits(self) -> None:
         six = "slots 1\nband 40\nbidder a 1\nbidder b 1\nbidder c 1\nbidder d 1\nbidder e 1\nbidder f 1\n"
         self.stops("slots 1\nband 41\nend\n", "cca: limit lots 41", 7)
         self.stops(six + "bidder g 1\n", "cca: limit bidders 7", 7)
@@ -166,7 +166,7 @@ class Slots(unittest.TestCase):
         placed = "".join(f"placed {name} {start} 1\n" for start, name in enumerate("abcdef", 1))
         self.assertEqual(printed, placed + "value 0\nrevenue 0\n")
 
-    def test_the_first_of_the_greatest_wins(self):
+    def test_the_first_of_the_greatest_wins(self) -> None:
         """The choices and the orders were found by listing all choices with all orders."""
         rows = [
             (THREE, "choice 1 1 0", "order 1 3 2", PLACED),
@@ -183,7 +183,7 @@ class Slots(unittest.TestCase):
                     "".join(line + "\n" for line in printed.splitlines() if line.startswith("placed ")), placed
                 )
 
-    def test_others_win_without_a_bidder(self):
+    def test_others_win_without_a_bidder(self) -> None:
         """The others come to 12 each time, so the Vickrey prices are 12 - 18 + 10, 12 - 18 + 8 and 12 - 15 + 3."""
         rows = [
             (THREE, 1, "choice 0 0 1", "t 12 8 12 0 8 8 0 0", "winner x 1 bid 10 vickrey 4 "),
@@ -197,12 +197,12 @@ class Slots(unittest.TestCase):
                 self.assertEqual(cert[at + 2 : at + 5], [choice, "table", table])
                 self.assertIn(winner, printed)
 
-    def test_winners_pay_together_what_the_third_bids(self):
+    def test_winners_pay_together_what_the_third_bids(self) -> None:
         turns = "round 1 point 4 2 row 1 2 choice 0 0 1 excess 6\nround 2 point 7 5 end\n"
         ended = run("place", "slots", "cert", "--rounds", slots=THREE)
         self.assertEqual(ended, (turns + PRICES, 0, {"cert": CERT.encode(), "slots": THREE.encode()}))
 
-    def test_greatest_choices_are_those_of_a_listing(self):
+    def test_greatest_choices_are_those_of_a_listing(self) -> None:
         """The values were found by another program that lists all orders and choices."""
         rows = [
             (
@@ -248,16 +248,16 @@ class Certificates(unittest.TestCase):
         self.assertIn(was, CERT)
         return CERT.replace(was, put, 1)
 
-    def test_right_certificate(self):
+    def test_right_certificate(self) -> None:
         self.assertEqual(len(CERT), 287)
         self.assertEqual(self.check(CERT), ("yes\n" + PRICES, 0))
 
-    def test_first_test_that_fails(self):
+    def test_first_test_that_fails(self) -> None:
         for was, put, told in FAILING:
             with self.subTest(was=was, put=put):
                 self.assertEqual(self.check(self.edited(was, put)), (f"no {told}\n", 1))
 
-    def test_first_faulty_line(self):
+    def test_first_faulty_line(self) -> None:
         for was, put, place in FAULTY:
             with self.subTest(was=was, put=put):
                 self.assertEqual(self.check(self.edited(was, put)), (f"cca: refused cert {place}\n", 3))

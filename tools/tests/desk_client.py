@@ -30,12 +30,12 @@ PORT = 18400
 class Reader(html.parser.HTMLParser):
     """The forms of a page: for each its action, and its fields with their values."""
 
-    def __init__(self, text):
+    def __init__(self, text) -> None:
         super().__init__(convert_charrefs=True)
         self.forms, self.area, self.tags, self.headings = [], None, [], 0
         self.feed(text)
 
-    def handle_starttag(self, tag, attrs):
+    def handle_starttag(self, tag, attrs) -> None:
         attrs = dict(attrs)
         self.tags.append((tag, attrs))
         if tag == "form":
@@ -51,11 +51,11 @@ class Reader(html.parser.HTMLParser):
         elif tag == "select":
             fields[attrs["name"]] = ""
 
-    def handle_endtag(self, tag):
+    def handle_endtag(self, tag) -> None:
         if tag == "textarea":
             self.area = None
 
-    def handle_data(self, data):
+    def handle_data(self, data) -> None:
         if self.area:
             self.forms[-1][1][self.area] += data
 
@@ -68,7 +68,7 @@ def words(text):
 class Client:
     """One browser that has entered."""
 
-    def __init__(self, app, guard):
+    def __init__(self, app, guard) -> None:
         self.guard, self.origin, self.host = guard, f"http://127.0.0.1:{guard.port}", f"127.0.0.1:{guard.port}"
         self.client, self.page = app.test_client(use_cookies=False), ""
         self.cookie = ""
@@ -172,7 +172,7 @@ class DeskTest(unittest.TestCase):
 
     award = "spectrum.award"
 
-    def setUp(self):
+    def setUp(self) -> None:
         self.folder = pathlib.Path(tempfile.mkdtemp())
         self.addCleanup(shutil.rmtree, self.folder)
         self.log_path = self.folder / "day.log"

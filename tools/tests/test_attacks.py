@@ -14,10 +14,10 @@ from cca_tools.rules.seals import Event, Sealer, grouped, read_posted, sum_of
 
 class Attacks(unittest.TestCase):
     @classmethod
-    def setUpClass(cls):
+    def setUpClass(cls) -> None:
         cls.day = told(honest())
 
-    def test_the_day(self):
+    def test_the_day(self) -> None:
         """Nothing is found of the files as they are, and the day has the events that it is told with."""
         self.assertEqual(found(self.day, self.day), attacks.Found("yes", "yes", ()))
         self.assertEqual(
@@ -28,26 +28,26 @@ class Attacks(unittest.TestCase):
             ],
         )
 
-    def test_attacks_of_the_auctioneer(self):
+    def test_attacks_of_the_auctioneer(self) -> None:
         for it in attacks.ATTACKS:
             with self.subTest(attack=it.name):
                 made = it.make(self.day)
                 self.assertNotEqual(made.but(), self.day.but())
                 self.assertEqual(it.differs(found(self.day, made)), [])
 
-    def test_a_day_that_nobody_noted(self):
+    def test_a_day_that_nobody_noted(self) -> None:
         """Who has the key makes another day whose files agree; nothing but a note of somebody else finds it."""
         other = told(honest(with_bid(LOG)))
         self.assertEqual(found(other, other).check, "yes")
         self.assertIn("NOT of these files", note_of(other, self.day.posted.decode()))
 
-    def test_another_program(self):
+    def test_another_program(self) -> None:
         """What the journal said of the program on the day is in the set, and can't be told otherwise afterwards."""
         unproved = told(honest(), about={**attacks.PROGRAM, "program": "NOT PROVED: it has no mark"})
         proved = told(honest())
         self.assertEqual(attacks.foreign_of(unproved, proved), attacks.LINES)
 
-    def test_a_clock_that_was_set_back(self):
+    def test_a_clock_that_was_set_back(self) -> None:
         """An hour back before the fourth step: the journal says so, the protocol shows it, and the set's page too."""
         late = told(attacks.with_time(honest(), 3, -3600))
         (back,) = (it.more["back"] for it in chained(late.journal) if "back" in it.more)
@@ -65,7 +65,7 @@ class Attacks(unittest.TestCase):
             self.assertEqual(said, "yes")
             self.assertIn("WAS SET BACK 1 times: see the journal", (made / "index.html").read_text())
 
-    def test_few_digits(self):
+    def test_few_digits(self) -> None:
         """Four digits of another award's checksum are found at once, so that less than all digits aren't taken."""
         wanted = sum_of(AWARD)[:4]
         other = next(
@@ -83,11 +83,11 @@ class OfABidder(unittest.TestCase):
     """Lines that a bidder shows."""
 
     @classmethod
-    def setUpClass(cls):
+    def setUpClass(cls) -> None:
         cls.day = told(honest())
         cls.rows = read_posted(cls.day.posted)
 
-    def test_a_void_line(self):
+    def test_a_void_line(self) -> None:
         said = note_of(self.day, self.rows[3].text())
         self.assertEqual(
             said,
@@ -95,7 +95,7 @@ class OfABidder(unittest.TestCase):
             " another bidder",
         )
 
-    def test_a_void_seal_under_other_words(self):
+    def test_a_void_seal_under_other_words(self) -> None:
         """The seal of a void line under the name, the number, the time or the reason of another one."""
         void, right = self.rows[3], self.rows[5]
         for other in (
@@ -107,7 +107,7 @@ class OfABidder(unittest.TestCase):
         ):
             self.assertRegex(note_of(self.day, other.text()), r"\Ano\n.*NOT of these files: the seal is the one of")
 
-    def test_a_foreign_line(self):
+    def test_a_foreign_line(self) -> None:
         """The line of another day, and one that is made by the published key, are those of no line of these files."""
         other = told(honest(), key=KEY.replace(b"0", b"f"))
         made = Sealer(KEY, sum_of(AWARD)).row(
@@ -116,7 +116,7 @@ class OfABidder(unittest.TestCase):
         for text in (read_posted(other.posted)[0].text(), dataclasses.replace(made, number=7).text()):
             self.assertRegex(note_of(self.day, text), r"\Ano\n.*NOT of these files: no posted line has this seal")
 
-    def test_what_is_posted_before_the_end_tells_no_bid(self):
+    def test_what_is_posted_before_the_end_tells_no_bid(self) -> None:
         """Days that differ in bids alone, or in how many lines came, have the same posted lines but for seals."""
         days = [told(it[:4]) for it in (honest(), honest(with_bid(LOG)))]
         extra = honest()[:4]

@@ -35,7 +35,7 @@ def book(text, award=SMALL):
 
 
 class CapWords(unittest.TestCase):
-    def test_a_package_that_costs_less(self):
+    def test_a_package_that_costs_less(self) -> None:
         cap = Cap((1,), 1, (3,), 40, (10,), 20, 20)
         self.assertEqual(
             cap_words(read_award(SMALL.encode()), "east", cap),
@@ -48,7 +48,7 @@ class CapWords(unittest.TestCase):
 
 
 class Silence(unittest.TestCase):
-    def test_who_sends_no_line_asks_for_nothing(self):
+    def test_who_sends_no_line_asks_for_nothing(self) -> None:
         auction = auction_of("bid,east,3, / close,,,")
         self.assertEqual([reply.text() for reply in auction.replies], ["ok", "sealed"])
         self.assertEqual((auction.rounds[0].packages, auction.bids(2)), ([(3,), (0,)], []))
@@ -58,7 +58,7 @@ class Silence(unittest.TestCase):
 
 
 class SmallAuctions(unittest.TestCase):
-    def test_worked_log(self):
+    def test_worked_log(self) -> None:
         self.assertEqual(replies(ROW), REPLIES)
         self.assertEqual(replies(ROW, SMALL.replace("version = 1", "version = 2")), REPLIES)
         self.assertEqual(
@@ -66,7 +66,7 @@ class SmallAuctions(unittest.TestCase):
             "book 1 / supply 3 / reserve 10 / bidder east / bid 1 20 / bid 3 44 / bidder west / bid 2 24 / end",
         )
 
-    def test_dropped_draft(self):
+    def test_dropped_draft(self) -> None:
         text = ROW.replace("draft,east,3,44", "drop,east,3,")
         self.assertEqual(replies(text), REPLIES)
         self.assertEqual(
@@ -74,7 +74,7 @@ class SmallAuctions(unittest.TestCase):
             "book 1 / supply 3 / reserve 10 / bidder east / bid 1 20 / bid 3 30 / bidder west / bid 2 24 / end",
         )
 
-    def test_order_of_bidders(self):
+    def test_order_of_bidders(self) -> None:
         said = "book 1 / supply 3 / reserve 10 / bidder east / bid 1 20 / bid 3 30 / bidder west / bid 2 30 / end"
         for text in (
             "draft,east,1,20 / draft,west,2,30 / submit,east,, / submit,west,, / close,,,",
@@ -85,11 +85,11 @@ class SmallAuctions(unittest.TestCase):
             )
             self.assertEqual(book(HEAD + text), said)
 
-    def test_line_before(self):
+    def test_line_before(self) -> None:
         self.assertEqual(replies("bid,east,2, / " + ROW), "ok / " + REPLIES)
         self.assertEqual(book("bid,east,2, / " + ROW), book(ROW))
 
-    def test_first_lines(self):
+    def test_first_lines(self) -> None:
         rows = [
             ("bid,north,1,", "unknown"),
             ("bid,east,4,", "supply 1"),
@@ -104,7 +104,7 @@ class SmallAuctions(unittest.TestCase):
             self.assertEqual(replies(text), said)
         self.assertEqual(replies("bid,east,3,", SMALL + "[[cap]]\nweight = [1]\nlimit = 2\n"), "spectrum-cap 1 2")
 
-    def test_sealed_lines(self):
+    def test_sealed_lines(self) -> None:
         rows = [
             ("draft,east,0,5", "empty"),
             ("draft,east,1,9", "below-reserve 10"),
@@ -123,16 +123,16 @@ class SmallAuctions(unittest.TestCase):
         for text, said in rows:
             self.assertEqual(replies(HEAD + text).split(" / ")[6], said)
 
-    def test_after_the_end(self):
+    def test_after_the_end(self) -> None:
         for text in ("bid,east,1,", "draft,east,1,20", "drop,east,1,", "submit,east,,", "close,,,", "bid,north,1,"):
             self.assertEqual(replies(ROW + " / " + text), REPLIES + " / stage")
         self.assertEqual(book(ROW + " / close,,,"), book(ROW))
 
-    def test_not_complete(self):
+    def test_not_complete(self) -> None:
         self.assertEqual(book("bid,east,3, / bid,west,2, / close,,,"), "cca: refused log 4")
         self.assertEqual(book(HEAD + "submit,east,,"), "cca: refused log 8")
 
-    def test_greatest_price(self):
+    def test_greatest_price(self) -> None:
         text = "bid,east,3, / bid,west,2, / close,,,"
         dear = SMALL.replace("reserve = 10", "reserve = 68719476736")
         self.assertEqual(replies(text, dear), "ok / ok / price-top 1 82463372084")
@@ -142,7 +142,7 @@ class SmallAuctions(unittest.TestCase):
         self.assertEqual(replies(later, dear), "ok / ok / price-top 1 82463372084 / ok / sealed / closed")
         self.assertEqual(book(later, dear), "cca: limit price 82463372084")
 
-    def test_greatest_round(self):
+    def test_greatest_round(self) -> None:
         text = " / ".join(["bid,east,3, / bid,west,2, / close,,,"] * 300)
         slow = SMALL.replace("permille = 200", "permille = 1")
         said = replies(text, slow).split(" / ")
@@ -150,7 +150,7 @@ class SmallAuctions(unittest.TestCase):
             (said[896], said[899], book(text, slow)), ("round 300 309", "full 300", "cca: limit rounds 301")
         )
 
-    def test_full_list(self):
+    def test_full_list(self) -> None:
         wide = (
             SMALL.replace("supply = 3", "supply = 19").replace("eligibility = 3", "eligibility = 999")
             + '[[category]]\nname = "other"\nsupply = 19\npoints = 1\nreserve = 10\n'
@@ -174,12 +174,12 @@ TWO_LOG = (
 
 
 class Caps(unittest.TestCase):
-    def test_both_versions(self):
+    def test_both_versions(self) -> None:
         head = "ok / ok / round 2 20 10 / ok / ok / sealed / ok / ok / ok / "
         self.assertEqual(replies(TWO_LOG, TWO.format(1)), head + "ok")
         self.assertEqual(replies(TWO_LOG, TWO.format(2)), head + "relative-cap 2 32")
 
-    def test_amounts(self):
+    def test_amounts(self) -> None:
         for version, package, amount in [
             (1, (0, 3), 52),
             (2, (0, 3), 32),
@@ -191,7 +191,7 @@ class Caps(unittest.TestCase):
             auction = auction_of(TWO_LOG, TWO.format(version))
             self.assertEqual(auction.caps(1).cap(dict(auction.drafts(1)), package).amount, amount)
 
-    def test_where_it_comes_from(self):
+    def test_where_it_comes_from(self) -> None:
         auction = replay(*uk(33))
         cap = auction.caps(1).cap({(1, 0, 3, 0): 420000, (2, 0, 4, 0): 760000}, (2, 0, 4, 0))
         self.assertEqual(
@@ -227,7 +227,7 @@ class Sample(unittest.TestCase):
         63: "stage",
     }
 
-    def test_replies(self):
+    def test_replies(self) -> None:
         auction = replay(*uk(None))
         self.assertEqual({n: r.text() for n, r in enumerate(auction.replies, 1) if not r.is_ok}, self.REFUSED)
         self.assertEqual(
@@ -239,7 +239,7 @@ class Sample(unittest.TestCase):
             ("closed", 4, 4, None, None),
         )
 
-    def test_rounds(self):
+    def test_rounds(self) -> None:
         auction = replay(*uk(None))
         self.assertEqual([r.eligibility[0] for r in auction.rounds], [80, 48, 48, 28])
         self.assertEqual(
@@ -250,7 +250,7 @@ class Sample(unittest.TestCase):
         )
         self.assertEqual(auction.clock_bids(2)[1], (2, (0, 1, 2, 4), 296300))
 
-    def test_in_progress(self):
+    def test_in_progress(self) -> None:
         auction = replay(*uk(11))
         self.assertEqual(
             (auction.stage, auction.open_round.number, auction.open_round.prices),
@@ -261,7 +261,7 @@ class Sample(unittest.TestCase):
             auction.need_book()
         self.assertEqual(caught.exception.line, "cca: refused log 12")
 
-    def test_book(self):
+    def test_book(self) -> None:
         text = book_text(replay(*uk(None)).need_book()).decode().splitlines()
         self.assertEqual(
             text[:6],
@@ -276,7 +276,7 @@ class Sample(unittest.TestCase):
         )
         self.assertIn("bid 2 0 5 5 636400", text)
 
-    def test_reasons(self):
+    def test_reasons(self) -> None:
         auction = replay(*uk(None))
         told = {n: reason(auction.award, auction.lines[n - 1], auction.replies[n - 1]) for n in self.REFUSED}
         for number, part in [

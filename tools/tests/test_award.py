@@ -77,7 +77,7 @@ BROKEN = [
 
 
 class Awards(unittest.TestCase):
-    def test_sample(self):
+    def test_sample(self) -> None:
         award = read_award(UK.encode())
         self.assertEqual(
             (award.version, award.tick, award.supply, award.points), (1, 100, (4, 1, 14, 9), (20, 40, 2, 1))
@@ -90,12 +90,12 @@ class Awards(unittest.TestCase):
         self.assertEqual(award.cap_fault(1, (4, 0, 0, 0)), (1, 11))
         self.assertIsNone(award.cap_fault(2, (4, 0, 0, 0)))
 
-    def test_each_rule_broken(self):
+    def test_each_rule_broken(self) -> None:
         for old, new, numbers in BROKEN:
             with self.subTest(new=new):
                 self.assertEqual(answer(edited(old, new)), f"cca: refused award {numbers}")
 
-    def test_lists(self):
+    def test_lists(self) -> None:
         head = "version = 1\ntick = 1\n"
         category = '[[category]]\nname = "lot"\nsupply = 3\npoints = 1\nreserve = 10\n'
         step = "[[step]]\nexcess = 1\npermille = 200\n"
@@ -119,7 +119,7 @@ class Awards(unittest.TestCase):
         self.assertEqual(answer(head + category + step + cap * 20), "read")
         self.assertEqual(answer(head + "bidder = []\n" + category + step), "read")
 
-    def test_first_rule_decides(self):
+    def test_first_rule_decides(self) -> None:
         self.assertEqual(
             answer(edited("tick = 100", "tick = 0\nunit = 1").replace("supply = 4", "supply = 0")),
             "cca: refused award 2 0",
@@ -133,7 +133,7 @@ class Awards(unittest.TestCase):
             "cca: refused award 17 1",
         )
 
-    def test_limits(self):
+    def test_limits(self) -> None:
         category = '[[category]]\nname = "{}"\nsupply = {}\npoints = 1\nreserve = 10\n'
         bidder = '[[bidder]]\nname = "b{}"\neligibility = 3\n'
         rows = [
@@ -157,7 +157,7 @@ class Awards(unittest.TestCase):
             answer(edited("supply = 9", "supply = 90").replace("limit = 42", "limit = -1")), "cca: refused award 17 2"
         )
 
-    def test_no_toml(self):
+    def test_no_toml(self) -> None:
         for text in (
             "version =",
             "version = 1\nversion = 1",
@@ -171,14 +171,14 @@ class Awards(unittest.TestCase):
                 self.assertEqual(answer(text), "cca: refused award 0 0")
         self.assertEqual(answer("version = 9223372036854775807"), "cca: refused award 1 0")
 
-    def test_spellings(self):
+    def test_spellings(self) -> None:
         self.assertEqual(answer("\ufeff" + UK), "read")
         self.assertEqual(answer(UK.replace("\n", "\r\n")), "read")
         self.assertEqual(answer(edited("tick = 100", "tick = 0x64").replace("supply = 14", "'supply' = 1_4")), "read")
         inline = re.sub(r"\[\[step\]\]\nexcess = (\d+)\npermille = (\d+)\n", "", UK)
         self.assertEqual(answer("step = [{excess = 1, permille = 50}]\n" + inline), "read")
 
-    def test_raise(self):
+    def test_raise(self) -> None:
         # the least multiple of the tick that is at least the tick and at least this many thousandths
         steps = "[[step]]\nexcess = 1\npermille = 50\n[[step]]\nexcess = 5\npermille = 200\n"
         for tick, price, excess, raised in [
@@ -207,12 +207,12 @@ class Edges(unittest.TestCase):
             read_award(text.encode())
         return caught.exception
 
-    def test_a_cap_may_be_reached(self):
+    def test_a_cap_may_be_reached(self) -> None:
         award = read_award(f"{HEAD}{CATEGORY}{HOLDER}{REST}[[cap]]\nweight = [3]\nlimit = 15\n".encode())
         self.assertEqual((award.cap_fault(1, (3,)), award.cap_fault(1, (4,))), (None, (1, 15)))
         self.assertEqual(award.points_of((9,)), 0)
 
-    def test_what_is_said_of_fields(self):
+    def test_what_is_said_of_fields(self) -> None:
         missing = self.stop(f"version = 1\n{CATEGORY}{REST}")
         self.assertEqual(missing.line, "cca: refused award 2 0")
         self.assertEqual(

@@ -18,16 +18,16 @@ def stopped(data):
 
 
 class Books(unittest.TestCase):
-    def test_texts_come_back(self):
+    def test_texts_come_back(self) -> None:
         for name in "day-cramton.book", "six-bidders.book", "tie.book":
             self.assertEqual(book_text(read_book(sample(name))), sample(name))
 
-    def test_places(self):
+    def test_places(self) -> None:
         book = read_book(sample("six-bidders.book"))
         self.assertEqual((book.states, book.place((0, 0, 0, 1)), book.place((4, 1, 14, 9))), (1500, 1, 1499))
         self.assertEqual([book.place(book.counts(place)) for place in range(1500)], list(range(1500)))
 
-    def test_values(self):
+    def test_values(self) -> None:
         book = read_book(sample("six-bidders.book"))
         self.assertEqual(
             (book.value((1, 1, 1, 1, 1, 0)), book.fits((1, 1, 1, 1, 1, 0)), book.fits((1, 0, 0, 0, 0, 1))),
@@ -35,7 +35,7 @@ class Books(unittest.TestCase):
         )
         self.assertEqual((book.reserve((2, 0, 4, 5)), book.left((1, 0, 0, 0, 0, 1))), (460500, (-2, 1, 7, 9)))
 
-    def test_faults(self):
+    def test_faults(self) -> None:
         rows = [
             ("book 1 / supply 1 1 / reserve 0 0 / bidder east / bid 1 0 028 / end", 42),
             ("book 2", 0),
@@ -65,7 +65,7 @@ class Books(unittest.TestCase):
             with self.subTest(text=text):
                 self.assertEqual(stopped(lines(text) if text else b""), (f"cca: refused book {place}", 3))
 
-    def test_edges_that_stand(self):
+    def test_edges_that_stand(self) -> None:
         for text in (
             HEAD + "bid 1 0 4398046511104 / end",
             HEAD + "bid 0 1 0 / bid 1 0 0 / end",
@@ -74,7 +74,7 @@ class Books(unittest.TestCase):
             self.assertIsNone(stopped(lines(text)))
         self.assertIsNone(stopped(lines("book 1 / supply 3 3 3 3 7 7 / reserve 0 0 0 0 0 68719476736 / end")))
 
-    def test_limits(self):
+    def test_limits(self) -> None:
         for supply, line in [
             ("1 1 1 1 1 1 1", "categories 7"),
             ("41", "lots 41"),
@@ -94,12 +94,12 @@ class Books(unittest.TestCase):
                 answer,
             )
 
-    def test_form_comes_before_a_limit(self):
+    def test_form_comes_before_a_limit(self) -> None:
         self.assertEqual(stopped(lines("book 1 / supply 1 1 1 1 1 1 01 / end")), ("cca: refused book 7", 3))
         many = "".join(f"bidder b{j} / " for j in range(16))
         self.assertEqual(stopped(lines(f"book 1 / supply 1 / reserve 0 / {many}bidder b3 / end"))[1], 3)
 
-    def test_bytes(self):
+    def test_bytes(self) -> None:
         for data, line in [(b"#" * 1048577, "cca: limit bytes 1048577"), (b"#" * 1048576, "cca: refused book 0")]:
             self.assertEqual(said(check, data, b"")[0], line)
         self.assertEqual(said(check, sample("tie.book"), b"#" * 67108865), ("cca: limit bytes 67108865", 7))

@@ -23,7 +23,7 @@ def spectrum(records, *words):
 
 
 class Clock(unittest.TestCase):
-    def test_points_and_room(self):
+    def test_points_and_room(self) -> None:
         """In round 1 everest has 80 points, holds 2 lots of a800 and asks for 48 points."""
         rows = spectrum(5, "everest").splitlines()
         self.assertEqual(rows[0], "everest round 1 open asks for 2 0 4 0 eligible 80 points 48 left 32")
@@ -34,7 +34,7 @@ class Clock(unittest.TestCase):
         self.assertEqual(rows[0], "tarn round 1 open asks for no line yet eligible 96 points 0 left 96")
         self.assertEqual(rows[3], "package 3 1 0 0 points 100 costs 850000 refused points 96")
 
-    def test_a_package_beside_what_is_asked_for(self):
+    def test_a_package_beside_what_is_asked_for(self) -> None:
         """east asks for one lot at 12 in round 2, for which it is eligible for three: three would cost 24 more."""
         rows = asked(SMALL.encode(), lines(HEAD + "bid,east,1,"), "east", "3")[0].splitlines()
         self.assertEqual(rows[1], "package 3 points 3 costs 36 left 0")
@@ -45,7 +45,7 @@ class Clock(unittest.TestCase):
             asked(SMALL.encode(), lines(HEAD), "east", "0")[0].splitlines()[1:], ["package 0 points 0 costs 0 left 3"]
         )
 
-    def test_a_bidders_own_view(self):
+    def test_a_bidders_own_view(self) -> None:
         for records in (5, 9, 15, 20, 28):
             for name in ("everest", "tarn"):
                 view = spectrum(records, name, "--view")
@@ -53,7 +53,7 @@ class Clock(unittest.TestCase):
                     asked(sample("spectrum.award"), view.encode(), name)[0], spectrum(records, name), (records, name)
                 )
 
-    def test_the_cap_that_comes(self):
+    def test_the_cap_that_comes(self) -> None:
         """On drawn auctions the cap as if the clock ended now is that of the log in which it ends now."""
         many = 0
         for number in range(40):
@@ -74,7 +74,7 @@ class Clock(unittest.TestCase):
 
 
 class Fit(unittest.TestCase):
-    def test_the_sample(self):
+    def test_the_sample(self) -> None:
         """BIDDER computes the cap of 534800 for this list."""
         self.assertIn("package 2 0 4 0 listed 760000 above by 225200 least 506000 round 3", spectrum(32, "everest"))
         self.assertEqual(
@@ -93,7 +93,7 @@ class Fit(unittest.TestCase):
             asked(sample("spectrum.award"), view.encode(), "everest", "--fit")[0].splitlines()[-1], "submit,everest,,"
         )
 
-    def test_drawn_lists(self):
+    def test_drawn_lists(self) -> None:
         """The list that is printed is admitted, and raising any entry of it by 1 towards the wanted amount isn't."""
         seen = {"lowered": 0, "whole": 0}
         for number in range(24):
@@ -107,7 +107,7 @@ class Fit(unittest.TestCase):
                 self.check(drawing, j, seen)
         self.assertTrue(all(count > 10 for count in seen.values()), seen)
 
-    def check(self, drawing, j, seen):
+    def check(self, drawing, j, seen) -> None:
         """Follows the lines that are printed, then tries each entry that was lowered."""
         name, wanted = drawing.award.names[j - 1], dict(drawing.auction.drafts(j))
         text, status = asked(drawing.text.encode(), drawing.log(), name, "--fit")
@@ -126,7 +126,7 @@ class Fit(unittest.TestCase):
             if listed[package] < amount:
                 self.refused(drawing, log, j, package, listed[package] + 1)
 
-    def refused(self, drawing, log, j, package, amount):
+    def refused(self, drawing, log, j, package, amount) -> None:
         """The list with this entry is above a cap."""
         name = drawing.award.names[j - 1]
         tried = [Line(0, 0, "draft", name, j, package, amount), Line(0, 0, "submit", name, j)]
@@ -134,7 +134,7 @@ class Fit(unittest.TestCase):
         replies = replay(drawing.award, read_log(log + more, drawing.award)).replies[-2:]
         self.assertEqual([reply.word for reply in replies], ["ok", "relative-cap"])
 
-    def test_no_list_to_fit(self):
+    def test_no_list_to_fit(self) -> None:
         for log, why in ((HEAD, "the clock is running"), ("close,,, / close,,, / ", "the auction is closed")):
             text, status = asked(SMALL.encode(), lines(log[:-3]), "east", "--fit")
             self.assertEqual((text, status), (f"{why}: a list is fitted while lists are taken", 1))

@@ -78,19 +78,19 @@ WRONG_SIGN = CERT[: CERT.index(b"pay")] + lines(
 
 
 class Samples(unittest.TestCase):
-    def test_the_sign_of_what_is_paid_above(self):
+    def test_the_sign_of_what_is_paid_above(self) -> None:
         self.assertEqual(said(check, BOOK, WRONG_SIGN), ("no C8 4", 1))
 
-    def test_day_and_cramton(self):
+    def test_day_and_cramton(self) -> None:
         self.assertEqual(said(check, BOOK, CERT), (YES, 0))
 
-    def test_nobody(self):
+    def test_nobody(self) -> None:
         cert = lines("cert 1 / den 1 / value 0 / choice / table / t 0 0 / pay / rows 0 / lowered / t 0 0 / end")
         self.assertEqual(said(check, lines("book 1 / supply 1 / reserve 0 / end"), cert), ("yes\nnet 0\nrevenue 0", 0))
         more = cert.replace(b"rows 0", b"rows 1")
         self.assertEqual(said(check, lines("book 1 / supply 1 / reserve 0 / end"), more), ("cca: refused cert 44", 3))
 
-    def test_reserve(self):
+    def test_reserve(self) -> None:
         book = lines("book 1 / supply 1 / reserve 50 / bidder solo / bid 1 50 / end")
         cert = lines(
             "cert 1 / den 1 / value 0 / choice 1 / table / t 0 0 / t 0 0 / without 1 / choice 0 / table / t 0 0 / t 0 0"
@@ -100,7 +100,7 @@ class Samples(unittest.TestCase):
             said(check, book, cert), ("yes\nwinner solo 1 bid 50 vickrey 50 pays 50\nnet 0\nrevenue 50", 0)
         )
 
-    def test_thirds(self):
+    def test_thirds(self) -> None:
         locals_ = [[((1, 0, 0), 10)], [((0, 1, 0), 10)], [((0, 0, 1), 10)]]
         bids, without = [*locals_, [((1, 1, 1), 11)]], {1: (0, 1, 1, 0), 2: (1, 0, 1, 0), 3: (1, 1, 0, 0)}
         cert = certificate_of(
@@ -111,7 +111,7 @@ class Samples(unittest.TestCase):
         self.assertEqual(text.splitlines()[1], "winner b1 1 0 0 bid 10 vickrey 0 pays 3+2/3")
         self.assertEqual(text.splitlines()[-2:], ["net 30", "revenue 11"])
 
-    def test_negative_multipliers(self):
+    def test_negative_multipliers(self) -> None:
         locals_ = [[((1, 0, 0), 10)], [((0, 1, 0), 10)], [((0, 0, 1), 10)]]
         bids = [*locals_, [((1, 1, 0), 8)], [((0, 1, 1), 8)]]
         without = {1: (0, 1, 1, 0, 0), 2: (1, 0, 1, 0, 0), 3: (1, 1, 0, 0, 0)}
@@ -131,30 +131,30 @@ class Samples(unittest.TestCase):
         cert = certificate_of((1, 1, 1), bids, (1, 1, 1, 0, 0), without, 1, (0, 8, 0, 0, 0), needless)
         self.assertEqual(said(check, book_of((1, 1, 1), bids), cert), ("no C8 3", 1))
 
-    def test_ties(self):
+    def test_ties(self) -> None:
         bids = [[((1,), 5), ((2,), 9)], [((1,), 4)]]
         cert = certificate_of((2,), bids, (2, 0), {1: (0, 1)}, 1, (4, 0), [((1,), 1, 0, (0, 1))])
         self.assertIn(b"table\nt 0 5 9\nt 0 4 4\nt 0 0 0\n", cert)
         self.assertEqual(said(check, sample("tie.book"), cert), ("no C3 10", 1))
 
-    def test_ties_of_later_bidders(self):
+    def test_ties_of_later_bidders(self) -> None:
         bids = [[((1,), 5)], [((1,), 5), ((2,), 9)], [((1,), 4)]]
         cert = certificate_of((3,), bids, (1, 2, 0), {1: (0, 2, 0), 2: (1, 0, 1)}, 1, (0, 0, 0), [])
         self.assertEqual(said(check, book_of((3,), bids), cert), ("no C3 18", 1))
 
-    def test_ties_that_leave_nothing(self):
+    def test_ties_that_leave_nothing(self) -> None:
         bids = [[((1,), 9)], [((1,), 9)]]
         cert = certificate_of((1,), bids, (0, 1), {2: (1, 0)}, 1, (0, 9), [((2,), 1, 0, (1, 0))])
         self.assertEqual(said(check, book_of((1,), bids), cert), ("no C3 7", 1))
         cert = certificate_of((1,), bids, (1, 0), {1: (0, 1)}, 1, (9, 0), [((1,), 1, 0, (0, 1))])
         self.assertEqual(said(check, book_of((1,), bids), cert)[1], 0)
 
-    def test_overfull_choice(self):
+    def test_overfull_choice(self) -> None:
         bids = [[((1,), 5)], [((1,), 4)]]
         cert = certificate_of((1,), bids, (1, 1), {1: (0, 1), 2: (1, 0)}, 1, (0, 0), [])
         self.assertEqual(said(check, book_of((1,), bids), cert), ("no C2 3", 1))
 
-    def test_several_bids(self):
+    def test_several_bids(self) -> None:
         bids = [[((1,), 2), ((2,), 9)], [((1,), 1)], [((2,), 4)]]
         without = {1: (0, 1, 1), 2: (2, 0, 0)}
         cert = certificate_of(
@@ -165,7 +165,7 @@ class Samples(unittest.TestCase):
         lower = stop_of(book_of((3,), bids), cert.replace(b"t 0 2 9 10", b"t 0 2 8 10", 1)).why
         self.assertIn("bid 2 of b1, for 2, counts 9, and with the 0 that line 1 says after it 9", lower)
 
-    def test_versions(self):
+    def test_versions(self) -> None:
         second = ("cert 2", "limits 16 16384")
         for supply, bidders, head in [
             ((1,), 12, ["cert 1"]),
@@ -180,7 +180,7 @@ class Samples(unittest.TestCase):
             wrong = certificate_of(supply, [[]] * bidders, nobody, {}, 1, nobody, [], head=other)
             self.assertEqual(said(check, book, wrong), ("cca: refused cert 0", 3))
 
-    def test_second_version(self):
+    def test_second_version(self) -> None:
         bids = [[((1,), 5)]] * 16
         choice, others = (1,) * 4 + (0,) * 12, {
             j: tuple(1 if k != j and k < 6 else 0 for k in range(1, 17)) for j in range(1, 5)
@@ -195,7 +195,7 @@ class Samples(unittest.TestCase):
 
 
 class LargerBooks(unittest.TestCase):
-    def test_six_bidders_of_spectrum(self):
+    def test_six_bidders_of_spectrum(self) -> None:
         text, status = said(check, sample("six-bidders.book"), six_bidders())
         self.assertEqual((status, text.splitlines()[3]), (0, "winner p3 2 0 4 5 bid 710500 vickrey 630500 pays 700500"))
         pays = [line.split()[-1] for line in text.splitlines()[1:6]]
@@ -204,14 +204,14 @@ class LargerBooks(unittest.TestCase):
             (["540000", "250000", "700500", "105000", "45400"], ["net 680000", "revenue 1640900"]),
         )
 
-    def test_eleven_winners(self):
+    def test_eleven_winners(self) -> None:
         bids = [[((1,), 5)]] * 11
         without = {j: tuple(int(k != j) for k in range(1, 12)) for j in range(1, 12)}
         cert = certificate_of((11,), bids, (1,) * 11, without, 1, (0,) * 11, [(range(1, 12), 1, 0, (0,) * 11)])
         text, status = said(check, book_of((11,), bids), cert)
         self.assertEqual((status, text.splitlines()[-2:]), (0, ["net 55", "revenue 0"]))
 
-    def test_greatest_amounts(self):
+    def test_greatest_amounts(self) -> None:
         most, share = 4398046511104, 2199023255552
         bids = [*[[((1,), most)]] * 6, [((6,), most)]]
         without = {j: tuple(int(k != j and k < 7) for k in range(1, 8)) for j in range(1, 7)}
@@ -222,7 +222,7 @@ class LargerBooks(unittest.TestCase):
         self.assertEqual((status, text.splitlines()[1]), (0, f"winner u1 1 bid {most} vickrey 0 pays 733007751850+2/3"))
         self.assertEqual(text.splitlines()[-2:], ["net 26388279066624", "revenue 4398046511104"])
 
-    def test_most_states(self):
+    def test_most_states(self) -> None:
         supply, bids = (3, 3, 3, 3, 7, 7), [[((1, 0, 0, 0, 0, 0), 5)]]
         parts = (1,), {1: (0,)}, 1, (0,), [((1,), 1, 0, (0,))]
         text, status = said(
@@ -237,42 +237,42 @@ class LargerBooks(unittest.TestCase):
 
 
 class Faults(unittest.TestCase):
-    def test_edits(self):
+    def test_edits(self) -> None:
         for was, put, line in EDITS:
             with self.subTest(put=put, line=line):
                 cert = CERT.replace(was.encode(), put.encode(), 1)
                 self.assertNotEqual(cert, CERT)
                 self.assertEqual(said(check, BOOK, cert), (line, 1 if line.startswith("no") else 3))
 
-    def test_the_first_word_of_each_line(self):
+    def test_the_first_word_of_each_line(self) -> None:
         rows = CERT.splitlines(keepends=True)
         for at, row in enumerate(rows):
             with self.subTest(row=row):
                 cert = b"".join([*rows[:at], b"x" + row, *rows[at + 1 :]])
                 self.assertEqual(said(check, BOOK, cert), (f"cca: refused cert {sum(map(len, rows[:at]))}", 3))
 
-    def test_single_rows_only(self):
+    def test_single_rows_only(self) -> None:
         rows = b"pay 14 12 0 0 0\nrows 2\nrow 1\nmult 1 0\nchoice 0 1 0 1 0\nrow 2\nmult 1 0\nchoice 1 0 0 0 1\nlowered"
         cert = re.sub(rb"pay .*lowered", rows, CERT, flags=re.DOTALL)
         self.assertEqual(said(check, BOOK, cert), ("no C9 24", 1))
 
-    def test_fronts(self):
+    def test_fronts(self) -> None:
         for count in range(len(CERT)):
             start = CERT.rfind(b"\n", 0, count) + 1
             self.assertEqual(said(check, BOOK, CERT[:count]), (f"cca: refused cert {start}", 3))
 
-    def test_words_and_files(self):
+    def test_words_and_files(self) -> None:
         for words in [], ["one"], ["same", "same"], ["", "two"], ["-x", "two"], list("four"):
             self.assertEqual(stopped(words), ("cca: words", 2))
         self.assertEqual(stopped(["/no such file", "two"]), ("cca: read fault book", 4))
         self.assertEqual(stopped(["/", "two"]), ("cca: read fault book", 4))
 
-    def test_every_fault_has_a_sentence(self):
+    def test_every_fault_has_a_sentence(self) -> None:
         for was, put, line in EDITS:
             with self.subTest(put=put):
                 self.assertGreater(len(stop_of(BOOK, CERT.replace(was.encode(), put.encode(), 1)).why), 20)
 
-    def test_sentences(self):
+    def test_sentences(self) -> None:
         paid = stop_of(BOOK, CERT.replace(b"pay 17 15", b"pay 16 16")).why
         self.assertIn("b1 pays 2 more than its Vickrey price. The second multipliers of its rows come to 3", paid)
         table = stop_of(BOOK, CERT.replace(b"t 0 20 14 34", b"t 0 20 14 33", 1)).why
@@ -292,7 +292,7 @@ class Faults(unittest.TestCase):
             table,
         )
 
-    def test_sentences_of_each_test(self):
+    def test_sentences_of_each_test(self) -> None:
         """Who, what was found, and what has to be. The numbers are those of the example of README."""
         rows = [
             ("den 1", "den 0", "the denominator is 0, and has to be at least 1"),
@@ -355,7 +355,7 @@ class Faults(unittest.TestCase):
             stop_of(book_of((1,), tie), cert).why,
         )
 
-    def test_sentences_by_weights(self):
+    def test_sentences_by_weights(self) -> None:
         told = stop_of(BOOK, Weights.weighed).why
         self.assertIn(
             (
@@ -372,7 +372,7 @@ class Faults(unittest.TestCase):
             stop_of(BOOK, CERT, WEIGHTS).why,
         )
 
-    def test_rows_in_an_editor(self):
+    def test_rows_in_an_editor(self) -> None:
         book = stop_of(BOOK.replace(b"bid 1 1 32", b"bid 1 1 3.2"), CERT)
         self.assertEqual((book.spot.row, book.spot.read), (9, "bid 1 1 3.2"))
         self.assertIn("`3.2` is read as the amount", book.why)
@@ -417,7 +417,7 @@ class Weights(unittest.TestCase):
         + b"lowered\nt 0 33 31 64\nt 0 33 28 64\nt 0 24 28 64\nt 0 24 28 52\nt 0 24 0 24\nt 0 0 0 0\nend\n"
     )
 
-    def test_weighed(self):
+    def test_weighed(self) -> None:
         lines_ = [
             "winner b1 1 0 bid 28 vickrey 14 pays 15+1/2",
             "winner b2 0 1 bid 20 vickrey 12 pays 16+1/2",
@@ -429,7 +429,7 @@ class Weights(unittest.TestCase):
         self.assertEqual(said(check, BOOK, CERT, WEIGHTS), ("no C8 3", 1))
         self.assertEqual(said(check, BOOK, CERT, WEIGHTS.replace(b" 3\n", b" 1\n")), (YES, 0))
 
-    def test_faults(self):
+    def test_faults(self) -> None:
         for was, put, place in [
             ("weights 1", "weights 2", 0),
             ("b1 1", "b1 0", 10),
@@ -448,7 +448,7 @@ class Weights(unittest.TestCase):
                     (f"cca: refused weights {place}", 3),
                 )
 
-    def test_order_of_reading(self):
+    def test_order_of_reading(self) -> None:
         self.assertEqual(said(check, b"", b"", b""), ("cca: refused book 0", 3))
         self.assertEqual(said(check, BOOK, b"", b""), ("cca: refused weights 0", 3))
         self.assertEqual(said(check, BOOK, b"", b"x" * 65537), ("cca: limit bytes 65537", 7))

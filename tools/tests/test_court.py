@@ -90,7 +90,7 @@ def run(name, *words, **more):
 
 
 class BesideTheOthers(unittest.TestCase):
-    def test_drawn_cases(self):
+    def test_drawn_cases(self) -> None:
         """The court's files, the rules and the program answer alike, and each kind of answer comes."""
         said = collections.Counter()
         with tempfile.TemporaryDirectory() as folder:
@@ -106,7 +106,7 @@ class BesideTheOthers(unittest.TestCase):
         ):
             self.assertGreater(said[answer], 5, answer)
 
-    def test_drawn_books(self):
+    def test_drawn_books(self) -> None:
         """tools/audit and the rules make the same book of an auction, which needs no certificate to be seen."""
         rng, made = random.Random(SEED), 0
         with tempfile.TemporaryDirectory() as folder:
@@ -129,21 +129,21 @@ class Awards(unittest.TestCase):
                 pathlib.Path(name).write_bytes(text)
             return AUDIT.answer(names), rules_answer("audit", names)
 
-    def test_no_verdict(self):
+    def test_no_verdict(self) -> None:
         for award in NEWER:
             with self.subTest(award=award):
                 (text, status), read = self.answer(award)
                 self.assertEqual((text[:11], status), ("no verdict:", NO_VERDICT))
                 self.assertNotEqual(read, ("cca: refused award 0 0", 3))
 
-    def test_refused(self):
+    def test_refused(self) -> None:
         for award, numbers in REFUSED:
             with self.subTest(award=award):
                 self.assertEqual(self.answer(award), ((f"cca: refused award {numbers}", 3),) * 2)
 
 
 class Files(unittest.TestCase):
-    def test_one_file_of_the_standard_library(self):
+    def test_one_file_of_the_standard_library(self) -> None:
         for name in ("audit", "check"):
             text = (pathlib.Path(TOOLS) / name).read_text()
             self.assertLessEqual(text.count("\n"), 500)
@@ -152,7 +152,7 @@ class Files(unittest.TestCase):
                 modules += [node.module] if isinstance(node, ast.ImportFrom) else []
                 self.assertLessEqual({module.split(".")[0] for module in modules}, set(sys.stdlib_module_names))
 
-    def test_alone_in_a_folder(self):
+    def test_alone_in_a_folder(self) -> None:
         """Each answers where there is nothing of the repository but itself."""
         with tempfile.TemporaryDirectory() as folder:
             for name in ("audit", "check", "check-places"):
@@ -165,7 +165,7 @@ class Files(unittest.TestCase):
             ended = subprocess.run([os.path.join(folder, "check-places"), "a", "b"], capture_output=True)
             self.assertEqual((ended.stdout, ended.returncode), (b"cca: read fault slots\n", 4))
 
-    def test_version(self):
+    def test_version(self) -> None:
         with tempfile.TemporaryDirectory() as folder:
             os.mkdir(os.path.join(folder, "tools"))
             for name in ("audit", "check"):
@@ -175,7 +175,7 @@ class Files(unittest.TestCase):
                 self.assertEqual(subprocess.run([path, "--version"], capture_output=True).stdout, b"1.2\n")
                 os.remove(os.path.join(folder, "VERSION"))
 
-    def test_help(self):
+    def test_help(self) -> None:
         for name in ("audit", "check", "check-places"):
             for word in ("-h", "--help"):
                 ended = run(name, word)
@@ -184,7 +184,7 @@ class Files(unittest.TestCase):
                 self.assertIn(b"70 this program failed", ended.stdout)
         self.assertRegex(run("audit", "--help").stdout, rb"9 no\s+verdict")
 
-    def test_words(self):
+    def test_words(self) -> None:
         rows = [
             ("audit", ()),
             ("audit", ("a", "b")),
@@ -210,7 +210,7 @@ class Files(unittest.TestCase):
                 for word in words:
                     self.assertIn(ascii(word).encode(), ended.stderr)
 
-    def test_no_control_character(self):
+    def test_no_control_character(self) -> None:
         """A control character of a word or of a crash doesn't reach the terminal."""
         self.assertNotIn(b"\x1b", run("audit", "a\x1b[2J").stderr)
         with tempfile.TemporaryDirectory() as folder:
@@ -225,7 +225,7 @@ class Files(unittest.TestCase):
             self.assertEqual((ended.stdout, ended.returncode, b"\x1b" in ended.stderr), (b"", 70, False))
             self.assertIn(rb"ValueError('\x1b[2J')", ended.stderr)
 
-    def test_a_crash_of_an_import(self):
+    def test_a_crash_of_an_import(self) -> None:
         """Python without a part of its library, or without memory for it, gives no answer: 1 would be `no`."""
         with tempfile.TemporaryDirectory() as folder:
             pathlib.Path(folder, "fractions.py").write_text("raise MemoryError\n")
@@ -237,12 +237,12 @@ class Files(unittest.TestCase):
                 self.assertEqual((ended.stdout, ended.returncode), (b"", 70))
                 self.assertIn(b"MemoryError", ended.stderr)
 
-    def test_word_that_is_no_text(self):
+    def test_word_that_is_no_text(self) -> None:
         for name in ("audit", "check", "check-places"):
             ended = run(name, b"\xff", "b", "c")
             self.assertEqual((ended.stdout, ended.returncode, ended.stderr), (b"", 8, b""))
 
-    def test_standard_input_and_output(self):
+    def test_standard_input_and_output(self) -> None:
         award, log, cert = (os.path.join(EXAMPLES, f"spectrum.{kind}") for kind in ("award", "log", "cert"))
         ended = run("audit", award, "-", cert, input=sample("spectrum.log"))
         self.assertEqual((ended.stdout[:4], ended.returncode), (b"yes\n", 0))
@@ -252,7 +252,7 @@ class Files(unittest.TestCase):
             )
             self.assertEqual(subprocess.run([os.path.join(TOOLS, "check"), "a", "b"], stdout=full).returncode, 5)
 
-    def test_out_of_memory(self):
+    def test_out_of_memory(self) -> None:
         with unittest.mock.patch.object(AUDIT, "audit", side_effect=MemoryError):
             self.assertEqual(AUDIT.answer(["a", "b", "c"]), ("cca: memory", 6))
         with unittest.mock.patch.object(CHECK, "Book", side_effect=MemoryError):
@@ -260,7 +260,7 @@ class Files(unittest.TestCase):
                 CHECK.answer([os.path.join(EXAMPLES, "tie.book"), "b"], CHECK.check, 2), ("cca: memory", 6)
             )
 
-    def test_a_full_draft_list(self):
+    def test_a_full_draft_list(self) -> None:
         """Beyond 300 drafts a draft of another package isn't admitted, and one that takes the place of another is."""
         award = (
             AWARD.replace(b"supply = 3", b"supply = 17").replace(b"eligibility = 3", b"eligibility = 999")
@@ -286,7 +286,7 @@ class Files(unittest.TestCase):
         self.assertEqual(court, rules)
         self.assertEqual(len(court[0][0]), 300)
 
-    def test_many_lines(self):
+    def test_many_lines(self) -> None:
         """At the limits of a log it takes seconds: each line is read once, and each package's cap is found once."""
         award = AWARD.replace(b"supply = 3", b"supply = 39").replace(b"eligibility = 3", b"eligibility = 39")
         drafts = [f"draft,east,{n},{10 * n}" for n in range(1, 40)]
@@ -300,7 +300,7 @@ class Files(unittest.TestCase):
                 (bids, _), status = court_book(*names)
             self.assertEqual((status, len(bids)), (0, 39 if more != drafts else 0))
 
-    def test_streams_that_fail(self):
+    def test_streams_that_fail(self) -> None:
         """Status 1 means `no`: closed or full streams, and a Python that is set up wrongly, end otherwise."""
         wrong = [*SPECTRUM[:2], os.path.join(EXAMPLES, "tie.book")]
         book = [os.path.join(EXAMPLES, f"day-cramton.{kind}") for kind in ("book", "weights")]
@@ -322,7 +322,7 @@ class Files(unittest.TestCase):
                     ended = subprocess.run(script, capture_output=True, env={**os.environ, **how})
                     self.assertEqual(ended.returncode, wanted, ended)
 
-    def test_a_crash_without_a_stream(self):
+    def test_a_crash_without_a_stream(self) -> None:
         """A crash ends with 70 also if its message can't be written."""
         with tempfile.TemporaryDirectory() as folder:
             for name in ("audit", "check"):
@@ -333,7 +333,7 @@ class Files(unittest.TestCase):
                     script = ["sh", "-c", f'"$0" "$@" {streams}', sys.executable, path, "a", "b", "c"]
                     self.assertEqual(subprocess.run(script, capture_output=True).returncode, 70, streams)
 
-    def test_interrupted(self):
+    def test_interrupted(self) -> None:
         """Ctrl-C ends with 130 and without a word."""
         for name, count in (("audit", 3), ("check", 2), ("check-places", 2)):
             with tempfile.TemporaryDirectory() as folder:

@@ -52,7 +52,7 @@ class Bids(unittest.TestCase):
         self.assertEqual(caught.exception.status, 3)
         return caught.exception.why
 
-    def test_a_table_with_all_that_is_changed(self):
+    def test_a_table_with_all_that_is_changed(self) -> None:
         table = (
             "Bidder;L800;L2600;Amount\nNorth Tel;1;4;48,000.50\nNorth Tel;0;4;8000\nNorth Tel;1;4;47000\n"
             "south;2;1;€ 50 000\nsouth;0;0;3\nsouth;1;0;9.99\n"
@@ -75,7 +75,7 @@ class Bids(unittest.TestCase):
             ],
         )
 
-    def test_forms_of_a_table(self):
+    def test_forms_of_a_table(self) -> None:
         whole = Sold((2, 6), (Decimal(0), Decimal(0)))
         right = ["bidder a", "bid 1 4 1234"]
         for text in (
@@ -88,18 +88,18 @@ class Bids(unittest.TestCase):
             self.assertEqual((lines, made.changes), (right, []), text)
         self.assertEqual(self.made("a;1;4;1.234,5", whole, ",")[0], ["bidder a", "bid 1 4 12345"])
 
-    def test_categories_by_the_names_of_an_award(self):
+    def test_categories_by_the_names_of_an_award(self) -> None:
         sold = Sold((2, 6), (Decimal(0), Decimal(0)), ("low", "high"))
         lines, made = self.made("bidder,high,low,amount,city\na,4,1,7,Ulm\n", sold)
         self.assertEqual(lines, ["bidder a", "bid 1 4 7"])
         self.assertEqual(made.changes, ["left out the columns city, since these aren't categories of the award"])
 
-    def test_names(self):
+    def test_names(self) -> None:
         names = ["A-1", "A 1", "1st", "Ümlaut", "x" * 30]
         _, made = self.made("".join(f"{name},1,0,50\n" for name in names))
         self.assertEqual(made.book.names, ["a_1", "a_1_2", "b_1st", "mlaut", "x" * 20])
 
-    def test_faults_name_the_row(self):
+    def test_faults_name_the_row(self) -> None:
         self.addCleanup(csv.field_size_limit, csv.field_size_limit(FIELD))
         number = "as the amount, which has to be a number from 0 on, such as 48000.50"
         for text, why in {
@@ -133,7 +133,7 @@ class Bids(unittest.TestCase):
         self.assertEqual(self.fault("a,1,0,4398046511104")[: len(above)], above)
         self.assertIn("row 1 isn't CSV", self.fault("a,1,0," + "9" * 200_000))
 
-    def test_json_there_and_back(self):
+    def test_json_there_and_back(self) -> None:
         text = json.dumps({"supply": [2, 6], "reserve": [10, 2.5], "bids": [bid("b", [1, 4], 48000.5)]})
         lines, made = self.made(text, None)
         self.assertEqual((lines, made.scale), (["bidder b", "bid 1 4 480005"], 10))
@@ -163,7 +163,7 @@ class Bids(unittest.TestCase):
         }.items():
             self.assertEqual(self.fault(bids), why)
 
-    def test_the_command(self):
+    def test_the_command(self) -> None:
         printed, status, said = run("book", "-", "--supply", "2 6", "--reserve", "10 2.5", input="N,1,4,50\n")
         self.assertEqual((printed, status), ("book 1\nsupply 2 6\nreserve 100 25\nbidder n\nbid 1 4 500\nend\n", 0))
         self.assertEqual(len(said.splitlines()), 2)
@@ -178,7 +178,7 @@ def bid(name, package, amount):
 
 
 class Numbers(unittest.TestCase):
-    def test_amounts(self):
+    def test_amounts(self) -> None:
         for text, amount in {
             "12": 12,
             "1,234.50": "1234.5",
@@ -191,12 +191,12 @@ class Numbers(unittest.TestCase):
         for text in ("", "-3", "1,23", "1.2.3", "1 4", "1,00,000", "1e", "٣", "nan"):
             self.assertIsNone(amount_of(text), text)
 
-    def test_what_is_exact(self):
+    def test_what_is_exact(self) -> None:
         """A decimal where one is exact; a third as the program prints it, which isn't a date to a spreadsheet."""
         for value, text in {"41/2": "20.5", "20/3": "6+2/3", "7": "7", "1/8": "0.125", "-7/3": "-2-1/3"}.items():
             self.assertEqual((exact(Fraction(value)), fraction_of(text)), (text, Fraction(value)))
 
-    def test_fractions(self):
+    def test_fractions(self) -> None:
         self.assertEqual(fraction_of("20+1/2"), Fraction(41, 2))
         self.assertEqual(
             [decimal(Fraction(it)) for it in ("41/2", "244/3", "-1/8", "7")], ["20.5", "81.333333", "-0.125", "7"]
@@ -206,7 +206,7 @@ class Numbers(unittest.TestCase):
 class Prices(unittest.TestCase):
     LINES = ["winner b 1 0 bid 28 vickrey 14 pays 20+1/2", "net 20", "revenue 20+1/2"]
 
-    def test_what_the_program_prints(self):
+    def test_what_the_program_prints(self) -> None:
         found = prices_of(["a", "b"], (3, 1), self.LINES)
         lost, won = found.rows
         self.assertEqual((lost.package, lost.bid, lost.pays), (None, 0, 0))
@@ -215,13 +215,13 @@ class Prices(unittest.TestCase):
         self.assertEqual((found.net, found.revenue, found.raised, found.winners), (20, Fraction(41, 2), True, (won,)))
 
     @with_program
-    def test_python(self):
+    def test_python(self) -> None:
         found = cca_tools.price(cca_tools.read_book(sample("day-cramton.book")))
         self.assertEqual([(it.bidder, it.pays) for it in found.winners], [("b1", 17), ("b2", 15)])
         self.assertEqual((found.net, found.revenue, len(found.rows)), (48, 32, 5))
 
     @with_program
-    def test_the_python_of_the_page(self):
+    def test_the_python_of_the_page(self) -> None:
         """docs/ECONOMISTS.md, as it is shown."""
         root = f"{TOOLS}/.."
         (block,) = re.findall("```python\n(.*?)```", pathlib.Path(root, "docs/ECONOMISTS.md").read_text(), re.S)
@@ -233,7 +233,7 @@ class Prices(unittest.TestCase):
         self.assertEqual((first[-2:], ties), ("32", "[]"))
 
     @with_program
-    def test_weights_and_faults_in_words(self):
+    def test_weights_and_faults_in_words(self) -> None:
         """Weights of 1 and 3 share the 6 that the core raises as docs/CERTIFICATES.md has it."""
         book = cca_tools.read_book(sample("day-cramton.book"))
         weighed = cca_tools.price(book, weights={"b1": 1, "b2": 3}, program=os.path.abspath(PROGRAM))
@@ -248,7 +248,7 @@ class Prices(unittest.TestCase):
             self.assertIn(why, caught.exception.why)
 
     @with_program
-    def test_a_frame(self):
+    def test_a_frame(self) -> None:
         try:
             import pandas  # noqa: F401
         except ImportError:
@@ -258,7 +258,7 @@ class Prices(unittest.TestCase):
         self.assertEqual((frame.price.sum(), frame.exact[0]), (32.0, Fraction(17)))
 
     @with_program
-    def test_the_command(self):
+    def test_the_command(self) -> None:
         book = f"{TOOLS}/../examples/day-cramton.book"
         printed, status, said = run("prices", book, "--unit", "2")
         head, *rows = [line.split(",") for line in printed.splitlines()]
@@ -273,7 +273,7 @@ class Prices(unittest.TestCase):
         self.assertEqual(printed.splitlines()[1].split(";")[1:7], ["b1", "1 0", "0", "3,5", "1,75", "2,125"])
 
     @with_program
-    def test_thirds(self):
+    def test_thirds(self) -> None:
         """Three winners of 5 each against one bid of 10 for all: each pays a third of 10."""
         lots = ("1 0 0", "0 1 0", "0 0 1")
         bids = "".join(f"bidder b{n}\nbid {lot} 5\n" for n, lot in enumerate(lots))
@@ -285,36 +285,36 @@ class Prices(unittest.TestCase):
         self.assertEqual((first["bid"], first["price"], first["price_decimal"]), (5, "3+1/3", 3.333333))
 
     @with_program
-    def test_a_limit_of_rows_is_a_stop(self):
+    def test_a_limit_of_rows_is_a_stop(self) -> None:
         with self.assertRaises(Stop) as caught:
             cca_tools.price(cca_tools.read_book(ELEVEN.encode()))
         self.assertEqual((caught.exception.line, caught.exception.status), ("cca: limit rows 11", 7))
 
     @with_program
-    def test_more_winners_than_the_program_prices(self):
+    def test_more_winners_than_the_program_prices(self) -> None:
         found = cca_tools.price(cca_tools.read_book(SEVEN.encode()))
         self.assertEqual([row.pays for row in found.rows], [3] * 7 + [0])
         self.assertEqual((found.found_by, len(found.winners), found.net), ("tools/price", 7, 35))
         one = cca_tools.price(cca_tools.read_book(sample("tie.book")))
         self.assertEqual(one.found_by, "cca")
 
-    def test_a_program_that_a_signal_ends(self):
+    def test_a_program_that_a_signal_ends(self) -> None:
         stop = stop_of([], -9, "")
         self.assertEqual((stop.line, stop.status), ("cca: status -9", 70))
 
     @with_program
-    def test_a_book_beyond_a_limit_doesn_t_stop_the_others(self):
+    def test_a_book_beyond_a_limit_doesn_t_stop_the_others(self) -> None:
         printed, status, _ = run("prices", "-", f"{TOOLS}/../examples/tie.book", input=ELEVEN)
         rows = [line.split(",") for line in printed.splitlines()[1:]]
         self.assertEqual((status, {row[-1] for row in rows[:15]}, rows[15][6]), (0, {"limit rows 11"}, "0"))
 
     @with_program
-    def test_who_has_found_the_prices_is_a_column(self):
+    def test_who_has_found_the_prices_is_a_column(self) -> None:
         printed, status, _ = run("prices", "-", f"{TOOLS}/../examples/tie.book", input=SEVEN)
         rows = [line.split(",") for line in printed.splitlines()[1:]]
         self.assertEqual([row[-2:] for row in rows], [["tools/price", ""]] * 8 + [["cca", ""]] * 2)
 
-    def test_without_a_program(self):
+    def test_without_a_program(self) -> None:
         made = run("prices", f"{TOOLS}/../examples/tie.book", env={"PATH": "/usr/bin:/bin", "CCA_PROGRAM": "/nowhere"})
         self.assertEqual(made[:2], ("", 70))
         self.assertIn("CCA_PROGRAM", made[2])

@@ -41,7 +41,7 @@ def by_rules(award, data):
 
 
 class Case(unittest.TestCase):
-    def setUp(self):
+    def setUp(self) -> None:
         folder = tempfile.TemporaryDirectory()
         self.addCleanup(folder.cleanup)
         self.folder = pathlib.Path(folder.name)
@@ -64,13 +64,13 @@ class Case(unittest.TestCase):
 
 @with_program
 class Alike(Case):
-    def test_the_sample(self):
+    def test_the_sample(self) -> None:
         both, rows = self.answers(sample("spectrum.award")), sample("spectrum.log").splitlines(True)
         for count in (0, 1, 17, 34, 62, 63):
             data = b"".join(rows[:count])
             self.assertEqual(state_of(both.auction(data)), state_of(by_rules(both.award, data)))
 
-    def test_drawn_auctions_line_by_line(self):
+    def test_drawn_auctions_line_by_line(self) -> None:
         """Each line is answered from the log before it, and comes to what the whole log comes to."""
         drawing = Drawing(4)
         drawing.clock()
@@ -79,7 +79,7 @@ class Alike(Case):
             data += record_text(line).encode() + b"\n"
             self.assertEqual(state_of(both.auction(data)), state_of(by_rules(both.award, data)))
 
-    def test_previews_don_t_mix(self):
+    def test_previews_don_t_mix(self) -> None:
         both = self.answers()
         before = state_of(by_rules(both.award, CLOCK))
         for line in (b"bid,east,1 0,\n", b"close,,,\n", b"bid,west,0 1,\n"):
@@ -88,14 +88,14 @@ class Alike(Case):
             self.assertEqual(state_of(both.auction(data)), state_of(by_rules(both.award, data)))
             self.assertEqual(state_of(both.auction(CLOCK)), before)
 
-    def test_blank_lines_and_line_ends(self):
+    def test_blank_lines_and_line_ends(self) -> None:
         both = self.answers()
         for data in (b"\xef\xbb\xbf" + CLOCK, CLOCK.replace(b"\n", b"\r\n"), b"\n\n" + CLOCK + b"\r\n\n", CLOCK[:-1]):
             self.assertEqual(state_of(both.auction(data)), state_of(by_rules(both.award, data)))
             data += b"\n\nbid,east,1 0,\n"
             self.assertEqual(state_of(both.auction(data)), state_of(by_rules(both.award, data)))
 
-    def test_a_preview_takes_one_line(self):
+    def test_a_preview_takes_one_line(self) -> None:
         both, data = self.answers(), CLOCK + b"bid,east,1 0,\n" * 500
         both.auction(data)
         with unittest.mock.patch.object(Auction, "take", autospec=True, side_effect=Auction.take) as take:
@@ -104,18 +104,18 @@ class Alike(Case):
             both.auction(data)
         self.assertEqual(take.call_count, 2)
 
-    def test_one_log_is_answered_once(self):
+    def test_one_log_is_answered_once(self) -> None:
         both = self.answers()
         both.auction(CLOCK)
         with unittest.mock.patch.object(both._program, "auction", side_effect=AssertionError("answered already")):
             self.assertEqual(both.auction(CLOCK).stage, "clock")
 
-    def test_limits(self):
+    def test_limits(self) -> None:
         """A close that a limit refuses is answered, and both programs say that the log ends there."""
         both = self.answers(SMALL.replace(b"reserve = 10", b"reserve = 68719476736"))
         self.assertEqual(both.auction(CLOCK).limit_stop.line, "cca: limit price 82463372084")
 
-    def test_pinned(self):
+    def test_pinned(self) -> None:
         """What happens to the files afterwards changes nothing."""
         both = self.answers()
         program = pathlib.Path(PROGRAM).read_bytes()
@@ -125,7 +125,7 @@ class Alike(Case):
         (self.folder / "cca").unlink()
         self.assertEqual(state_of(both.auction(CLOCK)), state_of(by_rules(both.award, CLOCK)))
 
-    def test_a_copy_goes_on_apart(self):
+    def test_a_copy_goes_on_apart(self) -> None:
         award = read_award(SMALL)
         rows = read_log(SEALED, award)
         for count in range(len(rows) + 1):
@@ -140,7 +140,7 @@ class Alike(Case):
 
 @with_program
 class NoAnswers(Case):
-    def test_records_that_are_no_lines(self):
+    def test_records_that_are_no_lines(self) -> None:
         both = self.answers()
         both.auction(CLOCK)
         for line, words in (
@@ -154,7 +154,7 @@ class NoAnswers(Case):
                 both.auction((CLOCK + line)[:8_388_609])
         self.assertEqual(both.auction(CLOCK).stage, "clock")
 
-    def test_too_many_records(self):
+    def test_too_many_records(self) -> None:
         """One more than the limit takes the replies of all away, whichever way the log came to it."""
         both, data = self.answers(), CLOCK + b"bid,east,1 0,\n" * 5
         both.auction(data)
@@ -167,11 +167,11 @@ class NoAnswers(Case):
                 with self.assertRaisesRegex(NoLine, "cca: limit records 11\n"):
                     both.auction(text)
 
-    def test_an_award_that_is_none(self):
+    def test_an_award_that_is_none(self) -> None:
         with self.assertRaises(Stop):
             self.answers(b"version = 3\n")
 
-    def test_differences(self):
+    def test_differences(self) -> None:
         for edit, words in (
             ("s/^2 ok/2 points 7/", "In line 2 of the replies the program says `2 points 7`, and the .* `2 ok`"),
             ("/^5 ok/d", "In line 5 of the replies the program says `cca: refused log 6`"),
@@ -189,7 +189,7 @@ class NoAnswers(Case):
         with self.assertRaisesRegex(Differ, "In line 1"):
             self.answers(script="echo 1 ok; exit 3").auction(b"bid;east\n")
 
-    def test_a_program_that_fails(self):
+    def test_a_program_that_fails(self) -> None:
         with self.assertRaisesRegex(NoProgram, "can't be read"):
             Answers(self.folder / "award", self.folder / "none") if self.answers() else None
         for script, words in (
@@ -212,7 +212,7 @@ class NoAnswers(Case):
 
 @with_program
 class Probing(Case):
-    def test_alike(self):
+    def test_alike(self) -> None:
         for award, logs in (
             (SMALL, (b"", CLOCK, SEALED, SEALED + lines("submit,east,, / close,,,"))),
             (
@@ -224,7 +224,7 @@ class Probing(Case):
             for log in logs:
                 self.assertEqual(both.probe(log), [])
 
-    def test_other_points(self):
+    def test_other_points(self) -> None:
         """Both have 5 points in round 2, and east has 5 for its list."""
         self.assertEqual(self.changed("s/points 3$/points 4/").probe(CLOCK), [])
         found = self.changed("s/points 5$/points 6/").probe(CLOCK)
@@ -234,25 +234,25 @@ class Probing(Case):
             found[0], r"`6 points 6`, and the second program `6 points 5`|`7 points 6`, and .* `7 points 5`"
         )
 
-    def test_points_after_a_close(self):
+    def test_points_after_a_close(self) -> None:
         data = lines("bid,east,2 0, / bid,west,2 1,")
         found = self.changed("s/points 4$/points 5/").probe(data)
         self.assertEqual([it.split(": to")[0] for it in found], ["east, after a close"])
 
-    def test_other_caps(self):
+    def test_other_caps(self) -> None:
         found = self.changed("s/spectrum-cap 1 4/spectrum-cap 1 5/").probe(CLOCK)
         self.assertLessEqual({"east, now", "west, now"}, {it.split(": to")[0] for it in found})
         found = self.changed("s/(relative-cap [0-9]+) ([0-9]+)/\\\\1 1\\\\2/").probe(SEALED)
         self.assertEqual([it.split(": to")[0] for it in found], ["east, now", "west, now"])
 
-    def test_a_log_without_room(self):
+    def test_a_log_without_room(self) -> None:
         both = self.answers()
         with unittest.mock.patch.dict(answers.MOST, records=len(CLOCK.splitlines()) + 1):
             found = both.probe(CLOCK)
         self.assertEqual(len(found), 4)
         self.assertTrue(all("no room for probing lines" in sentence for sentence in found))
 
-    def test_nothing_is_kept_of_it(self):
+    def test_nothing_is_kept_of_it(self) -> None:
         both = self.answers()
         both.probe(SEALED)
         self.assertEqual(state_of(both.auction(SEALED)), state_of(by_rules(both.award, SEALED)))

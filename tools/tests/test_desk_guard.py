@@ -44,12 +44,12 @@ HEADERS = {
 
 
 class Requests(DeskTest):
-    def setUp(self):
+    def setUp(self) -> None:
         super().setUp()
         self.open()
         self.inside = f"{self.guard.inside}/"
 
-    def refuses(self, status, method, path, form=None, **headers):
+    def refuses(self, status, method, path, form=None, **headers) -> None:
         """A request is refused with this status, by a page without an address of the desk, and writes nothing."""
         answer = self.client.ask(method, path, form, **headers)
         self.assertEqual(answer.status_code, status, (method, path, headers))
@@ -57,7 +57,7 @@ class Requests(DeskTest):
         self.assertNotIn("Set-Cookie", answer.headers)
         self.assertEqual(self.log(), b"")
 
-    def test_the_desk_answers_at_its_own_address_alone(self):
+    def test_the_desk_answers_at_its_own_address_alone(self) -> None:
         for host in (
             "evil.example",
             f"localhost:{PORT}",
@@ -72,12 +72,12 @@ class Requests(DeskTest):
                     self.refuses(421, "GET", path, Host=host)
         self.assertEqual(self.client.ask("GET", self.inside).status_code, 200)
 
-    def test_nothing_but_pages_and_forms_is_answered(self):
+    def test_nothing_but_pages_and_forms_is_answered(self) -> None:
         for method in ("PUT", "DELETE", "OPTIONS", "HEAD", "TRACE", "PATCH", "CONNECT"):
             with self.subTest(method):
                 self.assertEqual(self.client.ask(method, self.inside).status_code, 405)
 
-    def test_forms_come_from_the_desk_s_own_pages(self):
+    def test_forms_come_from_the_desk_s_own_pages(self) -> None:
         form = {"token": self.guard.token, "raw": LINE}
         own = f"http://127.0.0.1:{PORT}"
         for origin in (
@@ -97,7 +97,7 @@ class Requests(DeskTest):
                 with self.subTest(origin=origin, path=path):
                     self.refuses(403, "POST", path, form, Origin=origin)
 
-    def test_other_sites_and_other_ports_of_the_machine_are_refused(self):
+    def test_other_sites_and_other_ports_of_the_machine_are_refused(self) -> None:
         for site in ("cross-site", "same-site"):
             for method, path in (
                 ("GET", self.inside),
@@ -119,7 +119,7 @@ class Requests(DeskTest):
                 200,
             )
 
-    def test_each_form_has_the_token_of_this_start(self):
+    def test_each_form_has_the_token_of_this_start(self) -> None:
         for token in (
             {},
             {"token": ""},
@@ -143,7 +143,7 @@ class Requests(DeskTest):
             for action, fields in Reader(page).forms:
                 self.assertEqual(fields.get("token"), self.guard.token, action)
 
-    def test_nobody_comes_in_without_the_cookie(self):
+    def test_nobody_comes_in_without_the_cookie(self) -> None:
         for cookie in (
             None,
             "",
@@ -173,7 +173,7 @@ class Requests(DeskTest):
             )
         self.refuses(403, "GET", "/desk-0000/", Cookie=None)
 
-    def test_the_key_is_typed_and_nothing_else_opens(self):
+    def test_the_key_is_typed_and_nothing_else_opens(self) -> None:
         self.assertRegex(self.guard.key, r"^[a-hjkmnp-z2-9]{24}$")
         for key in (
             "",
@@ -194,7 +194,7 @@ class Requests(DeskTest):
                 self.client.ask("POST", "/", {"key": key}, Cookie=None).headers,
             )
 
-    def test_the_cookie_goes_to_the_desk_s_own_path_alone(self):
+    def test_the_cookie_goes_to_the_desk_s_own_path_alone(self) -> None:
         cookie = self.client.ask("POST", "/", {"key": self.guard.key}).headers["Set-Cookie"]
         parts = {part.strip() for part in cookie.split(";")}
         self.assertEqual(
@@ -208,7 +208,7 @@ class Requests(DeskTest):
         )
         self.assertRegex(self.inside, r"^/desk-[0-9a-f]{32}/$")
 
-    def test_each_start_has_its_own_secrets(self):
+    def test_each_start_has_its_own_secrets(self) -> None:
         from cca_tools.desk.guard import Guard
 
         one, other = Guard(PORT), Guard(PORT)
@@ -216,7 +216,7 @@ class Requests(DeskTest):
             self.assertNotEqual(getattr(one, name), getattr(other, name))
             self.assertNotIn(getattr(one, name), repr(one))
 
-    def test_every_answer_has_the_headers(self):
+    def test_every_answer_has_the_headers(self) -> None:
         answers = [
             self.client.ask("GET", self.inside),
             self.client.ask("GET", self.inside + "nowhere"),
@@ -235,7 +235,7 @@ class Requests(DeskTest):
         for answer in answers:
             self.assertEqual({name: answer.headers.get(name) for name in HEADERS}, HEADERS)
 
-    def test_large_and_other_forms_are_refused(self):
+    def test_large_and_other_forms_are_refused(self) -> None:
         self.refuses(
             413,
             "POST",
@@ -257,7 +257,7 @@ class Requests(DeskTest):
                     Content_Type=kind,
                 )
 
-    def test_paths_lead_to_no_other_file(self):
+    def test_paths_lead_to_no_other_file(self) -> None:
         for path in (
             "/static/desk.css",
             "/static/../web.py",
@@ -277,7 +277,7 @@ class Texts(DeskTest):
         path.write_text(text, encoding="utf-8")
         return path
 
-    def test_names_are_never_markup(self):
+    def test_names_are_never_markup(self) -> None:
         self.open(names=self.named(NAMES))
         self.client.write(LINE)
         seen = ""
@@ -294,12 +294,12 @@ class Texts(DeskTest):
         ):
             self.assertIn(escaped, seen)
 
-    def test_names_that_turn_the_direction_of_text_are_refused(self):
+    def test_names_that_turn_the_direction_of_text_are_refused(self) -> None:
         for sign in "\u202e\u2066\u200f\u061c":
             with self.subTest(hex(ord(sign))), self.assertRaisesRegex(Stop, f"U.{ord(sign):04X}"):
                 self.open(names=self.named(f'[bidder.everest]\nname = "a{sign}b"\n'))
 
-    def test_what_is_pasted_is_never_markup(self):
+    def test_what_is_pasted_is_never_markup(self) -> None:
         client = self.open()
         self.assertIn(
             "/entry/",
@@ -309,7 +309,7 @@ class Texts(DeskTest):
         self.assertIn("&lt;script&gt;", client.page)
         self.assertEqual(self.log(), b"")
 
-    def test_no_page_has_a_script_or_a_style_of_its_own(self):
+    def test_no_page_has_a_script_or_a_style_of_its_own(self) -> None:
         client = self.open(b"bid,everest,1 0 0 0,\nbid,tarn,9 0 0 0,\n")
         for place in (
             "",
@@ -336,7 +336,7 @@ class Room(DeskTest):
         self.assertEqual(answer.status_code, 200)
         return answer
 
-    def test_nothing_changes_between_closes(self):
+    def test_nothing_changes_between_closes(self) -> None:
         client = self.open(with_demand=True)
         first = self.page()
         self.assertIn("Round 1 is open", first.text_)
@@ -354,7 +354,7 @@ class Room(DeskTest):
         client.write("bid,everest,2 0 4 0,")
         self.assertEqual(self.page().data, second.data)
 
-    def test_it_leads_nowhere_and_names_nobody(self):
+    def test_it_leads_nowhere_and_names_nobody(self) -> None:
         client = self.open()
         client.write("bid,everest,4 1 0 0,\nbid,everest,3 0 0 0,\nbid,tarn,2 1 4 0,")
         client.load("close")
@@ -376,7 +376,7 @@ class Room(DeskTest):
 
 @unittest.skipUnless(HAS_ALL, WHY)
 class AsProgram(unittest.TestCase):
-    def setUp(self):
+    def setUp(self) -> None:
         folder = tempfile.TemporaryDirectory()
         self.addCleanup(folder.cleanup)
         self.folder = pathlib.Path(folder.name)
@@ -401,7 +401,7 @@ class AsProgram(unittest.TestCase):
         self.addCleanup(made.kill)
         return made, "".join(made.stdout.readline() for _ in range(3))
 
-    def test_a_start_and_an_end(self):
+    def test_a_start_and_an_end(self) -> None:
         made, said = self.start()
         found = re.fullmatch(
             r"desk  (http://127\.0\.0\.1:(\d+))/\nkey   ((?:\w{4}-){5}\w{4})\nroom  \1/posted\n",
@@ -437,7 +437,7 @@ class AsProgram(unittest.TestCase):
         self.assertEqual(made.wait(20), 0)
         self.assertEqual(made.stdout.read(), "The desk is closed.\n")
 
-    def test_idle_connections_hold_nobody(self):
+    def test_idle_connections_hold_nobody(self) -> None:
         """More of them than a server takes by default; the room's screen is answered beside them."""
         _, said = self.start()
         port = int(re.search(r":(\d+)/posted", said)[1])
@@ -450,13 +450,13 @@ class AsProgram(unittest.TestCase):
         self.assertIn("Round 1 is open", asked.getresponse().read().decode())
         asked.close()
 
-    def test_two_people_have_two_keys(self):
+    def test_two_people_have_two_keys(self) -> None:
         made, said = self.start("--second")
         said += made.stdout.readline()
         keys = re.findall(r"(?:key|second) +((?:\w{4}-){5}\w{4})\n", said)
         self.assertEqual((len(keys), len(set(keys))), (2, 2))
 
-    def test_a_log_has_one_address(self):
+    def test_a_log_has_one_address(self) -> None:
         addresses = set()
         for _ in range(2):
             made, said = self.start()
@@ -473,13 +473,13 @@ class AsProgram(unittest.TestCase):
         self.assertFalse(log.exists())
         return caught.exception.status, caught.exception.why
 
-    def test_without_the_program_it_does_not_start(self):
+    def test_without_the_program_it_does_not_start(self) -> None:
         with unittest.mock.patch.dict(os.environ, CCA_PROGRAM="/nowhere"):
             status, why = self.refused()
         self.assertEqual(status, CRASH)
         self.assertIn("Build it once with ./cca, or say where it is with CCA_PROGRAM=PATH", why)
 
-    def test_without_its_libraries_it_says_what_to_install(self):
+    def test_without_its_libraries_it_says_what_to_install(self) -> None:
         for module in ("flask", "waitress"):
             with unittest.mock.patch.dict(sys.modules, {module: None}):
                 status, why = self.refused()
@@ -489,7 +489,7 @@ class AsProgram(unittest.TestCase):
                 why,
             )
 
-    def test_wrong_words(self):
+    def test_wrong_words(self) -> None:
         for words_, why in (
             (("--port", "x"), "--port takes a number from 0 to 65535"),
             (("--port", "65536"), "--port takes a number"),
@@ -504,7 +504,7 @@ class AsProgram(unittest.TestCase):
             self.assertEqual(status, WORDS)
             self.assertIn(why, said)
 
-    def test_a_port_that_is_taken(self):
+    def test_a_port_that_is_taken(self) -> None:
         with socket.create_server(("127.0.0.1", 0)) as taken:
             port = taken.getsockname()[1]
             with self.assertRaises(Stop) as caught:

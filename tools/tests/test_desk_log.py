@@ -31,7 +31,7 @@ def never(wanted):
 
 
 class Case(unittest.TestCase):
-    def setUp(self):
+    def setUp(self) -> None:
         folder = tempfile.TemporaryDirectory()
         self.addCleanup(folder.cleanup)
         self.folder = pathlib.Path(folder.name)
@@ -43,14 +43,14 @@ class Case(unittest.TestCase):
     def open(self, copies=None, **pins):
         return LogFile(self.path, {**PINS, **pins}, copies)
 
-    def write(self, log, *lines):
+    def write(self, log, *lines) -> None:
         for line in lines:
             log.append(log.base(log.read()), line, ok)
 
     def entries(self):
         return [json.loads(line) for line in self.beside("desk").read_bytes().splitlines()]
 
-    def refused(self, fault, words, run, *given):
+    def refused(self, fault, words, run, *given) -> None:
         """A call is refused in these words, and changes no file."""
         before = self.files()
         with self.assertRaisesRegex(fault, words):
@@ -60,14 +60,14 @@ class Case(unittest.TestCase):
     def files(self):
         return {file.name: file.read_bytes() for file in self.folder.iterdir() if file.is_file()}
 
-    def is_whole(self, log, wanted):
+    def is_whole(self, log, wanted) -> None:
         self.assertIsNone(log.stop())
         self.assertEqual(log.read(), wanted)
         self.assertEqual(replayed(Journal(self.beside("desk")).entries()), wanted)
 
 
 class Lines(Case):
-    def test_a_line(self):
+    def test_a_line(self) -> None:
         """The log has it, and the journal its time, length, sum, text and replies."""
         log, seen = self.open(), []
         written = log.append(log.base(b""), FIRST, lambda wanted: seen.append(wanted) or ["1 ok"])
@@ -80,7 +80,7 @@ class Lines(Case):
             [(what, length) for _, what, length in log.answered_at()], [("begun", 0), ("line", len(FIRST))]
         )
 
-    def test_sent_twice(self):
+    def test_sent_twice(self) -> None:
         """A double click: written once, also by another desk, also after other lines."""
         log, other = self.open(), self.open()
         base = log.base(b"")
@@ -94,13 +94,13 @@ class Lines(Case):
         self.write(log, SECOND)  # (on a new page the same line is another one)
         self.is_whole(log, FIRST + SECOND + SECOND)
 
-    def test_grown(self):
+    def test_grown(self) -> None:
         log = self.open()
         base = log.base(b"")
         self.write(log, FIRST)
         self.refused(Grown, "has grown", log.append, base, SECOND, never)
 
-    def test_a_check_that_refuses(self):
+    def test_a_check_that_refuses(self) -> None:
         log = self.open()
 
         def check(wanted):
@@ -109,7 +109,7 @@ class Lines(Case):
         self.refused(Refused, "The words", log.append, log.base(b""), FIRST, check)
         self.write(log, SECOND)
 
-    def test_bases(self):
+    def test_bases(self) -> None:
         log = self.open()
         base = log.base(b"")
         self.assertEqual(Base.of(base.text()), base)
@@ -120,7 +120,7 @@ class Lines(Case):
             self.refused(Refused, "Nothing was written", log.append, other, FIRST, never)
         self.refused(Refused, "line feed", log.append, base, FIRST[:-1], never)
 
-    def test_the_lock(self):
+    def test_the_lock(self) -> None:
         log = self.open()
         self.write(log, FIRST)
         with open(self.path, "rb") as file, unittest.mock.patch.object(disk, "WAIT", 0.05):
@@ -130,7 +130,7 @@ class Lines(Case):
             self.assertEqual(log.read(), FIRST)
         self.write(log, SECOND)
 
-    def test_an_editor_renames_before_a_write(self):
+    def test_an_editor_renames_before_a_write(self) -> None:
         """A new file with the answered lines and one more: it is the log, and its line is found."""
         log = self.open()
         self.write(log, FIRST)
@@ -141,7 +141,7 @@ class Lines(Case):
         self.assertEqual((log.note_found(), log.note_found()), (1, 0))
         self.is_whole(log, FIRST + THIRD)
 
-    def test_an_editor_renames_within_a_write(self):
+    def test_an_editor_renames_within_a_write(self) -> None:
         log = self.open()
         self.write(log, FIRST)
 
@@ -158,7 +158,7 @@ class Lines(Case):
         self.write(log, SECOND)
         self.is_whole(log, FIRST + SECOND)
 
-    def test_a_writer_without_the_lock(self):
+    def test_a_writer_without_the_lock(self) -> None:
         log = self.open()
 
         def check(wanted):
@@ -173,7 +173,7 @@ class Lines(Case):
 
 
 class Starts(Case):
-    def test_files(self):
+    def test_files(self) -> None:
         log = self.open()
         self.assertEqual(set(self.files()), {"a.log", "a.log.desk", "a.log.key", "a.log.posted"})
         for file in self.folder.iterdir():
@@ -183,13 +183,13 @@ class Starts(Case):
         self.assertEqual((first["pins"], first["key"]), (PINS, hashlib.sha256(log.key).hexdigest()))
         self.assertEqual(self.open().key, log.key)
 
-    def test_pins(self):
+    def test_pins(self) -> None:
         self.write(self.open(), FIRST)
         self.refused(Refused, "The award isn't the one", lambda: self.open(award="c" * 64))
         self.refused(Refused, "The program isn't the one", lambda: self.open(program="c" * 64))
         self.is_whole(self.open(), FIRST)
 
-    def test_found(self):
+    def test_found(self) -> None:
         """Lines of before the first start, and of another hand while it runs."""
         self.path.write_bytes(FIRST + SECOND)
         log = self.open()
@@ -200,7 +200,7 @@ class Starts(Case):
         self.is_whole(log, FIRST + SECOND + THIRD)
         self.assertEqual([what for _, what, _ in log.answered_at()], ["begun", "found", "found"])
 
-    def test_what_the_disk_may_not_have_is_written_again(self):
+    def test_what_the_disk_may_not_have_is_written_again(self) -> None:
         """A start writes the newest entry and the lines that were never answered once more, over themselves."""
         self.write(self.open(), FIRST)
         with open(self.path, "ab") as file:
@@ -215,7 +215,7 @@ class Starts(Case):
             self.assertEqual(written, [entry + torn, SECOND] if not torn else [entry + torn])
             entry = self.beside("desk").read_bytes().splitlines(True)[-1]
 
-    def test_no_locks(self):
+    def test_no_locks(self) -> None:
         with unittest.mock.patch.object(fcntl, "flock"):
             with self.assertRaisesRegex(Refused, "Locks don't work"):
                 self.open()
@@ -223,7 +223,7 @@ class Starts(Case):
             with self.assertRaisesRegex(Refused, "No locks available"):
                 self.open()
 
-    def test_links(self):
+    def test_links(self) -> None:
         """Nothing is read or written through a link that is in the place of a file."""
         self.write(self.open(), FIRST)
         for name in ("a.log", "a.log.desk", "a.log.key"):
@@ -241,7 +241,7 @@ class Starts(Case):
         with self.assertRaisesRegex(Refused, "no regular file"):
             self.open()
 
-    def test_the_key(self):
+    def test_the_key(self) -> None:
         log = self.open()
         self.write(log, FIRST)
         key = self.beside("key")
@@ -260,12 +260,12 @@ class Starts(Case):
         kept = kept_beside(self.path)
         self.assertLessEqual({b"", log.key[:40], b"0" * 64 + b"\n"}, set(kept.values()))
 
-    def test_a_short_key_before_the_first_start(self):
+    def test_a_short_key_before_the_first_start(self) -> None:
         self.beside("key").write_bytes(b"12\n")
         with self.assertRaisesRegex(Refused, "is no key"):
             self.open()
 
-    def test_another_file_in_the_place_of_the_journal(self):
+    def test_another_file_in_the_place_of_the_journal(self) -> None:
         self.beside("desk").write_bytes(b"something else\n")
         with self.assertRaisesRegex(Refused, "no journal"):
             self.open()
@@ -273,7 +273,7 @@ class Starts(Case):
         self.beside("desk").write_bytes(b"")
         self.is_whole(self.open(), b"")
 
-    def test_a_journal_that_was_changed(self):
+    def test_a_journal_that_was_changed(self) -> None:
         log = self.open()
         self.write(log, FIRST, SECOND)
         text = self.beside("desk").read_bytes()
@@ -282,7 +282,7 @@ class Starts(Case):
         self.beside("desk").write_bytes(text)
         self.is_whole(self.open(), FIRST + SECOND)
 
-    def test_a_journal_that_is_lost(self):
+    def test_a_journal_that_is_lost(self) -> None:
         log = self.open()
         self.write(log, FIRST)
         base = log.base(FIRST)
@@ -293,7 +293,7 @@ class Starts(Case):
         self.refused(Refused, "held again", log.append, base, SECOND, never)
         self.is_whole(log, FIRST)
 
-    def test_a_log_that_is_lost(self):
+    def test_a_log_that_is_lost(self) -> None:
         """It is written from the journal, by the desk that runs and by a new one."""
         log = self.open()
         self.write(log, FIRST, SECOND)
@@ -305,7 +305,7 @@ class Starts(Case):
             start()
             self.is_whole(log, FIRST + THIRD)
 
-    def test_warnings(self):
+    def test_warnings(self) -> None:
         self.open()
         self.folder.chmod(0o700)
         self.assertEqual(warnings_of(self.path), [])
@@ -349,25 +349,25 @@ class Mends(Case):
         self.assertEqual(log.note_found(), 0)
         return log
 
-    def test_a_torn_line_is_taken_back(self):
+    def test_a_torn_line_is_taken_back(self) -> None:
         stop = self.mended(self.torn(b"bid,we"), "take back", FIRST)
         self.assertIn("`bid,we`", stop.why)
         self.assertEqual(kept_beside(self.path), {"a.log.torn-1": b"bid,we"})
 
-    def test_a_torn_line_after_found_ones(self):
+    def test_a_torn_line_after_found_ones(self) -> None:
         self.mended(self.torn(SECOND + b"clo"), "take back", FIRST + SECOND)
 
-    def test_a_torn_line_is_ended(self):
+    def test_a_torn_line_is_ended(self) -> None:
         self.mended(self.torn(b"bid,west,0 2,"), "end line", FIRST + b"bid,west,0 2,\n")
 
-    def test_a_line_feed_that_is_gone(self):
+    def test_a_line_feed_that_is_gone(self) -> None:
         log = self.open()
         self.write(log, FIRST)
         self.path.write_bytes(FIRST[:-1])
         self.assertEqual(log.stop().mend, "end line")
         self.mended(log, "end line", FIRST)
 
-    def test_a_changed_log(self):
+    def test_a_changed_log(self) -> None:
         log = self.open()
         self.write(log, FIRST, SECOND, THIRD)
         old, changed = log.base(FIRST), FIRST + SECOND.replace(b"1", b"2") + THIRD
@@ -378,13 +378,13 @@ class Mends(Case):
         self.assertEqual(set(kept_beside(self.path).values()), {changed, FIRST + SECOND + THIRD})
         self.refused(Refused, "held again", log.append, old, SECOND, never)
 
-    def test_lines_taken_away_by_hand(self):
+    def test_lines_taken_away_by_hand(self) -> None:
         log = self.open()
         self.write(log, FIRST, SECOND)
         self.path.write_bytes(FIRST)
         self.mended(log, "keep changed log", FIRST)
 
-    def test_a_change_that_is_put_back(self):
+    def test_a_change_that_is_put_back(self) -> None:
         log = self.open()
         self.write(log, FIRST)
         self.path.write_bytes(SECOND)
@@ -392,14 +392,14 @@ class Mends(Case):
         self.path.write_bytes(FIRST)
         self.is_whole(log, FIRST)
 
-    def test_a_changed_log_with_a_torn_line(self):
+    def test_a_changed_log_with_a_torn_line(self) -> None:
         log = self.open()
         self.write(log, FIRST)
         self.path.write_bytes(SECOND + b"clo")
         log.mend("keep changed log", "first")
         self.mended(log, "take back", SECOND)
 
-    def test_a_cut_that_was_begun(self):
+    def test_a_cut_that_was_begun(self) -> None:
         log = self.open()
         self.write(log, FIRST, THIRD)
         with unittest.mock.patch.object(disk, "shorten", side_effect=KeyboardInterrupt):
@@ -409,7 +409,7 @@ class Mends(Case):
         self.assertIn("a.log.cut-1 has a copy", stop.safe)
         self.assertEqual(set(kept_beside(self.path).values()), {FIRST + THIRD})
 
-    def test_a_torn_line_of_the_journal(self):
+    def test_a_torn_line_of_the_journal(self) -> None:
         """It is ignored, and stays; also where its line feed alone is missing."""
         log = self.open()
         self.write(log, FIRST)
@@ -425,7 +425,7 @@ class Mends(Case):
 
 
 class Cuts(Case):
-    def test_a_cut(self):
+    def test_a_cut(self) -> None:
         log = self.open()
         self.write(log, FIRST, THIRD)
         page, base = log.base(FIRST), log.base(FIRST + THIRD)
@@ -447,7 +447,7 @@ class Cuts(Case):
         self.assertEqual(log.cut(log.base(log.read()), 0, "all").name, "a.log.cut-2")
         self.is_whole(log, b"")
 
-    def test_the_cut_lines_come_again(self):
+    def test_the_cut_lines_come_again(self) -> None:
         """The log then is as it was before the cut, which was ended all the same."""
         log = self.open()
         self.write(log, FIRST, THIRD)
@@ -457,7 +457,7 @@ class Cuts(Case):
         self.assertEqual(log.note_found(), 1)
         self.is_whole(log, FIRST + THIRD)
 
-    def test_copies(self):
+    def test_copies(self) -> None:
         copies = self.folder / "copies"
         self.refused(Refused, "is no folder", self.open, copies)
         copies.mkdir()
@@ -477,7 +477,7 @@ class Cuts(Case):
         self.beside("desk").rename(self.folder / "moved")
         self.refused(Refused, "has a copy of it", self.open, copies)
 
-    def test_copies_of_another_auction(self):
+    def test_copies_of_another_auction(self) -> None:
         copies = self.folder / "copies"
         copies.mkdir()
         self.open(copies).copy_out()
@@ -500,7 +500,7 @@ def most_bytes(count):
 
 
 class FullDisk(Case):
-    def test_a_part_of_a_line(self):
+    def test_a_part_of_a_line(self) -> None:
         """What the disk took is cut off again, and nothing was written."""
         log = self.open()
         self.write(log, FIRST)
@@ -510,7 +510,7 @@ class FullDisk(Case):
             self.is_whole(log, FIRST)
         self.write(log, SECOND)
 
-    def test_the_journal(self):
+    def test_the_journal(self) -> None:
         log = self.open()
         self.write(log, FIRST)
         with most_bytes(self.beside("desk").stat().st_size + 20):
@@ -521,7 +521,7 @@ class FullDisk(Case):
         self.assertEqual(log.note_found(), 1)
         self.is_whole(log, FIRST + SECOND)
 
-    def test_a_copy_of_a_cut(self):
+    def test_a_copy_of_a_cut(self) -> None:
         log = self.open()
         self.write(log, FIRST, THIRD)
         with most_bytes(len(FIRST)):
@@ -540,7 +540,7 @@ class Faults(Case):
             yield it, ended
             it.check()
 
-    def test_a_sync_that_fails_is_unsure_and_not_tried_again(self):
+    def test_a_sync_that_fails_is_unsure_and_not_tried_again(self) -> None:
         for scene, number in ((desk_kills.Write, 1), (desk_kills.Write, 2), (desk_kills.Cut, 3), (desk_kills.Cut, 4)):
             with self.subTest(scene=scene.name, number=number):
                 for _, ended in self.failing(scene, f"fsync:error=EIO:when={number}"):
@@ -550,21 +550,21 @@ class Faults(Case):
                     noted = [words for name, words in ended.calls if name == "write" and r"{\"prev\"" in words]
                     self.assertEqual(len(noted), 0 if (scene, number) == (desk_kills.Write, 1) else 1)
 
-    def test_a_copy_that_can_t_be_synced(self):
+    def test_a_copy_that_can_t_be_synced(self) -> None:
         """Neither the copy nor its name in the folder: nothing is cut."""
         for number in (1, 2):
             for it, ended in self.failing(desk_kills.Cut, f"fsync:error=EIO:when={number}"):
                 self.assertRegex(ended.said, "^Refused: ")
                 self.assertEqual(it.outcome(), "not begun")
 
-    def test_a_first_start_that_can_t_be_synced(self):
+    def test_a_first_start_that_can_t_be_synced(self) -> None:
         count = [name for name, _ in desk_kills.calls_of(desk_kills.Start)].count("fsync")
         self.assertEqual(count, 9)
         for number in range(1, count + 1):
             for _, ended in self.failing(desk_kills.Start, f"fsync:error=EIO:when={number}"):
                 self.assertRegex(ended.said, "^(Refused|Unsure): ")
 
-    def test_the_line_that_is_unsure_is_found_at_the_next_start(self):
+    def test_the_line_that_is_unsure_is_found_at_the_next_start(self) -> None:
         for it, _ in self.failing(desk_kills.Write, "fsync:error=EIO:when=1"):
             log = it.open()
             self.assertEqual((log.note_found(), log.read()), (1, FIRST + SECOND))
@@ -579,26 +579,26 @@ class Kills(unittest.TestCase):
                 seen.add(desk_kills.kill(scene, call, number))
         return seen
 
-    def test_a_write_at_each_call(self):
+    def test_a_write_at_each_call(self) -> None:
         seen = self.killed(desk_kills.Write, desk_kills.numbered(desk_kills.calls_of(desk_kills.Write)))
         self.assertEqual(seen, {"not there", "there, not answered", "answered"})
 
-    def test_a_cut_at_each_call(self):
+    def test_a_cut_at_each_call(self) -> None:
         seen = self.killed(desk_kills.Cut, desk_kills.numbered(desk_kills.calls_of(desk_kills.Cut)))
         self.assertEqual(seen, {"not begun", "begun, not ended", "cut"})
 
-    def test_within_a_write(self):
+    def test_within_a_write(self) -> None:
         """The disk took a part of the line, which isn't cut off any more."""
         self.assertEqual(self.killed(desk_kills.ShortWrite, [("ftruncate", 1)]), {"torn"})
 
-    def test_drawn_calls_of_all_else(self):
+    def test_drawn_calls_of_all_else(self) -> None:
         draw = random.Random(7)
         for scene in desk_kills.SCENES[3:]:
             self.killed(scene, draw.sample(list(desk_kills.numbered(desk_kills.calls_of(scene))), 4))
 
 
 class Races(unittest.TestCase):
-    def test_two_processes(self):
+    def test_two_processes(self) -> None:
         racers = desk_kills.Racers()
         self.addCleanup(racers.end)
         for number in range(20):

@@ -34,12 +34,12 @@ permille = 1000
 
 
 class Lines(unittest.TestCase):
-    def refused(self, call, part):
+    def refused(self, call, part) -> None:
         with self.assertRaises(NotLines) as caught:
             call()
         self.assertIn(part, str(caught.exception))
 
-    def test_a_form_becomes_a_line(self):
+    def test_a_form_becomes_a_line(self) -> None:
         for typed, text in (
             (Typed("bid", "everest", " 2  0 4\u00a00 "), b"bid,everest,2 0 4 0,\n"),
             (Typed("draft", "everest", "2 0 4 0", "760,000"), b"draft,everest,2 0 4 0,760000\n"),
@@ -49,7 +49,7 @@ class Lines(unittest.TestCase):
         ):
             self.assertEqual(typed.text(), text)
 
-    def test_a_form_that_states_no_line(self):
+    def test_a_form_that_states_no_line(self) -> None:
         for typed, part in (
             (Typed("", "everest", "1 0 0 0"), "Choose what was sent"),
             (Typed("close", "", ""), "Choose what was sent"),
@@ -65,7 +65,7 @@ class Lines(unittest.TestCase):
             with self.subTest(typed):
                 self.refused(typed.text, part)
 
-    def test_pasted_lines_are_plain(self):
+    def test_pasted_lines_are_plain(self) -> None:
         self.assertEqual(pasted("\r\na\r\nb\r\n\r\n"), b"a\nb\n")
         for text, part in (
             ("", "No line is typed"),
@@ -86,14 +86,14 @@ class Lines(unittest.TestCase):
         need_alone(b"close,,,\n")
         need_alone(b"bid,close,1,\n")
 
-    def test_words_that_are_typed(self):
+    def test_words_that_are_typed(self) -> None:
         self.assertTrue(agrees("  End the  CLOCK ", "end the clock"))
         self.assertFalse(agrees("end the clock.", "end the clock"))
         self.assertFalse(agrees("", "1"))
 
 
 class Line(DeskTest):
-    def test_a_line_is_answered_before_it_is_written(self):
+    def test_a_line_is_answered_before_it_is_written(self) -> None:
         client = self.open()
         place = client.send("preview", kind="bid", bidder="everest", package="2 0 4 0")
         self.assertRegex(place, "^/preview/")
@@ -101,7 +101,7 @@ class Line(DeskTest):
         self.assertEqual(client.send("write"), "/lines/1-1")
         self.assertEqual((client.heading(), self.log()), ("Written and synced", b"bid,everest,2 0 4 0,\n"))
 
-    def test_a_refused_line_comes_back_as_it_was_typed(self):
+    def test_a_refused_line_comes_back_as_it_was_typed(self) -> None:
         client = self.open()
         client.send("preview", kind="bid", bidder="tarn", package="3  1 0 0")
         self.assertEqual(client.heading(), "It would be refused")
@@ -115,13 +115,13 @@ class Line(DeskTest):
         self.assertIn("3 x 20 + 1 x 40 = 100 points, and tarn is eligible for 96 in this round.", client.text())
         self.assertEqual(self.log(), b"")
 
-    def test_a_refused_line_that_was_sent_is_written(self):
+    def test_a_refused_line_that_was_sent_is_written(self) -> None:
         client = self.open()
         client.write("bid,tarn,3 1 0 0,")
         self.assertEqual(self.log(), b"bid,tarn,3 1 0 0,\n")
         self.assertIn("points 96", client.text())
 
-    def test_what_states_no_line_comes_back_with_its_reason(self):
+    def test_what_states_no_line_comes_back_with_its_reason(self) -> None:
         client = self.open()
         for raw, part in (
             ("hello", "record has four fields"),
@@ -137,14 +137,14 @@ class Line(DeskTest):
             self.assertEqual(client.form("preview", "raw")["raw"].removeprefix("\n"), raw)
         self.assertEqual(self.log(), b"")
 
-    def test_many_lines_are_one_write(self):
+    def test_many_lines_are_one_write(self) -> None:
         client = self.open()
         self.assertEqual(client.write(ROUND), "/lines/1-5")
         journal = (self.folder / "day.log.desk").read_text()
         self.assertEqual(self.log(), f"{ROUND}\n".encode())
         self.assertEqual(sum(what == "line" for _, what, _ in self.desk.log.answered_at()), 1, journal)
 
-    def test_one_line_is_it_and_many_are_them(self):
+    def test_one_line_is_it_and_many_are_them(self) -> None:
         """Of all that can be done on the page of replies, and of what the page says of a refused line."""
         client = self.open()
         one, other, above = "bid,everest,2 0 4 0,", "bid,harbour,1 1 2 4,", "bid,tarn,3 1 0 0,"
@@ -179,7 +179,7 @@ class Line(DeskTest):
             self.assertEqual(client.heading(), heading)
             self.assertIn(lead, client.text())
 
-    def test_the_same_form_twice_writes_once(self):
+    def test_the_same_form_twice_writes_once(self) -> None:
         client = self.open()
         client.send("preview", raw="bid,everest,2 0 4 0,")
         form = client.form("write")
@@ -188,7 +188,7 @@ class Line(DeskTest):
         client.load(places[1])
         self.assertEqual((client.heading(), self.log()), ("It is in the log already", b"bid,everest,2 0 4 0,\n"))
 
-    def test_a_page_of_a_log_that_has_grown_is_answered_anew(self):
+    def test_a_page_of_a_log_that_has_grown_is_answered_anew(self) -> None:
         client = self.open()
         client.send("preview", raw="bid,everest,2 0 4 0,")
         old = client.form("write")
@@ -200,7 +200,7 @@ class Line(DeskTest):
         client.send("write")
         self.assertEqual(self.log(), b"bid,tarn,1 0 0 0,\nbid,everest,2 0 4 0,\n")
 
-    def test_forms_written_by_hand(self):
+    def test_forms_written_by_hand(self) -> None:
         client = self.open()
         good, line = self.desk.log.base(b"").text(), "bid,everest,1 0 0 0,\n"
         texts = ("close,,,\n", line + "close,,,\n", "\n" + line, '"bid",tarn,1 0 0 0,\n', "x\n", "", line.strip())
@@ -216,14 +216,14 @@ class Line(DeskTest):
                 self.assertTrue(client.place == "/close" or 'role="alert"' in client.page, client.text())
                 self.assertEqual(self.log(), b"")
 
-    def test_every_form_leads_to_an_address(self):
+    def test_every_form_leads_to_an_address(self) -> None:
         client = self.open()
         for action in ("preview", "write", "close", "again", "mend", "waiting", "end/award", "end/x"):
             answer = client.post(action)
             self.assertEqual(answer.status_code, 303, action)
             self.assertIn(client.load(answer.headers["Location"]).status_code, (200,))
 
-    def test_a_page_that_is_gone_writes_nothing(self):
+    def test_a_page_that_is_gone_writes_nothing(self) -> None:
         client = self.open()
         for place in ("preview/0000", "entry/0000", "close/0000", "again/0000"):
             client.load(place)
@@ -231,7 +231,7 @@ class Line(DeskTest):
         for place in ("lines/1-1", "lines/0-0", "cut/0000"):
             self.assertEqual(client.load(place).status_code, 404)
 
-    def test_a_table_of_many_columns_has_each_head_in_its_cells_too(self):
+    def test_a_table_of_many_columns_has_each_head_in_its_cells_too(self) -> None:
         """Where they are one below the other, the heads of columns aren't seen."""
         self.open().load("")
         categories, bidders = re.findall(r"<table.*?</table>", self.client.page, re.DOTALL)[:2]
@@ -245,7 +245,7 @@ class Line(DeskTest):
             self.assertEqual(re.findall(r'<td role="cell" data-head="(.*?)"', row), heads[1:])
             self.assertEqual((row.count('role="row"'), row.count('role="rowheader"')), (1, 1))
 
-    def test_lines_that_another_hand_wrote_are_shown(self):
+    def test_lines_that_another_hand_wrote_are_shown(self) -> None:
         client = self.open()
         client.write("bid,everest,2 0 4 0,")
         with self.log_path.open("ab") as file:
@@ -268,7 +268,7 @@ class Line(DeskTest):
 
 
 class Closes(DeskTest):
-    def test_a_close_asks_for_its_words(self):
+    def test_a_close_asks_for_its_words(self) -> None:
         client = self.open()
         client.write(ROUND)
         before = self.log()
@@ -289,7 +289,7 @@ class Closes(DeskTest):
         self.assertEqual(client.send("close", typed=" 1 "), "/lines/6-6")
         self.assertEqual(self.log(), before + b"close,,,\n")
 
-    def test_a_second_close_asks_for_other_words(self):
+    def test_a_second_close_asks_for_other_words(self) -> None:
         client = self.open()
         client.write(ROUND)
         client.close("1")
@@ -300,7 +300,7 @@ class Closes(DeskTest):
         self.assertRegex(client.send("close", typed="2"), "^/close/")
         self.assertEqual(self.log(), log)
 
-    def test_copies_after_a_close(self):
+    def test_copies_after_a_close(self) -> None:
         copies = self.folder / "copies"
         copies.mkdir()
         client = self.open(copies=copies)
@@ -320,12 +320,12 @@ class Closes(DeskTest):
         client.load("")
         self.assertNotIn("the copies aren't", client.text())
 
-    def need_copies(self, copies):
+    def need_copies(self, copies) -> None:
         """The copies are the files."""
         for kind in ("", ".desk", ".key", ".posted"):
             self.assertEqual((copies / f"day.log{kind}").read_bytes(), (self.folder / f"day.log{kind}").read_bytes())
 
-    def test_an_old_page_of_a_close_is_compared_with_what_it_does_now(self):
+    def test_an_old_page_of_a_close_is_compared_with_what_it_does_now(self) -> None:
         client = self.open()
         client.write(ROUND)
         client.load("close")
@@ -337,7 +337,7 @@ class Closes(DeskTest):
         self.assertIn("The log has grown", client.text())
         self.assertEqual(self.log(), log)
 
-    def test_an_old_page_from_before_a_cut_writes_nothing(self):
+    def test_an_old_page_from_before_a_cut_writes_nothing(self) -> None:
         client = self.open()
         client.write(ROUND)
         client.close("1")
@@ -353,7 +353,7 @@ class Closes(DeskTest):
         self.assertIn("A round was held again since this page was made", client.text())
         self.assertEqual(self.log(), log)
 
-    def test_the_seal_is_given_out(self):
+    def test_the_seal_is_given_out(self) -> None:
         client = self.open()
         client.write(ROUND)
         client.close("1")
@@ -369,7 +369,7 @@ class Closes(DeskTest):
 
 
 class Limits(DeskTest):
-    def test_a_close_that_a_limit_refuses_has_no_button(self):
+    def test_a_close_that_a_limit_refuses_has_no_button(self) -> None:
         path = self.folder / "dear.award"
         path.write_text(ONE_LOT.format(reserve=2**36))
         self.award = str(path)
@@ -388,7 +388,7 @@ class Limits(DeskTest):
 
 
 class Again(DeskTest):
-    def test_a_round_is_held_again(self):
+    def test_a_round_is_held_again(self) -> None:
         client = self.open()
         client.write(ROUND)
         client.close("1")
@@ -415,7 +415,7 @@ class Again(DeskTest):
 
 
 class Bidders(DeskTest):
-    def test_a_bidder_sees_its_own_and_nothing_of_others(self):
+    def test_a_bidder_sees_its_own_and_nothing_of_others(self) -> None:
         client = self.open(SAMPLE)
         for place in ("bidder/niche", "bidder/niche/view"):
             client.load(place)
@@ -433,7 +433,7 @@ class Bidders(DeskTest):
 
 
 class Stops(DeskTest):
-    def test_a_torn_line_is_taken_back_or_ended(self):
+    def test_a_torn_line_is_taken_back_or_ended(self) -> None:
         for mend, log in (
             ("take back", b"bid,everest,2 0 4 0,\n"),
             ("end line", b"bid,everest,2 0 4 0,\nbid,tarn,1 0 0 0,\n"),
@@ -453,7 +453,7 @@ class Stops(DeskTest):
                 client.send("mend", mend=mend, why="an editor")
                 self.assertEqual((client.answer.status_code, self.log()), (200, log))
 
-    def test_half_a_line_is_taken_back_alone(self):
+    def test_half_a_line_is_taken_back_alone(self) -> None:
         client = self.open()
         with self.log_path.open("ab") as file:
             file.write(b"bid,tarn,1 0")
@@ -462,7 +462,7 @@ class Stops(DeskTest):
         client.post("mend", mend="end line", why="no")
         self.assertEqual(self.log(), b"bid,tarn,1 0")
 
-    def test_a_log_that_was_changed_stops_the_desk(self):
+    def test_a_log_that_was_changed_stops_the_desk(self) -> None:
         client = self.open()
         client.write("bid,everest,2 0 4 0,")
         client.send_to("preview", raw="bid,tarn,1 0 0 0,")
@@ -485,7 +485,7 @@ class Stops(DeskTest):
             client.text(), "1 [0-9T:+-]+ log changed after the start ([0-9a-f]{4} ){15}[0-9a-f]{4}: a mistake on paper"
         )
 
-    def test_the_answered_log_is_put_back(self):
+    def test_the_answered_log_is_put_back(self) -> None:
         client = self.open()
         client.write(ROUND)
         client.close("1")
@@ -500,7 +500,7 @@ class Stops(DeskTest):
         posted = (self.folder / "day.log.posted").read_text().splitlines()
         self.assertEqual([len(posted), "close 1" in posted[-1]], [4, True])
 
-    def test_the_last_close_is_taken_back_alone(self):
+    def test_the_last_close_is_taken_back_alone(self) -> None:
         client = self.open()
         client.write(ROUND)
         client.close("1")
@@ -518,7 +518,7 @@ class Stops(DeskTest):
         self.assertNotIn("is open again", client.text())
         self.assertRegex(client.text(), "3 [0-9T:+-]+ close 1 ")
 
-    def test_programs_that_differ_stop_the_desk(self):
+    def test_programs_that_differ_stop_the_desk(self) -> None:
         from cca_tools.desk.answers import Differ
 
         client = self.open()
@@ -536,7 +536,7 @@ class Stops(DeskTest):
             self.assertIn("The programs differ. In line 1 of the replies", client.text())
         self.assertEqual(client.load("").status_code, 503)
 
-    def test_a_difference_that_probes_find_stops_a_close(self):
+    def test_a_difference_that_probes_find_stops_a_close(self) -> None:
         client = self.open()
         client.write(ROUND)
         with unittest.mock.patch.object(self.desk.answers, "probe", lambda data: ["tarn, now: to `x` ..."]):
@@ -545,7 +545,7 @@ class Stops(DeskTest):
         self.assertEqual(client.post("close", base="x", typed="1").status_code, 303)
         self.assertEqual(self.log(), f"{ROUND}\n".encode())
 
-    def test_an_award_that_was_changed_stops_the_desk(self):
+    def test_an_award_that_was_changed_stops_the_desk(self) -> None:
         path = self.folder / "one.award"
         path.write_text(ONE_LOT.format(reserve=1))
         self.award = str(path)
@@ -558,7 +558,7 @@ class Stops(DeskTest):
 
 
 class Auctions(DeskTest):
-    def test_the_sample_with_each_close_doubled(self):
+    def test_the_sample_with_each_close_doubled(self) -> None:
         client, number = self.open(), 0
         for part in re.findall(r"(?:(?!close).*\n)+|close,,,\n", SAMPLE.decode()):
             if part != "close,,,\n":
@@ -583,7 +583,7 @@ class Auctions(DeskTest):
         client.send("end/award")
         self.assertEqual((client.page.count(prices.decode()), (self.folder / "day.log.cert").read_bytes()), (2, cert))
 
-    def test_the_drill_is_closed(self):
+    def test_the_drill_is_closed(self) -> None:
         award, log = self.folder / "drill.award", self.folder / "drill.log"
         subprocess.run([PROGRAM, "make", "7", award, log], check=True, stdout=subprocess.DEVNULL)
         drill = log.read_bytes()
@@ -597,7 +597,7 @@ class Auctions(DeskTest):
         client.load("")
         self.assertEqual(client.heading(), "The auction is closed")
 
-    def test_a_tie_is_told(self):
+    def test_a_tie_is_told(self) -> None:
         path = self.folder / "tie.award"
         path.write_text(ONE_LOT.format(reserve=1))
         self.award = str(path)
@@ -624,7 +624,7 @@ class Auctions(DeskTest):
         client.send("end/report")
         self.assertTrue((self.folder / "day.log.html").read_bytes().startswith(b"<!DOCTYPE html>"))
 
-    def test_a_certificate_that_is_there_and_wrong_is_not_appended_to(self):
+    def test_a_certificate_that_is_there_and_wrong_is_not_appended_to(self) -> None:
         client = self.open(SAMPLE)
         cert = self.folder / "day.log.cert"
         cert.write_bytes(b"cert 1\n")
@@ -634,7 +634,7 @@ class Auctions(DeskTest):
         self.assertEqual(cert.read_bytes(), b"cert 1\n")
         self.assertNotIn("Make the report", client.text())
 
-    def test_lists_name_every_entry_above_its_cap(self):
+    def test_lists_name_every_entry_above_its_cap(self) -> None:
         client = self.open(b"".join(SAMPLE.splitlines(True)[:32]))
         text = client.load("").text_ and client.text()
         self.assertIn("Entry 2, 2 0 4 0 for 760,000, is above its cap 534,800 by 225,200.", text)
@@ -642,7 +642,7 @@ class Auctions(DeskTest):
 
 
 class Rehearsals(DeskTest):
-    def test_lines_of_a_rehearsal_wait(self):
+    def test_lines_of_a_rehearsal_wait(self) -> None:
         feed = self.folder / "feed"
         feed.write_text("bid,everest,2 0 4 0,\nbid,tarn,3 1 0 0,\nbid,tarn,2 1 4 0,\nbid,nic")
         client = self.open(feed=feed)
@@ -666,14 +666,14 @@ class Rehearsals(DeskTest):
         client.load("")
         self.assertEqual(feed.read_bytes().count(b"close"), 1)
 
-    def test_lines_that_wait(self):
+    def test_lines_that_wait(self) -> None:
         self.assertEqual(missing([b"a", b"b", b"c"], [b"a", b"x", b"b"]), [b"c"])
         self.assertEqual(missing([b"a", b"a"], [b"a"]), [b"a"])
         self.assertEqual(Feed(pathlib.Path("/nowhere/none")).parts(), [[]])
 
 
 class Accessible(DeskTest):
-    def test_each_page(self):
+    def test_each_page(self) -> None:
         client = self.open(b"".join(SAMPLE.splitlines(True)[:32]))
         pages = {
             place: client.load(place).text_
@@ -710,7 +710,7 @@ class Accessible(DeskTest):
         self.assertIn('<h1 tabindex="-1" autofocus>', pages["preview"])
         self.assertIn('<input id="typed" name="typed" required autofocus', pages["close"])
 
-    def test_a_seal_agrees_with_the_tool(self):
+    def test_a_seal_agrees_with_the_tool(self) -> None:
         self.open(SAMPLE)
         key, journal, posted = (str(self.folder / f"day.log.{kind}") for kind in ("key", "desk", "posted"))
         files = [key, str(files_of(self.award).award), str(self.log_path)]
@@ -722,7 +722,7 @@ class Accessible(DeskTest):
 
 
 class Taken(DeskTest):
-    def test_a_close_takes_points_only_where_the_clock_goes_on(self):
+    def test_a_close_takes_points_only_where_the_clock_goes_on(self) -> None:
         client = self.open()
         self.assertIn("A close now ends the clock", client.text())
         self.assertNotIn("\N{MINUS SIGN}80", client.text())

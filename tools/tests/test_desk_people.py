@@ -43,7 +43,7 @@ def rows_of(bidders):
 class Small(DeskTest):
     """A desk with an award of one category."""
 
-    def take(self, bidders, supply, eligibility=1, reserve=1):
+    def take(self, bidders, supply, eligibility=1, reserve=1) -> None:
         """Writes the award."""
         path = self.folder / "small.award"
         path.write_text(award_of(bidders, supply, eligibility, reserve))
@@ -57,13 +57,13 @@ class Small(DeskTest):
 
 
 class Winners(Small):
-    def test_how_many_can_win(self):
+    def test_how_many_can_win(self) -> None:
         for bidders, supply, eligibility, most in ((8, 8, 1, 8), (8, 3, 1, 3), (5, 9, 1, 5), (8, 8, 0, 0)):
             award = read_award(award_of(bidders, supply, eligibility).encode())
             self.assertEqual(most_winners(award), most)
             self.assertEqual(len(winners_warning(award)), int(most > 6))
 
-    def test_seven_winners_are_foreseen(self):
+    def test_seven_winners_are_foreseen(self) -> None:
         self.take(8, 8)
         client = self.open()
         client.load("close")
@@ -80,7 +80,7 @@ class Winners(Small):
         self.assertNotIn("not yet", client.text())
         self.assertNotIn("no award yet", client.text())
 
-    def test_six_winners_can_be_priced(self):
+    def test_six_winners_can_be_priced(self) -> None:
         self.take(8, 8)
         client = self.open(f"{rows_of(6)}close,,,\n".encode())
         client.load("close")
@@ -88,7 +88,7 @@ class Winners(Small):
 
 
 class Previews(Small):
-    def test_a_bid_in_sentences(self):
+    def test_a_bid_in_sentences(self) -> None:
         self.take(2, 3, eligibility=3, reserve=10)
         client = self.open(names=self.named())
         client.write("bid,b1,3,")
@@ -101,7 +101,7 @@ class Previews(Small):
         ):
             self.assertIn(part, client.text())
 
-    def test_an_amount_out_of_proportion(self):
+    def test_an_amount_out_of_proportion(self) -> None:
         client = self.open(SEALED)
         self.assertEqual(client.form("preview", "amount")["amount"], "")
         price = self.desk.now().auction.rounds[-1].prices[0]
@@ -112,7 +112,7 @@ class Previews(Small):
         client.send_to("preview", raw=f"draft,tarn,1 0 0 0,{9 * price}\ndraft,tarn,1 0 0 0,{price}")
         self.assertNotIn("times", client.text())
 
-    def test_a_draft_shows_the_list(self):
+    def test_a_draft_shows_the_list(self) -> None:
         client = self.open(b"".join(SAMPLE.splitlines(True)[:45]))
         client.load("bidder/tarn")
         table = re.search(r"<table.*?</table>", client.page, re.S)[0]
@@ -122,7 +122,7 @@ class Previews(Small):
         for head in ("Drafted", "Submitted", "Cap", "In the clock"):
             self.assertIn(head, table)
 
-    def test_currency_and_unit(self):
+    def test_currency_and_unit(self) -> None:
         self.take(2, 3, eligibility=3, reserve=10)
         client = self.open(f"{rows_of(2)}close,,,\n".encode(), names=self.named())
         self.assertIn("Amount of a draft, in thousand NOK", client.text())
@@ -131,7 +131,7 @@ class Previews(Small):
 
 
 class Faults(DeskTest):
-    def test_a_fault_is_at_its_field(self):
+    def test_a_fault_is_at_its_field(self) -> None:
         client = self.open(SEALED)
         for field, typed in (
             ("package", {"kind": "draft", "bidder": "tarn", "package": "1,0,0,0", "amount": "5"}),
@@ -150,7 +150,7 @@ class Faults(DeskTest):
                 card = client.page[: client.page.index('id="fault"')].rpartition("<form")[2]
                 self.assertIn('class="card"', card.partition(">")[0])
 
-    def test_all_faults_of_a_paste(self):
+    def test_all_faults_of_a_paste(self) -> None:
         client = self.open()
         raw = "bid,everest,2 0 4 0,\nhello\n\nbid,tarn,1 0 0,\nbid,tarn,1 0 0 0,\nbid,\u201cx\u201d,1 0 0 0,"
         client.send("preview", raw=raw)
@@ -166,7 +166,7 @@ class Faults(DeskTest):
         kept = "hello\nbid,tarn,1 0 0,\nbid,\u201cx\u201d,1 0 0 0,"
         self.assertEqual(client.form("preview", "raw")["raw"].strip(), kept)
 
-    def test_admitted_lines_alone(self):
+    def test_admitted_lines_alone(self) -> None:
         client = self.open()
         client.send("preview", raw="bid,everest,2 0 4 0,\nbid,tarn,3 1 0 0,\nbid,niche,0 0 1 0,")
         self.assertEqual(client.heading(), "1 of 3 would be refused")
@@ -178,7 +178,7 @@ class Faults(DeskTest):
         self.assertEqual(client.form("preview", "raw")["raw"].strip(), "bid,tarn,3 1 0 0,")
         self.assertIn("bid,tarn,3 1 0 0, would be refused: points 96.", client.text())
 
-    def test_what_is_no_line_is_taken_out(self):
+    def test_what_is_no_line_is_taken_out(self) -> None:
         client = self.open()
         client.write("bid,everest,2 0 4 0,")
         with self.log_path.open("ab") as file:
@@ -188,7 +188,7 @@ class Faults(DeskTest):
         self.assertEqual((client.answer.status_code, self.log()), (200, b"bid,everest,2 0 4 0,\n"))
         self.assertEqual((self.folder / "day.log.torn-1").read_bytes(), b"hello\n")
 
-    def test_a_full_disk_is_called_one(self):
+    def test_a_full_disk_is_called_one(self) -> None:
         self.assertIn("the disk is full: make room", why_of(OSError(28, "No space left on device")))
         self.assertEqual(why_of(OSError(5, "Input/output error")), "Input/output error")
 
@@ -198,7 +198,7 @@ class Lists(DeskTest):
         "[[bidder]]", '[[category]]\nname = "tail"\nsupply = 5\npoints = 1\nreserve = 1\n[[bidder]]', 1
     )
 
-    def test_forms_of_a_list(self):
+    def test_forms_of_a_list(self) -> None:
         award = read_award(self.award_text.encode())
         names = names_of(b'[category.tail]\nname = "The tail"\n', award)
         for text in (
@@ -225,7 +225,7 @@ class Lists(DeskTest):
             sheet_of("1 0,x1\n1 0,5\n2 0,\n", award, NO_NAMES)
         self.assertEqual([it[:6] for it in caught.exception.faults[-1:]], ["Line 3"])
 
-    def test_a_list_is_handed_in(self):
+    def test_a_list_is_handed_in(self) -> None:
         client = self.open(SEALED)
         client.write("draft,tarn,1 0 0 0,1000000")
         client.load("list")
@@ -245,7 +245,7 @@ class Lists(DeskTest):
         self.assertIn("2 faults", client.text())
         self.assertEqual(client.form("list")["list"].strip(), "2 1 4 0;x1\n1;2;3")
 
-    def test_pastes(self):
+    def test_pastes(self) -> None:
         award = read_award(self.award_text.encode())
         paste = paste_of("bid,b1,1 0,\r\nclose,,,\r\n \r\nbid,b1,1,", award)
         self.assertEqual((list(paste.good), [it.row for it in paste.faults]), (["bid,b1,1 0,"], [2, 3, 4]))
@@ -253,7 +253,7 @@ class Lists(DeskTest):
 
 
 class Found(DeskTest):
-    def test_searches(self):
+    def test_searches(self) -> None:
         client = self.open(SAMPLE)
         rows = SAMPLE.decode().splitlines()
         for asked, wanted in (
@@ -271,7 +271,7 @@ class Found(DeskTest):
         client.load("all?reply=admitted")
         self.assertEqual(refused + int(re.search(r"(\d+) lines? of", client.text())[1]), len(rows))
 
-    def test_files_of_all_bidders(self):
+    def test_files_of_all_bidders(self) -> None:
         client = self.open(SAMPLE)
         answer = client.load("views.zip")
         with zipfile.ZipFile(io.BytesIO(answer.get_data())) as file:
@@ -279,7 +279,7 @@ class Found(DeskTest):
                 self.assertEqual(file.read(f"{name}.view").decode(), client.load(f"bidder/{name}/view").text_)
             self.assertIn("The auction is closed.", file.read("announcement.txt").decode())
 
-    def test_an_announcement(self):
+    def test_an_announcement(self) -> None:
         client = self.open(b"".join(SAMPLE.splitlines(True)[:10]))
         client.close("1")
         self.assertIn("Round 1 is closed. Round 2 is open.", client.text())
@@ -290,7 +290,7 @@ class Found(DeskTest):
         self.assertIn((self.folder / "day.log.posted").read_text().splitlines()[-1], text)
         self.assertEqual(client.load("announcement/10").status_code, 404)
 
-    def test_the_protocol_is_linked(self):
+    def test_the_protocol_is_linked(self) -> None:
         client = self.open(SAMPLE)
         client.load("protocol")
         self.assertIn("PROTOCOL OF THE AUCTION", client.text())
@@ -298,7 +298,7 @@ class Found(DeskTest):
 
 
 class Cut(DeskTest):
-    def test_cut_lines_are_entered_again(self):
+    def test_cut_lines_are_entered_again(self) -> None:
         client = self.open(SEALED)
         lists = "".join(SAMPLE.decode().splitlines(True)[30:61])
         client.write(lists)
@@ -334,7 +334,7 @@ class TwoPeople(DeskTest):
             found.append(client)
         return found
 
-    def test_a_close_waits_for_the_second_person(self):
+    def test_a_close_waits_for_the_second_person(self) -> None:
         one, two = self.two(b"bid,tarn,1 0 0 0,\n")
         log = self.log()
         one.load("close")
@@ -354,7 +354,7 @@ class TwoPeople(DeskTest):
         one.load("protocol")
         self.assertIn("approved by: Bo Second", one.text())
 
-    def test_a_cut_waits_and_is_declined(self):
+    def test_a_cut_waits_and_is_declined(self) -> None:
         one, two = self.two(b"bid,tarn,1 0 0 0,\nclose,,,\n")
         log = self.log()
         one.load("again")
@@ -369,7 +369,7 @@ class TwoPeople(DeskTest):
         two.send("approve", says="approve")
         self.assertEqual(self.log(), b"bid,tarn,1 0 0 0,\n")
 
-    def test_what_waits_is_gone_with_another_log(self):
+    def test_what_waits_is_gone_with_another_log(self) -> None:
         one, two = self.two(b"bid,tarn,1 0 0 0,\n")
         one.load("close")
         one.send("close", typed="end the clock")
@@ -378,7 +378,7 @@ class TwoPeople(DeskTest):
         self.assertEqual(two.answer.status_code, 303)
         self.assertNotIn(b"close", self.log())
 
-    def test_a_changed_log_waits_for_the_second_person(self):
+    def test_a_changed_log_waits_for_the_second_person(self) -> None:
         one, two = self.two()
         one.write("bid,tarn,1 0 0 0,")
         changed = b"bid,tarn,2 0 0 0,\n"
@@ -395,7 +395,7 @@ class TwoPeople(DeskTest):
         self.assertEqual((two.heading(), self.log()), ("Round 1 is open", changed))
         self.assertIn('"approved": "Bo Second"', (self.folder / "day.log.desk").read_text())
 
-    def test_the_second_person_writes_nothing(self):
+    def test_the_second_person_writes_nothing(self) -> None:
         _, two = self.two()
         for action in ("preview", "write", "close", "again", "mend", "end/award", "list"):
             self.assertEqual(two.post(action, raw="bid,tarn,1 0 0 0,").status_code, 403, action)
@@ -405,7 +405,7 @@ class TwoPeople(DeskTest):
 
 
 class Ends(DeskTest):
-    def test_prices_as_a_table(self):
+    def test_prices_as_a_table(self) -> None:
         client = self.open(SAMPLE)
         client.load("")
         client.send("end/award")
@@ -422,20 +422,20 @@ class Ends(DeskTest):
 
 
 class Doors(DeskTest):
-    def test_the_page_of_the_entrance_is_linked(self):
+    def test_the_page_of_the_entrance_is_linked(self) -> None:
         client = self.open()
         client.cookie = "desk=another"
         answer = client.load("")
         self.assertEqual(answer.status_code, 403)
         self.assertIn('href="/">To the entrance', client.page)
 
-    def test_a_browser_is_locked_out(self):
+    def test_a_browser_is_locked_out(self) -> None:
         client = self.open()
         client.load("")
         answer = client.ask("POST", f"{self.guard.inside}/leave", {"token": self.guard.token})
         self.assertIn("desk=;", answer.headers["Set-Cookie"])
 
-    def test_other_browsers_and_desks_are_named(self):
+    def test_other_browsers_and_desks_are_named(self) -> None:
         client = self.open()
         other = Client(self.app, self.guard)
         other.enter()
@@ -449,7 +449,7 @@ class Doors(DeskTest):
         self.assertIn("Another desk has this log open too.", client.text())
         self.assertTrue(second.is_shared())
 
-    def test_the_room_s_screen_waits_for_nothing(self):
+    def test_the_room_s_screen_waits_for_nothing(self) -> None:
         client = self.open()
         first = client.load("/posted").text_
         pages = self.app.before_request_funcs[None][0].__self__
@@ -460,14 +460,14 @@ class Doors(DeskTest):
             thread.join(20)
         self.assertEqual(found, [first])
 
-    def test_a_log_has_one_port(self):
+    def test_a_log_has_one_port(self) -> None:
         self.open()
         port = self.desk.log.usual_port()
         self.assertTrue(20_000 <= port < 30_000)
         self.open()
         self.assertEqual(self.desk.log.usual_port(), port)
 
-    def test_a_set_that_is_out(self):
+    def test_a_set_that_is_out(self) -> None:
         client = self.open(SAMPLE)
         (self.folder / "day.log.set").mkdir()
         client.load("")

@@ -74,7 +74,7 @@ def drawn_source(number):
 
 class Findings(unittest.TestCase):
     @classmethod
-    def setUpClass(cls):
+    def setUpClass(cls) -> None:
         cls.sources = [drawn_source(number) for number in range(MANY)]
 
     def each(self):
@@ -90,7 +90,7 @@ class Findings(unittest.TestCase):
         it = source.certificate
         return {source.book.names[j - 1]: Fraction(it.pay[j - 1], it.den) - it.vickrey(j) for j in it.winners}
 
-    def test_prices(self):
+    def test_prices(self) -> None:
         forms = set()
         for source in self.each():
             title, above = findings.of_prices(source), self.above(source)
@@ -105,7 +105,7 @@ class Findings(unittest.TestCase):
                 self.check_raised(tail, raised, source)
         self.assertGreater(len(forms), 12)
 
-    def check_head(self, head, at, whole):
+    def check_head(self, head, at, whole) -> None:
         """What a title says of those that pay their Vickrey prices."""
         if not head:
             self.assertEqual(at, 0)
@@ -117,7 +117,7 @@ class Findings(unittest.TestCase):
             many = counted(found[1]) if found[1] else said[found[2]]
             self.assertEqual((many, at), (whole, whole))
 
-    def check_raised(self, tail, raised, source):
+    def check_raised(self, tail, raised, source) -> None:
         """What a title says of those that pay more."""
         found = re.fullmatch(
             rf"(?:(a) coalition raises|({COUNT}) coalitions raise) (.*?)(?:, above (?:its|their) Vickrey prices?)?",
@@ -140,7 +140,7 @@ class Findings(unittest.TestCase):
                 said.update({it: amount(by.removesuffix(" each")) for it in (names if is_each else [name])})
         self.assertEqual(said, raised)
 
-    def test_payments(self):
+    def test_payments(self) -> None:
         for source in self.each():
             if source.winners:
                 title = findings.of_payments(source)
@@ -153,7 +153,7 @@ class Findings(unittest.TestCase):
                 self.assertEqual((amount(found[2]), amount(found[3])), (pays, bid))
                 self.assertLessEqual(abs(Fraction(found[1].replace(",", "")) - 100 * pays / bid), Fraction(1, 20))
 
-    def test_lots(self):
+    def test_lots(self) -> None:
         for source in self.each():
             title, supply = findings.of_lots(source), source.book.supply
             won = [source.book.winning(source.certificate.choice, j)[0] for j in source.winners]
@@ -175,7 +175,7 @@ class Findings(unittest.TestCase):
             said = dict(part.split(" of ")[::-1] for part in re.split(r", | and ", found[5] or "") if part)
             self.assertEqual(said, {f"c{c}": str(lots) for c, lots in enumerate(left, 1) if lots})
 
-    def test_lots_of_many_categories(self):
+    def test_lots_of_many_categories(self) -> None:
         """A title names three categories, and of more it has their number."""
         self.number, source = "of four categories", Source([], Names(["a"], ["c1", "c2", "c3", "c4"]))
         for left, words in (
@@ -185,7 +185,7 @@ class Findings(unittest.TestCase):
         ):
             self.assertEqual(findings.left_words(source, left), words)
 
-    def test_bands_have_a_cell_for_each_lot(self):
+    def test_bands_have_a_cell_for_each_lot(self) -> None:
         for source in self.each():
             won = [source.book.winning(source.certificate.choice, j)[0] for j in source.winners]
             for c, band in enumerate(winners.bands_of(source)):
@@ -193,7 +193,7 @@ class Findings(unittest.TestCase):
                 for place, package in enumerate(won, 1):
                     self.assertEqual(dict(band.parts).get(place, 0), package[c])
 
-    def test_categories(self):
+    def test_categories(self) -> None:
         for source in self.each():
             closed = source.auction.rounds
             for c, supply in enumerate(source.book.supply):
@@ -211,14 +211,14 @@ class Findings(unittest.TestCase):
                 told = (0, len(closed)) if found[3] else (1, 1) if found[4] else (counted(found[5]), counted(found[6]))
                 self.assertEqual(told, (above, len(closed)))
 
-    def test_a_category_of_one_closed_round(self):
+    def test_a_category_of_one_closed_round(self) -> None:
         closed, after = Round(1, (100,), [5], [(3,)], (1,)), Round(2, (110,), [5], [(0,)], (1,))
         self.assertEqual(
             findings.of_category([closed, after], 0, True),
             "The price rose by 10.0 % to 110; demand was above the supply in the closed round",
         )
 
-    def test_the_clock(self):
+    def test_the_clock(self) -> None:
         for source in self.each():
             closed = source.auction.rounds
             found = re.fullmatch(
@@ -230,7 +230,7 @@ class Findings(unittest.TestCase):
             self.assertEqual(counted(found[1]), len(closed))
             self.assertEqual(0 if found[2].startswith("no") else 2 if found[3] == "both" else counted(found[4]), rose)
 
-    def test_activity(self):
+    def test_activity(self) -> None:
         for source in self.each():
             closed, award = source.auction.rounds, source.award
             every = [rounds.activity_of(source, closed, j) for j in range(1, len(award.names) + 1)]
@@ -249,7 +249,7 @@ class Findings(unittest.TestCase):
                 moved = f"points asked for {went} from {sums[0]} to {sums[-1]} in {WORDS[len(closed)]} rounds;"
                 self.assertTrue(title.startswith(same if sums[0] == sums[-1] else moved), title)
 
-    def test_the_core(self):
+    def test_the_core(self) -> None:
         for source in self.each():
             above = sum(self.above(source).values())
             title = findings.of_core(source) if source.winners else ""

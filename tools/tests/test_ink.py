@@ -49,36 +49,36 @@ def contrast(one, other):
 
 
 class Winners(unittest.TestCase):
-    def test_a_known_distance(self):
+    def test_a_known_distance(self) -> None:
         """Red and green of a screen are 170.6 apart."""
         self.assertAlmostEqual(apart("#ff0000", "#00ff00", SIGHT["all cones"]), 170.6, 1)
 
-    def test_the_colour_blind_tell_them_apart(self):
+    def test_the_colour_blind_tell_them_apart(self) -> None:
         for ground, (name, sight) in itertools.product((0, 1), SIGHT.items()):
             for one, other in itertools.combinations(NUMBERS, 2):
                 with self.subTest(ground=ground, sight=name, one=one, other=other):
                     self.assertGreater(apart(ROLES[f"w{one}"][ground], ROLES[f"w{other}"][ground], sight), 14)
 
-    def test_a_winner_is_no_price(self):
+    def test_a_winner_is_no_price(self) -> None:
         """What is paid has another colour than any winner."""
         for ground, number, role in itertools.product((0, 1), NUMBERS, ("blue", "bluish")):
             with self.subTest(ground=ground, number=number, role=role):
                 colours = (ROLES[name][ground] for name in (f"w{number}", role))
                 self.assertGreater(apart(*colours, SIGHT["all cones"]), 20)
 
-    def test_lots_are_seen_on_their_ground(self):
+    def test_lots_are_seen_on_their_ground(self) -> None:
         """A lot isn't taken for an empty place: its edges have the contrast that WCAG 2.1 asks of graphics (1.4.11)."""
         for ground, number in itertools.product((0, 1), NUMBERS):
             with self.subTest(ground=ground, number=number):
                 self.assertGreater(contrast(ROLES["ground"][ground], ROLES[f"w{number}"][ground]), 1.3)
                 self.assertGreater(contrast(ROLES["ground"][ground], ROLES[f"l{number}"][ground]), 3)
 
-    def test_letters_are_legible(self):
+    def test_letters_are_legible(self) -> None:
         for ground, number in itertools.product((0, 1), NUMBERS):
             with self.subTest(ground=ground, number=number):
                 self.assertGreater(contrast(ROLES["letter"][ground], ROLES[f"w{number}"][ground]), 4.5)
 
-    def test_patterns_differ(self):
+    def test_patterns_differ(self) -> None:
         self.assertEqual(len(set(PATTERNS)), WINNERS)
 
 

@@ -62,7 +62,7 @@ def number_of(text):
 
 
 class Limits(unittest.TestCase):
-    def test_the_table_of_limits(self):
+    def test_the_table_of_limits(self) -> None:
         table = FORMATS.split("## Limits\n")[1].strip().split("\n\n")[0].splitlines()[2:]
         self.assertEqual(len(table), len(LIMITS))
         for row, (what, names) in zip(table, LIMITS.items()):
@@ -72,18 +72,18 @@ class Limits(unittest.TestCase):
             numbers *= len(names) if len(numbers) == 1 else 1
             self.assertEqual([MOST[name] for name in names], numbers, what)
 
-    def test_the_fields_of_an_award(self):
+    def test_the_fields_of_an_award(self) -> None:
         rules = dict(re.findall(r"^\| (\d+) [^|]*\| (.*) \|$", FORMATS, re.M))
         for number, name in FIELDS.items():
             found = re.search(rf"(?:\d to|at most) ({NUMBER.pattern})", rules[str(number)])
             self.assertEqual(MOST[name], number_of(found[1]), name)
 
-    def test_what_else_is_said(self):
+    def test_what_else_is_said(self) -> None:
         for name, (text, said) in SAID.items():
             (found,) = set(re.findall(said, text))
             self.assertEqual(MOST[name], number_of(found), name)
 
-    def test_statuses(self):
+    def test_statuses(self) -> None:
         """The first status of each line of the table of statuses."""
         rows = re.findall(r"^\| (\d) \| .* \| `?(.*?)`? \|$", FORMATS.split("## Statuses")[1].split("\n## ")[0], re.M)
         statuses = {line.split()[1]: int(status) for status, line in rows if line.startswith("cca: ")}

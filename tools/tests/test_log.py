@@ -25,13 +25,13 @@ def answer(text, award=AWARD):
 
 
 class Records(unittest.TestCase):
-    def test_ends(self):
+    def test_ends(self) -> None:
         self.assertEqual(fields(b"a,b\nc,d\r\ne,f\rg"), [[b"a", b"b"], [b"c", b"d"], [b"e", b"f"], [b"g"]])
         self.assertEqual(fields(b"\n\r\n\r\ra\n\n\nb\n\n"), [[b"a"], [b"b"]])
         self.assertEqual(fields(b""), [])
         self.assertEqual(fields(b",\n,"), [[b"", b""], [b"", b""]])
 
-    def test_quotes(self):
+    def test_quotes(self) -> None:
         self.assertEqual(fields(b'"a,b"\n'), [[b"a,b"]])
         self.assertEqual(fields(b'"a""b",c\n'), [[b'a"b', b"c"]])
         self.assertEqual(fields(b'"a"b,"c\nd"\ne'), [[b"ab", b"c\nd"], [b"e"]])
@@ -43,18 +43,18 @@ class Records(unittest.TestCase):
         self.assertEqual(fields(b'"a"b"c",d\n'), [[b'ab"c"', b"d"]])
         self.assertEqual(fields(b' "a",b'), [[b' "a"', b"b"]])
 
-    def test_bytes(self):
+    def test_bytes(self) -> None:
         self.assertEqual(fields(b"\xef\xbb\xbfa,b"), [[b"a", b"b"]])
         self.assertEqual(fields(b"\xef\xbb\xbf\xef\xbb\xbfa"), [[b"\xef\xbb\xbfa"]])
         self.assertEqual(fields(b"\x00\xff,\x1a"), [[b"\x00\xff", b"\x1a"]])
         self.assertEqual(fields(b'\xef\xbb\xbf"a,b"'), [[b"a,b"]])
 
-    def test_rows(self):
+    def test_rows(self) -> None:
         self.assertEqual([row for row, text, read in records(b'\n\na,"x\r\ny"\n\rb\rc')], [3, 6, 7])
 
 
 class Lines(unittest.TestCase):
-    def test_kinds(self):
+    def test_kinds(self) -> None:
         text = "bid,east,3,\n\ndraft,west,2,45\ndrop,north,0,\nsubmit,east,,\nclose,,,\n"
         self.assertEqual(
             answer(text),
@@ -69,7 +69,7 @@ class Lines(unittest.TestCase):
         self.assertEqual(answer('"bid","east","1 0 65535 4",', UK), [(1, 1, "bid", "east", 0, (1, 0, 65535, 4), 0)])
         self.assertEqual(answer("draft,east,3,1000000000000000000"), [(1, 1, "draft", "east", 1, (3,), 10**18)])
 
-    def test_faults(self):
+    def test_faults(self) -> None:
         for text in (
             "bid,west,2",
             "bid,west,2,,",
@@ -112,19 +112,19 @@ class Lines(unittest.TestCase):
             with self.subTest(text=text):
                 self.assertEqual(answer("close,,,\n\n" + text + "\nx\n"), "cca: refused log 2")
 
-    def test_counts_of_categories(self):
+    def test_counts_of_categories(self) -> None:
         self.assertEqual(answer("bid,east,1 0 3,", UK), "cca: refused log 1")
         self.assertEqual(answer("bid,east,1 0 3  0,", UK), "cca: refused log 1")
         self.assertEqual(answer("bid,east,1\t0 3 0,", UK), "cca: refused log 1")
 
-    def test_limit(self):
+    def test_limit(self) -> None:
         self.assertEqual(MOST["records"], 100_000)
         with unittest.mock.patch.dict(MOST, records=10):
             self.assertEqual(len(answer("close,,,\n" * 10)), 10)
             self.assertEqual(answer("close,,,\n" * 10 + "x"), "cca: limit records 11")
             self.assertEqual(answer("close,,,\n" * 9 + "x\n" * 2), "cca: refused log 10")
 
-    def test_empty(self):
+    def test_empty(self) -> None:
         self.assertEqual(answer("\n\n"), [])
 
 

@@ -35,15 +35,15 @@ def run(name, *words, stdin=b""):
 
 
 class Audit(unittest.TestCase):
-    def test_yes(self):
+    def test_yes(self) -> None:
         self.assertEqual(said(audit, SMALL, lines(ROW), small_cert()), ("yes\n" + PRICES, 0))
 
-    def test_no(self):
+    def test_no(self) -> None:
         self.assertEqual(said(audit, SMALL, lines(ROW), small_cert((0, 3))), ("no C6 2", 1))
         # without east's draft for three lots its clock amount of 30 stands, and west's part shows too much
         self.assertEqual(said(audit, SMALL, lines(ROW.replace("draft,east,3,44", "drop,east,3,")), small_cert())[1], 1)
 
-    def test_sample(self):
+    def test_sample(self) -> None:
         """The answers are those of the guide."""
         award, log, cert = (sample(f"spectrum.{kind}") for kind in ("award", "log", "cert"))
         text, status = said(audit, award, log, cert)
@@ -64,7 +64,7 @@ class Audit(unittest.TestCase):
         records = log.splitlines(True)
         self.assertEqual(said(audit, award, b"".join(records[:35] + records[36:]), cert), ("no C2 7", 1))
 
-    def test_order_of_steps(self):
+    def test_order_of_steps(self) -> None:
         award, log, cert = SMALL, lines(ROW), small_cert()
         dear = SMALL.replace(b"reserve = 10", b"reserve = 68719476736")
         rows = [
@@ -81,12 +81,12 @@ class Audit(unittest.TestCase):
             with self.subTest(line=line):
                 self.assertEqual(said(audit, *files), ("cca: " + line, status))
 
-    def test_long_certificate(self):
+    def test_long_certificate(self) -> None:
         self.assertEqual(MOST["cert bytes"], 67_108_864)
         with unittest.mock.patch.dict(MOST, {"cert bytes": 1000}), unittest.mock.patch.dict(AUDIT.BYTES, cert=1000):
             self.assertEqual(said(audit, SMALL, lines(ROW), b"x" * 1001), ("cca: limit bytes 1001", 7))
 
-    def test_as_a_program(self):
+    def test_as_a_program(self) -> None:
         award, log = os.path.join(EXAMPLES, "sample.award"), os.path.join(EXAMPLES, "spectrum.log")
         self.assertEqual(run("audit", award, log, "nothing.cert")[:2], ("cca: refused log 1\n", 3))
         self.assertEqual(run("audit", award, "nothing.log", "nothing.cert")[:2], ("cca: read fault log\n", 4))
@@ -107,7 +107,7 @@ class Explain(unittest.TestCase):
     def told(self, command, *texts):
         return said(lambda names: explain([command, *names]), *texts)
 
-    def test_log(self):
+    def test_log(self) -> None:
         rows = [
             (
                 "bid,everest,1 0 28.5 0,",
@@ -137,7 +137,7 @@ class Explain(unittest.TestCase):
                 self.assertIn("Record 64, line 66 of the file", said_text)
                 self.assertIn(part, said_text)
 
-    def test_log_head(self):
+    def test_log_head(self) -> None:
         text, status = self.told("audit", SMALL, b"kind,bidder,package,amount\n" + lines(ROW), b"")
         self.assertEqual(
             (text.splitlines()[:2], status),
@@ -145,7 +145,7 @@ class Explain(unittest.TestCase):
         )
         self.assertIn("this seems to be a head", text)
 
-    def test_award(self):
+    def test_award(self) -> None:
         text, status = self.told("award", sample("spectrum.award").replace(b"permille = 50", b"permille = 0"), b"")
         self.assertEqual(
             (text, status),
@@ -160,7 +160,7 @@ class Explain(unittest.TestCase):
         )
         self.assertIn("line 1", self.told("award", b"version 1", b"")[0])
 
-    def test_placements(self):
+    def test_placements(self) -> None:
         slots, cert = sample("band.slots"), PLACE_CERT
         self.assertEqual(self.told("place-check", slots, cert), ("The certificate passes all tests.", 0))
         self.assertEqual(
@@ -170,7 +170,7 @@ class Explain(unittest.TestCase):
         self.assertEqual((text.splitlines()[0], status), ("no P2 4", 1))
         self.assertIn("y begins at slot 3, and its bid is for slot 4", text)
 
-    def test_what_is_only_written(self):
+    def test_what_is_only_written(self) -> None:
         """The file that a command writes may be named, or left out."""
         book = sample("day-cramton.book")
         told = ("Nothing is wrong: the book has 5 bidders and 5 bids.", 0)
@@ -179,18 +179,18 @@ class Explain(unittest.TestCase):
         with self.assertRaises(Stop):
             explain(["win", "book", "other"])
 
-    def test_a_log_that_isn_t_complete(self):
+    def test_a_log_that_isn_t_complete(self) -> None:
         text, _ = self.told("auction", SMALL, lines("bid,east,1, / bid,west,1,"))
         told = "The log has 2 records, and what is to come would be record 3."
         self.assertEqual(text.splitlines()[1:], ["The log isn't complete: no close has ended the sealed round.", told])
 
-    def test_refused_lines_are_counted(self):
+    def test_refused_lines_are_counted(self) -> None:
         text, _ = self.told("award", sample("spectrum.award"), sample("spectrum.log"))
         self.assertIn("14 lines of the log are refused: `tools/explain auction AWARD LOG` says why.", text)
         text, _ = self.told("award", SMALL, lines(ROW))
         self.assertIn("1 line of the log is refused: ", text)
 
-    def test_replies(self):
+    def test_replies(self) -> None:
         text, status = self.told("auction", sample("spectrum.award"), sample("spectrum.log"))
         self.assertEqual((text.count("of the file"), status), (14, 0))
         self.assertIn("5 points 96: record 5, line 5 of the file, `bid,tarn,3 1 0 0,`", text)
@@ -198,7 +198,7 @@ class Explain(unittest.TestCase):
         self.assertEqual((text.splitlines()[0], status), ("cca: refused log 4", 3))
         self.assertIn("isn't complete", text)
 
-    def test_certificate(self):
+    def test_certificate(self) -> None:
         cert = sample("day-cramton.cert")
         text, status = self.told("check", sample("day-cramton.book"), cert + cert)
         self.assertEqual((text.splitlines()[0], status), ("cca: refused cert 476", 3))
@@ -207,7 +207,7 @@ class Explain(unittest.TestCase):
         self.assertEqual((text.splitlines()[0], status), ("no C8 2", 1))
         self.assertIn("b1", text)
 
-    def test_winners(self):
+    def test_winners(self) -> None:
         eleven = lines(
             "book 1 / supply 11 / reserve 0 / " + " / ".join(f"bidder b{j} / bid 1 5" for j in range(11)) + " / end"
         )
@@ -224,7 +224,7 @@ class Explain(unittest.TestCase):
         self.assertEqual(self.told("weigh", five, weights.replace(b" 2", b" 1"))[1], 0)
         self.assertEqual(self.told("price", five)[1], 0)
 
-    def test_edits(self):
+    def test_edits(self) -> None:
         book, edits = sample("day-cramton.book"), sample("day-cramton.edits")
         self.assertEqual(self.told("review", book, edits)[1], 0)
         rows = [
@@ -241,7 +241,7 @@ class Explain(unittest.TestCase):
         many = b"edits 1\n" + b"drop b1 1 0\n" * 1001 + b"end\n"
         self.assertEqual(self.told("review", book, many)[0].splitlines()[0], "cca: limit records 1001")
 
-    def test_refused_edits(self):
+    def test_refused_edits(self) -> None:
         """Each reason of `cca review`, in the order in which it is looked for."""
         book = "book 1 / supply 2 1 / reserve 5 7 / bidder a / bid 1 0 9 / bidder b / end"
         top = 2**42
@@ -278,13 +278,13 @@ class Explain(unittest.TestCase):
         told = ["1 full 419: line 2 of the file, `add a 20 20 9`", "  a has 419 bids, and no bidder may have more."]
         self.assertEqual(text.splitlines()[:2], told)
 
-    def test_a_second_text_in_a_file(self):
+    def test_a_second_text_in_a_file(self) -> None:
         for command, book in (("win", sample("tie.book")), ("price", sample("day-cramton.book"))):
             text, status = self.told(command, book + book)
             self.assertEqual((text.splitlines()[0], status), (f"cca: refused book {len(book)}", 3))
             self.assertIn("A second book begins here: each run appends one. Remove the file before", text)
 
-    def test_single_brackets(self):
+    def test_single_brackets(self) -> None:
         award = sample("spectrum.award")
         one = award[: award.index(b"[[bidder]]")] + award[award.index(b"[[step]]") :]
         text, _ = self.told("award", one.replace(b"[[step]]", b"[bidder]\nname = 'x'\n[[step]]", 1), b"")
@@ -294,7 +294,7 @@ class Explain(unittest.TestCase):
         text, _ = self.told("award", award.replace(b"[[bidder]]", b"[bidder]"), b"")
         self.assertIn("`bidder` is there already; where there are several, each begins with [[bidder]]", text)
 
-    def test_a_bidder(self):
+    def test_a_bidder(self) -> None:
         """In the whole log and in its own view the refused lines of a bidder are the same, except for their numbers."""
         award, log = sample("spectrum.award"), sample("spectrum.log")
         text, status = said(lambda names: explain(["auction", *names, "--bidder", "tarn"]), award, log)
@@ -312,7 +312,7 @@ class Explain(unittest.TestCase):
         text, _ = said(lambda names: explain(["auction", *names, "--bidder", "east"]), SMALL, lines("bid,east,1,"))
         self.assertEqual(text, "east has sent 1 line, and none of them are refused.")
 
-    def test_words(self):
+    def test_words(self) -> None:
         for words in (
             [],
             ["nothing"],
@@ -329,7 +329,7 @@ class Explain(unittest.TestCase):
             (["cca: read fault book", "`nothing.book` can't be read: No such file or directory."], 4),
         )
 
-    def test_an_amount_above_the_greatest(self):
+    def test_an_amount_above_the_greatest(self) -> None:
         log = lines("close,,, / draft,east,1,4398046511105")
         text, _ = self.told("auction", SMALL, log)
         self.assertIn("The amount is above the greatest one, 4398046511104.", text)
@@ -339,7 +339,7 @@ class CapsTool(unittest.TestCase):
     def asked(self, award, log, *words):
         return said(lambda names: caps([*names, *words]), award, log)
 
-    def test_sample(self):
+    def test_sample(self) -> None:
         text, status = self.asked(sample("spectrum.award"), sample("spectrum.log"), "everest")
         self.assertEqual((text.splitlines()[0], status), ("everest final round 4 held 1 0 3 0 list 3", 0))
         self.assertIn(
@@ -351,7 +351,7 @@ class CapsTool(unittest.TestCase):
         )
         self.assertIn("package 1 0 3 0 listed 420000 least 300200 no cap", text)
 
-    def test_first_list(self):
+    def test_first_list(self) -> None:
         text, _ = self.asked(
             sample("spectrum.award"),
             b"".join(sample("spectrum.log").splitlines(True)[:32]),
@@ -363,12 +363,12 @@ class CapsTool(unittest.TestCase):
         )
         self.assertIn("round 3 held 1 0 4 0 stands 303800 prices 231000 275700 18200 300 cap 534800", text)
 
-    def test_final_cap(self):
+    def test_final_cap(self) -> None:
         for version, part in (1, "cap 52"), (2, "cap 32"):
             text, _ = self.asked(TWO.format(version).encode(), lines(TWO_LOG), "east", "0 3")
             self.assertEqual(part in text, True, text)
 
-    def test_views(self):
+    def test_views(self) -> None:
         for name in ("everest", "harbour", "meridian", "niche", "tarn"):
             view, _ = self.asked(sample("spectrum.award"), sample("spectrum.log"), name, "--view")
             others = {"everest", "harbour", "meridian", "niche", "tarn"} - {name}
@@ -378,13 +378,13 @@ class CapsTool(unittest.TestCase):
                 self.asked(sample("spectrum.award"), sample("spectrum.log"), name),
             )
 
-    def test_lines_of_others_in_a_view(self):
+    def test_lines_of_others_in_a_view(self) -> None:
         """They aren't the bidder's, and add nothing."""
         view = "bid,east,3, / close,,12, / bid,east,1, / close,,sealed, / draft,east,3,44"
         other = view.replace("bid,east,1,", "bid,east,1, / bid,west,2, / bid,north,9,")
         self.assertEqual(self.asked(SMALL, lines(other), "east"), self.asked(SMALL, lines(view), "east"))
 
-    def test_faulty_views(self):
+    def test_faulty_views(self) -> None:
         rows = [
             "close,,12, / close,,, / ",
             "close,,sealed, / close,,12, / ",
@@ -400,7 +400,7 @@ class CapsTool(unittest.TestCase):
             with self.subTest(text=text):
                 self.assertIn("cca: refused log", self.asked(SMALL, lines(text + "bid,east,1,"), "east")[0])
 
-    def test_no_caps(self):
+    def test_no_caps(self) -> None:
         self.assertEqual(self.asked(SMALL, lines("bid,east,1,"), "east")[0].splitlines()[0][:17], "east round 1 open")
         self.assertEqual(self.asked(SMALL, lines(ROW), "north")[1], 2)
         self.assertIn("supply 1", self.asked(SMALL, lines(ROW), "east", "4")[0])
@@ -409,16 +409,16 @@ class CapsTool(unittest.TestCase):
 
 
 class WhatIf(unittest.TestCase):
-    def setUp(self):
+    def setUp(self) -> None:
         self.kept = os.environ.pop("CCA_PROGRAM", None)
         os.environ["CCA_PROGRAM"] = "nothing"
 
-    def tearDown(self):
+    def tearDown(self) -> None:
         os.environ.pop("CCA_PROGRAM")
         if self.kept:
             os.environ["CCA_PROGRAM"] = self.kept
 
-    def test_dropped_draft(self):
+    def test_dropped_draft(self) -> None:
         text, status = said(what_if, SMALL, lines(ROW), lines(ROW.replace("draft,east,3,44", "drop,east,3,")))
         self.assertEqual(
             (text.splitlines()[:5], status),
@@ -426,25 +426,25 @@ class WhatIf(unittest.TestCase):
         )
         self.assertEqual(text.count("winner east 1 20"), 2)
 
-    def test_changed_reply(self):
+    def test_changed_reply(self) -> None:
         text, _ = said(what_if, SMALL, lines(ROW), lines(ROW.replace("draft,east,3,44", "draft,east,3,46")))
         self.assertIn("  11 submit,east,,: relative-cap 2 44, before ok\n    Entry 2 of the list", text)
         self.assertIn("bid east 1 12, before 20", text)
 
-    def test_why_a_new_line_is_refused(self):
+    def test_why_a_new_line_is_refused(self) -> None:
         text, _ = said(what_if, SMALL, lines(ROW), lines("bid,west,3, / " + ROW))
         self.assertIn(
             "+ 1 bid,west,3,: points 2\n    The package has 3 x 1 = 3 points, and west is eligible for 2", text
         )
 
-    def test_the_least_amount_may_be_0(self):
+    def test_the_least_amount_may_be_0(self) -> None:
         """Nobody has a bid, and the reserve is 0."""
         free, log = SMALL.replace(b"reserve = 10", b"reserve = 0"), lines("close,,, / close,,,")
         text, _ = said(lambda names: what_if([*names, "--least", "west", "2"]), free, log)
         self.assertEqual(text.splitlines()[0], "least west 2 0")
         self.assertIn("\nwinner west 2 0\nnet 0\n", text)
 
-    def test_faulty_files(self):
+    def test_faulty_files(self) -> None:
         with tempfile.TemporaryDirectory() as folder:
             names = [os.path.join(folder, name) for name in ("award", "log", "edited")]
             for name, data in zip(names, (SMALL, lines(ROW), lines(ROW + " / draft,east,1,1.5"))):
@@ -469,14 +469,14 @@ class WhatIf(unittest.TestCase):
                 ("", "tools/caps: cca: refused log 13", False, 3),
             )
 
-    def test_gone_and_new(self):
+    def test_gone_and_new(self) -> None:
         head, log = "bid,west,1, / ", lines(ROW)
         text = said(what_if, SMALL, log, lines(head + ROW))[0]
         self.assertEqual(text.splitlines()[:3], ["lines", "+ 1 bid,west,1,: ok", "book"])
         text = said(what_if, SMALL, lines(ROW + " / close,,,"), log)[0]
         self.assertEqual(text.splitlines()[:3], ["lines", "- 13 close,,,: stage", "book"])
 
-    def test_least(self):
+    def test_least(self) -> None:
         # with 20 and 24 the net value is 14; three lots have to bring more than that, and come after one lot in the
         # order of ties
         text, status = said(lambda names: what_if([*names, "--least", "east", "3"]), SMALL, lines(ROW))
@@ -501,7 +501,7 @@ class WhatIf(unittest.TestCase):
 class BesideTheProgram(unittest.TestCase):
     """What the package says of winners and prices is what the program prints."""
 
-    def test_books(self):
+    def test_books(self) -> None:
         for name in ("day-cramton.book", "tie.book", "six-bidders.book"):
             data = sample(name)
             book = read_book(data)
@@ -510,7 +510,7 @@ class BesideTheProgram(unittest.TestCase):
             printed = program_run("price", "BOOK", "CERT", BOOK=data)
             self.assertEqual("\n".join(price_lines(book)) + "\n", printed.printed)
 
-    def test_what_if(self):
+    def test_what_if(self) -> None:
         log = lines(ROW)
         prices = program_run("award", "AWARD", "LOG", "CERT", AWARD=SMALL, LOG=log).printed.splitlines()
         edited = lines(ROW.replace("draft,east,3,44", "drop,east,3,"))

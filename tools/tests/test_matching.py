@@ -28,17 +28,17 @@ def texts(count):
 
 
 class Matching(unittest.TestCase):
-    def assert_matches(self, old, new, pairs):
+    def assert_matches(self, old, new, pairs) -> None:
         self.assertTrue(all(old[i] == new[j] for i, j in pairs), (old, new, pairs))
         self.assertTrue(all(a < c and b < d for (a, b), (c, d) in zip(pairs, pairs[1:])), (old, new, pairs))
 
-    def test_the_fewest_changes(self):
+    def test_the_fewest_changes(self) -> None:
         for old, new in texts(400):
             pairs = sorted(by_fewest_changes(old, new, 10**6)[0])
             self.assert_matches(old, new, pairs)
             self.assertEqual(len(pairs), longest(old, new), (old, new))
 
-    def test_all_ways_together(self):
+    def test_all_ways_together(self) -> None:
         for old, new in texts(400):
             self.assert_matches(old, new, matched(old, new))
         self.assertEqual(matched("abc", "abc"), [(0, 0), (1, 1), (2, 2)])
@@ -49,18 +49,18 @@ class Matching(unittest.TestCase):
         self.assertEqual(matched("paaq", "paaaq"), [(0, 0), (1, 1), (2, 2), (3, 4)])
         self.assertEqual(matched("apbbqc", "xpbbbqy"), [(1, 1), (2, 2), (3, 3), (4, 5)])
 
-    def test_the_longest_rise(self):
+    def test_the_longest_rise(self) -> None:
         self.assertEqual(longest_rise([(0, 3), (1, 0), (2, 1), (3, 4), (4, 2)]), [(1, 0), (2, 1), (4, 2)])
         self.assertEqual(longest_rise([]), [])
 
-    def test_a_few_changes_far_apart_are_found_in_few_steps(self):
+    def test_a_few_changes_far_apart_are_found_in_few_steps(self) -> None:
         """Lines that are there many times, of which two differ."""
         old = ["a", "b", "c", "b"] * 5000
         new = list(old)
         new[3], new[-5] = "x", "x"
         self.assertEqual(len(matched(old, new)), len(old) - 2)
 
-    def test_what_takes_too_many_steps_counts_as_gone_and_new(self):
+    def test_what_takes_too_many_steps_counts_as_gone_and_new(self) -> None:
         old, new = ["a", "b"] * 50, ["b", "b", "a"] * 40
         self.assertEqual(by_fewest_changes(old, new, 10)[0], [])
         with unittest.mock.patch.object(matching, "MOST_STEPS", 10):

@@ -96,13 +96,13 @@ def log_scale_of(marks):
 
 
 class Pictures(unittest.TestCase):
-    def assert_places(self, found, expected, delta=0.02):
+    def assert_places(self, found, expected, delta=0.02) -> None:
         """The places are these, except for rounding."""
         self.assertEqual(len(found), len(expected))
         for one, other in zip(found, expected):
             self.assertAlmostEqual(one, other, delta=delta)
 
-    def assert_corners(self, found, expected):
+    def assert_corners(self, found, expected) -> None:
         """A polygon has these corners, in whatever order and however often."""
         near = [[abs(x - u) < 0.02 and abs(y - v) < 0.02 for u, v in expected] for x, y in found]
         self.assertTrue(all(map(any, near)), (found, expected))
@@ -118,14 +118,14 @@ class Pictures(unittest.TestCase):
 class Scales(Pictures):
     STEPS = [digit * 10**power for power in range(9) for digit in (1, 2, 5)]
 
-    def test_steps(self):
+    def test_steps(self) -> None:
         """The least step of which at most this many fit into a span."""
         for span in (0, 0.5, 1, 7, 10, 21.3, 99, 100, 101, 12345.6, 10**6):
             for most in (1, 3, 8):
                 step = next(step for step in self.STEPS if span / step <= most)
                 self.assertEqual(charts.nice_step(span, most), step, (span, most))
 
-    def test_ticks(self):
+    def test_ticks(self) -> None:
         """Every multiple of that step from low to high."""
         for low, high in ((0, 175.0), (100, 121.3), (100.0, 110.0), (97.5, 512), (0, 1), (0, 536000)):
             for most in (3, 4, 9):
@@ -133,7 +133,7 @@ class Scales(Pictures):
                 expected = [at * step for at in range(int(high) + 2) if low <= at * step <= high][: int(high) + 2]
                 self.assertEqual(charts.ticks(low, high, most), expected, (low, high, most))
 
-    def test_a_number_isn_t_crossed_by_a_line(self):
+    def test_a_number_isn_t_crossed_by_a_line(self) -> None:
         """Letters reach from 12 above their line to 3 below it."""
         for y in range(200, 272, 3):
             for line in range(190, 272):
@@ -146,7 +146,7 @@ class OfACategory(Pictures):
 
     PRICES, DEMAND, SUPPLY = (200000, 220000, 231000, 242600), (7, 6, 5, 4), 4
 
-    def setUp(self):
+    def setUp(self) -> None:
         made = charts.category("c", "", "", self.PRICES, self.DEMAND, self.SUPPLY, 121.3, 175.0, False)
         marks = marks_of(made)
         half = next(at for at, it in enumerate(marks) if it.letters.startswith("demand"))
@@ -154,13 +154,13 @@ class OfACategory(Pictures):
         rounds = self.demand[next(at for at, it in enumerate(self.demand) if it.letters == "round") :]
         self.rounds = {int(it.letters): it.place("x") for it in rounds if it.letters.isdigit()}
 
-    def test_rounds_are_equally_wide(self):
+    def test_rounds_are_equally_wide(self) -> None:
         self.assertEqual(list(self.rounds), [1, 2, 3, 4])
         steps = [self.rounds[n + 1] - self.rounds[n] for n in (1, 2, 3)]
         self.assert_places(steps, steps[:1] * 3)
         self.assertGreater(steps[0], 30)
 
-    def test_prices(self):
+    def test_prices(self) -> None:
         place, numbers = log_scale_of(self.prices)
         self.assertEqual(numbers, [100, 110, 120])
         heights = [place(Fraction(100 * price, self.PRICES[0])) for price in self.PRICES]
@@ -174,11 +174,11 @@ class OfACategory(Pictures):
         self.assert_places([x for x, _ in stair.points[:-1]], xs)
         self.assert_places([y for _, y in stair.points], [heights[at // 2] for at in range(8)])
 
-    def test_each_price_has_its_label(self):
+    def test_each_price_has_its_label(self) -> None:
         letters = [it.letters for it in self.prices if it.colours[0] == "blue" and it.letters]
         self.assertEqual(letters, ["200,000", "220,000", "231,000", "242,600, +21.3 %"])
 
-    def test_each_category_is_seen_beside_a_high_one(self):
+    def test_each_category_is_seen_beside_a_high_one(self) -> None:
         """A rise of 10 % beside one to 400 % of the reserve; each doubling is equally high."""
         marks = marks_of(charts.category("c", "", "", (200, 220), (3, 2), 2, 400.0, 150.0, False))
         place, numbers = log_scale_of(
@@ -190,12 +190,12 @@ class OfACategory(Pictures):
         self.assert_places(dots, [place(100), place(110)])
         self.assertGreater(dots[0] - dots[1], 5)
 
-    def test_a_price_that_stays_has_one_label(self):
+    def test_a_price_that_stays_has_one_label(self) -> None:
         marks = marks_of(charts.category("c", "", "", (200, 200, 220), (3, 3, 2), 2, 110.0, 150.0, False))
         letters = [it.letters for it in marks if it.colours[0] == "blue" and it.letters]
         self.assertEqual(letters, ["200", "220, +10.0 %"])
 
-    def test_demand(self):
+    def test_demand(self) -> None:
         place, _ = scale_of(self.demand, is_across=False)
         shapes = [it for it in self.demand if it.says.startswith("round ")]
         bars = [it for it in shapes if not it.at["fill"].startswith("url(")]
@@ -212,13 +212,13 @@ class OfACategory(Pictures):
         self.assertEqual([letters for _, letters in numbers], list("7654"))
         self.assert_places([x for x, _ in numbers], list(self.rounds.values()))
 
-    def test_an_open_round_is_an_outline(self):
+    def test_an_open_round_is_an_outline(self) -> None:
         marks = marks_of(charts.category("c", "", "", (10, 11), (3, 2), 2, 110.0, 150.0, True))
         bar = self.one(marks, "round 2: 2 asked for so far, of 2")
         self.assertEqual((bar.colours[0], "stroke-dasharray" in bar.at), ("ground", True))
         self.assertIn("so far", [it.letters for it in marks])
 
-    def test_prices_alone(self):
+    def test_prices_alone(self) -> None:
         marks = marks_of(charts.posted("c", "", "", self.PRICES, 121.3))
         place, _ = log_scale_of(marks)
         dots = [it.place("cy") for it in marks if it.tag == "circle"]
@@ -236,7 +236,7 @@ class OfActivity(Pictures):
         lines = [[it for it in marks if it.tag == "line" and it.says.startswith(f"{one.name}, ")] for one in every]
         return marks, bars, lines
 
-    def test_bars_and_lines_have_one_scale(self):
+    def test_bars_and_lines_have_one_scale(self) -> None:
         every = [
             Activity("harbour", (68, 48, 48, 48), (68, 68, 48, 48), ("a", "b", "b", "b")),
             Activity("niche", (20, 0, 17, 10), (24, 20, 20, 17), ("c", "nothing", "d", "e")),
@@ -258,7 +258,7 @@ class OfActivity(Pictures):
             self.assertEqual((lines_of_one[0].ends[0], lines_of_one[-1].ends[2]), (0, 100))
         self.assertEqual([it.letters for it in marks if it.letters.isdigit()][-3:], ["2", "3", "4"])
 
-    def test_an_auction_without_points(self):
+    def test_an_auction_without_points(self) -> None:
         _, bars, lines = self.rows([Activity("harbour", (0, 0), (0, 0), ("a", "b"))], 0)
         self.assertEqual(
             (bars, [it.says for it in lines[0]]), ([[]], ["harbour, rounds 1 to 2: eligible for 0 points"])
@@ -266,7 +266,7 @@ class OfActivity(Pictures):
 
 
 class OfPayments(Pictures):
-    def test_each_amount_is_at_its_place(self):
+    def test_each_amount_is_at_its_place(self) -> None:
         """tarn of the sample, and a bidder that pays a third."""
         tarn = Paid("tarn", 400000, 460000, Fraction(460200), 500000, 485200)
         other = Paid("other", 0, 250000, Fraction(1000000, 3), 350000, None)
@@ -302,7 +302,7 @@ class OfLots(Pictures):
         rows = [list(row) for _, row in groupby(zip(shapes, written), key=lambda it: it[0].place("y"))]
         return marks, rows
 
-    def test_cells_fill_the_width(self):
+    def test_cells_fill_the_width(self) -> None:
         for supply, row_lengths in ((4, [4]), (18, [18]), (20, [10, 10]), (37, [13, 13, 11])):
             _, rows = self.cells(Band("c", [(1, supply - 1), (0, 1)]), self.NAMES, self.LETTERS)
             self.assertEqual([len(row) for row in rows], row_lengths)
@@ -321,7 +321,7 @@ class OfLots(Pictures):
                 found.setdefault(mark.says.rpartition(" of ")[2], mark.place("width"))
         return [found[band.name] for band in every]
 
-    def test_all_strips_have_one_scale(self):
+    def test_all_strips_have_one_scale(self) -> None:
         """Equal lots are equally wide in every strip, of 18 in a row at most; by MHz a lot of 20 is twice one of 10."""
         one, many, lots = Band("one", [(1, 1)]), Band("many", [(2, 14)]), Band("lots", [(3, 40)])
         self.assert_places(self.widths(one, many), [100 / 14, 100 / 14])
@@ -330,7 +330,7 @@ class OfLots(Pictures):
         self.assert_places(self.widths(wide, five), [50, 50 / 8])
         self.assert_places(self.widths(Band("a", [(1, 3)], 100), Band("b", [(1, 4)], 5)), [25, 25])  # 20 to 1
 
-    def test_each_lot_has_its_winner_s_letter_and_the_colour_of_the_key(self):
+    def test_each_lot_has_its_winner_s_letter_and_the_colour_of_the_key(self) -> None:
         parts = [(1, 2), (2, 1), (3, 1), (6, 2), (7, 1), (0, 2)]
         marks, (row,) = self.cells(Band("c2600", parts), self.NAMES, self.LETTERS)
         owners = [winner for winner, lots in parts for _ in range(lots)]
@@ -355,7 +355,7 @@ class OfTheCore(Pictures):
         across, up = scale_of(marks, is_across=True), scale_of(marks, is_across=False)
         return (lambda x, y: (across[0](x), up[0](y))), set(across[1]), set(up[1])
 
-    def assert_way(self, marks, start, end):
+    def assert_way(self, marks, start, end) -> None:
         """The arrow lies on the way from one mark to the other, and its head is symmetric."""
         shaft, head = [it for it in marks if it.tag == "path" and it.colours == (None, "ink")]
         (x, y), (u, v) = start, end
@@ -368,7 +368,7 @@ class OfTheCore(Pictures):
         middle = (one[0] + other[0]) / 2 - tip[0], (one[1] + other[1]) / 2 - tip[1]
         self.assertLess(middle[0] * (u - x) + middle[1] * (v - y), 0)
 
-    def test_two_winners(self):
+    def test_two_winners(self) -> None:
         """The example of Day and Cramton: b3 offers 32 for what b1 and b2 win."""
         marks = marks_of(core.two("k", "", "", ("b1", "b2"), (14, 12), (28, 20), 32, (Fraction(17), Fraction(15))))
         at, across, up = self.places(marks)
@@ -388,7 +388,7 @@ class OfTheCore(Pictures):
         self.assert_places((paid.place("cx"), paid.place("cy")), at(17, 15))
         self.assert_way(marks, at(14, 12), at(17, 15))
 
-    def test_winners_of_unequal_size(self):
+    def test_winners_of_unequal_size(self) -> None:
         """A bid of 10,000 above would make a demand of 6 invisible: the picture is of what is near the least sum."""
         marks = marks_of(core.two("k", "", "", ("b1", "b2"), (14, 12), (10014, 20), 32, (Fraction(17), Fraction(15))))
         at, across, up = self.places(marks)
@@ -399,7 +399,7 @@ class OfTheCore(Pictures):
         self.assertAlmostEqual(abs(x - u), abs(y - v), delta=0.02)
         self.assertGreater(abs(x - u), 60)
 
-    def test_the_vickrey_point_is_seen_around_what_is_paid(self):
+    def test_the_vickrey_point_is_seen_around_what_is_paid(self) -> None:
         """Both pay their Vickrey prices of 1,000: both marks are at one place, and the triangle is larger."""
         pays = Fraction(1000), Fraction(1000)
         marks = marks_of(core.two("k", "", "", ("b1", "b2"), (1000, 1000), (1100, 1100), 2000, pays))
@@ -427,7 +427,7 @@ class OfTheCore(Pictures):
 
         return marks, at
 
-    def test_three_winners(self):
+    def test_three_winners(self) -> None:
         """Three bid 10 each, and another one 11 for all three lots: a pair pays at least 1, and all together 11."""
         third = Fraction(11, 3)
         marks, at = self.three((0, 0, 0), (10, 10, 10), (1, 1, 1), (third, third, third))
@@ -442,7 +442,7 @@ class OfTheCore(Pictures):
         triangle = next(it for it in marks if it.says.startswith("Vickrey prices"))
         self.assertGreater(max(x for x, _ in triangle.points) - paid.place("cx"), paid.place("r") + 3)
 
-    def test_what_nobody_blocks_is_no_more_than_a_line(self):
+    def test_what_nobody_blocks_is_no_more_than_a_line(self) -> None:
         """b1 and b2 pay 12 of 13, b1 at most 6 and b2 at most 7: from 5 and 7 to 6 and 6, drawn as a thick line."""
         marks, at = self.three((5, 3, 1), (9, 9, 5), (12, 6, 7), (Fraction(6), Fraction(6), Fraction(1)))
         area = self.one(marks, "nobody blocks")
@@ -456,7 +456,7 @@ class OfAStudy(Pictures):
         Spread(9, 20.0, 1.0, (-5.0, 10.0, 22.0, 30.0, 41.0)),
     ]
 
-    def test_ticks(self):
+    def test_ticks(self) -> None:
         """Some four round values within the scale, all multiples of a step of 1, 2 or 5."""
         for low, high in (
             (0.0, 1.0),
@@ -478,7 +478,7 @@ class OfAStudy(Pictures):
             self.assertTrue(all(tick % gap == 0 for tick in ticks))
             self.assertTrue(all(low <= tick <= low + scale.span for tick in ticks))
 
-    def test_bars(self):
+    def test_bars(self) -> None:
         bars = [(name, spread, ("bluish", "blue")) for name, spread in zip(("core", "Vickrey"), self.SPREADS)]
         marks = marks_of(pictures.bars("s", "", "", [("case 1", bars)], "%", True))
         place, numbers = scale_of(marks, is_across=True)

@@ -43,16 +43,16 @@ EDITS = [
 
 
 class Placements(unittest.TestCase):
-    def test_worked_example(self):
+    def test_worked_example(self) -> None:
         self.assertEqual(said(check_places, SLOTS, CERT), (YES, 0))
 
-    def test_edits(self):
+    def test_edits(self) -> None:
         for was, put, line in EDITS:
             with self.subTest(put=put, line=line):
                 cert = CERT.replace(was.encode(), put.encode(), 1)
                 self.assertEqual(said(check_places, SLOTS, cert), (line, 1 if line.startswith("no") else 3))
 
-    def test_sentences(self):
+    def test_sentences(self) -> None:
         from cca_tools.rules.placement import read_places, read_slots
         from cca_tools.rules.placement_tests import first_fault
 
@@ -74,11 +74,11 @@ class Placements(unittest.TestCase):
         )
         self.assertIn("y begins at slot 3, and its bid is for slot 4", why(b"order 1 3 2", b"order 1 2 3"))
 
-    def test_nobody(self):
+    def test_nobody(self) -> None:
         cert = lines("pcert 1 / den 1 / value 0 / order / choice / table / t 0 / pay / rows 0 / lowered / t 0 / end")
         self.assertEqual(said(check_places, lines("slots 1 / band 4 / end"), cert), ("yes\nvalue 0\nrevenue 0", 0))
 
-    def test_faults_of_slots(self):
+    def test_faults_of_slots(self) -> None:
         for was, put, place in [
             ("slots 1", "slots 2", 0),
             ("band 4", "band 0", 8),
@@ -103,7 +103,7 @@ class Placements(unittest.TestCase):
                     (f"cca: refused slots {place}", 3),
                 )
 
-    def test_edges_that_stand(self):
+    def test_edges_that_stand(self) -> None:
         one = "slots 1 / band 40 / bidder x 1 / "
         for slots in (
             "slots 1 / band 1 / bidder x 1 / place 1 0 / end",
@@ -112,7 +112,7 @@ class Placements(unittest.TestCase):
         ):
             self.assertEqual(said(check_places, lines(slots), b""), ("cca: refused cert 0", 3))
 
-    def test_limits_of_slots(self):
+    def test_limits_of_slots(self) -> None:
         self.assertEqual(said(check_places, lines("slots 1 / band 41 / end"), b""), ("cca: limit lots 41", 7))
         for count, answer in (6, ("cca: refused cert 0", 3)), (7, ("cca: limit bidders 7", 7)):
             many = "".join(f"bidder b{j} 1 / " for j in range(count))
@@ -123,7 +123,7 @@ class Placements(unittest.TestCase):
             ("cca: refused cert 0", 3),
         )
 
-    def test_words(self):
+    def test_words(self) -> None:
         for texts in [(SLOTS,), (SLOTS, CERT, CERT)]:
             self.assertEqual(said(check_places, *texts), ("cca: words", 2))
 

@@ -74,7 +74,7 @@ class Tables(unittest.TestCase):
         if has_numpy():
             yield ArrayFiller(book)
 
-    def test_tables_and_winners_are_those_of_the_second_program(self):
+    def test_tables_and_winners_are_those_of_the_second_program(self) -> None:
         for seed in range(30):
             book = drawn(seed)
             for filler in self.fillers(book):
@@ -85,7 +85,7 @@ class Tables(unittest.TestCase):
                     winning_choice(book),
                 )
 
-    def test_a_table_without_a_bidder_is_the_table_of_its_book_without_bids(self):
+    def test_a_table_without_a_bidder_is_the_table_of_its_book_without_bids(self) -> None:
         for seed in range(20):
             book = drawn(seed)
             for filler, k in itertools.product(self.fillers(book), range(book.bidders)):
@@ -94,7 +94,7 @@ class Tables(unittest.TestCase):
                 expected = table_of(Book(book.supply, book.reserves, book.names, bids))
                 self.assertEqual([filler.numbers(line) for line in lines], expected)
 
-    def test_numbers_beyond_64_bits_are_exact(self):
+    def test_numbers_beyond_64_bits_are_exact(self) -> None:
         book = drawn(1)
         for filler, times in itertools.product(self.fillers(book), (2**57, 2**60, 2**100)):
             great = [[net * times for net in nets] for nets in book.net]
@@ -103,17 +103,17 @@ class Tables(unittest.TestCase):
             scaled = filler.scaled(filler.table(book.net), times)
             self.assertEqual([filler.numbers(line) for line in scaled], expected)
 
-    def test_undominated(self):
+    def test_undominated(self) -> None:
         bids = [((0, 1), 5), ((1, 0), 7), ((1, 1), 7), ((1, 2), 13), ((2, 0), 6)]
         self.assertEqual(undominated(bids, [5, 7, 7, 13, 6]), [0, 1, 3])
 
 
 class Points(unittest.TestCase):
-    def test_solved(self):
+    def test_solved(self) -> None:
         self.assertEqual(solved([[2, 1], [1, 2]], [[3, 3]]), [[Fraction(1), Fraction(1)]])
         self.assertIsNone(solved([[1, 1], [1, 1]], [[1, 1]]))
 
-    def test_two_winners_share_equally_or_by_their_weights(self):
+    def test_two_winners_share_equally_or_by_their_weights(self) -> None:
         rows = [Demand(1, 14, ()), Demand(2, 12, ()), Demand(3, 32, ())]
         self.assertEqual(Nearest([14, 12], [1, 1], rows).point().pays, [17, 15])
         self.assertEqual(
@@ -121,7 +121,7 @@ class Points(unittest.TestCase):
             [Fraction(31, 2), Fraction(33, 2)],
         )
 
-    def test_points_are_those_of_a_plain_search(self):
+    def test_points_are_those_of_a_plain_search(self) -> None:
         """All rows of three winners at once. The plain search goes through all sets of rows that may be tight."""
         rng = random.Random(4)
         for _ in range(60):
@@ -141,7 +141,7 @@ class Points(unittest.TestCase):
                 plain_point(plain, vickrey, weights),
             )
 
-    def test_a_rounded_search_ends_at_the_same_point(self):
+    def test_a_rounded_search_ends_at_the_same_point(self) -> None:
         for seed in range(40):
             market = market_of(drawn(seed))
             ones = [1] * len(market.winners)
@@ -151,7 +151,7 @@ class Points(unittest.TestCase):
 
 
 class Certificates(unittest.TestCase):
-    def test_certificates_pass(self):
+    def test_certificates_pass(self) -> None:
         winners = []
         for seed in range(60):
             book, rng = drawn(seed), random.Random(seed)
@@ -166,13 +166,13 @@ class Certificates(unittest.TestCase):
             self.assertIsNone(first_fault(book, read_certificate(text, book), weights))
         self.assertGreater(sum(count > 6 for count in winners), 20)
 
-    def test_eight_winners_share_what_a_loser_asks_for(self):
+    def test_eight_winners_share_what_a_loser_asks_for(self) -> None:
         """Eight bid 10 each for one of eight lots, and a ninth 64 for all: each pays 8, and its Vickrey price is 0."""
         certificate = certificate_of(singles([10] * 8, 8, [(8, 64)])).certificate
         self.assertEqual([Fraction(pay, certificate.den) for pay in certificate.pay], [8] * 8 + [0])
         self.assertEqual([certificate.vickrey(j) for j in certificate.winners], [0] * 8)
 
-    def test_ten_winners_share_by_their_weights(self):
+    def test_ten_winners_share_by_their_weights(self) -> None:
         """Ten bid 100 each for one of ten lots, and another 550 for all. By weights of 1 to 10 they pay 10 to 100."""
         certificate = certificate_of(singles([100] * 10, 10, [(10, 550)]), [*range(1, 11), 1]).certificate
         self.assertEqual(
@@ -180,11 +180,11 @@ class Certificates(unittest.TestCase):
             [*range(10, 101, 10), 0],
         )
 
-    def test_sixteen_winners_without_a_rival_pay_nothing(self):
+    def test_sixteen_winners_without_a_rival_pay_nothing(self) -> None:
         certificate = certificate_of(singles([10] * 16, 16)).certificate
         self.assertEqual((certificate.pay, len(certificate.rows)), ([0] * 16, 1))
 
-    def test_nobody_bids(self):
+    def test_nobody_bids(self) -> None:
         for book in (Book((1,), (0,), [], []), Book((1,), (0,), ["a"], [[]])):
             text = "\n".join([*certificate_of(book).lines(), ""]).encode()
             self.assertIsNone(first_fault(book, read_certificate(text, book)))
@@ -195,7 +195,7 @@ class Rows(unittest.TestCase):
         market = market_of(book)
         return market, core_point(market, [1] * len(market.winners))
 
-    def test_eleven_rows_are_needed_where_no_two_winners_are_asked_together(self):
+    def test_eleven_rows_are_needed_where_no_two_winners_are_asked_together(self) -> None:
         market, found = self.found(rivals(11))
         self.assertEqual(found.point.pays, [50] * 11)
         tight = tight_rows(market, found, 1_000)
@@ -206,7 +206,7 @@ class Rows(unittest.TestCase):
         least = fewest(market, found, 10, seconds=60)  # (no search: it is known that none would find fewer)
         self.assertEqual((len(least.shown.rows), least.is_least), (11, True))
 
-    def test_tight_rows_are_those_of_an_enumeration(self):
+    def test_tight_rows_are_those_of_an_enumeration(self) -> None:
         """All sets of winners, each with the best choice without them by a table of its own."""
         for seed in range(12):
             market, found = self.found(drawn(seed))
@@ -225,7 +225,7 @@ class Rows(unittest.TestCase):
                     (expected, True),
                 )
 
-    def test_a_cap_on_the_tight_rows_is_known(self):
+    def test_a_cap_on_the_tight_rows_is_known(self) -> None:
         market, found = self.found(singles([10] * 12, 12))
         self.assertFalse(tight_rows(market, found, 100).are_all)
         self.assertEqual(len(tight_rows(market, found, 5_000).rows), 2**12 - 1)
@@ -239,7 +239,7 @@ class Rows(unittest.TestCase):
             [Fraction(0)] * len(sets),
         )
 
-    def test_exchanges_join_rows(self):
+    def test_exchanges_join_rows(self) -> None:
         tight = [Demand(0b111111, 0, ())]
         self.assertEqual(len(fewer(self.shown([1 << i for i in range(6)]), tight, 1, 6).rows), 1)
         self.assertEqual(
@@ -254,7 +254,7 @@ class Rows(unittest.TestCase):
             4,
         )
 
-    def test_a_search_joins_rows_that_no_single_exchange_joins(self):
+    def test_a_search_joins_rows_that_no_single_exchange_joins(self) -> None:
         """Two ways to cover six winners: three pairs, or two triples that overlap each pair."""
         pairs, triples = [0b000011, 0b001100, 0b110000], [0b010101, 0b101010]
         rows = [Demand(members, 0, ()) for members in [*triples, *(1 << i for i in range(6))]]
@@ -263,7 +263,7 @@ class Rows(unittest.TestCase):
         for i in range(6):
             self.assertEqual(sum(u for row, u in zip(found.rows, found.first) if row.holds(i)), 1)
 
-    def test_independence(self):
+    def test_independence(self) -> None:
         rows = [Demand(members, 0, ()) for members in (0b011, 0b101, 0b110)]
         self.assertTrue(are_independent(rows))
         self.assertFalse(are_independent([*rows, Demand(0b111, 0, ())]))
@@ -272,7 +272,7 @@ class Rows(unittest.TestCase):
 class Command(unittest.TestCase):
     """The tool as a program, in a folder of its own."""
 
-    def setUp(self):
+    def setUp(self) -> None:
         folder = tempfile.TemporaryDirectory()
         self.addCleanup(folder.cleanup)
         self.folder = pathlib.Path(folder.name)
@@ -303,7 +303,7 @@ class Command(unittest.TestCase):
     def names(self):
         return sorted(os.listdir(self.folder))
 
-    def test_prices_of_eight_winners_by_the_file_for_the_court(self):
+    def test_prices_of_eight_winners_by_the_file_for_the_court(self) -> None:
         self.write("a.book", book_text(singles([10] * 8, 8, [(8, 64)])))
         made = self.run_it("a.book", "a.cert")
         expected = [
@@ -326,7 +326,7 @@ class Command(unittest.TestCase):
         self.assertEqual(court.stdout, made.stdout)
 
     @with_program
-    def test_the_answer_is_that_of_the_program(self):
+    def test_the_answer_is_that_of_the_program(self) -> None:
         self.write("a.book", book_text(singles([10] * 9, 9, [(9, 64)])))
         made = self.run_it("a.book", "a.cert", program=PROGRAM)
         words = [os.path.abspath(PROGRAM), "check", "a.book", "a.cert"]
@@ -335,7 +335,7 @@ class Command(unittest.TestCase):
         self.assertTrue(made.stdout.startswith("yes\n"))
 
     @with_program
-    def test_prices_up_to_six_winners_are_those_of_the_program(self):
+    def test_prices_up_to_six_winners_are_those_of_the_program(self) -> None:
         for name in ("day-cramton", "six-bidders", "tie"):
             book = os.path.join(EXAMPLES, f"{name}.book")
             for flags in ([], ["--json"]):
@@ -344,7 +344,7 @@ class Command(unittest.TestCase):
                 expected = subprocess.run(words, capture_output=True, text=True).stdout
                 self.assertEqual(made.stdout, expected if flags else "yes\n" + expected)
 
-    def test_json_and_rounds(self):
+    def test_json_and_rounds(self) -> None:
         self.write("a.book", book_text(singles([10] * 8, 8, [(8, 64)])))
         rounds = [
             "round 1 point 0 0 0 0 0 0 0 0 row 1 2 3 4 5 6 7 8 choice 0 0 0 0 0 0 0 0 1 excess 64",
@@ -359,7 +359,7 @@ class Command(unittest.TestCase):
             [*rounds, "yes"],
         )
 
-    def test_weights(self):
+    def test_weights(self) -> None:
         self.write("a.book", book_text(singles([100] * 10, 10, [(10, 550)])))
         weights = "".join(f"weight b{j} {j}\n" for j in range(1, 11))
         self.write("a.weights", f"weights 1\n{weights}weight b11 1\nend\n".encode())
@@ -367,7 +367,7 @@ class Command(unittest.TestCase):
         pays = [int(line.split()[-1]) for line in made.stdout.splitlines() if line.startswith("winner")]
         self.assertEqual((pays, made.returncode), ([*range(10, 101, 10)], 0))
 
-    def auction(self):
+    def auction(self) -> None:
         """Eight bidders ask for a lot each of eight at a reserve of 10, and list 20 for it."""
         bidders = "".join(f'[[bidder]]\nname = "b{j}"\neligibility = 1\n' for j in range(1, 9))
         head = 'version = 1\ntick = 1\n[[category]]\nname = "c"\nsupply = 8\npoints = 1\nreserve = 10\n'
@@ -376,7 +376,7 @@ class Command(unittest.TestCase):
         log += [f"draft,b{j},1,20" for j in range(1, 9)] + [f"submit,b{j},," for j in range(1, 9)]
         self.write("a.log", "".join(f"{line}\n" for line in [*log, "close,,,"]).encode())
 
-    def test_an_auction(self):
+    def test_an_auction(self) -> None:
         self.auction()
         for program in [None, PROGRAM][: 1 + bool(PROGRAM)]:
             made = self.run_it("a.award", "a.log", "a.cert", program=program)
@@ -388,7 +388,7 @@ class Command(unittest.TestCase):
             )
             (self.folder / "a.cert").unlink()
 
-    def test_other_tools_name_it_and_take_its_certificate(self):
+    def test_other_tools_name_it_and_take_its_certificate(self) -> None:
         self.auction()
         self.run_it("a.award", "a.log", "a.cert")
         award, log, cert, out = (str(self.folder / name) for name in ("a.award", "a.log", "a.cert", "set"))
@@ -410,7 +410,7 @@ class Command(unittest.TestCase):
         page = (self.folder / "set" / "index.html").read_text()
         self.assertIn("not by cca, which prices at most 6 winners", page)
 
-    def test_more_rows_than_ten_are_refused_and_nothing_is_written(self):
+    def test_more_rows_than_ten_are_refused_and_nothing_is_written(self) -> None:
         self.write("a.book", book_text(rivals(11)))
         for flags in ([], ["--search", "1"]):
             made = self.run_it("a.book", "a.cert", *flags)
@@ -421,7 +421,7 @@ class Command(unittest.TestCase):
             )
             self.assertEqual(self.names(), ["a.book"])
 
-    def test_a_file_that_is_there_is_never_changed(self):
+    def test_a_file_that_is_there_is_never_changed(self) -> None:
         self.write("a.book", book_text(rivals(3)))
         self.write("a.cert", b"kept")
         (self.folder / "a.link").symlink_to("nothing")
@@ -431,19 +431,19 @@ class Command(unittest.TestCase):
         self.assertEqual((self.folder / "a.cert").read_bytes(), b"kept")
         self.assertEqual(self.names(), ["a.book", "a.cert", "a.link"])
 
-    def test_a_file_that_appears_meanwhile_is_never_changed(self):
+    def test_a_file_that_appears_meanwhile_is_never_changed(self) -> None:
         self.write("a.book", book_text(rivals(3)))
         program = self.checker("echo other >a.cert; echo yes\n")
         made = self.run_it("a.book", "a.cert", program=program)
         self.assertEqual((made.stdout, made.returncode), ("cca: write fault cert\n", 5))
         self.assertEqual((self.folder / "a.cert").read_text(), "other\n")
 
-    def test_a_kill_before_the_answer_leaves_nothing(self):
+    def test_a_kill_before_the_answer_leaves_nothing(self) -> None:
         self.write("a.book", book_text(rivals(3)))
         made = self.run_it("a.book", "a.cert", program=self.checker("kill -9 $PPID\n"))
         self.assertEqual((made.returncode, self.names()), (-signal.SIGKILL, ["a.book"]))
 
-    def test_a_certificate_without_a_yes_is_a_fault_of_the_tool(self):
+    def test_a_certificate_without_a_yes_is_a_fault_of_the_tool(self) -> None:
         self.write("a.book", book_text(rivals(3)))
         for text, line in (
             ("echo no C9 1; exit 1", "no C9 1"),
@@ -460,14 +460,14 @@ class Command(unittest.TestCase):
             self.setUp()
             self.write("a.book", book_text(rivals(3)))
 
-    def test_without_numpy_the_certificate_is_the_same(self):
+    def test_without_numpy_the_certificate_is_the_same(self) -> None:
         self.write("a.book", book_text(drawn(3)))
         first = self.run_it("a.book", "a.cert")
         second = self.run_it("a.book", "b.cert", flags=["-S"])  # (Debian's packages aren't found)
         self.assertEqual((first.stdout, first.returncode), (second.stdout, second.returncode))
         self.assertEqual(*((self.folder / name).read_bytes() for name in ("a.cert", "b.cert")))
 
-    def test_wrong_words(self):
+    def test_wrong_words(self) -> None:
         for words, why in (
             (["a.book", "-"], "none is standard input or output"),
             (["-", "a.cert"], "none is standard input or output"),
@@ -487,7 +487,7 @@ class Command(unittest.TestCase):
             self.assertEqual((made.stdout, made.returncode), ("cca: words\n", 2))
             self.assertIn(why, made.stderr)
 
-    def test_faults_of_the_files_come_first(self):
+    def test_faults_of_the_files_come_first(self) -> None:
         self.write("bad.book", b"book 2\n")
         self.write("a.cert", b"")
         for words, line, status in (
@@ -499,7 +499,7 @@ class Command(unittest.TestCase):
 
 
 class NewFiles(unittest.TestCase):
-    def setUp(self):
+    def setUp(self) -> None:
         folder = tempfile.TemporaryDirectory()
         self.addCleanup(folder.cleanup)
         self.path = os.path.join(folder.name, "a.cert")
@@ -515,7 +515,7 @@ class NewFiles(unittest.TestCase):
 
         return unittest.mock.patch.object(files.os, "open", opened)
 
-    def test_a_hidden_file_takes_the_place_of_a_nameless_one(self):
+    def test_a_hidden_file_takes_the_place_of_a_nameless_one(self) -> None:
         with self.without_nameless(), files.new_file(self.path) as file:
             file.write(["a", "b"], 4)
             self.assertEqual(pathlib.Path(file.path).read_text(), "a\nb\n")
@@ -524,7 +524,7 @@ class NewFiles(unittest.TestCase):
         self.assertEqual(os.listdir(os.path.dirname(self.path)), ["a.cert"])
         self.assertEqual(pathlib.Path(self.path).read_text(), "a\nb\n")
 
-    def test_more_bytes_than_the_limit_leave_nothing(self):
+    def test_more_bytes_than_the_limit_leave_nothing(self) -> None:
         for patch in (
             unittest.mock.patch.object(files, "WITHOUT", files.WITHOUT),
             self.without_nameless(),
@@ -537,7 +537,7 @@ class NewFiles(unittest.TestCase):
             )
             self.assertEqual(os.listdir(os.path.dirname(self.path)), [])
 
-    def test_great_numbers_are_refused(self):
+    def test_great_numbers_are_refused(self) -> None:
         """Amounts above those of a book, so that the certificate's numbers pass their limit."""
         book = singles([10] * 3, 3, [(3, 20)])
         great = Book(

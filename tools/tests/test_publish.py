@@ -39,7 +39,7 @@ def run(name, *words):
 
 
 class Files(unittest.TestCase):
-    def setUp(self):
+    def setUp(self) -> None:
         self.folder = pathlib.Path(tempfile.mkdtemp())
         self.addCleanup(shutil.rmtree, self.folder)
         self.files = [os.path.join(EXAMPLES, f"spectrum.{kind}") for kind in ("award", "log", "cert")]
@@ -51,7 +51,7 @@ class Files(unittest.TestCase):
 
 
 class Names(Files):
-    def test_right_names(self):
+    def test_right_names(self) -> None:
         names = names_of(NAMES.encode(), AWARD)
         self.assertEqual(
             (names.title, names.currency, names.unit),
@@ -77,7 +77,7 @@ class Names(Files):
                 words,
             )
 
-    def test_faults(self):
+    def test_faults(self) -> None:
         for text, why in (
             ("title = 5", "`title` has to be a text of 1 to 80 characters"),
             ('title = ""', "`title` has to be a text"),
@@ -132,7 +132,7 @@ class Names(Files):
             )
             self.assertIn(why, caught.exception.why)
 
-    def test_tools(self):
+    def test_tools(self) -> None:
         names = self.write("names.toml", NAMES)
         text, status, fault = run("state", *self.files[:2], "--names", names)
         self.assertEqual((status, fault), (0, ""))
@@ -171,7 +171,7 @@ class Names(Files):
 
 
 class Publish(Files):
-    def test_a_set(self):
+    def test_a_set(self) -> None:
         """The whole set; sha256sum takes its sums, and the files in it pass what its page says of them."""
         key, posted = self.write("a.key", KEY), str(self.folder / "a.posted")
         self.assertEqual(run("seal", "sum", "--publish", key, *self.files[:2], posted)[1], 0)
@@ -249,7 +249,7 @@ class Publish(Files):
                 count += subprocess.run(words, cwd=folder, capture_output=True).returncode == 0
         return count
 
-    def test_tables(self):
+    def test_tables(self) -> None:
         """The tables have the numbers that the program prints of the winners, the rounds and the award."""
         names = NAMES.replace(
             "[category.e2600]",
@@ -296,7 +296,7 @@ class Publish(Files):
             "420000 400000 380000 120000 500000".split(),
         )
 
-    def test_the_page_that_audits(self):
+    def test_the_page_that_audits(self) -> None:
         """It is copied unchanged from the release, else from the build, and is the first way to test the auction."""
         places = [self.folder / "release.html", self.folder / "built.html"]
         with unittest.mock.patch.object(publication, "AUDIT_PLACES", places):
@@ -312,7 +312,7 @@ class Publish(Files):
         self.assertEqual(with_page.count('href="audit.html"'), 2)
         self.assertNotIn("audit.html", without)
 
-    def test_nothing_is_written_where_a_test_fails(self):
+    def test_nothing_is_written_where_a_test_fails(self) -> None:
         folder = str(self.folder / "set")
         wrong = self.write("w.cert", sample("spectrum.cert").replace(b"6200 60200", b"6100 60300"))
         other = self.write("s.txt", "close 1 " + "0" * 64)

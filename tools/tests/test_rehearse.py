@@ -54,7 +54,7 @@ decrease = 50
 
 
 class Bidders(unittest.TestCase):
-    def test_the_package_of_greatest_profit(self):
+    def test_the_package_of_greatest_profit(self) -> None:
         """At 10 and 5 the profits are 40, 15 and -1; a tie goes to the more points, then to the earlier package."""
         award = read_award(ONE)
         east = values_of_seed(award, VALUES, 1)[0]
@@ -66,7 +66,7 @@ class Bidders(unittest.TestCase):
         self.assertEqual(Straightforward(award, {(0, 1): 15, (1, 0): 20}).ask((10, 5), 6), (1, 0))
         self.assertEqual(Straightforward(award, {(0, 1): 5}).ask((10, 5), 6), (0, 1))
 
-    def test_a_share_of_the_values(self):
+    def test_a_share_of_the_values(self) -> None:
         """Half of 60 is above the reserves of 20; half of 30 is 15, the reserves of 1 1; 4 is below its reserve."""
         award = read_award(ONE)
         values = values_of_seed(award, VALUES, 1)
@@ -80,7 +80,7 @@ class Bidders(unittest.TestCase):
         self.assertEqual(listed, {(1, 1): 15, (2, 0): max(30, asked)})
         self.assertEqual(sealed_list(rehearsal.auction, 1, values[0], Strategy(100, False)), {(1, 1): 30, (2, 0): 60})
 
-    def test_lists_are_within_their_caps_where_nothing_else_is_said(self):
+    def test_lists_are_within_their_caps_where_nothing_else_is_said(self) -> None:
         """Three times its values are above a bidder's caps: such a list is refused, or lowered to them."""
         award = read_award(ONE)
         values = values_of_seed(award, VALUES, 1)
@@ -90,7 +90,7 @@ class Bidders(unittest.TestCase):
 
 
 class Command(unittest.TestCase):
-    def setUp(self):
+    def setUp(self) -> None:
         folder = tempfile.TemporaryDirectory()
         self.addCleanup(folder.cleanup)
         self.folder = pathlib.Path(folder.name)
@@ -103,7 +103,7 @@ class Command(unittest.TestCase):
     def rehearse(self, *words):
         return called("rehearse", self.path("a"), self.path("v"), *words)
 
-    def test_a_log(self):
+    def test_a_log(self) -> None:
         printed, status, said = self.rehearse(self.path("log"))
         self.assertEqual((status, said), (0, ""))
         award = read_award(ONE)
@@ -115,7 +115,7 @@ class Command(unittest.TestCase):
         self.rehearse(self.path("again"), "--pace", "0.001")
         self.assertEqual((self.folder / "log").read_bytes(), (self.folder / "again").read_bytes())
 
-    def test_wrong_words(self):
+    def test_wrong_words(self) -> None:
         for words in (["--seed", "x"], ["--pace", "-1"], ["--share", "1001"], ["--slips", "1.5"]):
             self.assertEqual(self.rehearse(self.path("log"), *words)[1], 2, words)
         (self.folder / "v").write_bytes(b"values = 2\n")
@@ -123,13 +123,13 @@ class Command(unittest.TestCase):
         self.assertEqual(status, 3)
         self.assertIn("`values` is 2; it has to be a whole number from 1 to 1", said)
 
-    def test_the_desk_closes(self):
+    def test_the_desk_closes(self) -> None:
         """The closes are written by another thread, which looks at the file as a desk does."""
         award, log = read_award(ONE), self.folder / "log"
         right = log_text(held(award, values_of_seed(award, VALUES, 1), Strategy()))
         bids = [part.count(b"\n") for part in right.split(b"close,,,\n")[:-1]]
 
-        def close():
+        def close() -> None:
             size = 0
             for count in bids:
                 size += count
@@ -146,7 +146,7 @@ class Command(unittest.TestCase):
         desk.join()
         self.assertEqual(log.read_bytes(), right)
 
-    def test_slips_change_no_result(self):
+    def test_slips_change_no_result(self) -> None:
         kinds = set()
         for number in range(8):
             _, award_bytes, values_bytes = rehearsed.drawn(number)
@@ -167,7 +167,7 @@ class Command(unittest.TestCase):
 
 class Theory(unittest.TestCase):
     @with_program
-    def test_what_theory_says(self):
+    def test_what_theory_says(self) -> None:
         """Auctions with all forms of values: each line is admitted, nobody pays more than its value, and where values
         are separable prices are Vickrey's."""
         forms = set()
@@ -178,7 +178,7 @@ class Theory(unittest.TestCase):
         self.assertEqual(forms, set(rehearsed.FORMS))
 
     @with_program
-    def test_small_ones_against_all_allocations(self):
+    def test_small_ones_against_all_allocations(self) -> None:
         for number in range(20):
             self.assertEqual(checked.faults(number, is_small=True)[1], [], number)
 

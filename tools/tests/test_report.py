@@ -83,7 +83,7 @@ def tables(made, title):
     """The rows of the tables of this title, in words."""
     found = []
 
-    def walk(blocks):
+    def walk(blocks) -> None:
         for block in blocks:
             kind = html.kind(block)
             if kind == "cards":
@@ -109,19 +109,19 @@ def replies(made):
 
 
 class Told(unittest.TestCase):
-    def assert_told(self, sentence, text):
+    def assert_told(self, sentence, text) -> None:
         """(without the whole report in the message)"""
         if sentence not in text:
             self.fail(f"{sentence!r} isn't told")
 
 
 class Numbers(unittest.TestCase):
-    def test_a_price_stands_as_the_program_prints_it(self):
+    def test_a_price_stands_as_the_program_prints_it(self) -> None:
         self.assertEqual(words.exact(Fraction(46, 3)), "15+1/3")
         self.assertEqual(words.exact(292400), "292,400")
         self.assertEqual(words.exact(Fraction(4398046511104 * 2 + 1, 2)), "4,398,046,511,104+1/2")
 
-    def test_a_price_as_people_write_it(self):
+    def test_a_price_as_people_write_it(self) -> None:
         self.assertEqual(words.price(Fraction(41, 2)), "20\N{VULGAR FRACTION ONE HALF}")
         self.assertEqual(words.price(Fraction(2, 3)), "\N{VULGAR FRACTION TWO THIRDS}")
         self.assertEqual(words.price(Fraction(46, 7)), "6+4/7")
@@ -132,29 +132,29 @@ class Numbers(unittest.TestCase):
         )
         self.assertEqual((words.price_cell(292400).words, words.price_cell(292400).code), ("292,400", ""))
 
-    def test_letters_of_fractions(self):
+    def test_letters_of_fractions(self) -> None:
         """Each letter has the value that Unicode gives it."""
         for part, letter in words.VULGAR.items():
             self.assertEqual(Fraction(unicodedata.numeric(letter)).limit_denominator(100), part)
             self.assertEqual(words.price(7 + part), f"7{letter}")
 
-    def test_per_cent(self):
+    def test_per_cent(self) -> None:
         self.assertEqual(words.per_cent(310400, 400000), "77.6 %")
         self.assertEqual(words.per_cent(Fraction(1, 3), 1), "33.3 %")
         self.assertEqual(words.per_cent(1, 16), "6.3 %")
         self.assertEqual(words.per_cent(0, 0), "\N{EN DASH}")
 
-    def test_commas_leave_names_and_short_numbers_alone(self):
+    def test_commas_leave_names_and_short_numbers_alone(self) -> None:
         self.assertEqual(words.commas("a800 and c2600 at 534800, 6 of 999"), "a800 and c2600 at 534,800, 6 of 999")
         self.assertEqual(words.commas("81200+1/3"), "81,200\N{VULGAR FRACTION ONE THIRD}")
         self.assertEqual(words.commas("81200+1/7, 303800 + 231000"), "81,200+1/7, 303,800 + 231,000")
 
-    def test_lists(self):
+    def test_lists(self) -> None:
         self.assertEqual(words.listed([]), "nobody")
         self.assertEqual(words.listed(["a"]), "a")
         self.assertEqual(words.listed(["a", "b", "c"]), "a, b and c")
 
-    def test_turns_as_the_program_prints_them(self):
+    def test_turns_as_the_program_prints_them(self) -> None:
         first, second = source.turns_of(
             "round 1 point 14 12 row 1 2 choice 0 0 1 0 0 excess 6\nround 2 point 15+1/2 16+1/2 end\nwinner b1 1 0 bid"
             " 28 vickrey 14 pays 17\n"
@@ -167,25 +167,25 @@ class Numbers(unittest.TestCase):
 
 
 class Core(unittest.TestCase):
-    def test_what_each_group_has_to_pay(self):
+    def test_what_each_group_has_to_pay(self) -> None:
         facts = facts_of(sample("day-cramton.book"), sample("day-cramton.cert"))
         expected = {(1,): 14, (2,): 12, (1, 2): 32}
         self.assertEqual(core.bounds(facts.book, facts.certificate.choice, [1, 2]), expected)
         self.assertEqual(core.best_plainly(facts.book, (1, 2)), 32)
 
-    def test_the_core_of_two_has_five_corners(self):
+    def test_the_core_of_two_has_five_corners(self) -> None:
         corners = core.clipped(core.corner((14, 12), (28, 20)), 1, 1, 32)
         self.assertEqual(set(corners), {(14, 18), (14, 20), (28, 20), (28, 12), (20, 12)})
 
-    def test_nothing_is_left_of_a_polygon_outside(self):
+    def test_nothing_is_left_of_a_polygon_outside(self) -> None:
         self.assertEqual(core.clipped(core.corner((0, 0), (1, 1)), 1, 1, 3), [])
 
 
 class OfABook(Told):
-    def setUp(self):
+    def setUp(self) -> None:
         self.files = sample("day-cramton.book"), sample("day-cramton.cert")
 
-    def test_winners(self):
+    def test_winners(self) -> None:
         made = page(facts_of(*self.files))
         self.assertEqual(
             tables(made, "Winners and prices, reserves included"),
@@ -197,7 +197,7 @@ class OfABook(Told):
             ],
         )
 
-    def test_each_winner_has_its_sentence(self):
+    def test_each_winner_has_its_sentence(self) -> None:
         told = flat(text_of(*self.files))
         self.assert_told(
             "b1 pays 17: its Vickrey price of 14, and 3 more, since b3 offers 32 for what b1 and b2 win", told
@@ -206,19 +206,19 @@ class OfABook(Told):
             "b2 pays 15: its Vickrey price of 12, and 3 more, since b3 offers 32 for what b1 and b2 win", told
         )
 
-    def test_without_a_program_it_says_so(self):
+    def test_without_a_program_it_says_so(self) -> None:
         told = flat(text_of(*self.files))
         self.assert_told("The program isn't here to show the turns", told)
         self.assert_told("The certificate was tested by the second program.", told)
         self.assertNotIn("Turn 1", told)
 
-    def test_turns_of_a_program(self):
+    def test_turns_of_a_program(self) -> None:
         told = flat(text_of(*self.files, program=PROGRAM))
         self.assert_told("Turn 1 Each winner is asked for its Vickrey price: b1 14 and b2 12; together 26.", told)
         self.assert_told("b3 offers 32 for what b1 and b2 win, and that is 6 more than is paid for it.", told)
         self.assert_told("b1 17 and b2 15; together 32. No coalition blocks these prices", told)
 
-    def test_a_wrong_certificate_shows_no_prices(self):
+    def test_a_wrong_certificate_shows_no_prices(self) -> None:
         wrong = re.sub(rb"(?m)^pay .*", b"pay 16 16 0 0 0", self.files[1])
         facts = facts_of(self.files[0], wrong)
         told = flat(plain.text(page(facts)))
@@ -226,22 +226,22 @@ class OfABook(Told):
         self.assert_told("The certificate fails a test, so it shows no winners and no prices.", told)
         self.assertNotIn("pays 16", told)
 
-    def test_what_it_rests_on(self):
+    def test_what_it_rests_on(self) -> None:
         made = page(facts_of(*self.files))
         (files,) = tables(made, "The files, by their sums (SHA-256)")
         self.assertEqual([row[:2] for row in files], [["book of bids", "file0"], ["certificate", "file1"]])
         self.assert_told("The program isn't here, so nothing is known about its proof.", flat(plain.text(made)))
 
-    def test_a_book_alone(self):
+    def test_a_book_alone(self) -> None:
         told = flat(text_of(self.files[0]))
         self.assert_told("No certificate was given, so no winners and no prices are shown.", told)
         self.assert_told("b3: 1 bid", told)
 
-    def test_a_book_without_bidders(self):
+    def test_a_book_without_bidders(self) -> None:
         told = flat(text_of(b"book 1\nsupply 1\nreserve 5\nend\n"))
         self.assert_told("A book of bids, with 0 bidders.", told)
 
-    def test_three_winners(self):
+    def test_three_winners(self) -> None:
         # Least are 12 for b1 and b2, and 7 for b2 and b3, of which b3 pays no more than its 1: so b2 pays 6, and b1 the
         # other 6.
         supply, bids = (1, 1, 1), [
@@ -283,12 +283,12 @@ class OfABook(Told):
 
 class OfALog(Told):
     @classmethod
-    def setUpClass(cls):
+    def setUpClass(cls) -> None:
         cls.cert = spectrum()[1]
         cls.made = page(facts_of(AWARD, LOG, cls.cert))
         cls.told = flat(plain.text(cls.made))
 
-    def test_rounds(self):
+    def test_rounds(self) -> None:
         found = [tables(self.made, f"{name} by round")[0] for name in ("a800", "b800", "c2600", "e2600")]
         self.assertEqual(
             found[0],
@@ -301,14 +301,14 @@ class OfALog(Told):
         )
         self.assertEqual([row[2] for row in found[3]], ["15 of 9", "14 of 9", "14 of 9", "9 of 9"])
 
-    def test_eligibility(self):
+    def test_eligibility(self) -> None:
         (every,) = tables(self.made, "Points asked for and eligibility by round")
         self.assertEqual(
             [(row[1], row[3]) for row in every if row[0] == "harbour"],
             [("1", "68 of 68"), ("2", "48 of 68"), ("3 to 4", "48 of 48")],
         )
 
-    def test_heads_of_lines(self):
+    def test_heads_of_lines(self) -> None:
         """A line is one of the log, and its reply one that docs/FORMATS.md has."""
         (section,) = [it for it in self.made.sections if it.key == "lines"]
         (table, *_) = [it for card in section.blocks[-1].blocks[0].cards for it in card.blocks]
@@ -316,20 +316,20 @@ class OfALog(Told):
         self.assertEqual((first["Line"], list(first)), ("1", ["Line", "What was sent", "Reply"]))
         self.assert_told("everest asks for", first["What was sent"])
 
-    def test_each_line_has_its_reply(self):
+    def test_each_line_has_its_reply(self) -> None:
         codes = {line: reply.code for line, reply in replies(self.made).items()}
         self.assertEqual(len(codes), 63)
         self.assertEqual(
             {line: code for line, code in codes.items() if not re.match(r"ok$|round |sealed$|closed$", code)}, REFUSED
         )
 
-    def test_a_refusal_is_worked_out(self):
+    def test_a_refusal_is_worked_out(self) -> None:
         told = replies(self.made)
         plain_words = told[5].words.replace("\N{NO-BREAK SPACE}", " ")
         self.assert_told("3 x 20 + 1 x 40 = 100 points, and tarn is eligible for 96", plain_words)
         self.assert_told("315,700", told[37].words)
 
-    def test_a_refused_list_has_its_arithmetic_in_a_table(self):
+    def test_a_refused_list_has_its_arithmetic_in_a_table(self) -> None:
         cell = replies(self.made)[33]
         self.assert_told("Refused. Entry 2 of the list, ", cell.words)
         self.assert_told("is above its cap of 534,800.", cell.words)
@@ -337,7 +337,7 @@ class OfALog(Told):
         self.assertEqual(dict(cell.details)["highest amount named for that"], "303,800")
         self.assertEqual(dict(cell.details)["what the package costs more there"], "+231,000")
 
-    def test_the_table_of_a_package_that_costs_less(self):
+    def test_the_table_of_a_package_that_costs_less(self) -> None:
         """By the rules: three lots were asked for at 10 each, and one of them costs 20 less."""
         log = log_of("bid,east,3,", "close,,,", "draft,east,1,50", "submit,east,,")
         cell = replies(page(facts_of(sample("sample.award"), log)))[4]
@@ -345,12 +345,12 @@ class OfALog(Told):
         self.assertEqual(dict(cell.details)["cap"], "30 - 20 = 10")
         self.assertEqual(dict(cell.details)["what the package costs more there"], "-20")
 
-    def test_net_of_reserve(self):
+    def test_net_of_reserve(self) -> None:
         (net,) = tables(self.made, "The same net of reserve")
         self.assertEqual([row[4] for row in net], ["47,400", "30,000", "32,000", "6,200", "60,200", "175,800"])
         self.assertEqual(net[3], ["niche", "75,000", "45,000", "6,000", "6,200"])
 
-    def test_where_bids_come_from(self):
+    def test_where_bids_come_from(self) -> None:
         """By the log: tarn asked for 2 1 4 0 in round 1 at the reserves, and has the others on its list."""
         (bids,) = tables(self.made, "Bids of tarn")
         self.assertEqual(
@@ -358,7 +358,7 @@ class OfALog(Told):
             [("500,000", "list"), ("536,000", "list"), ("810,000", "list"), ("710,000", "round 1")],
         )
 
-    def test_winners_and_sums(self):
+    def test_winners_and_sums(self) -> None:
         winners = tables(self.made, "Winners and prices, reserves included")[0]
         self.assertEqual(
             [(row[0], *row[3:6]) for row in winners],
@@ -374,7 +374,7 @@ class OfALog(Told):
             self.told, "revenue 1,436,700 bid by winners 1,820,000 .* 78.9 % net value: bids less reserves 559,100"
         )
 
-    def test_the_result_comes_first(self):
+    def test_the_result_comes_first(self) -> None:
         """Who won what and pays what, by the lines of the award (README.md), before any other table."""
         first = self.made.sections[0].blocks[0].cards[0].blocks[0]
         self.assertEqual([it.head for it in first.columns], ["Winner", "Won", "Pays"])
@@ -389,18 +389,18 @@ class OfALog(Told):
             ],
         )
 
-    def test_the_final_clock_price_of_each_package(self):
+    def test_the_final_clock_price_of_each_package(self) -> None:
         """By the prices of round 4 of the sample: 242600 275700 19200 400."""
         winners = tables(self.made, "Winners and prices, reserves included")[0]
         self.assertEqual([row[2] for row in winners], ["300,200", "315,700", "321,400", "96,000", "485,200"])
 
-    def test_titles_say_the_finding(self):
+    def test_titles_say_the_finding(self) -> None:
         titles = {section.key: section.finding for section in self.made.sections}
         told = "Three of five winners pay their Vickrey price; a coalition raises niche and tarn by 200 each"
         self.assertEqual((titles["winners"], titles["why"]), ("Five winners pay 1,436,700 for all 28 lots", told))
         self.assertEqual(titles["rounds"], "The clock took four rounds, and prices rose in all four categories")
 
-    def test_the_vickrey_price_is_worked_out(self):
+    def test_the_vickrey_price_is_worked_out(self) -> None:
         (tarn,) = tables(self.made, "Without tarn")
         self.assertEqual(
             [(row[0], row[-1]) for row in tarn],
@@ -422,18 +422,18 @@ class OfALog(Told):
             ],
         )
 
-    def test_files_by_their_sums(self):
+    def test_files_by_their_sums(self) -> None:
         for data in (AWARD, LOG, self.cert):
             self.assertIn(hashlib.sha256(data).hexdigest(), self.told)
 
-    def test_who_may_bid(self):
+    def test_who_may_bid(self) -> None:
         """As examples/spectrum.award has it."""
         (bidders,) = tables(self.made, "Who may bid")
         self.assertEqual(bidders[0], ["everest", "80", "2\N{NO-BREAK SPACE}x\N{NO-BREAK SPACE}a800"])
         self.assertEqual([row[1:] for row in bidders[1:]], [[points, "nothing"] for points in ("68", "60", "22", "96")])
         self.assertEqual(tables(page(facts_of(AWARD, LOG), "tarn"), "Who may bid"), [])
 
-    def test_lots(self):
+    def test_lots(self) -> None:
         (lots,) = tables(self.made, "Where the lots went")
         self.assertEqual(
             lots[2],
@@ -441,7 +441,7 @@ class OfALog(Told):
         )
         self.assert_told("All lots are sold.", self.told)
 
-    def test_a_log_in_progress(self):
+    def test_a_log_in_progress(self) -> None:
         told = flat(text_of(AWARD, b"".join(LOG.splitlines(True)[:15])))
         self.assert_told("The auction is in round 2.", told)
         self.assert_told("The auction isn't over: the clock runs. So there are no winners and no prices yet.", told)
@@ -449,25 +449,25 @@ class OfALog(Told):
         self.assert_told("WHERE THE AUCTION IS ==================== Round 2 is open.", told)
         self.assert_told("a800 220,000 4 of 4 0", told)
 
-    def test_an_open_sealed_round(self):
+    def test_an_open_sealed_round(self) -> None:
         told = flat(text_of(AWARD, b"".join(LOG.splitlines(True)[:50])))
         self.assert_told("Lists are taken. A close now ends the auction.", told)
 
-    def test_a_log_that_a_limit_stops(self):
+    def test_a_log_that_a_limit_stops(self) -> None:
         award = AWARD.replace(b"reserve = 250000", b"reserve = 68719476736")
         told = flat(text_of(award, log_of("bid,everest,0 1 0 0,", "bid,harbour,0 1 0 0,", "close,,,")))
         self.assert_told("The auction was stopped by a limit: cca: limit price 72155450636. It has no book", told)
 
-    def test_without_bids(self):
+    def test_without_bids(self) -> None:
         told = flat(text_of(AWARD, log_of("close,,,", "close,,,")))
         self.assert_told("The clock ended with round 1", told)
         self.assert_told("The log has 2 lines, and none of them were refused.", told)
 
-    def test_without_bidders(self):
+    def test_without_bidders(self) -> None:
         award = AWARD[: AWARD.index(b"[[bidder]]")] + AWARD[AWARD.index(b"[[step]]") :]
         self.assert_told("The auction is over.", text_of(award, log_of("close,,,", "close,,,")))
 
-    def test_no_line_of_a_text_is_too_wide(self):
+    def test_no_line_of_a_text_is_too_wide(self) -> None:
         for name in ("", "tarn"):
             made = plain.text(page(facts_of(AWARD, LOG, self.cert), name))
             self.assertLessEqual(max(map(len, made.splitlines())), 100)
@@ -477,13 +477,13 @@ class OfABidder(Told):
     def view(self, *texts, name="tarn"):
         return text_of(*texts, name=name)
 
-    def test_no_other_name_before_the_award(self):
+    def test_no_other_name_before_the_award(self) -> None:
         told = self.view(AWARD, LOG)
         for name in BIDDERS[:-1]:
             self.assertNotIn(name, told)
         self.assert_told("Winners and prices aren't published yet.", flat(told))
 
-    def test_nothing_depends_on_lines_of_others_before_the_award(self):
+    def test_nothing_depends_on_lines_of_others_before_the_award(self) -> None:
         lines = LOG.decode().splitlines()
         others = [line for line in lines if ",tarn," not in line and not line.startswith(("bid,", "close"))]
         without = log_of(*(line for line in lines if line not in others))
@@ -492,7 +492,7 @@ class OfABidder(Told):
         self.assertEqual(self.view(AWARD, LOG), self.view(AWARD, without))
         self.assertEqual(self.view(AWARD, LOG), self.view(AWARD, doubled))
 
-    def test_a_bidder_that_has_only_its_own_view_sees_the_same(self):
+    def test_a_bidder_that_has_only_its_own_view_sees_the_same(self) -> None:
         lines = LOG.splitlines(True)
         for count in (0, 11, 15, 30, 47, 62):
             log = b"".join(lines[:count])
@@ -503,10 +503,10 @@ class OfABidder(Told):
                         self.view(AWARD, log, name=name), self.view(AWARD, view_text(auction, j).encode(), name=name)
                     )
 
-    def test_a_refused_close_is_in_no_view(self):
+    def test_a_refused_close_is_in_no_view(self) -> None:
         self.assertEqual(self.view(AWARD, LOG), self.view(AWARD, LOG + b"close,,,\n"))
 
-    def test_a_limit_of_the_auction_is_in_no_view(self):
+    def test_a_limit_of_the_auction_is_in_no_view(self) -> None:
         award = AWARD.replace(b"reserve = 250000", b"reserve = 68719476736")
         stopped = "bid,everest,0 1 0 0,", "bid,tarn,0 1 0 0,", "close,,,"
         later = "bid,everest,0 0 0 0,", "close,,,", "draft,tarn,0 1 1 0,68719500000", "submit,tarn,,", "close,,,"
@@ -515,7 +515,7 @@ class OfABidder(Told):
             self.assertEqual(auction.limit_stop.line, "cca: limit price 72155450636")
             self.assertEqual(self.view(award, log_of(*log)), self.view(award, view_text(auction, 5).encode()))
 
-    def test_lists_that_are_empty(self):
+    def test_lists_that_are_empty(self) -> None:
         nothing, draft = log_of("close,,,"), log_of("close,,,", "draft,tarn,1 0 0 0,200000")
         self.assert_told("You have drafted and submitted nothing.", self.view(AWARD, nothing))
         made = page(facts_of(AWARD, draft), "tarn")
@@ -524,19 +524,19 @@ class OfABidder(Told):
         self.assertEqual(tables(made, "Your list as submitted last"), [])
         self.assertNotIn("nothing.", flat(plain.text(made)).split("YOUR LISTS")[1].split("WHAT IS")[0])
 
-    def test_a_view_takes_no_certificate(self):
+    def test_a_view_takes_no_certificate(self) -> None:
         auction = facts_of(AWARD, LOG).auction
         with self.assertRaisesRegex(Stop, "a bidder's own view has no certificate"):
             facts_of(AWARD, view_text(auction, 1).encode(), spectrum()[1], bidder="everest")
 
-    def test_nothing_depends_on_terms_of_others(self):
+    def test_nothing_depends_on_terms_of_others(self) -> None:
         award = AWARD.replace(b"eligibility = 60", b"eligibility = 61").replace(
             b"holding = [2, 0, 0, 0]", b"holding = [1, 0, 0, 0]"
         )
         begun = b"".join(LOG.splitlines(True)[:8])
         self.assertEqual(self.view(AWARD, begun), self.view(award, begun))
 
-    def test_own_lines_with_their_replies(self):
+    def test_own_lines_with_their_replies(self) -> None:
         made = page(facts_of(AWARD, LOG), "tarn")
         self.assert_told("You sent 13 lines; 2 of them were refused.", flat(plain.text(made)))
         told = replies(made)
@@ -546,7 +546,7 @@ class OfABidder(Told):
         )
         self.assertEqual(len(told), 13 + 5)
 
-    def test_winners_behind_the_award(self):
+    def test_winners_behind_the_award(self) -> None:
         told = self.view(AWARD, LOG, spectrum()[1])
         self.assert_told("You win 2 x a800 with your bid of 500,000, and pay 460,200, 92.0 % of it.", flat(told))
         self.assert_told(
@@ -558,7 +558,7 @@ class OfABidder(Told):
         for bid in ("420,000", "400,000", "380,000", "120,000", "81,000"):
             self.assertNotIn(bid, told)
 
-    def test_a_certificate_that_fails_shows_no_winner(self):
+    def test_a_certificate_that_fails_shows_no_winner(self) -> None:
         wrong = spectrum()[1].replace(b"pay 47400", b"pay 47401")
         told = self.view(AWARD, LOG, wrong)
         self.assert_told("The certificate fails a test, so no winners and no prices are shown.", flat(told))
@@ -569,12 +569,12 @@ class OfABidder(Told):
 class Form(HTMLParser):
     """What a page is made of: its tags in balance, the names of its parts and its texts."""
 
-    def __init__(self, text):
+    def __init__(self, text) -> None:
         super().__init__()
         self.open, self.ids, self.tags, self.figures, self.texts, self.links = [], [], {}, [], [], []
         self.feed(text)
 
-    def handle_starttag(self, tag, attributes):
+    def handle_starttag(self, tag, attributes) -> None:
         named = dict(attributes)
         self.tags[tag] = self.tags.get(tag, 0) + 1
         self.ids += [named["id"]] if "id" in named else []
@@ -588,42 +588,42 @@ class Form(HTMLParser):
         if tag not in ("meta", "br"):
             self.open.append(tag)
 
-    def handle_startendtag(self, tag, attributes):
+    def handle_startendtag(self, tag, attributes) -> None:
         self.handle_starttag(tag, attributes)
         self.open.pop()
 
-    def handle_endtag(self, tag):
+    def handle_endtag(self, tag) -> None:
         if self.open.pop() != tag:
             raise AssertionError(f"</{tag}> closes another")
 
-    def handle_data(self, text):
+    def handle_data(self, text) -> None:
         self.texts.append(text)
 
 
 class OfAPage(Told):
     @classmethod
-    def setUpClass(cls):
+    def setUpClass(cls) -> None:
         cls.text = html.page(page(facts_of(AWARD, LOG, spectrum()[1])))
         cls.form = Form(cls.text)
 
-    def test_it_is_whole_and_needs_nothing_else(self):
+    def test_it_is_whole_and_needs_nothing_else(self) -> None:
         self.assertEqual(self.form.open, [])
         self.assertEqual(self.form.links, [])
         for tag in ("script", "link", "img", "iframe", "object"):
             self.assertNotIn(tag, self.form.tags)
         self.assertNotRegex(self.text, r"@import|url\((?!#)")
 
-    def test_names_of_parts_differ(self):
+    def test_names_of_parts_differ(self) -> None:
         self.assertEqual(len(self.form.ids), len(set(self.form.ids)))
 
-    def test_each_picture_has_a_title_words_and_a_table(self):
+    def test_each_picture_has_a_title_words_and_a_table(self) -> None:
         self.assertEqual(len(self.form.figures), 1 + 1 + 4 + 1)
         for name in self.form.figures:
             self.assertIn(name, self.form.ids)
         self.assertEqual(self.form.tags["svg"], len(self.form.figures))
         self.assertEqual(self.form.tags["desc"], len(self.form.figures))
 
-    def test_each_mark_says_its_number(self):
+    def test_each_mark_says_its_number(self) -> None:
         for words_ in (
             "tarn wins 2 of 4 lots of a800",
             "tarn pays 460,200, 92.0 % of its bid",
@@ -634,24 +634,24 @@ class OfAPage(Told):
         ):
             self.assert_told(f"<title>{words_}</title>", self.text)
 
-    def test_a_printed_page_has_the_sums_of_the_files(self):
+    def test_a_printed_page_has_the_sums_of_the_files(self) -> None:
         self.assertIn(f'content: "award {hashlib.sha256(AWARD).hexdigest()[:12]}, log ', self.text)
         self.assertIn('counter(page) " of " counter(pages)', self.text)
 
-    def test_no_library_is_loaded(self):
+    def test_no_library_is_loaded(self) -> None:
         script = "import sys; import cca_tools.page.html, cca_tools.commands.report; print(*sys.modules)"
         how = {**os.environ, "PYTHONPATH": TOOLS}
         loaded = subprocess.run([sys.executable, "-c", script], capture_output=True, text=True, env=how).stdout.split()
         self.assertIn("cca_tools.page.charts", loaded)
         self.assertEqual({"matplotlib", "numpy", "jinja2"} & set(loaded), set())
 
-    def test_pictures_have_letters(self):
+    def test_pictures_have_letters(self) -> None:
         self.assertRegex(self.text, r"<text[^>]*>\s*242,600, \+21.3 %\s*</text>")
 
-    def test_the_same_files_give_the_same_page(self):
+    def test_the_same_files_give_the_same_page(self) -> None:
         self.assertEqual(self.text, html.page(page(facts_of(AWARD, LOG, spectrum()[1]))))
 
-    def test_what_the_text_says_the_page_says(self):
+    def test_what_the_text_says_the_page_says(self) -> None:
         told = flat(" ".join(self.form.texts))
         for sentence in (
             "tarn pays 460,200: its Vickrey price of 460,000, and 200 more",
@@ -661,12 +661,12 @@ class OfAPage(Told):
         ):
             self.assert_told(sentence, told)
 
-    def test_a_picture_of_the_core_for_two(self):
+    def test_a_picture_of_the_core_for_two(self) -> None:
         made = html.page(page(facts_of(sample("day-cramton.book"), sample("day-cramton.cert"))))
         self.assertIn("What b1 and b2 could pay that nobody blocks", made)
         self.assertEqual(Form(made).open, [])
 
-    def test_a_name_of_a_file_is_no_markup(self):
+    def test_a_name_of_a_file_is_no_markup(self) -> None:
         with tempfile.TemporaryDirectory() as folder:
             name = os.path.join(folder, "<script>alert(1)<`b`&.book")
             name = name.replace("/b`", "b`")
@@ -684,7 +684,7 @@ class OfTheTool(Told):
     def path(self, name):
         return os.path.join(EXAMPLES, name)
 
-    def test_statuses(self):
+    def test_statuses(self) -> None:
         award, log, book, cert = map(
             self.path, ("spectrum.award", "spectrum.log", "day-cramton.book", "day-cramton.cert")
         )
@@ -701,12 +701,12 @@ class OfTheTool(Told):
                 told = self.said.splitlines()
                 self.assertEqual(told[-1] if status == 2 else told[0], line)
 
-    def test_done(self):
+    def test_done(self) -> None:
         told, status = self.run_tool("--text", self.path("day-cramton.book"), self.path("day-cramton.cert"))
         self.assertEqual(status, 0)
         self.assert_told("b1 pays 17", told)
 
-    def test_a_certificate_that_fails_is_status_1(self):
+    def test_a_certificate_that_fails_is_status_1(self) -> None:
         with tempfile.TemporaryDirectory() as folder:
             name = os.path.join(folder, "wrong.cert")
             with open(name, "wb") as file:
@@ -715,7 +715,7 @@ class OfTheTool(Told):
         self.assertEqual(status, 1)
         self.assert_told("no C8 2", told)
 
-    def test_the_sum_of_the_program_where_it_is_asked_for(self):
+    def test_the_sum_of_the_program_where_it_is_asked_for(self) -> None:
         with tempfile.TemporaryDirectory() as folder:
             name = os.path.join(folder, "program")
             with open(name, "w") as file:
@@ -726,7 +726,7 @@ class OfTheTool(Told):
         self.assert_told(hashlib.sha256(PROGRAM.encode()).hexdigest(), told)
         self.assertNotIn(hashlib.sha256(PROGRAM.encode()).hexdigest(), other)
 
-    def test_one_file_may_be_standard_input(self):
+    def test_one_file_may_be_standard_input(self) -> None:
         for at in (0, 1):
             files = [self.path("day-cramton.book"), self.path("day-cramton.cert")]
             with open(files[at], "rb") as file:
@@ -742,7 +742,7 @@ class OfTheTool(Told):
             self.assert_told("b1 pays 17", made.stdout)
             self.assert_told(f"{('book of bids', 'certificate')[at]} standard input", flat(made.stdout))
 
-    def test_a_stranger_sees_nothing(self):
+    def test_a_stranger_sees_nothing(self) -> None:
         told, status = self.run_tool(
             "--text", "--bidder", "stranger", self.path("spectrum.award"), self.path("spectrum.log")
         )

@@ -63,7 +63,7 @@ def cells(rows, name):
 
 
 class Clock(unittest.TestCase):
-    def test_an_open_round(self):
+    def test_an_open_round(self) -> None:
         """The prices after a close are those that docs/AUCTIONEER.md shows."""
         rows = spectrum(9)
         self.assertEqual(rows[:2], ["= Round 1 is open.", "last line 9: spectrum-cap 1 11"])
@@ -84,7 +84,7 @@ class Clock(unittest.TestCase):
         missing = "! tarn has no line in this round yet: a close now leaves it without eligibility for the rest of the"
         self.assertIn(f"{missing} clock.", rows)
 
-    def test_no_line_yet_and_nothing_and_out(self):
+    def test_no_line_yet_and_nothing_and_out(self) -> None:
         head = "bid,east,3, / bid,west,2, / close,,, / "
         for log, words in (
             (head, ("no line yet", "no line yet")),
@@ -107,7 +107,7 @@ class Clock(unittest.TestCase):
         self.assertEqual(cells(rows, "north")[0], "out")
         self.assertFalse(any("no line in this round" in row for row in rows))
 
-    def test_who_asks_for_nothing_is_named(self):
+    def test_who_asks_for_nothing_is_named(self) -> None:
         """Also a bidder whose slip was corrected by an empty package."""
         five = b"".join(sample("spectrum.log").splitlines(True)[:5])
         rows = shown(sample("spectrum.award"), five + b"bid,tarn,2 1 4 0,\nbid,tarn,0 0 0 0,\n")[0].splitlines()
@@ -123,14 +123,14 @@ class Clock(unittest.TestCase):
             rows,
         )
 
-    def test_a_close_that_ends_the_clock(self):
+    def test_a_close_that_ends_the_clock(self) -> None:
         rows = shown(SMALL, lines("bid,east,1,"))[0].splitlines()
         self.assertIn("A close now ends the clock: nothing is asked for above the supply.", rows)
         words = "! west has no line in this round yet: by a close now it asks for nothing in the final round."
         self.assertIn(words, rows)
         self.assertFalse(any("a close takes" in row or "price after" in row for row in rows))
 
-    def test_a_round_that_was_posted_a_moment_ago(self):
+    def test_a_round_that_was_posted_a_moment_ago(self) -> None:
         rows = spectrum(11)
         self.assertIn(
             "! Nobody asks for anything in this round. Was it posted a moment ago? A second close ends the clock.",
@@ -138,11 +138,11 @@ class Clock(unittest.TestCase):
         )
         self.assertFalse(any("Was it posted" in row for row in spectrum(12)))
 
-    def test_no_line_at_all(self):
+    def test_no_line_at_all(self) -> None:
         rows = spectrum(0)
         self.assertEqual(rows[:2], ["= Round 1 is open.", "no line yet"])
 
-    def test_no_bidder(self):
+    def test_no_bidder(self) -> None:
         text, status, fault = shown(SMALL.split("[[bidder]]")[0] + "[[step]]\nexcess = 1\npermille = 50\n", b"")
         self.assertEqual((status, fault), (0, ""))
         self.assertIn("A close now ends the clock", text)
@@ -151,7 +151,7 @@ class Clock(unittest.TestCase):
 class Fatal(unittest.TestCase):
     """Closes that a limit refuses: each is named before it is written, and the log that has it says what happened."""
 
-    def test_a_price_that_is_too_high(self):
+    def test_a_price_that_is_too_high(self) -> None:
         dear = SMALL.replace("reserve = 10", "reserve = 68719476736")
         before = "bid,east,3, / bid,west,2,"
         text, status, _ = shown(dear, lines(before))
@@ -163,7 +163,7 @@ class Fatal(unittest.TestCase):
         self.assertIn("! cca: limit price 82463372084: ", written)
         self.assertIn("No later line mends this log.", written)
 
-    def test_a_round_too_many(self):
+    def test_a_round_too_many(self) -> None:
         text, status, _ = shown(SMALL.replace("permille = 200", "permille = 1"), lines(FULL[:-3]))
         self.assertEqual(status, 0)
         self.assertIn("= Round 300 is open.", text)
@@ -172,14 +172,14 @@ class Fatal(unittest.TestCase):
         written, _, _ = shown(SMALL.replace("permille = 200", "permille = 1"), lines(FULL + "close,,,"))
         self.assertIn("! cca: limit rounds 301: ", written)
 
-    def test_few_rounds_left(self):
+    def test_few_rounds_left(self) -> None:
         log = lines("bid,east,3, / bid,west,2, / close,,, / " * 292 + "bid,east,3, / bid,west,2,")
         self.assertIn(
             "! 6 more rounds can be posted after that.",
             shown(SMALL.replace("200", "1"), log)[0],
         )
 
-    def test_what_it_says_of_a_close_comes(self):
+    def test_what_it_says_of_a_close_comes(self) -> None:
         """On drawn auctions the close that is written next does what was said of it."""
         seen = set()
         for number in range(40):
@@ -204,7 +204,7 @@ class Fatal(unittest.TestCase):
 
 
 class Lists(unittest.TestCase):
-    def test_drafts_and_refusals(self):
+    def test_drafts_and_refusals(self) -> None:
         rows = spectrum(34)
         self.assertEqual(rows[0], "= The clock ended after round 4. Lists are taken.")
         self.assertEqual(
@@ -221,7 +221,7 @@ class Lists(unittest.TestCase):
         words = "harbour, meridian, niche and tarn have submitted no list: only their clock bids count."
         self.assertIn(f"! {words}", rows)
 
-    def test_each_entry_above_its_cap(self):
+    def test_each_entry_above_its_cap(self) -> None:
         """Those of a drawn list are the ones that its submission refuses, each lowered to its cap in turn."""
         many = 0
         for number in range(60):
@@ -244,7 +244,7 @@ class Lists(unittest.TestCase):
                     self.assertTrue(all(it.by > 0 for it in above))
         self.assertGreater(many, 5)
 
-    def test_drafts_that_differ(self):
+    def test_drafts_that_differ(self) -> None:
         head = "bid,east,1, / bid,west,1, / close,,, / draft,east,1,20 / submit,east,, / "
         rows = shown(SMALL, lines(head + "draft,east,1,25 / draft,east,2,30"))[0].splitlines()
         self.assertEqual(cells(rows, "east"), ["2", "1", "2 not submitted"])
@@ -257,14 +257,14 @@ class Lists(unittest.TestCase):
 
 
 class Closed(unittest.TestCase):
-    def test_an_end(self):
+    def test_an_end(self) -> None:
         rows = spectrum(63)
         self.assertEqual(rows[0], "= The clock ended after round 4. The auction is closed.")
         self.assertIn("The book has 16 bids of 5 bidders.", rows)
         self.assertIn("The auction is closed. No line is taken any more.", rows)
         self.assertFalse(any(row.startswith("!") for row in rows))
 
-    def test_a_tie(self):
+    def test_a_tie(self) -> None:
         rows = shown(SMALL, lines(TIE + "close,,,"))[0].splitlines()
         head = "! There is a tie: one other choice has the same net value. The order of the bidders, then that of their"
         at = rows.index(f"{head} packages, decides.")
@@ -289,7 +289,7 @@ class ManyWinners(unittest.TestCase):
             text = "".join(f"{line}\n" for line in self.log[:count])
             yield text, max(4, text.count("submit")) if "close" in text else 0
 
-    def test_the_winners_that_are_foretold(self):
+    def test_the_winners_that_are_foretold(self) -> None:
         for text, winners in self.prefixes():
             rows = shown(lines(self.award), text)[0].splitlines()
             foretold = [row for row in rows if re.search(r"\d bidders (could )?win", row)]
@@ -304,7 +304,7 @@ class ManyWinners(unittest.TestCase):
                 )
 
     @with_program
-    def test_the_desk_counts_the_winners_of_the_bids_as_they_are(self):
+    def test_the_desk_counts_the_winners_of_the_bids_as_they_are(self) -> None:
         with tempfile.TemporaryDirectory() as folder:
             path = pathlib.Path(folder, "an.award")
             path.write_bytes(lines(self.award))
@@ -314,7 +314,7 @@ class ManyWinners(unittest.TestCase):
 
 
 class Words(unittest.TestCase):
-    def test_faults(self):
+    def test_faults(self) -> None:
         for award, log, words, status in (
             (SMALL, b"bid,east,1.5,\n", "cca: refused log 1", 3),
             (SMALL, b"bid,east,1,\nbid;east;1;\n", "cca: refused log 2", 3),
@@ -335,7 +335,7 @@ class Words(unittest.TestCase):
         self.assertEqual((made.returncode, made.stdout), (4, b""))
         self.assertIn(b"`nothing.log` can't be read: No such file or directory.", made.stderr)
 
-    def test_a_narrow_screen(self):
+    def test_a_narrow_screen(self) -> None:
         """Nothing is wider than the screen but the sentences, and nothing of the tables is lost."""
         log = b"".join(sample("spectrum.log").splitlines(True)[:9])
         wide, narrow = (shown(sample("spectrum.award"), log, **how)[0] for how in ({}, {"COLUMNS": "50"}))
@@ -345,7 +345,7 @@ class Words(unittest.TestCase):
             self.assertIn(word, narrow)
         self.assertEqual(narrow.split("A close now")[1:], wide.split("A close now")[1:])
 
-    def test_a_terminal(self):
+    def test_a_terminal(self) -> None:
         """On a terminal of 60 columns no line is wider, and warnings are red."""
         log = os.path.join(tempfile.mkdtemp(), "a.log")
         self.addCleanup(lambda: (os.remove(log), os.rmdir(os.path.dirname(log))))
@@ -357,7 +357,7 @@ class Words(unittest.TestCase):
         plain = re.sub(r"\x1b\[\d*m", "", text)
         self.assertLessEqual(max(map(len, plain.splitlines())), 60)
 
-    def test_watch(self):
+    def test_watch(self) -> None:
         """Colours go through a pipe where they are asked for, and NO_COLOR is stronger."""
         log = lines("bid,east,1,")
         self.assertIn("\x1b[31m! west", shown(SMALL, log, FORCE_COLOR="1")[0])
@@ -367,7 +367,7 @@ class Words(unittest.TestCase):
         self.assertEqual(narrow.count("\x1b[31m"), 2)
         self.assertNotIn("\x1b", shown(SMALL, log)[0])
 
-    def test_nothing_is_written(self):
+    def test_nothing_is_written(self) -> None:
         drawing = Drawing(5)
         drawing.clock()
         records, drafts = len(drawing.auction.lines), [drawing.auction.drafts(j) for j in drawing.bidders()]
@@ -403,7 +403,7 @@ def on_terminal(columns, *files):
 
 
 class Drawn(unittest.TestCase):
-    def test_the_log_and_its_copy_agree(self):
+    def test_the_log_and_its_copy_agree(self) -> None:
         """A drawn log, written and read again, leads to the same auction."""
         drawing = Drawing(3)
         drawing.clock()

@@ -48,7 +48,7 @@ ORIGIN = Origin("5a" * 32, "NOT PROVED: so", "1.0.0", "ab12", "c3" * 32, {"plan.
 
 
 class WithPlan(unittest.TestCase):
-    def setUp(self):
+    def setUp(self) -> None:
         folder = tempfile.TemporaryDirectory()
         self.addCleanup(folder.cleanup)
         self.folder = pathlib.Path(folder.name)
@@ -78,26 +78,26 @@ class WithPlan(unittest.TestCase):
 
 
 class Plans(WithPlan):
-    def test_cases(self):
+    def test_cases(self) -> None:
         plan = read_plan(self.plan())
         self.assertEqual([(case.version, case.share) for case in plan.cases], [(1, 100), (1, 60), (2, 100), (2, 60)])
         self.assertEqual((plan.varied, plan.label(plan.cases[1])), (("version", "share"), "version 1, share 60"))
         self.assertEqual(plan.sum(), read_plan(self.plan(PLAN.replace("= 3", "= 9"))).sum())
         self.assertNotEqual(plan.sum(), read_plan(self.plan(PLAN.replace("= 5", "= 9"))).sum())
 
-    def test_the_award_of_a_case(self):
+    def test_the_award_of_a_case(self) -> None:
         text = PLAN.replace("share = [100, 60]", "increment = 150\nreserve = 250\nbidders = 1")
         plan = read_plan(self.plan(text))
         award = read_award(award_text(award_of(plan.base(), plan.cases[0])).encode())
         self.assertEqual((award.version, award.reserves, award.names), (1, (25, 12), ["east"]))
         self.assertEqual([(step.excess, step.permille) for step in award.steps], [(1, 150)])
 
-    def test_an_award_as_text(self):
+    def test_an_award_as_text(self) -> None:
         award = read_award(pathlib.Path(TOOLS, "../examples/spectrum.award").read_bytes())
         again = read_award(award_text(award).encode())
         self.assertEqual((vars(again)), vars(award))
 
-    def test_faults(self):
+    def test_faults(self) -> None:
         for old, new, why in (
             ("plan = 1", "plan = 2", "`plan` is 2; it has to be a whole number from 1 to 1"),
             ("auctions = 3", "auctions = 0", "`auctions` is 0; it has to be a whole number from 1 to 1000000"),
@@ -119,17 +119,17 @@ class Plans(WithPlan):
 
 
 class Measures(WithPlan):
-    def test_a_spread(self):
+    def test_a_spread(self) -> None:
         """Of 1 to 5 the mean is 3, the variance 5/2, and its standard error the root of 1/2."""
         found = spread_of([Fraction(it) for it in (5, 1, 4, 2, 3)])
         self.assertEqual((found.count, found.mean, found.quantiles), (5, 3.0, (1.2, 2.0, 3.0, 4.0, 4.8)))
         self.assertAlmostEqual(found.error, 0.5**0.5)
 
-    def test_one_value_has_no_standard_error(self):
+    def test_one_value_has_no_standard_error(self) -> None:
         found = spread_of([Fraction(7, 3)])
         self.assertEqual((found.error, found.words(), found.interval_words()), (None, "2.33", "n/a"))
 
-    def test_intervals(self):
+    def test_intervals(self) -> None:
         """Student's values are those of printed tables; Wilson's intervals those of Newcombe (1998), in his table I."""
         for freedom, value in {1: 12.706, 2: 4.303, 3: 3.182, 4: 2.776, 9: 2.262, 29: 2.045, 120: 1.980}.items():
             self.assertAlmostEqual(student(freedom), value, 3)
@@ -138,14 +138,14 @@ class Measures(WithPlan):
             self.assertAlmostEqual(found[0], low, 4)
             self.assertAlmostEqual(found[1], high, 4)
 
-    def test_many_values_of_real_size(self):
+    def test_many_values_of_real_size(self) -> None:
         """The mean and the error of 4,000 values with as many denominators, beside those of floats."""
         values = [Fraction(100 * (n * n % 7919), 3_000_001 + n) for n in range(4000)]
         found = spread_of(values)
         self.assertAlmostEqual(found.mean, statistics.fmean(map(float, values)), 9)
         self.assertAlmostEqual(found.error, statistics.stdev(map(float, values)) / 4000**0.5, 9)
 
-    def test_pairs(self):
+    def test_pairs(self) -> None:
         plan = read_plan(self.plan(PLAN.replace("share = [100, 60]", "share = [100, 80, 60]")))
         table = [{"auction": str(n % 3 + 1), "efficiency": str(n)} for n in range(18)]
         results = results_of(plan, table)
@@ -175,12 +175,12 @@ class Pages(WithPlan):
         {"auction": "3", "stopped": "limit winners 7"},
     ]
 
-    def setUp(self):
+    def setUp(self) -> None:
         super().setUp()
         self.results = results_of(read_plan(self.plan(PLAN.replace("share = [100, 60]", ""))), self.TABLE)
         self.page = page_of(self.results, "name", ORIGIN)
 
-    def test_what_was_tried(self):
+    def test_what_was_tried(self) -> None:
         plan, cases, differences, origin = self.page.sections
         self.assertEqual((plan.title, cases.title), ("What was tried", "What came out"))
         self.assertEqual(differences.title, "What differs, auction by auction")
@@ -193,7 +193,7 @@ class Pages(WithPlan):
         self.assertIn(["version", "1, 2"], [row[:2] for row in fields.rows])
         self.assertIn("1 auction was stopped by a limit, and is left out below.", plain.text(self.page))
 
-    def test_measures(self):
+    def test_measures(self) -> None:
         """In the first case the core's revenue is 50, 60 and 70 percent: its mean is 60, its variance 100, and the
         standard error the root of 100/3; the others likewise. Wilson's interval of 2 of 3 is 20.77 to 93.85 (as
         scipy and R's prop.test without correction have it)."""
@@ -203,7 +203,7 @@ class Pages(WithPlan):
         second = "2", "100.00 ± 0.00", "60.00 ± 10.00", "50.00 ± 0.00", "80.00 ± 0.00", both, "2.00 ± 0.00"
         self.assertEqual(table.rows, [["version 1", *first, "1.00 ± 1.00"], ["version 2", *second, "0.00 ± 0.00"]])
 
-    def test_differences(self):
+    def test_differences(self) -> None:
         """The first two auctions alone have both. In percent of the first case's best value, 100, revenue is 90 and 40
         more, and profit 20 less and 30 more."""
         rules, pair = drawings(self.results)
@@ -227,18 +227,18 @@ class Pages(WithPlan):
             },
         )
 
-    def test_pictures_are_parts_of_the_page(self):
+    def test_pictures_are_parts_of_the_page(self) -> None:
         """A picture of the page is no file of its own: a browser would show its head as text."""
         text = html.page(self.page)
         self.assertEqual((text.count("<svg "), text.count("<?xml")), (2, 0))
         self.assertEqual([it.text(is_file=True)[:5] for it in drawings(self.results)], ["<?xml"] * 2)
 
-    def test_colours_of_differences(self):
+    def test_colours_of_differences(self) -> None:
         """Green is more and orange less, by over two standard errors."""
         every = [pictures.colour_of(Spread(9, mean, 1.0, ())) for mean in (2.1, 2.0, -2.0, -2.1)]
         self.assertEqual([edge for _, edge in every], ["green", "blue", "blue", "orange"])
 
-    def test_without_a_row(self):
+    def test_without_a_row(self) -> None:
         every = [{"auction": str(n % 3 + 1), "stopped": "limit winners 7"} for n in range(6)]
         plan, _ = page_of(results_of(self.results.plan, every), "name", ORIGIN).sections
         self.assertEqual(plan.title, "What was tried")
@@ -256,7 +256,7 @@ def address_of(where, end):
 
 @with_program
 class Runs(WithPlan):
-    def test_a_study_that_is_stopped_goes_on(self):
+    def test_a_study_that_is_stopped_goes_on(self) -> None:
         printed, said = self.run_study("whole")
         self.assertIn("12 of 12 auctions", said)
         self.assertIn("(version 2) against without (version 1), share 100, in % of the best value", printed)
@@ -298,7 +298,7 @@ class Runs(WithPlan):
         self.assertEqual((page.count("<svg"), page.count("share 60 against 100")), (5, 6))
         self.assertIn("with the final cap (version 2) against without", pictures["pair2.svg"])
 
-    def test_what_made_it(self):
+    def test_what_made_it(self) -> None:
         """Rows, table and page name the program by the checksum of its file, and another one doesn't go on."""
         self.run_study("made", "--processes", "1")
         total = hashlib.sha256(pathlib.Path(PROGRAM).read_bytes()).hexdigest()
@@ -322,7 +322,7 @@ class Runs(WithPlan):
             _, said = self.run_study("made", status=5)
             self.assertIn("has rows of another program;", " ".join(said.split()))
 
-    def test_a_price_above_the_bid_stops_the_study(self):
+    def test_a_price_above_the_bid_stops_the_study(self) -> None:
         """A program between that puts a 9 before each price."""
         other = self.folder / "other"
         other.write_text(f"#!/bin/sh\n{os.path.abspath(PROGRAM)} \"$@\" | sed 's/ pays / pays 9/'\n")
@@ -334,7 +334,7 @@ class Runs(WithPlan):
         self.assertEqual(made.stop[:2], ("cca: audit", 70))
         self.assertIn("which aren't in this order", made.stop[2])
 
-    def test_two_runs_of_one_folder(self):
+    def test_two_runs_of_one_folder(self) -> None:
         text = PLAN.replace("auctions = 3", "auctions = 4000")
         with subprocess.Popen(
             self.words("two", text=text), stderr=subprocess.DEVNULL, stdout=subprocess.DEVNULL
@@ -346,7 +346,7 @@ class Runs(WithPlan):
             made.kill()
         self.assertIn("Another run works on", said)
 
-    def test_no_worker_outlives_its_study(self):
+    def test_no_worker_outlives_its_study(self) -> None:
         """Killed in each way, the study takes its processes with it: the pipe that they have is closed."""
         text = PLAN.replace("auctions = 3", "auctions = 4000")
         for number in (signal.SIGTERM, signal.SIGKILL):
@@ -359,7 +359,7 @@ class Runs(WithPlan):
                 made.communicate(timeout=60)
             self.assertEqual(made.returncode, -number)
 
-    def test_a_study_that_is_killed_goes_on(self):
+    def test_a_study_that_is_killed_goes_on(self) -> None:
         text = PLAN.replace("auctions = 3", "auctions = 15")
         with subprocess.Popen(
             self.words("killed", text=text), stderr=subprocess.DEVNULL, start_new_session=True
@@ -374,7 +374,7 @@ class Runs(WithPlan):
         self.run_study("whole", text=text)
         self.assertEqual((self.table("killed"), self.kept("killed")), (self.table("whole"), 61))
 
-    def test_the_first_of_each_hundred_is_audited(self):
+    def test_the_first_of_each_hundred_is_audited(self) -> None:
         plan = read_plan(self.plan())
         made = rows.rows_of(plan, [Job(0, number) for number in (1, 2, 100, 101, 201)], None)
         self.assertEqual([it.row.get("audit") for it in made], ["yes", "", "", "yes", "yes"])
@@ -390,19 +390,19 @@ class Runs(WithPlan):
         self.run_study(name, text=PLAN.replace("auctions = 3", "auctions = 1"))
         return list(csv.DictReader(io.StringIO(self.table(name))))
 
-    def test_more_winners_than_the_program_prices(self):
+    def test_more_winners_than_the_program_prices(self) -> None:
         rows = self.study_of_single_lots("seven", 7)
         self.assertEqual(
             {(row["stopped"], row["winners"], row["found_by"]) for row in rows}, {("", "7", "tools/price")}
         )
         self.assertTrue(all(float(row["vickrey"]) <= float(row["core"]) <= float(row["bids"]) for row in rows))
 
-    def test_a_limit_is_a_row(self):
+    def test_a_limit_is_a_row(self) -> None:
         rows = self.study_of_single_lots("limit", 11)
         self.assertEqual({(row["stopped"], row["core"]) for row in rows}, {("limit rows 11", "")})
 
     @unittest.skipUnless(importlib.util.find_spec("distributed"), "the package python3-distributed isn't installed")
-    def test_workers_of_dask_one_of_them_killed(self):
+    def test_workers_of_dask_one_of_them_killed(self) -> None:
         text = PLAN.replace("auctions = 3", "auctions = 25")
         where = self.folder / "scheduler.json"
         quiet = {"stdout": subprocess.DEVNULL, "stderr": subprocess.DEVNULL, "cwd": self.folder}

@@ -25,7 +25,7 @@ class Tables(unittest.TestCase):
             bids_of(text, sold, mark)
         return caught.exception.why
 
-    def test_thousands_or_decimals(self):
+    def test_thousands_or_decimals(self) -> None:
         """48.000 may be 48 or 48000; another amount of the table decides, or the option, or nobody."""
         doubt = (
             "row 1 has `{}`, which is {} if its decimal mark is a point, and {} if that is a comma; say --decimal . or"
@@ -42,7 +42,7 @@ class Tables(unittest.TestCase):
         why = "column 4 has two decimal marks, a point as `48.5` in row 2, and a comma as `48,5` in row 1"
         self.assertEqual(self.fault("a;1;0;48,5\na;0;1;48.5"), why)
 
-    def test_heads_and_the_names_of_an_award(self):
+    def test_heads_and_the_names_of_an_award(self) -> None:
         right = {("a", (1, 3)): 5}
         for head in ("low,high", "High,LOW", "c1,c2", "lots 2,lots 1"):
             counts = "3,1" if head in ("High,LOW", "lots 2,lots 1") else "1,3"
@@ -56,7 +56,7 @@ class Tables(unittest.TestCase):
             self.assertEqual(self.fault(f"bidder,{head},amount\na,1,3,5", NAMED), none.format(missing, others))
         self.assertEqual(bids_of("bidder,c2,c1,amount\na,3,1,5"), right)
 
-    def test_columns_without_a_name(self):
+    def test_columns_without_a_name(self) -> None:
         right = {("a", (1, 3)): 5, ("b", (0, 1)): 7}
         rows = "bidder,low,high,amount\n{}a,1,3,5\n{}b,0,1,7"
         for text in (
@@ -72,12 +72,12 @@ class Tables(unittest.TestCase):
         self.assertEqual(self.fault("bidder,low,high,amount\na,1,3,2,50"), why)
         self.assertEqual(self.fault("bidder,low,high,amount\n1,1,3,2,50"), why)
 
-    def test_counts_of_pandas(self):
+    def test_counts_of_pandas(self) -> None:
         self.assertEqual(bids_of("bidder,low,high,amount\na,1.0,,5.0"), {("a", (1, 0)): 5})
         why = "row 2 has `1.5` in the column `low` as a count of lots, which is a whole number"
         self.assertEqual(self.fault("bidder,low,high,amount\na,1.5,,5.0"), why)
 
-    def test_spellings_of_one_bidder(self):
+    def test_spellings_of_one_bidder(self) -> None:
         why = (
             "`North` in row 1 and `{}` in row 2 differ in capitals or spaces alone, and would be two bidders; spell one"
         )
@@ -87,7 +87,7 @@ class Tables(unittest.TestCase):
         made = read_bids(b"A-1,1,0,5\nA 1,0,1,5", TWO)
         self.assertIn("`A-1` and `A 1` are 2 bidders, a_1, a_1_2; spell them alike if they are one", made.changes)
 
-    def test_json_of_frames(self):
+    def test_json_of_frames(self) -> None:
         right = {("a", (1, 3)): 48.125, ("b", (0, 1)): 7}
         rows = [{"bidder": "a", "low": 1, "high": 3.0, "amount": 48.125}]
         rows.append({"bidder": "b", "low": None, "high": 1, "amount": 7})
@@ -96,12 +96,12 @@ class Tables(unittest.TestCase):
         packed = [{"name": "a", "package": [1, 3], "bid": 48.125}, {"name": "b", "package": [0, 1], "bid": 7}]
         self.assertEqual(bids_of(json.dumps(packed)), right)
 
-    def test_reserves_of_json_beside_the_supply_of_the_command(self):
+    def test_reserves_of_json_beside_the_supply_of_the_command(self) -> None:
         text = '{"reserve": [2, 1], "bids": [{"bidder": "a", "package": [1, 0], "amount": 1}]}'
         made = read_bids(text.encode(), TWO)
         self.assertEqual((made.book.reserves, made.book.bids), ((2, 1), [[]]))
 
-    def test_a_dictionary(self):
+    def test_a_dictionary(self) -> None:
         made = make_book((4, 9), {"North": {(1, 3): 48.5, (0, 1): 7}}, reserve=(1, 0))
         self.assertEqual((made.book.names, made.book.bids), (["north"], [[((0, 1), 70), ((1, 3), 485)]]))
         self.assertEqual((made.scale, made.book.reserves), (10, (10, 0)))
@@ -139,7 +139,7 @@ class Spellings(unittest.TestCase):
         "pandas": (",", plain, "unnamed"),
     }
 
-    def test_drawn_tables(self):
+    def test_drawn_tables(self) -> None:
         draws = random.Random(86)
         for number in range(300):
             form = list(self.FORMS)[number % len(self.FORMS)]

@@ -68,15 +68,15 @@ class Enumeration(unittest.TestCase):
         self.assertEqual(len(rows), 1 + len(best[1:21]) if len(best) > 1 else 0)
         return len(best) - 1
 
-    def test_drawn_books(self):
+    def test_drawn_books(self) -> None:
         found = [self.check(drawn_book(number)) for number in range(300)]
         self.assertTrue(found.count(0) > 20 and found.count(1) > 20 and max(found) > 21, found)
 
-    def test_drawn_auctions(self):
+    def test_drawn_auctions(self) -> None:
         found = [self.check(closed_book(*drawn(number, 1 + number % 2, above=3))) for number in range(60)]
         self.assertTrue(0 in found and 1 in found and max(found) > 3, found)
 
-    def test_words(self):
+    def test_words(self) -> None:
         book = Book((1,), (0,), ["a", "b", "c"], [[((1,), 5)], [((1,), 5)], [((1,), 5)]])
         head = f"There is a tie: 2 other choices have the same net value. {DECIDES}"
         rows = [head, "  b 1 instead of a 1", "  c 1 instead of a 1"]
@@ -88,12 +88,12 @@ class Enumeration(unittest.TestCase):
 
 
 class Tools(unittest.TestCase):
-    def setUp(self):
+    def setUp(self) -> None:
         environment = unittest.mock.patch.dict(os.environ, CCA_PROGRAM="/nowhere")
         environment.start()
         self.addCleanup(environment.stop)
 
-    def test_why_and_report(self):
+    def test_why_and_report(self) -> None:
         data = sample("tie.book")
         best = enumerated(read_book(data))
         self.assertEqual(len(best), 2)
@@ -109,7 +109,7 @@ class Tools(unittest.TestCase):
         self.assertIn(f"There is a tie: one other choice has the same net value. {DECIDES}", shown)
         self.assertIn("east 2 of category 1 instead of east 1 of category 1, west 1 of category 1", shown)
 
-    def test_no_tie(self):
+    def test_no_tie(self) -> None:
         award, log, cert = (sample(f"spectrum.{kind}") for kind in ("award", "log", "cert"))
         for text in (
             said(why, award, log, cert)[0],
@@ -117,7 +117,7 @@ class Tools(unittest.TestCase):
         ):
             self.assertNotIn("tie", text.split())
 
-    def test_what_if(self):
+    def test_what_if(self) -> None:
         log = lines(TIE + "close,,,")
         text, _ = said(what_if, SMALL.encode(), lines(TIE.replace("2,24", "2,23") + "close,,,"), log)
         self.assertEqual(text.count("There is a tie: one other choice"), 1)

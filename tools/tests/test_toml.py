@@ -157,30 +157,30 @@ def plain(value):
 
 
 class Toml(unittest.TestCase):
-    def same(self, text):
+    def same(self, text) -> None:
         with self.subTest(text=text):
             self.assertEqual(plain(read_toml(text.encode())), plain(tomllib.loads(text)))
 
-    def refused(self, text):
+    def refused(self, text) -> None:
         with self.subTest(text=text):
             self.assertRaises(NoToml, read_toml, text.encode())
 
-    def test_as_the_library(self):
+    def test_as_the_library(self) -> None:
         for value in VALUES:
             self.same(f"x = {value}\ny = [{value}]\n")
         for text in TEXTS + [sample(name).decode() for name in ("sample.award", "spectrum.award")]:
             self.same(text)
 
-    def test_none(self):
+    def test_none(self) -> None:
         for text in [f"x = {value}" for value in NONE + MOMENTS_THAT_AREN_T] + NO_TEXTS:
             self.refused(text)
             self.assertRaises(tomllib.TOMLDecodeError, tomllib.loads, text)
 
-    def test_where_a_fault_is(self):
+    def test_where_a_fault_is(self) -> None:
         with self.assertRaisesRegex(NoToml, r"`b` is there twice \(line 3, column 6\)"):
             read_toml(b"[a]\nb = 1\nb = 2")
 
-    def test_newer(self):
+    def test_newer(self) -> None:
         for text, older in NEWER:
             with self.subTest(text=text):
                 self.assertEqual(read_toml(f"x = {text}".encode()), tomllib.loads(f"x = {older}"))
@@ -191,7 +191,7 @@ class Toml(unittest.TestCase):
         for text in ("{a\n= 1}", "{a =\n1}", "07:32.5", "7:32", "{a = 1,,}"):
             self.refused(f"x = {text}")
 
-    def test_bounds(self):
+    def test_bounds(self) -> None:
         for text in (
             "9223372036854775808",
             "-9223372036854775809",
@@ -205,7 +205,7 @@ class Toml(unittest.TestCase):
         self.same("x = " + "[" * 80 + "]" * 80)
         self.same(".".join("a" * 80) + " = 1")
 
-    def test_bytes(self):
+    def test_bytes(self) -> None:
         self.assertEqual(read_toml(b"\xef\xbb\xbfx = 1"), {"x": 1})
         self.assertRaises(UnicodeDecodeError, read_toml, b"x = '\xff'")
         self.refused("\ufeff\ufeffx = 1")

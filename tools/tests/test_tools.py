@@ -56,7 +56,7 @@ def run(name, *words, stdin=b"", **how):
 class WithFiles(unittest.TestCase):
     """A folder with the samples and what a test writes into it."""
 
-    def setUp(self):
+    def setUp(self) -> None:
         folder = tempfile.TemporaryDirectory()
         self.addCleanup(folder.cleanup)
         self.folder = pathlib.Path(folder.name)
@@ -85,13 +85,13 @@ class WithFiles(unittest.TestCase):
 
 
 class AsPrograms(WithFiles):
-    def test_right_words(self):
+    def test_right_words(self) -> None:
         for name, (_, first) in {**RIGHT, **COURT}.items():
             with self.subTest(name):
                 text, status, said = run(name, *self.right(name))
                 self.assertEqual((text[: len(first)], status, said), (first, 0, ""))
 
-    def test_one_file_from_a_pipe(self):
+    def test_one_file_from_a_pipe(self) -> None:
         for name, (_, first) in {**RIGHT, **COURT}.items():
             with self.subTest(name):
                 words = self.right(name)
@@ -101,26 +101,26 @@ class AsPrograms(WithFiles):
                 text, status, _ = run(name, *words, stdin=data)
                 self.assertEqual((text[: len(first)], status), (first, 0))
 
-    def test_a_module_of_all(self):
+    def test_a_module_of_all(self) -> None:
         words = self.right("caps")
         made = subprocess.run(
             [sys.executable, "-m", "cca_tools", "caps", *words], cwd=TOOLS, capture_output=True, text=True
         )
         self.assertEqual((made.stdout, made.returncode), called("caps", *words)[:2])
 
-    def test_no_words(self):
+    def test_no_words(self) -> None:
         for name in RIGHT:
             with self.subTest(name):
                 text, status, said = called(name)
                 self.assertEqual((text, status), ("cca: words\n" if name in AGREE else "", 2))
                 self.assertEqual(said.splitlines()[0][: len(f"usage: tools/{name} ")], f"usage: tools/{name} ")
 
-    def test_a_script_without_its_package_is_a_crash(self):
+    def test_a_script_without_its_package_is_a_crash(self) -> None:
         shutil.copy(os.path.join(TOOLS, "caps"), self.folder)
         made = subprocess.run([sys.executable, self.folder / "caps"], capture_output=True, text=True)
         self.assertEqual((made.returncode, "ModuleNotFoundError" in made.stderr), (70, True))
 
-    def test_a_reader_that_goes_away(self):
+    def test_a_reader_that_goes_away(self) -> None:
         """The text has more than a pipe holds, and its reader reads one byte."""
         book = lines("book 1 / supply 1 / reserve 0 / bidder a / bid 1 1 / end")
         with subprocess.Popen(
@@ -141,12 +141,12 @@ class AsPrograms(WithFiles):
             self.assertEqual(subprocess.run(words, stdout=full, stderr=subprocess.PIPE).returncode, 5)
             full.close()
 
-    def test_words_that_are_no_text(self):
+    def test_words_that_are_no_text(self) -> None:
         for name in ("check", "check-places", "audit"):
             made = subprocess.run([sys.executable, os.path.join(TOOLS, name), b"\xff", "a", "b"], capture_output=True)
             self.assertEqual((made.stdout, made.returncode), (b"", 8))
 
-    def test_completion(self):
+    def test_completion(self) -> None:
         if not importlib.util.find_spec("argcomplete"):
             self.skipTest("the package python3-argcomplete isn't installed")
         with tempfile.NamedTemporaryFile("r") as found:
@@ -164,7 +164,7 @@ class Words(WithFiles):
         self.assertEqual(said.splitlines()[-1], f"`tools/{name} --help` says what it takes.")
         return said.splitlines()[-2]
 
-    def test_a_wrong_option_is_named(self):
+    def test_a_wrong_option_is_named(self) -> None:
         for name in RIGHT:
             with self.subTest(name):
                 self.assertEqual(self.fault(name, "--bogus"), f"tools/{name}: there is no option --bogus.")
@@ -173,7 +173,7 @@ class Words(WithFiles):
                     f"tools/{name}: there is no option --hlep; did you mean --help?",
                 )
 
-    def test_help_and_version_are_the_only_word(self):
+    def test_help_and_version_are_the_only_word(self) -> None:
         for name in RIGHT:
             with self.subTest(name):
                 for word in ("--help", "-h"):
@@ -186,7 +186,7 @@ class Words(WithFiles):
                 for word in ("--help", "-h", "--version"):
                     self.assertIn(f"{word} must be the only argument", self.fault(name, *self.right(name), word))
 
-    def test_files_are_named_once_and_not_empty(self):
+    def test_files_are_named_once_and_not_empty(self) -> None:
         for name in RIGHT:
             first, *others = self.files(name)
             words = self.right(name)
@@ -197,7 +197,7 @@ class Words(WithFiles):
                 self.assertIn("the name of a file is empty", self.fault(name, *empty))
                 self.assertNotIn("has to", self.fault(name, *words, *["more"] * (4 if name != "caps" else 1)))
 
-    def test_names_that_aren_t_there(self):
+    def test_names_that_aren_t_there(self) -> None:
         award, log = self.path("spectrum.award"), self.path("spectrum.log")
         stranger = "the award has no bidder `evrest`; its bidders are everest, harbour, meridian, niche, tarn."
         self.assertEqual(self.fault("caps", award, log, "evrest"), f"tools/caps: {stranger}")
@@ -209,7 +209,7 @@ class Words(WithFiles):
             self.fault("explain", "auction", award, log, "--bidder", "evrest"), f"tools/explain: {stranger}"
         )
 
-    def test_packages(self):
+    def test_packages(self) -> None:
         award, log = self.path("spectrum.award"), self.path("spectrum.log")
         told = "a package is one count for each category, here 4 (a800 b800 c2600 e2600), and `{}` isn't."
         for words in (["1 2"], ["1", "0", "0", "0", "0"], ["1 0 0 -"], ["1 0 0 65536"], ["1 0 0 01"], ["a b c d"]):
@@ -219,7 +219,7 @@ class Words(WithFiles):
         self.assertEqual(called("caps", award, log, "tarn", "1", "0", "0", "65535")[1], 0)
         self.assertIn("--view takes no package", self.fault("caps", award, log, "tarn", "1 0 0 0", "--view"))
 
-    def test_explain(self):
+    def test_explain(self) -> None:
         meant = "tools/explain: `aution` is no command that is explained here; did you mean `auction`?"
         self.assertEqual(self.fault("explain", "aution", "a", "b"), meant)
         self.assertIn("`check` takes BOOK CERT, and the names given are 1", self.fault("explain", "check", "a"))
@@ -227,14 +227,14 @@ class Words(WithFiles):
             "--bidder is for `auction`, and not for `award`", self.fault("explain", "award", "a", "b", "--bidder", "c")
         )
 
-    def test_what_if(self):
+    def test_what_if(self) -> None:
         award, log, copy = self.right("what-if")
         either = "either an edited log or --least has to be given"
         self.assertIn(either, self.fault("what-if", award, log))
         self.assertIn(either, self.fault("what-if", award, log, copy, "--least", "tarn", "1 0 0 0"))
         self.assertIn("--least takes a bidder and a package", self.fault("what-if", award, log, "--least", "tarn"))
 
-    def test_report(self):
+    def test_report(self) -> None:
         award, log, cert = self.right("audit")
         takes = "the first file is an award, so the files are AWARD LOG or AWARD LOG CERT"
         self.assertIn(takes, self.fault("report", "--text", award))
@@ -245,7 +245,7 @@ class Words(WithFiles):
         self.assertIn(sees, self.fault("report", "--text", self.path("tie.book"), "--bidder", "x"))
         self.assertIn("expected one argument", self.fault("report", award, log, "--bidder"))
 
-    def test_all(self):
+    def test_all(self) -> None:
         self.assertEqual(sorted(RIGHT), [name for name in COMMANDS if name in RIGHT])
         for words, named in ((["cap"], "did you mean caps?"), ([], "usage: "), (["--help"], "usage: ")):
             with tempfile.TemporaryFile("w+") as file:
@@ -268,7 +268,7 @@ class Files(WithFiles):
             return first.removeprefix(f"tools/{name}: "), status, rest
         return text.splitlines()[0], status, text.splitlines()[1:] + said.splitlines()
 
-    def test_empty_files(self):
+    def test_empty_files(self) -> None:
         empty = self.write("empty", b"")
         for name in RIGHT:
             # (an empty log is a right one)
@@ -277,7 +277,7 @@ class Files(WithFiles):
                     line, status, told = self.answer(name, place, empty)
                     self.assertEqual((line.startswith("cca: refused "), status, len(told) > 1), (True, 3, True))
 
-    def test_files_that_aren_t_there(self):
+    def test_files_that_aren_t_there(self) -> None:
         for name in RIGHT:
             for place in self.files(name):
                 with self.subTest(name=name, place=place):
@@ -292,7 +292,7 @@ class Files(WithFiles):
                         ],
                     )
 
-    def test_huge_files(self):
+    def test_huge_files(self) -> None:
         """70 million bytes, which take no room on the disk."""
         huge = self.folder / "huge"
         with open(huge, "wb") as file:
@@ -304,14 +304,14 @@ class Files(WithFiles):
                     self.assertEqual((re.sub(r"\d+$", "N", line), status), ("cca: limit bytes N", 7))
                     self.assertEqual(told[-1], "The limits are in docs/FORMATS.md.")
 
-    def test_files_of_another_kind(self):
+    def test_files_of_another_kind(self) -> None:
         for name in RIGHT:
             for place in self.files(name):
                 with self.subTest(name=name, place=place):
                     line, status, told = self.answer(name, place, self.path("day-cramton.weights"))
                     self.assertEqual((line.startswith("cca: refused "), status, len(told) > 1), (True, 3, True))
 
-    def test_no_control_character_of_a_file_is_shown(self):
+    def test_no_control_character_of_a_file_is_shown(self) -> None:
         shown = []
         award, log, cert = (sample(f"spectrum.{kind}") for kind in ("award", "log", "cert"))
         quoted = b'"\\u001b[2J\\u202e" = 1\n"\\u001b[2J\\u202e" = 2\n'
@@ -331,20 +331,20 @@ class Files(WithFiles):
             self.assertEqual(re.findall(r"[\x00-\x09\x0b-\x1f\x7f-\x9f\u202e]", text), [])
         self.assertIn("\\x1b[2J", "".join(shown))
 
-    def test_names_with_control_characters(self):
+    def test_names_with_control_characters(self) -> None:
         for name in RIGHT:
             text, status, said = called(
                 name, *["\x1b[31mno\x07" if "." in w else w for w in RIGHT[name][0].split()][:1], "b.x"
             )
             self.assertEqual(re.findall(r"[\x00-\x09\x0b-\x1f\x7f-\x9f]", text + said), [])
 
-    def test_many_commas(self):
+    def test_many_commas(self) -> None:
         """A record is refused at its fifth field, however long it is."""
         log = self.write("commas.log", b"," * 8_388_607)
         line, status, told = self.answer("caps", 1, log)
         self.assertEqual((line, status, told[0]), ("cca: refused log 1", 3, "Record 1, line 1 of the file: `,,,,`"))
 
-    def test_folded_lines(self):
+    def test_folded_lines(self) -> None:
         """A string of an award that isn't closed: each fold doubled the time of its reading once."""
         start = time.process_time()
         for fold, end in (("\\\n\n\n\n\n\n" * 30, "\x01"), ("\\\n    " * 300, '""'), ("\\\n\n" * 300, "\x01")):
@@ -355,14 +355,14 @@ class Files(WithFiles):
 
 
 class Crashes(WithFiles):
-    def test_what_isn_t_foreseen_is_no_answer(self):
+    def test_what_isn_t_foreseen_is_no_answer(self) -> None:
         with unittest.mock.patch("cca_tools.commands.caps.read_award", side_effect=ZeroDivisionError):
             text, status, said = called("caps", *self.right("caps"))
         self.assertEqual((text, status), ("", 70))
         self.assertIn("ZeroDivisionError", said)
         self.assertIn("this is a fault of the tool, and no answer", said)
 
-    def test_out_of_memory(self):
+    def test_out_of_memory(self) -> None:
         with unittest.mock.patch("cca_tools.commands.caps.read_award", side_effect=MemoryError):
             text, status, said = called("caps", *self.right("caps"))
         self.assertEqual((text, status), ("", 6))
@@ -393,7 +393,7 @@ class OnATerminal(WithFiles):
                 text += piece
         return text.decode().replace("\r\n", "\n"), made.wait()
 
-    def test_colours(self):
+    def test_colours(self) -> None:
         words = ("win", self.path("tie.cert"))
         text, status = self.shown("explain", *words)
         self.assertEqual((text.split("\n")[0], status), ("\x1b[31mcca: read fault book\x1b[0m", 4))
@@ -405,20 +405,20 @@ class OnATerminal(WithFiles):
         self.assertIn("\x1b[32m+ ", text)
         self.assertNotIn("\x1b", called("what-if", *self.right("what-if")[:2], edited)[0])
 
-    def test_the_width(self):
+    def test_the_width(self) -> None:
         for name in ("caps", "why", "what-if"):
             text, _ = self.shown(name, *self.right(name), columns=60)
             self.assertLessEqual(max(map(len, text.split("\n"))), 60)
         self.assertGreater(max(map(len, called("caps", *self.right("caps"))[0].split("\n"))), 100)
 
-    def test_a_report_is_text(self):
+    def test_a_report_is_text(self) -> None:
         text, status = self.shown("report", *self.right("report")[:-1], columns=60)
         text = re.sub(r"\Atools/report: .*\n", "", text)  # where it took long
         self.assertEqual((text.split("\n")[0], status), ("Auction report: day-cramton", 0))
         self.assertLessEqual(max(map(len, text.split("\n"))), 60)
         self.assertEqual(max(map(len, called("report", *self.right("report"))[0].split("\n"))) > 60, True)
 
-    def test_a_long_run_says_what_it_does(self):
+    def test_a_long_run_says_what_it_does(self) -> None:
         for is_terminal in (True, False):
             with unittest.mock.patch.object(terminal, "SECONDS", 0.01), unittest.mock.patch.object(
                 terminal, "is_terminal", return_value=is_terminal
@@ -435,14 +435,14 @@ class OnATerminal(WithFiles):
                 progress.step("drawing the page")
             self.assertEqual((said.getvalue(), progress.is_late), ("", False))
 
-    def test_broken_lines(self):
+    def test_broken_lines(self) -> None:
         self.assertEqual(broken("aaa bbb ccc", 7), ["aaa bbb", "  ccc"])
         self.assertEqual(broken("  aaa bbb", 7), ["  aaa", "    bbb"])
         self.assertEqual(broken("aaaa", 4), ["aaaa"])
 
 
 class Stopped(unittest.TestCase):
-    def test_a_no_goes_to_standard_output(self):
+    def test_a_no_goes_to_standard_output(self) -> None:
         """With what it means, but where the output has to agree with cca."""
 
         def run(options):

@@ -39,7 +39,7 @@ def table(text):
 
 
 class Draws(unittest.TestCase):
-    def test_a_draw_is_the_sha_256_of_its_name(self):
+    def test_a_draw_is_the_sha_256_of_its_name(self) -> None:
         """The checksums are those of sha256sum."""
         for name, found in {
             ("north", "lot", 1, 1): "3a7b5dac1275233191c17c1e70ebdbe055c1029d092f9cf038078874df6ea742",
@@ -53,7 +53,7 @@ class Values(unittest.TestCase):
     def values(self, text, seed=7, award=AWARD):
         return values_of_seed(read_award(award), table(text), seed)
 
-    def test_additive(self):
+    def test_additive(self) -> None:
         north, south = self.values('model = "additive"\nlot = [[10, 1009], 6]')
         lots = sorted(
             10 + int(it, 16) % 1000
@@ -65,19 +65,19 @@ class Values(unittest.TestCase):
         self.assertEqual((north[1, 0], north[2, 0], north[2, 3]), (lots[1], sum(lots), sum(lots) + 18))
         self.assertEqual((len(north), len(south), max(map(sum, south))), (11, 8, 3))
 
-    def test_decrease_and_complement(self):
+    def test_decrease_and_complement(self) -> None:
         text = 'model = "additive"\nlot = [100, 10]\ndecrease = 25\ncomplement = [{ lots = [1, 2], value = 1000 }]'
         north, _ = self.values(text)
         self.assertEqual((north[1, 0], north[2, 0], north[0, 3]), (100, 175, 10 + 7 + 5))
         self.assertEqual((north[1, 1], north[1, 2], north[2, 3]), (110, 1117, 1197))
 
-    def test_global(self):
+    def test_global(self) -> None:
         """Each lot after the first raises the worth of all by 20 %."""
         north, _ = self.values('model = "global"\nlot = [100, 11]\nmost = 4')
         self.assertEqual((north[1, 0], north[2, 0], north[1, 1], north[2, 2]), (100, 240, 133, 355))
         self.assertNotIn((2, 3), north)
 
-    def test_local(self):
+    def test_local(self) -> None:
         """The factor of b lots is 1 + a / 200, since e to the power of 0 is 1."""
         self.assertEqual(local_factor(320, 10, 10), 2_600_000)
         for lots in range(30):
@@ -88,27 +88,27 @@ class Values(unittest.TestCase):
         self.assertEqual((apart[2, 2], apart[2, 0] + apart[0, 2]), (440, 440))
         self.assertGreater(north[2, 2], 440)
 
-    def test_packages(self):
+    def test_packages(self) -> None:
         north, south = self.values(
             'model = "packages"\npackage = [{ lots = [2, 3], value = 9 }, { lots = [1, 0], value = [3, 3] }]'
         )
         self.assertEqual((north, south), ({(1, 0): 3, (2, 3): 9}, {(1, 0): 3}))
 
-    def test_a_bidder_s_values_don_t_depend_on_others(self):
+    def test_a_bidder_s_values_don_t_depend_on_others(self) -> None:
         text = 'model = "additive"\nlot = [[10, 1009], [0, 90]]'
         both = self.values(text)
         alone = self.values(text, award=AWARD.replace(b'[[bidder]]\nname = "north"\neligibility = 5\n', b""))
         self.assertEqual(both[1], alone[0])
         self.assertNotEqual(both, self.values(text, seed=8))
 
-    def test_spectrum_caps(self):
+    def test_spectrum_caps(self) -> None:
         award = read_award(sample("spectrum.award"))
         text = b'values = 1\n[[bidder]]\nmodel = "additive"\nlot = [9, 9, 9, 9]\n'
         everest = values_of_seed(award, text, 1)[0]
         self.assertNotIn((4, 1, 0, 0), everest)
         self.assertTrue(all(2 * a + 4 * b <= 7 for a, b, _, _ in everest))
 
-    def test_faults_name_the_table_and_the_field(self):
+    def test_faults_name_the_table_and_the_field(self) -> None:
         ranges = "a list of 2, each a whole number from 0 to 1099511627776 or [least, greatest] of it"
         package, named = 'model = "global"\nlot = [1, 2]', 'names = "{}"\nmodel = "global"\nlot = [1, 2]'
         for text, why in {
@@ -130,7 +130,7 @@ class Values(unittest.TestCase):
         text = 'model = "packages"\n[[bidder.package]]\nlots = [1, 0]\nvalue = -1'
         self.fault(text, f"table 1 of [[bidder]], table 1 of [[package]]: {below}")
 
-    def fault(self, text, why):
+    def fault(self, text, why) -> None:
         with self.subTest(text), self.assertRaises(Stop) as caught:
             read_values(table(text), read_award(AWARD))
         self.assertEqual((caught.exception.line, caught.exception.why), ("cca: refused values", why))

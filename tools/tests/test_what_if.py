@@ -53,13 +53,13 @@ def counts(text):
 class Advice(unittest.TestCase):
     """Auctions are drawn from their numbers; of each one bidder and each of its packages is asked."""
 
-    def setUp(self):
+    def setUp(self) -> None:
         environment = unittest.mock.patch.dict(os.environ, CCA_PROGRAM="/nowhere")
         environment.start()
         self.addCleanup(environment.stop)
         self.seen = dict.fromkeys(("admitted", "refused", "mended", "instead", "none", "note"), 0)
 
-    def check(self, award, log, j, package):
+    def check(self, award, log, j, package) -> None:
         auction = auction_of(award, log)
         name, words = auction.award.names[j - 1], " ".join(map(str, package))
         text, status = said(lambda names: what_if([*names, "--least", name, words]), award, log)
@@ -95,13 +95,13 @@ class Advice(unittest.TestCase):
         asked |= {closed.packages[j - 1] for closed in auction.rounds}
         return {package: 10**9 for package in asked if any(package)}
 
-    def check_none(self, auction, j, package, text):
+    def check_none(self, auction, j, package, text) -> None:
         """No amount wins: the package can't be drafted."""
         draft = Line(0, 0, "draft", auction.award.names[j - 1], j, package, 10**6)
         fault = auction.package_fault(draft, auction.award.eligibility(j))
         self.assertTrue(fault or not any(package), text)
 
-    def check_least(self, auction, j, package, amount):
+    def check_least(self, auction, j, package, amount) -> None:
         """With the amount the bidder wins the package, and with one less it doesn't, or may not bid that."""
         book, low = auction.book(), least_to_draft(auction, j, package)
         self.assertEqual(won(with_bid(book, j, package, amount), j), (package, amount))
@@ -110,7 +110,7 @@ class Advice(unittest.TestCase):
             less = won(with_bid(book, j, package, amount - 1), j)
             self.assertNotEqual(less and less[0], package)
 
-    def check_note(self, auction, j, package, amount, rows):
+    def check_note(self, auction, j, package, amount, rows) -> None:
         """Where it is said that the amount may not be less, one less can't be drafted, and only there."""
         name, desk = auction.award.names[j - 1], auction.desks[j - 1]
         fault = auction.amount_fault(Line(0, 0, "draft", name, j, package, amount - 1), desk)
@@ -119,7 +119,7 @@ class Advice(unittest.TestCase):
         self.assertEqual(note in rows, is_least)
         self.seen["note"] += is_least
 
-    def check_refusal(self, rows, name, listed, reply):
+    def check_refusal(self, rows, name, listed, reply) -> None:
         """The reply to the submission is the one that was reported."""
         self.seen["refused"] += 1
         entry = sorted(listed)[reply.numbers[0] - 1]
@@ -129,7 +129,7 @@ class Advice(unittest.TestCase):
         )
         self.assertTrue(any(row.startswith(f"{head} cap, {reply.numbers[1]}. ") for row in rows), rows)
 
-    def check_mended(self, award, log, j, package, rows, listed):
+    def check_mended(self, award, log, j, package, rows, listed) -> None:
         """The list that is advised is admitted, and wins what it is said to win."""
         row = next(row for row in rows if row.startswith("They would admit it on that list "))
         mended = dict(listed)
@@ -149,7 +149,7 @@ class Advice(unittest.TestCase):
             self.assertTrue(row.endswith(f" wins {told} instead."), (row, got))
         self.check_winners(rows, "with that list", after)
 
-    def check_winners(self, rows, head, after):
+    def check_winners(self, rows, head, after) -> None:
         """The winners below the head are those of the auction that follows the advice."""
         book = after.need_book()
         choice, value = winning_choice(book)
@@ -170,7 +170,7 @@ class Advice(unittest.TestCase):
         found = every if number % 10 == 0 or not right else right
         return found[7 * number % len(found)]
 
-    def test_drawn_auctions(self):
+    def test_drawn_auctions(self) -> None:
         for number in range(150):
             for version in (1, 2):
                 award, log = drawn(number, version)
@@ -180,12 +180,12 @@ class Advice(unittest.TestCase):
                     self.check(award, log, j, self.package(award, log, j, number))
         self.assertTrue(all(count > 5 for count in self.seen.values()), self.seen)
 
-    def test_the_sample(self):
+    def test_the_sample(self) -> None:
         """As docs/BIDDER.md has it, 700001 is above the cap, and what raises that wins in its place."""
         self.check(sample("spectrum.award"), sample("spectrum.log"), 1, (2, 0, 4, 0))
         self.assertEqual([self.seen[kind] for kind in ("refused", "mended", "instead")], [1, 1, 1])
 
-    def test_an_entry_beside_it(self):
+    def test_an_entry_beside_it(self) -> None:
         """A list with another entry above its cap is refused for that one."""
         award, log = drawn(0)
         auction = auction_of(award, log)
@@ -203,7 +203,7 @@ class Advice(unittest.TestCase):
                     self.seen["refused"] += not reply.is_ok
         self.assertGreater(self.seen["refused"], 0)
 
-    def test_the_least_by_halving(self):
+    def test_the_least_by_halving(self) -> None:
         """The least amount is the one that halving finds."""
         for number in range(30):
             auction = auction_of(*drawn(number))

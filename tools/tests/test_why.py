@@ -16,14 +16,14 @@ def reasons_of(book, cert, weights=None):
 
 class Spectrum(unittest.TestCase):
     @classmethod
-    def setUpClass(cls):
+    def setUpClass(cls) -> None:
         cls.book, cls.cert = spectrum()
         cls.reasons = reasons_of(cls.book, cls.cert)
 
-    def test_the_sample_is_this_certificate(self):
+    def test_the_sample_is_this_certificate(self) -> None:
         self.assertEqual(self.cert, sample("spectrum.cert"))
 
-    def test_sentences(self):
+    def test_sentences(self) -> None:
         self.assertEqual(
             self.reasons.sentence(2),
             (
@@ -41,19 +41,19 @@ class Spectrum(unittest.TestCase):
                 "for what niche and tarn win, and that is 400 more than their Vickrey prices.",
             )
 
-    def test_vickrey_of_tarn(self):
+    def test_vickrey_of_tarn(self) -> None:
         offer = vickrey_offer(self.reasons.certificate, 5)
         self.assertEqual([(change.j, change.more) for change in offer.changes], [(1, 240000), (3, 220000)])
         self.assertEqual((offer.same, offer.kept, offer.gross, offer.net), ([2, 4], 0, 460000, 60000))
 
-    def test_vickrey_of_niche(self):
+    def test_vickrey_of_niche(self) -> None:
         offer = vickrey_offer(self.reasons.certificate, 4)
         self.assertEqual(
             ([(change.j, change.more) for change in offer.changes], offer.kept, offer.gross),
             ([(5, 36000)], 45000, 81000),
         )
 
-    def test_coalition(self):
+    def test_coalition(self) -> None:
         (offer,) = self.reasons.coalitions
         self.assertEqual(
             ([(change.j, change.more) for change in offer.changes], offer.kept), ([(1, 240000), (3, 256400)], 45000)
@@ -62,13 +62,13 @@ class Spectrum(unittest.TestCase):
             (offer.members, offer.same, offer.gross, self.reasons.excess(offer)), ([4, 5], [2], 541400, 400)
         )
 
-    def test_gross_is_net_with_the_reserves(self):
+    def test_gross_is_net_with_the_reserves(self) -> None:
         certificate = self.reasons.certificate
         for row in certificate.rows:
             offer = offer_of(certificate, row.members, row.choice)
             self.assertEqual(offer.gross, offer.net + sum(map(self.reasons.reserve, offer.members)))
 
-    def test_of_the_three_files(self):
+    def test_of_the_three_files(self) -> None:
         text, status = said(why, sample("spectrum.award"), sample("spectrum.log"), self.cert)
         self.assertEqual(status, 0)
         self.assertIn("A package is written as its counts of a800, b800, c2600 and e2600.", text)
@@ -105,7 +105,7 @@ Coalition 1: c, for what a and b win.
 
 
 class SixBidders(unittest.TestCase):
-    def test_sentences(self):
+    def test_sentences(self) -> None:
         reasons = reasons_of(sample("six-bidders.book"), six_bidders())
         asked = (
             "p6 and the seller with its reserve offer 1345500 for what p1, p3 and p4 win, and that is 140000 more than"
@@ -129,7 +129,7 @@ class SixBidders(unittest.TestCase):
 
 
 class Small(unittest.TestCase):
-    def test_whole_text_with_reserves(self):
+    def test_whole_text_with_reserves(self) -> None:
         book = lines(
             "book 1 / supply 3 / reserve 10 / bidder a / bid 1 30 / bidder b / bid 1 25 / bidder c / bid 3 50 / end"
         )
@@ -149,12 +149,12 @@ class Small(unittest.TestCase):
             [line for line in text if line != LEGEND], RESERVED.replace("prices.\n\n", "prices.\n\n\n", 1).split("\n")
         )
 
-    def test_all_that_it_bid(self):
+    def test_all_that_it_bid(self) -> None:
         cert = certificate_of((1,), [[((1,), 9)]] * 2, (1, 0), {1: (0, 1)}, 1, (9, 0), [((1,), 1, 0, (0, 1))])
         reasons = reasons_of(book_of((1,), [[((1,), 9)]] * 2), cert)
         self.assertEqual(list(reasons.winner_lines(1))[0], "b1 wins `1` with a bid of 9, and pays 9, all that it bid.")
 
-    def test_rows_that_take(self):
+    def test_rows_that_take(self) -> None:
         bids = [*LOCALS, [((1, 1, 0), 8)], [((0, 1, 1), 8)]]
         without = {1: (0, 1, 1, 0, 0), 2: (1, 0, 1, 0, 0), 3: (1, 1, 0, 0, 0)}
         rows = [
@@ -189,7 +189,7 @@ class Small(unittest.TestCase):
             ["4 less", "12 more because of coalition 2 (below)."],
         )
 
-    def test_negative_multipliers(self):
+    def test_negative_multipliers(self) -> None:
         bids = [*LOCALS, [((1, 1, 0), 8)], [((0, 1, 1), 8)]]
         without = {1: (0, 1, 1, 0, 0), 2: (1, 0, 1, 0, 0), 3: (1, 1, 0, 0, 0)}
         rows = [((1, 2), 1, 0, (0, 0, 1, 1, 0)), ((2, 3), 0, 8, (1, 0, 0, 0, 1)), ((3,), 1, -8, without[3])]
@@ -208,7 +208,7 @@ class Small(unittest.TestCase):
             reasons.sentence(2).startswith("b2 pays 8: its Vickrey price of 0, and 8 more, since b5 offers 8")
         )
 
-    def test_shares_come_to_what_is_paid_above(self):
+    def test_shares_come_to_what_is_paid_above(self) -> None:
         bids = [*LOCALS, [((1, 1, 1), 11)]]
         without = {1: (0, 1, 1, 0), 2: (1, 0, 1, 0), 3: (1, 1, 0, 0)}
         cert = certificate_of(
@@ -220,7 +220,7 @@ class Small(unittest.TestCase):
                 (reasons.pays(j), sum(share.amount for share in reasons.shares(j))), (Fraction(11, 3), Fraction(11, 3))
             )
 
-    def test_weights(self):
+    def test_weights(self) -> None:
         cert = (
             sample("day-cramton.cert")
             .replace(b"den 1", b"den 2")
@@ -233,12 +233,12 @@ class Small(unittest.TestCase):
             reasons.sharing(1), "Because of it b1 pays 1+1/2 more and b2 pays 4+1/2 more, by their weights of 1 and 3."
         )
 
-    def test_nobody(self):
+    def test_nobody(self) -> None:
         cert = lines("cert 1 / den 1 / value 0 / choice / table / t 0 0 / pay / rows 0 / lowered / t 0 0 / end")
         text, status = said(why, lines("book 1 / supply 1 / reserve 0 / end"), cert)
         self.assertEqual((text.splitlines()[0], status), ("Nobody wins, so nobody pays.", 0))
 
-    def test_a_certificate_that_fails(self):
+    def test_a_certificate_that_fails(self) -> None:
         wrong = sample("day-cramton.cert").replace(b"pay 17 15", b"pay 16 16")
         self.assertEqual(said(why, sample("day-cramton.book"), wrong), ("no C8 2", 1))
         self.assertEqual(

@@ -39,16 +39,16 @@ def said(command, words):
 
 
 class Vectors(unittest.TestCase):
-    def setUp(self):
+    def setUp(self) -> None:
         self.folder, self.before = tempfile.TemporaryDirectory(), os.getcwd()
         shutil.copytree(VECTORS / "files", self.folder.name, dirs_exist_ok=True)
         os.chdir(self.folder.name)
 
-    def tearDown(self):
+    def tearDown(self) -> None:
         os.chdir(self.before)
         self.folder.cleanup()
 
-    def test_tools(self):
+    def test_tools(self) -> None:
         for case in runner().cases():
             for name, count, text in case["made"]:
                 pathlib.Path(name).write_text(text.replace("\\n", "\n") * int(count))
@@ -56,7 +56,7 @@ class Vectors(unittest.TestCase):
             with self.subTest(case=case["case"]):
                 self.assertEqual(said(command, words), {(case["printed"], case["status"])})
 
-    def test_what_there_is(self):
+    def test_what_there_is(self) -> None:
         """Each test of a certificate and each reply is the answer of some case, and no file is needless."""
         cases = list(runner().cases())
         self.assertGreaterEqual(len(cases), 300)
@@ -77,20 +77,20 @@ class Vectors(unittest.TestCase):
         self.assertEqual(set(os.listdir(VECTORS / "files")) - named, set())
 
     @with_program
-    def test_program(self):
+    def test_program(self) -> None:
         words = [VECTORS / "run", "--seconds", "600", os.path.abspath(PROGRAM)]
         ended = subprocess.run(words, capture_output=True, cwd=self.before)
         self.assertEqual((ended.stdout.decode().split(", ")[-1], ended.returncode), ("0 differ\n", 0), ended.stdout)
 
     @unittest.skipUnless(shutil.which("cc"), "there is no C compiler: apt-get install gcc")
-    def test_a_checker_in_c(self):
+    def test_a_checker_in_c(self) -> None:
         program = os.path.abspath("checker")
         subprocess.run(["cc", "-O2", "-Wall", "-Wextra", "-Werror", "-o", program, VECTORS / "checker.c"], check=True)
         words = [VECTORS / "run", "--only", "check,weigh-check,place-check", program]
         ended = subprocess.run(words, capture_output=True, text=True)
         self.assertEqual((ended.stdout.split(", ")[-1], ended.returncode), ("0 differ\n", 0), ended.stdout)
 
-    def test_a_program_that_says_yes(self):
+    def test_a_program_that_says_yes(self) -> None:
         program = pathlib.Path("says-yes")
         program.write_text("#!/bin/sh\necho yes\n")
         program.chmod(0o755)
@@ -100,7 +100,7 @@ class Vectors(unittest.TestCase):
             b"place-test-1: the denominator is 0\n  answered (0, 'yes\\n')\n  has to be (1, 'no P1 1\\n')", ended.stdout
         )
 
-    def test_a_program_that_hangs(self):
+    def test_a_program_that_hangs(self) -> None:
         """It is stopped, and each of its cases differs."""
         program = pathlib.Path("hangs")
         program.write_text("#!/bin/sh\nexec sleep 100\n")
@@ -112,7 +112,7 @@ class Vectors(unittest.TestCase):
         self.assertEqual(ended.stdout.count("  answered not at all within 0.2 seconds\n"), count)
         self.assertEqual(ended.stdout.splitlines()[-1], f"{count} cases, {count} differ")
 
-    def test_words_of_the_runner(self):
+    def test_words_of_the_runner(self) -> None:
         for words, why in (
             ((), "which program?"),
             (("nothing-of-this-name",), "there is no program 'nothing-of-this-name' to run"),
