@@ -15,6 +15,23 @@ from checks.cases.second_auctions import drawn
 from checks.cases.small_certs import book_certificate, place_certificate
 from checks.cases.voices import FILES, court_answer, program_answer, rules_answer
 
+# The last number of a range of docs/, or of a machine's word, and the first one after it.
+ENDS = (
+    65_535,
+    65_536,
+    10**6,
+    2**31,
+    2**32,
+    2**42 + 1,
+    10**18,
+    10**18 + 1,
+    2**63 - 1,
+    2**63,
+    10**38,
+    10**39 - 1,
+    10**39,
+)
+
 
 def answers(folder, command, texts, program=None):
     """How the court's file, the rules, and the program where one is named answer for these texts."""
@@ -34,7 +51,7 @@ def answers(folder, command, texts, program=None):
 
 def cases(rng):
     """Drawn cases without end, each a command with its texts."""
-    for kind in itertools.cycle([book_cases, auction_cases, slot_cases, auction_cases, faulty_auctions]):
+    for kind in itertools.cycle([book_cases, auction_cases, slot_cases, auction_cases, faulty_auctions, wide_cases]):
         yield from kind(rng)
 
 
@@ -140,3 +157,21 @@ def faulty_auctions(rng):
         yield "audit", (bytes_of(rng, kind(rng)), log.encode(), b"")
     for other in (broken_log(rng, log, size), odd_log(rng, log), odd_log(rng, log)):
         yield "audit", (award.encode(), bytes_of(rng, other), b"")
+
+
+def wide_cases(rng):
+    """Right cases in each of whose texts a number is about the end of a range, or has more bits than a machine's word."""
+    for kind in (book_cases, auction_cases, slot_cases):
+        command, texts = next(kind(rng), (None, ()))
+        for at, text in enumerate(texts):
+            yield from ((command, (*texts[:at], wide(rng, text), *texts[at + 1 :])) for _ in range(2))
+
+
+def wide(rng, text):
+    """The text with another number in one place. A reader that drops the high bits of 2^64 and more takes the old one."""
+    numbers = list(re.finditer(rb"\d+", text))
+    if not numbers:
+        return text
+    found = rng.choice(numbers)
+    number = rng.choice([*ENDS, int(found[0]) + 2**64, int(found[0]) + 2**64])
+    return text[: found.start()] + b"%d" % number + text[found.end() :]

@@ -1,5 +1,5 @@
 """The voices that answer for a certificate: the court's own files tools/audit and tools/check, the rules of cca_tools,
-and the program.
+the program, and the checker of the second proof.
 
 `audit`, `check` and `check_places` take names of files and ask the court's file and the rules, which have to answer
 alike. They give what is printed of a yes; any other end is a `Stop`.
@@ -7,8 +7,11 @@ alike. They give what is printed of a yes; any other end is a `Stop`.
 import importlib.machinery
 import importlib.util
 import os
+import pathlib
+import re
 import subprocess
 import sys
+import tempfile
 import unittest.mock
 
 from cca_tools.rules.auction import replay
@@ -20,8 +23,9 @@ from cca_tools.rules.log import read_log
 from cca_tools.rules.placement import read_places, read_slots
 from cca_tools.rules.placement_tests import first_fault as first_place_fault
 from cca_tools.rules.printing import place_lines, price_lines
-from cca_tools.rules.stops import NO, WORDS, Stop, load
+from cca_tools.rules.stops import NO, REFUSED, WORDS, Stop, load
 from cca_tools.rules.weights import read_weights
+from second_proof.coq_audit.plain import NotPlain, NotToml, plain_award, plain_log
 
 TOOLS = os.path.join(os.path.dirname(os.path.realpath(__file__)), "..", "..", "tools")
 FILES = {
@@ -31,6 +35,7 @@ FILES = {
     "place-check": ("slots", "cert"),
 }
 NO_VERDICT = 9  # of an award that TOML 1.0 doesn't have
+CHECKER = os.path.join(TOOLS, "..", "second_proof", "built", "checker")
 
 
 def script(name):
@@ -121,6 +126,41 @@ def program_answer(program, command, names):
     """What the program prints, without its last line feed, and the status."""
     ended = subprocess.run([program, command, *names], stdin=subprocess.DEVNULL, capture_output=True)
     return ended.stdout.decode().removesuffix("\n"), ended.returncode
+
+
+def plain_files(award, log, cert):
+    """The files of an audit as the checker of the second proof reads them; a `Stop` if there are none such."""
+    try:
+        award = plain_award(award)
+    except NotToml:
+        raise Stop("no verdict", NO_VERDICT) from None
+    except NotPlain:
+        raise Stop("cca: refused award", REFUSED) from None
+    try:
+        return award, plain_log(log), cert
+    except NotPlain:
+        raise Stop("cca: refused log", REFUSED) from None
+
+
+def checker_answer(command, texts):
+    """What the checker of the second proof prints for these texts, and the status. An audit gets the plain spellings of
+    the award and the log, as `second_proof/audit` does."""
+    try:
+        texts = plain_files(*texts) if command == "audit" else texts
+    except Stop as stop:
+        return stop.line, stop.status
+    with tempfile.TemporaryDirectory() as folder:
+        names = [os.path.join(folder, kind) for kind in FILES[command]]
+        for name, text in zip(names, texts, strict=True):
+            pathlib.Path(name).write_bytes(text)
+        return program_answer(CHECKER, command, names)
+
+
+def is_confirmed(checked, said):
+    """Whether an answer of the second proof's checker is the answer `said`. It numbers no part of an award or a log that
+    it refuses, and reads TOML 1.0 alone."""
+    unnumbered = re.sub(r"^(cca: refused (?:award|log)) .*", r"\1", said[0]), said[1]
+    return checked in (said, unnumbered) or checked[1] == NO_VERDICT
 
 
 def agreed(command, names):

@@ -4,6 +4,7 @@ site of the documents.
 Times aren't tested. Each comparison ends with 0 only where nothing differs.
 """
 import ast
+import collections
 import os
 import pathlib
 import re
@@ -22,10 +23,11 @@ SMALL = {
     "books": (["2"], r"^\d{2,} compared, 0 differ$"),
     "explain": (["30"], r"^30 runs, 0 differ$"),
     "reports": (["3"], r"^3 auctions and books, 0 differ"),
-    "court": (["60", "7"], r"^60 cases, 3 voices, 0 differ$"),
+    "court": (["60", "7"], r"^60 cases, [34] voices, 0 differ$"),
     "made": (["0"], r"^3 made auctions, 0 differ$"),
     "theory": (["2"], r"with a fault 0$"),
     "files": (["30"], r"^30 runs, seed 1: all ended as they have to$"),
+    "earlier": (["20"], r"^335 runs, 0 differ$"),
 }
 # What runs long even on small numbers, and what it would need.
 NOT_RUN = {
@@ -36,9 +38,9 @@ NOT_RUN = {
 }
 
 
-def ran(*words):
+def ran(*words, earlier=PROGRAM or ""):
     """A program with these words."""
-    how = {**os.environ, "CCA_PROGRAM": PROGRAM or "", "PYTHONDONTWRITEBYTECODE": "1"}
+    how = {**os.environ, "CCA_PROGRAM": PROGRAM or "", "CCA_EARLIER": earlier, "PYTHONDONTWRITEBYTECODE": "1"}
     words = [sys.executable, str(ROOT / words[0]), *words[1:]]
     return subprocess.run(words, capture_output=True, text=True, env=how, stdin=subprocess.DEVNULL)
 
@@ -77,6 +79,28 @@ class Bench(unittest.TestCase):
                 done = ran("checks/compare", what, *words)
                 self.assertEqual((done.returncode, done.stderr), (0, ""), done.stdout)
                 self.assertRegex(done.stdout, re.compile(line, re.MULTILINE))
+
+    @with_program
+    def test_another_program_is_seen(self) -> None:
+        """Each run of `win` differs if the earlier program answers it otherwise: 7 on each of 3 samples."""
+        with tempfile.TemporaryDirectory() as folder:
+            path = pathlib.Path(folder, "other")
+            path.write_text(
+                f'#!/bin/sh\n[ "$1" = win ] && echo other || exec "{os.path.abspath(PROGRAM or "")}" "$@"\n'
+            )
+            path.chmod(0o700)
+            done = ran("checks/compare", "earlier", "0", earlier=str(path))
+        self.assertEqual((done.returncode, done.stderr), (1, ""))
+        self.assertTrue(done.stdout.endswith("\n315 runs, 21 differ\n"), done.stdout)
+
+    @with_program
+    def test_times_of_the_court_s_files(self) -> None:
+        """On files of a hundredth of the limits `cca` and tools/audit answer alike, and the written certificate gets yes."""
+        done = ran("bench/times", "court", "1", "100")
+        self.assertEqual((done.returncode, done.stderr), (0, ""), done.stdout)
+        rows = re.findall(r"^(award|log|certificate) .*  (yes|no|cca: \w+)", done.stdout, re.MULTILINE)
+        self.assertEqual(collections.Counter(kind for kind, _ in rows), {"award": 13, "log": 11, "certificate": 5})
+        self.assertEqual([row for row in rows if row[1] == "yes"], [("certificate", "yes")])
 
     @with_program
     def test_what_is_drawn_is_kept(self) -> None:
