@@ -1,12 +1,18 @@
 """Auctions at the desk in a browser in which a person makes the slips that people make: at 400 wide, by two people,
-with more winners than can be priced, and closed too early.
+with more winners than `cca award` prices, closed too early, and with lists that come as files.
 """
 
 from __future__ import annotations
 
+import codecs
+import pathlib
+import re
+import subprocess
+import tempfile
+
 from checks.desk_browser import HEIGHT, REPLY_FORM, WIDTH, Desk, Screen
-from checks.desk_held import REPLY, Auction, check
-from checks.desk_scenes import AWARD, EXAMPLES, See, lines
+from checks.desk_held import PROGRAM, REPLY, STEPS, Auction, check
+from checks.desk_scenes import AWARD, EXAMPLES, KEYS, LOG, SMALL, See, lines
 
 BIDDERS = 8
 SEVEN_AWARD = (
@@ -16,6 +22,38 @@ SEVEN_AWARD = (
 ).encode()
 SEVEN = "".join(f"bid,b{j},1,\n" for j in range(1, 8)).encode() + b"close,,,\nclose,,,\n"
 SLIP, RIGHT = "21000000000", "2,100,000"
+# Eight bidders win a lot each. b9's bid of 170 for a lot of both kinds is the one that binds: a winner of the north and
+# one of the south pay at least 170 together, and their Vickrey prices are the reserves, 100 and 50. The nearest such
+# point of least sum adds 10 to each: 110 and 60, together 4 times 170.
+EIGHT_AWARD = (
+    'version = 1\ntick = 10\n[[category]]\nname = "north"\nsupply = 4\npoints = 1\nreserve = 100\n'
+    '[[category]]\nname = "south"\nsupply = 4\npoints = 1\nreserve = 50\n'
+    + "".join(f'[[bidder]]\nname = "b{j}"\neligibility = 2\n' for j in range(1, 10))
+    + "[[step]]\nexcess = 1\npermille = 100\n"
+).encode()
+LOTS = {f"b{j}": "1 0" if j < 5 else "0 1" for j in range(1, 9)}
+EIGHT = lines(
+    " / ".join(
+        [
+            *(f"bid,{name},{lots}," for name, lots in LOTS.items()),
+            *("bid,b9,1 1,", "close,,,"),
+            *(f"bid,{name},{lots}," for name, lots in LOTS.items()),
+            *("bid,b9,0 0,", "close,,,"),
+            *(
+                f"draft,{name},{lots},{300 if lots == '1 0' else 200} / submit,{name},,"
+                for name, lots in [*LOTS.items()]
+            ),
+            *("draft,b9,1 1,170", "submit,b9,,", "close,,,"),
+        ]
+    )
+)
+EIGHT_PRICES = [
+    *([f"b{j}", "1 x north 1 0", "300", "100", "110"] for j in range(1, 5)),
+    *([f"b{j}", "1 x south 0 1", "200", "50", "60"] for j in range(5, 9)),
+    ["Revenue", "", "", "", "680"],
+]
+BEGUN = 30  # lines of the sample up to the end of the clock
+FILE_LINES = lines("draft,tarn,2 0 2 0,510000 / draft,tarn,2 0 0 0,490000 / submit,tarn,,")
 SMALL_LIST = lines(
     "bid,tarn,1 0 0 0, / close,,, / draft,tarn,1 0 0 0,2100000 / submit,tarn,, / draft,niche,0 0 1 0,20000 /"
     " submit,niche,, / close,,,"
@@ -45,8 +83,219 @@ def seven(screen: Screen, see: See) -> str:
     screen.push("Award and audit")
     check("why", "7 bidders win" in " ".join(screen.texts("main .box.bad")), True)
     see("closed-seven")
+    price_by_tools(held)
     held.close_files()
     return "7 winners"
+
+
+def price_by_tools(held: Auction) -> list[list[str]]:
+    """Prices by the step that the page offers once the award has met the limit, then makes report and set. Gives the
+    rows of the prices on the page."""
+    screen = held.screen
+    screen.push("Price by tools/price")
+    check(
+        "after tools/price", screen.texts("main .box.good"), ["Both programs say yes, and print the same to the byte."]
+    )
+    held.see("closed-priced")
+    rows: list[list[str]] = screen.evaluate(
+        "[...document.querySelectorAll('.step tbody tr')].map(row => [...row.cells].map(it => it.innerText.trim()"
+        ".replace(/\\s+/g, ' ')))"
+    )
+    for step in ("report", "publish"):
+        screen.push(STEPS[step])
+        check(f"after {STEPS[step]}", screen.texts("main .box.bad:not(.alarm)"), [])
+    held.need_right()
+    return rows
+
+
+def eight(screen: Screen, see: See) -> str:
+    """Eight bidders win: from the first line to the published set, whose page has the prices, who found and who judged
+    them."""
+    held = Auction(screen, EIGHT_AWARD, EIGHT, see=see)
+    held.start()
+    check("what is said at the start", "Up to 8 bidders could win." in screen.text(), True)
+    held.note_first()
+    held.hold(range(1, 11))
+    held.write(11, 19)
+    held.hold([20])
+    held.write(21, 38)
+    screen.push("What would a close do?")
+    check("by what it can be priced", "`tools/price` is for that" in screen.text(), True)
+    see("close-eight")
+    held.home()
+    held.close(39)
+    screen.push(STEPS["award"])
+    check("why", "8 bidders win" in " ".join(screen.texts("main .box.bad")), True)
+    check("what the page prints", price_by_tools(held), EIGHT_PRICES)
+    published(held)
+    held.home()
+    held.close_files()
+    return "39 lines, 8 winners, revenue 680"
+
+
+def published(held: Auction) -> None:
+    """The page of the set and the report say what each winner pays, who found the prices, and who judged them."""
+    screen = held.screen
+    screen.load(f"file://{held.set()}/index.html")
+    page = " ".join(screen.ask("document.body.innerText").split())
+    for words in (
+        "Eight winners pay 680 for all 8 lots.",
+        *(f"{name} {lots[:9]} {pays}" for name, lots, _, _, pays in EIGHT_PRICES[:-1]),
+        "prices found not by cca, which prices at most 6 winners",
+        "cca, whose audit says yes",
+    ):
+        check(f"{words} on the page of the set", words in page, True)
+    held.see("set-eight")
+    screen.load(f"file://{held.set()}/report.html")
+    report = " ".join(screen.ask("document.body.innerText").split())
+    for words in (
+        "8 bidders win, and the program finds prices for at most 6: another program found these.",
+        "The certificate was tested by two programs, which share no code.",
+    ):
+        check(f"{words} in the report", words in report, True)
+
+
+def twelve(screen: Screen, see: See) -> str:
+    """A drill in which twelve bidders win: the end says by what they can be priced, and they are."""
+    with tempfile.TemporaryDirectory() as folder:
+        files = [pathlib.Path(folder, name) for name in ("award", "log")]
+        subprocess.run([PROGRAM, "make", "7", *files], check=True, stdout=subprocess.DEVNULL)
+        award = files[0].read_bytes()
+    names, supplies = (re.findall(rf"{key} = (.+)", award.decode()) for key in ("name", "supply"))
+    bidders = [it.strip('"') for it in names[len(supplies) :]]
+    places = [place for place, many in enumerate(supplies) for _ in range(int(many))]
+    bids = [
+        f"bid,{name},{' '.join('1' if it == place else '0' for it in range(len(supplies)))},"
+        for name, place in zip(bidders, places)
+    ]
+    held = Auction(screen, award, lines(" / ".join([*bids, "close,,,", "close,,,"])), see=see)
+    held.start()
+    held.note_first()
+    held.write(1, len(bids))
+    held.hold([len(bids) + 1])
+    screen.push("What would a close do?")
+    check("by what it can be priced", "`tools/price` is for that" in screen.text(), True)
+    held.home()
+    held.close(len(bids) + 2)
+    screen.push(STEPS["award"])
+    check("why", f"{len(bids)} bidders win" in " ".join(screen.texts("main .box.bad")), True)
+    rows = price_by_tools(held)
+    check("how many are priced", len(rows) - 1, len(bids))
+    held.close_files()
+    return f"{len(bids)} winners"
+
+
+def choose_file(held: Auction, data: bytes) -> None:
+    """Chooses a file in the form of a list."""
+    path = held.folder / "a list, of tarn.csv"
+    path.write_bytes(data)
+    screen = held.screen
+    root = screen.call("DOM.getDocument")["root"]["nodeId"]
+    field = screen.call("DOM.querySelector", nodeId=root, selector="#file")["nodeId"]
+    screen.call("DOM.setFileInputFiles", nodeId=field, files=[str(path)])
+    screen.choose("bidder-list", "tarn")
+
+
+def csv_file(screen: Screen, see: See) -> str:
+    """A list comes as a CSV file: what is no CSV is named, faults are shown by the lines of the file, rows without one are
+    entered while the others are kept, and the list is read back."""
+    held = Auction(screen, AWARD, b"".join(LOG.splitlines(True)[:BEGUN]) + FILE_LINES, see=see)
+    held.begin_with(BEGUN)
+    held.start()
+    screen.push("Hand in a list")
+    see("list")
+    hand_in = "What would be the replies?"
+    for data, part in (
+        (b"PK\x03\x04 a workbook", "is a workbook (.xlsx or .ods), not CSV"),
+        (b"1 0 0 0;5\n" * 150_000, "the file is larger than 262,144 bytes"),
+    ):
+        choose_file(held, data)
+        screen.push(hand_in)
+        check(part, part in " ".join(screen.texts("#fault")), True)
+        check("the focus of a wrong file", screen.focus(), "file")
+        check("the fault in view", is_in_view(screen, "#fault"), True)
+    see("list-wrong-file")
+    table = '"a800";"b800";"c2600";"d2600";"Amount; gross"\r\n2;0;2;0;"510,000"\r\n2;0;0;0;490000.00\r\n;;;;\r\n'
+    names = [it.decode() for it in re.findall(rb'name = "(\w+)"', AWARD)[:4]]
+    for old, new in zip(("a800", "b800", "c2600", "d2600"), names):
+        table = table.replace(f'"{old}"', f'"{new}"')
+    choose_file(held, codecs.BOM_UTF8 + table.encode())
+    screen.push(hand_in)
+    check("the fault", screen.texts("#fault")[0].startswith("Nothing was written. Line 3, `2;0;0;0;490000.00`"), True)
+    check("the focus of a wrong list", screen.focus(), "list")
+    see("list-faults")
+    screen.push("Go on with the 1 without a fault, as drafts; keep the others")
+    check("replies", held.replied(), ["ok"])
+    check("what stays", "So nothing is dropped, and nothing is submitted." in screen.text(), True)
+    see("preview-list")
+    screen.push("Write it")
+    held.need_log(BEGUN + 1)
+    screen.push("Go on with the lines that the form keeps")
+    check("what is kept", screen.value("list").splitlines()[1:], ["2;0;0;0;490000.00"])
+    screen.fill("list", "2 0 0 0;490,000")
+    screen.push(hand_in)
+    check("replies", held.replied(), ["ok", "ok"])
+    check("what is read back", "Read this back to tarn before you write it: 1 package," in screen.text(), True)
+    screen.push("Write 2 lines")
+    held.need_log(BEGUN + 3)
+    screen.push("Read back to tarn")
+    check("the sheet to sign", "The list: 2 submitted, together 1,000,000." in screen.text(), True)
+    see("readback")
+    held.home()
+    held.close_files()
+    return "2 files refused by name, 1 with a fault in line 3"
+
+
+def restarted(screen: Screen, see: See) -> str:
+    """The desk is killed after a close was taken back, and started again; then over a line that is none."""
+    held = Auction(screen, SMALL, KEYS, see=see)
+    held.start()
+    held.note_first()
+    held.hold(range(1, 5))
+    take_back(held, "3", "west's bid wasn't in yet")
+    held.note_all()
+    held.desk.kill()
+    held.start()
+    check("after the restart", screen.heading(), "Round 1 is open")
+    check("what has an answer", "had no answer yet" in screen.text(), False)
+    check("what can be entered again", "Enter the cut lines again" in screen.text(), False)
+    see("restart-taken-back")
+    for place in (held.desk.room, f"{held.inside}bidder/west"):
+        screen.load(place)
+        told = "Close 1 is taken back. Round 1 is open again, and all its lines stay. Reason: west's bid wasn't in yet"
+        check(f"the news on {place}", told in screen.text(), True)
+    held.need_log(3)
+    held.log_path.write_bytes(held.prefix(3) + b"hello\n")
+    held.desk.kill()
+    held.start()
+    check("over a line that is none", screen.heading(), "The desk has stopped")
+    see("stopped-none")
+    screen.fill("why", "an editor")
+    screen.push("Take out what isn't answered")
+    held.need_log(3)
+    held.home()
+    held.hold(range(4, len(held.records) + 1))
+    held.end()
+    held.close_files()
+    return "a close taken back, 2 restarts"
+
+
+def narrow_day(screen: Screen, see: See) -> str:
+    """A whole auction on a telephone's width, from the door to the published set."""
+
+    def at_400(name: str) -> None:
+        see(f"{name}-at-400")
+        screen.size(400, 800, is_phone=True)
+
+    screen.size(400, 800, is_phone=True)
+    held = Auction(screen, SMALL, KEYS, see=at_400)
+    held.start()
+    held.note_first()
+    held.hold(range(1, len(held.records) + 1))
+    held.end()
+    held.close_files()
+    screen.size(WIDTH, HEIGHT)
+    return f"{len(held.records)} lines at 400"
 
 
 def entered_again(screen: Screen, see: See) -> str:
@@ -168,6 +417,11 @@ def room(screen: Screen, see: See) -> str:
 
 PEOPLE = {
     "seven": seven,
+    "eight": eight,
+    "twelve": twelve,
+    "csv_file": csv_file,
+    "restarted": restarted,
+    "narrow_day": narrow_day,
     "entered_again": entered_again,
     "two": two,
     "narrow": narrow,

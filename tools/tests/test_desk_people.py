@@ -10,10 +10,8 @@ from desk_client import PROGRAM, Client, DeskTest, Reader, files_of
 from checks.cases.samples import sample
 
 from cca_tools.desk.disk import why_of
-from cca_tools.desk.lines import NotLines
-from cca_tools.desk.pasting import ListFaults, paste_of, sheet_of
+from cca_tools.desk.pasting import paste_of
 from cca_tools.rules.award import read_award
-from cca_tools.rules.names import NO_NAMES, names_of
 from cca_tools.rules.pricing import most_winners, winners_warning
 
 SAMPLE = sample("spectrum.log")
@@ -193,63 +191,11 @@ class Faults(DeskTest):
         self.assertEqual(why_of(OSError(5, "Input/output error")), "Input/output error")
 
 
-class Lists(DeskTest):
-    award_text = award_of(1, 3, 3).replace(
-        "[[bidder]]", '[[category]]\nname = "tail"\nsupply = 5\npoints = 1\nreserve = 1\n[[bidder]]', 1
-    )
-
-    def test_forms_of_a_list(self) -> None:
-        award = read_award(self.award_text.encode())
-        names = names_of(b'[category.tail]\nname = "The tail"\n', award)
-        for text in (
-            "1 0,10\n2 3,2100\n",
-            "1 0;10\r\n2 3;2,100\r\n",
-            "1\t0\t10\n2\t3\t2 100\n",
-            "package;amount\n1 0;10\n2 3;2'100\n",
-            'lot,tail,amount\n1,0,10\n\n2,3,"2,100"\n',
-            "The tail;LOT;Amount\n0;1;10\n3;2;2100\n;;\n",
-        ):
-            self.assertEqual(dict(sheet_of(text, award, names).bids), {(1, 0): 10, (2, 3): 2100}, text)
-        for text, part in (
-            ("", "no row"),
-            ("lot,head,amount\n1,0,10", "`head`"),
-            ("lot,lot,amount\n1,0,10", "each category once"),
-            ("1 0,10\n1 0,11", "in the list already"),
-            ("1 0,1.5", "whole number"),
-            ("1 0 0,15", "has 3 counts"),
-            ("1,2,3,4", "4 columns"),
-        ):
-            with self.subTest(text), self.assertRaisesRegex(NotLines, re.escape(part)):
-                sheet_of(text, award, NO_NAMES)
-        with self.assertRaises(ListFaults) as caught:
-            sheet_of("1 0,x1\n1 0,5\n2 0,\n", award, NO_NAMES)
-        self.assertEqual([it[:6] for it in caught.exception.faults[-1:]], ["Line 3"])
-
-    def test_a_list_is_handed_in(self) -> None:
-        client = self.open(SEALED)
-        client.write("draft,tarn,1 0 0 0,1000000")
-        client.load("list")
-        client.send("list", bidder="tarn", list="2 1 4 0;5,000,000\n2 0 4 0;4,000,000\n", whole="on", submit="on")
-        self.assertRegex(client.place, "^/preview/")
-        text = client.form("write")["text"]
-        self.assertEqual(
-            text, "drop,tarn,1 0 0 0,\ndraft,tarn,2 1 4 0,5000000\ndraft,tarn,2 0 4 0,4000000\nsubmit,tarn,,\n"
-        )
-        client.send("write")
-        self.assertTrue(self.log().endswith(text.encode()))
-        client.load("bidder/tarn/readback")
-        self.assertIn("Read back to tarn", client.text())
-        self.assertIn("The bidder confirms that this is what it sent.", client.text())
-        client.load("list")
-        client.send("list", bidder="tarn", list="2 1 4 0;x1\n1;2;3\n")
-        self.assertIn("2 faults", client.text())
-        self.assertEqual(client.form("list")["list"].strip(), "2 1 4 0;x1\n1;2;3")
-
+class Pastes(unittest.TestCase):
     def test_pastes(self) -> None:
-        award = read_award(self.award_text.encode())
-        paste = paste_of("bid,b1,1 0,\r\nclose,,,\r\n \r\nbid,b1,1,", award)
-        self.assertEqual((list(paste.good), [it.row for it in paste.faults]), (["bid,b1,1 0,"], [2, 3, 4]))
-        self.assertEqual(paste.rest, "close,,,\nbid,b1,1,\n")
+        paste = paste_of("bid,b1,1,\r\nclose,,,\r\n \r\nbid,b1,1 0,", read_award(award_of(1, 3, 3).encode()))
+        self.assertEqual((list(paste.good), [it.row for it in paste.faults]), (["bid,b1,1,"], [2, 3, 4]))
+        self.assertEqual(paste.rest, "close,,,\nbid,b1,1 0,\n")
 
 
 class Found(DeskTest):

@@ -186,6 +186,7 @@ def serve(app: object, listener: socket.socket) -> None:
         threads=THREADS,
         ident=None,
         max_request_body_size=2 * MOST_BYTES,
+        inbuf_overflow=2 * MOST_BYTES + 1,  # (in memory: no list of a bidder is in a file of the system's)
         connection_limit=CONNECTIONS,
         channel_timeout=IDLE_SECONDS,
         cleanup_interval=5,

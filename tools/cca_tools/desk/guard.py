@@ -9,6 +9,7 @@ so no cookie; its path can't be guessed, since a browser sends cookies to every 
 from __future__ import annotations
 
 import hmac
+import io
 import re
 import secrets
 from dataclasses import dataclass, field
@@ -19,7 +20,7 @@ LETTERS = "abcdefghjkmnpqrstuvwxyz23456789"  # (without those that look like oth
 KEY_LETTERS, GROUP = 24, 4
 COOKIE = "desk"
 MOST_BYTES = 1 << 20
-FORM = "application/x-www-form-urlencoded"
+FORM, FILE_FORM = "application/x-www-form-urlencoded", "multipart/form-data"
 POLICY = "default-src 'none'; style-src 'self'; form-action 'self'; base-uri 'none'; frame-ancestors 'none'"
 HEADERS = {
     "Content-Security-Policy": POLICY,
@@ -31,6 +32,13 @@ HEADERS = {
     "Cross-Origin-Opener-Policy": "same-origin",
     "Cross-Origin-Resource-Policy": "same-origin",
 }
+
+
+class InMemory(Request):
+    """A request whose files stay in memory: no list of a bidder reaches the disk beside the log."""
+
+    def _get_file_stream(self, *args: object, **how: object) -> io.BytesIO:
+        return io.BytesIO()
 
 
 def new_key() -> str:
@@ -97,7 +105,12 @@ class Guard:
         """The status with which a form is refused, or None."""
         if request.headers.get("Origin") != self.origin:
             return 403
-        return None if request.mimetype == FORM else 415
+        is_form = request.mimetype == FORM or request.mimetype == FILE_FORM and self.takes_file(request)
+        return None if is_form else 415
+
+    def takes_file(self, request: Request) -> bool:
+        """Whether a request is for the one page that takes a file."""
+        return bool(request.path == f"{self.inside}/list")
 
     def is_inside(self, request: Request) -> bool:
         """Whether a request is for a page of the desk; a wrong path of one is refused as without the cookie."""

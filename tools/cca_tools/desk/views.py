@@ -15,6 +15,7 @@ from cca_tools.desk.control import NOT_COMPARED, Answered, Close, Desk, Moment, 
 from cca_tools.desk.faults import common_length, whole_lines
 from cca_tools.desk.lines import KINDS, Typed, close_words, cut_words
 from cca_tools.desk.lists import draft_table, total_words
+from cca_tools.desk.sheets import MOST_FILE, Handed
 from cca_tools.desk.tables import NONE, Cell, Column, Row, Table, Tone
 from cca_tools.desk.told import Speech, list_warnings, told_lines
 from cca_tools.page.words import commas, count, number
@@ -186,6 +187,7 @@ class Preview:
     write_admitted: str
     correct: str
     drop: str
+    readback: str
 
 
 @dataclass(frozen=True)
@@ -650,14 +652,16 @@ def priced_words(desk: Desk, moment: Moment) -> Priced:
     )
 
 
-def preview_page(desk: Desk, moment: Moment, answered: Answered) -> Preview:
-    """What lines would be answered."""
+def preview_page(desk: Desk, moment: Moment, answered: Answered, handed: Handed | None = None) -> Preview:
+    """What lines would be answered. Of a list that was handed in, only drafts are written without the others."""
     many, refused = len(answered.lines), answered.refused
     if many == 1:
         title = "It would be refused" if refused else "It would be admitted"
     else:
         title = f"{number(refused)} of {many} would be refused" if refused else f"All {many} would be admitted"
     admitted = records_of(answered, is_ok=True) if refused and refused < many else ""
+    if handed:
+        admitted = "".join(it for it in admitted.splitlines(True) if not it.startswith("submit,"))
     return Preview(
         title=title,
         lines=previewed_views(desk, moment, answered),
@@ -667,9 +671,21 @@ def preview_page(desk: Desk, moment: Moment, answered: Answered) -> Preview:
         admitted=admitted,
         refused=records_of(answered, is_ok=False) if admitted else "",
         write=write_words(many, refused),
-        write_admitted=f"Write only the {count(many - refused, 'admitted line')}",
-        correct="Correct it" if many == 1 else "Correct them",
+        write_admitted=f"Write only the {count(admitted.count(chr(10)), 'admitted line')}",
+        correct="Correct the list" if handed else "Correct it" if many == 1 else "Correct them",
         drop="Drop it" if many == 1 else "Drop them",
+        readback=readback_words(desk, handed) if handed else "",
+    )
+
+
+def readback_words(desk: Desk, handed: Handed) -> str:
+    """By what a bidder confirms its list before it is written."""
+    bids, speech = handed.sheet.bids, desk.speech
+    total = speech.amount(sum(bids.values()))
+    most, amount = max(bids.items(), key=lambda it: it[1])
+    return (
+        f"Read this back to {speech.bidder(handed.bidder)} before you write it: {count(len(bids), 'package')}, together"
+        f" {total}; the highest amount is {speech.amount(amount)} for {speech.package(most)}."
     )
 
 
@@ -721,7 +737,8 @@ def written_page(desk: Desk, moment: Moment, first: int, last: int, was_there: b
     more = len(auction.lines) - last
     closes = [it for it in closes_of(moment.data, auction) if first <= it.record <= last]
     seal, seal_name = seal_view(desk, moment, closes[-1]) if closes else ("", "")
-    bidders = [line.name for line in shown.lines if line.bidder] if len(shown.lines) == 1 else []
+    named_in = {line.name for line in shown.lines if line.bidder}
+    bidders = list(named_in) if len(named_in) == 1 else []
     title, lead = "Written and synced", ""
     if was_there:
         title = "It is in the log already" if first == last else "They are in the log already"
@@ -777,6 +794,7 @@ class ListForm:
     heads: str
     text: str
     unit: str
+    most: str
     is_whole: bool
     submits: bool
 
@@ -788,7 +806,13 @@ def list_form(desk: Desk, typed: Mapping[str, str]) -> ListForm:
     heads = ";".join([*(names.category(it.name) for it in desk.award.categories), "amount"])
     is_new = not typed
     return ListForm(
-        bidders, heads, typed.get("list", ""), desk.speech.unit, is_new or "whole" in typed, is_new or "submit" in typed
+        bidders=bidders,
+        heads=heads,
+        text=typed.get("list", ""),
+        unit=desk.speech.unit,
+        most=number(MOST_FILE),
+        is_whole=is_new or "whole" in typed,
+        submits=is_new or "submit" in typed,
     )
 
 

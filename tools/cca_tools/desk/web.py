@@ -22,10 +22,11 @@ from cca_tools.desk.answers import NoLine
 from cca_tools.desk.approval import Asked, People
 from cca_tools.desk.control import Desk, Moment, Stopped, WrongWords, closes_of, need_words
 from cca_tools.desk.ending import Ending, Outcome
-from cca_tools.desk.guard import FORM, HEADERS, MOST_BYTES, Guard
+from cca_tools.desk.guard import FORM, HEADERS, MOST_BYTES, Guard, InMemory
 from cca_tools.desk.lines import CLOSE, NotLines, Typed, agrees, cut_words, need_alone, plain
 from cca_tools.desk.logfile import Base, Mend, Refused, Stop, Written
-from cca_tools.desk.pasting import ListFaults, bidder_in, paste_of, sheet_of
+from cca_tools.desk.pasting import paste_of
+from cca_tools.desk.sheets import MOST_FILE, Handed, bidder_in, sheet_of, text_of
 from cca_tools.desk.views import FormFault
 from cca_tools.page.ink import variables
 from cca_tools.rules.view import view_text
@@ -56,19 +57,28 @@ MENDS: dict[Mend, str] = {
 }
 KEEP: Mend = "keep changed log"
 KEEP_WORDS = "go on with the changed log"
+KEPT_ROWS = (
+    "These rows of the list aren't written yet. No draft was dropped: hand in the whole list once it has no fault."
+)
 NOT_SECOND = "The second person approves or declines, and writes nothing."
 
 
 @dataclass(frozen=True)
 class Kept:
-    """What a form had, for the page that it leads to: the fields as typed, the lines, what was wrong, and the lines
-    that the form keeps for later."""
+    """What a form had, for the page that it leads to: the fields as typed, the lines, what was wrong, the lines that
+    the form keeps for later, and the list that the lines are of."""
 
     form: Mapping[str, str] = field(default_factory=dict)
     text: bytes = b""
     notice: str = ""
     fault: FormFault = FormFault()
     rest: str = ""
+    handed: Handed | None = None
+
+    @property
+    def page(self) -> str:
+        """The page that shows the form."""
+        return "list" if "list" in self.form else "entry"
 
 
 class Store:
@@ -145,6 +155,9 @@ class Pages:
 
     def http_fault(self, fault: HTTPException) -> Answer:
         """The page of a fault of a request."""
+        if fault.code == 413 and self.guard.takes_file(request):  # (of a browser that has entered)
+            why = f"Nothing was read: the file is larger than {MOST_FILE:,} bytes, and a list isn't."
+            return self.to(f"list/{self.store.keep(Kept(fault=FormFault('file', [why])))}")
         return self.refusal(fault.code or 500)
 
     def shown(self, template: str, status: int = 200, /, **facts: Any) -> Answer:
@@ -306,30 +319,63 @@ class Pages:
         return self.keep("preview", text, rest=rest)
 
     def list_form(self, number: str = "") -> Answer:
-        """The form for a list of a bidder as CSV."""
+        """The form for a list as CSV."""
         kept = self.store.find(number) if number else Kept()
+        if kept.handed:
+            kept = self.with_list_reasons(kept, kept.handed)
         page = views.list_form(self.desk, kept.form)
         return self.shown("list.html", page=page, fault=kept.fault, notice=kept.notice)
 
+    def with_list_reasons(self, kept: Kept, handed: Handed) -> Kept:
+        """The form of a list that is corrected, with why its rows would be refused."""
+        moment = self.desk.now()
+        try:
+            page = views.preview_page(self.desk, moment, self.desk.preview(moment, kept.text))
+        except Refused as fault:
+            return replace(kept, notice=str(fault))
+        refused = [it for it in page.lines if not it.is_ok]
+        reasons = [f"{handed.place(it.record)} would be refused: {it.reply}. {it.words}" for it in refused]
+        return replace(kept, fault=FormFault("list", reasons))
+
     def take_list(self) -> Answer:
-        """Takes a list that was handed in to the page that shows the replies to its lines."""
-        form = request.form
+        """Takes a list that was handed in, as a file or as text, to the page that shows the replies to its lines."""
+        form, text = request.form, request.form.get("list", "")
         try:
             moment = self.desk.now()
             if moment.auction.stage != "sealed":
                 raise Refused("Lists are taken only after the clock has ended.")
-            name = form.get("bidder", "")
-            j = bidder_in(self.desk.award, name)
-            sheet = sheet_of(form.get("list", ""), self.desk.award, self.desk.names)
-            drafts = moment.auction.desks[j - 1].drafts
-            text = plain(sheet.lines(name, drafts, "whole" in form, "submit" in form))
-            self.desk.preview(moment, text)
-        except ListFaults as fault:
-            return self.keep("list", fault=FormFault("list", fault.faults))
+            text = self.file_text() or text
+            j = bidder_in(self.desk.award, form.get("bidder", ""))
+            if not text.strip():
+                raise NotLines("Choose the bidder's file, or paste its rows.", "file")
+            sheet = sheet_of(text, self.desk.award, self.desk.names)
+            if sheet.faults and not (sheet.rows and "good" in form):
+                sentences = [f"Nothing was written. {it.words()}" for it in sheet.faults]
+                return self.keep_list(text, FormFault("list", sentences, len(sheet.rows)))
+            handed = Handed(self.desk.award.names[j - 1], sheet, "whole" in form, "submit" in form)
+            lines = plain(handed.lines(moment.auction.desks[j - 1].drafts))
+            self.desk.preview(moment, lines)
         except (NotLines, Refused) as fault:
-            where = getattr(fault, "field", "") or "list"
-            return self.keep("list", fault=FormFault(where, [f"Nothing was written. {fault}"]))
-        return self.to(f"preview/{self.store.keep(Kept({'raw': text.decode()}, text))}")
+            return self.keep_list(
+                text, FormFault(getattr(fault, "field", "") or "list", [f"Nothing was written. {fault}"])
+            )
+        return self.to(f"preview/{self.store.keep(Kept(self.list_fields(text), lines, handed=handed))}")
+
+    def file_text(self) -> str:
+        """The text of the file that was chosen, or nothing if none was. Raises `NotLines`."""
+        files_sent = [it for it in request.files.getlist("file") if it.filename]
+        if len(files_sent) > 1:
+            raise NotLines("Choose one file.", "file")
+        return text_of(files_sent[0].read()) if files_sent else ""
+
+    def list_fields(self, text: str) -> dict[str, str]:
+        """The fields of the form of a list, with the text of its file."""
+        fields = {name: value for name, value in request.form.items() if name in ("bidder", "whole", "submit")}
+        return {**fields, "list": text}
+
+    def keep_list(self, text: str, fault: FormFault) -> Answer:
+        """Sends the browser on to the form of a list, with what is wrong in it."""
+        return self.to(f"list/{self.store.keep(Kept(self.list_fields(text), fault=fault))}")
 
     def cut_lines(self, moment: Moment) -> tuple[str, int]:
         """The lines of the open round, or of the lists, that the last cut took away, if nothing was written after it;
@@ -364,16 +410,18 @@ class Pages:
             return self.stage(kept)
         moment = self.desk.now()
         try:
-            page = views.preview_page(self.desk, moment, self.desk.preview(moment, kept.text))
+            answered = self.desk.preview(moment, kept.text)
         except Refused as fault:
             return self.stage(Kept(kept.form, notice=f"Nothing was written. {fault}"))
+        page, faults = views.preview_page(self.desk, moment, answered, kept.handed), kept.rest.count("\n")
         facts = {
             "notice": kept.notice,
             "base": moment.base.text(),
             "text": kept.text.decode(),
             "number": number,
             "rest": kept.rest,
-            "rest_count": kept.rest.count("\n"),
+            "rest_count": len(kept.handed.sheet.faults) if kept.handed else faults,
+            "is_list": kept.handed is not None,
         }
         return self.shown("preview.html", page=page, **facts)
 
@@ -400,9 +448,20 @@ class Pages:
         except NotLines as fault:
             return self.to(f"entry/{self.store.keep(Kept({'raw': sent}, notice=f'Nothing was written. {fault}'))}")
         except Refused as fault:
-            return self.to(f"preview/{self.store.keep(Kept({'raw': sent}, text, str(fault)))}")
+            before = self.store.find(request.form.get("handed", ""))
+            form = before.form if before.handed else {"raw": sent}
+            return self.to(f"preview/{self.store.keep(Kept(form, text, str(fault), handed=before.handed))}")
+        left = self.left_of(text)
+        return self.to_lines(written, text.count(b"\n"), self.store.keep(left) if left else "")
+
+    def left_of(self, text: bytes) -> Kept | None:
+        """The form with what it keeps after these lines are written: lines of a paste, or rows of a list."""
         rest = request.form.get("rest", "").replace("\r\n", "\n")
-        return self.to_lines(written, text.count(b"\n"), self.store.keep(Kept({"raw": rest})) if rest else "")
+        handed = self.store.find(request.form.get("handed", "")).handed
+        if handed and (rows := handed.rest(text)):
+            fields = {"bidder": handed.bidder, "list": rows, **({"submit": "on"} if handed.submits else {})}
+            return Kept(fields, notice=KEPT_ROWS if handed.is_whole else "")
+        return Kept({"raw": rest}) if rest else None
 
     def write_close(self) -> Answer:
         """Writes a close, or asks the second person."""
@@ -483,7 +542,8 @@ class Pages:
             abort(404)
         page = views.written_page(self.desk, moment, first, last, "again" in request.args)
         rest = request.args.get("rest", "")
-        facts = {"copy_fault": self.desk.copy_fault, "rest": rest if rest in self.store.kept else ""}
+        place = f"{self.store.find(rest).page}/{rest}" if rest in self.store.kept else ""
+        facts = {"copy_fault": self.desk.copy_fault, "rest": place}
         facts["announcement"] = files.announcement(self.desk, moment, last, self.with_demand) if page.seal else ""
         return self.shown("written.html", page=page, last=last, **facts)
 
@@ -708,6 +768,7 @@ def make_app(desk: Desk, guard: Guard, ending: Ending, with_demand: bool = False
         desk, guard, ending, with_demand
     )
     app.config["MAX_CONTENT_LENGTH"] = MOST_BYTES
+    app.request_class = InMemory
     app.jinja_env.trim_blocks = app.jinja_env.lstrip_blocks = True
     app.jinja_env.undefined = jinja2.StrictUndefined
     app.before_request(pages.watch)
