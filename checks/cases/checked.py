@@ -11,9 +11,10 @@ from checks.cases.program import PROGRAM
 
 from cca_tools.data.prices import prices_of
 from cca_tools.rules.award import read_award
-from cca_tools.studies.bidding import Strategy
 from cca_tools.studies.rehearsal import held
-from cca_tools.studies.rows import best_value, log_text
+from cca_tools.studies.rows import best_of_values
+from cca_tools.studies.awarding import log_text
+from cca_tools.studies.strategies import Strategy
 from cca_tools.studies.values import values_of_seed
 
 
@@ -35,7 +36,7 @@ def faults(number, is_small=False):
     form, award_bytes, values_bytes = rehearsed.drawn(number, is_small)
     award = read_award(award_bytes)
     values = values_of_seed(award, values_bytes, number)
-    auction = held(award, values, Strategy(fit=False))
+    auction = held(award, values, [Strategy(fit=False)] * len(values))
     printed, replies = awarded(award_bytes, auction)
     refused = [it for it in replies if it.split(" ")[1] not in ("ok", "round", "sealed", "closed")]
     found = [f"refused: {it}" for it in refused]
@@ -61,8 +62,8 @@ def differing(award, values, prices):
     every = range(len(values))
     # What is worth less than its reserves can't be bid for, and is never in the best allocation.
     most = best(award.supply, award.reserves, values, every)
-    if best_value(award, values) != most:
-        yield f"the best value is {best_value(award, values)}, and of all allocations {most}"
+    if best_of_values(award, values) != most:
+        yield f"the best value is {best_of_values(award, values)}, and of all allocations {most}"
     won = {j: values[j][row.package] - row.reserve for j, row in enumerate(prices.rows) if row.package}
     if sum(won.values()) != most:
         yield f"the winners have {sum(won.values())}, and the best allocation {most}"

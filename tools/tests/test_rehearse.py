@@ -14,9 +14,10 @@ from cca_tools.rules.auction import replay
 from cca_tools.rules.award import read_award
 from cca_tools.rules.book import book_text
 from cca_tools.rules.log import read_log
-from cca_tools.studies.bidding import Strategy, Straightforward, sealed_list
+from cca_tools.studies.bidding import Straightforward, sealed_list
 from cca_tools.studies.rehearsal import Rehearsal, held
-from cca_tools.studies.rows import log_text
+from cca_tools.studies.awarding import log_text
+from cca_tools.studies.strategies import Strategy
 from cca_tools.studies.values import values_of_seed
 
 ONE = b"""version = 2
@@ -70,21 +71,21 @@ class Bidders(unittest.TestCase):
         """Half of 60 is above the reserves of 20; half of 30 is 15, the reserves of 1 1; 4 is below its reserve."""
         award = read_award(ONE)
         values = values_of_seed(award, VALUES, 1)
-        rehearsal = Rehearsal(award, values, Strategy())
+        rehearsal = Rehearsal(award, values, [Strategy()] * 2)
         for line in rehearsal.right_lines():
             if rehearsal.auction.stage == "sealed":
                 break
             rehearsal.auction.take(line)
         asked = rehearsal.auction.highest_in_clock(1)[2, 0]
-        listed = sealed_list(rehearsal.auction, 1, values[0], Strategy(50, False))
+        listed = sealed_list(rehearsal.auction, 1, values[0], Strategy(50, fit=False))
         self.assertEqual(listed, {(1, 1): 15, (2, 0): max(30, asked)})
-        self.assertEqual(sealed_list(rehearsal.auction, 1, values[0], Strategy(100, False)), {(1, 1): 30, (2, 0): 60})
+        self.assertEqual(sealed_list(rehearsal.auction, 1, values[0], Strategy(fit=False)), {(1, 1): 30, (2, 0): 60})
 
     def test_lists_are_within_their_caps_where_nothing_else_is_said(self) -> None:
         """Three times its values are above a bidder's caps: such a list is refused, or lowered to them."""
         award = read_award(ONE)
         values = values_of_seed(award, VALUES, 1)
-        lowered, whole = (held(award, values, it) for it in (Strategy(300), Strategy(300, fit=False)))
+        lowered, whole = (held(award, values, [it] * 2) for it in (Strategy(300), Strategy(300, fit=False)))
         self.assertEqual({reply.word for reply in lowered.replies if not reply.is_ok}, set())
         self.assertEqual({reply.word for reply in whole.replies if not reply.is_ok}, {"relative-cap"})
 
@@ -126,7 +127,7 @@ class Command(unittest.TestCase):
     def test_the_desk_closes(self) -> None:
         """The closes are written by another thread, which looks at the file as a desk does."""
         award, log = read_award(ONE), self.folder / "log"
-        right = log_text(held(award, values_of_seed(award, VALUES, 1), Strategy()))
+        right = log_text(held(award, values_of_seed(award, VALUES, 1), [Strategy()] * 2))
         bids = [part.count(b"\n") for part in right.split(b"close,,,\n")[:-1]]
 
         def close() -> None:

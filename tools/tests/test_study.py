@@ -25,7 +25,7 @@ from cca_tools.page import html, plain
 from cca_tools.page.document import Figures, Table
 from cca_tools.rules.award import read_award
 from cca_tools.rules.stops import Stop
-from cca_tools.studies import pictures, rows
+from cca_tools.studies import awarding, pictures, rows
 from cca_tools.studies.measures import Spread, pairs_of, results_of, spread_of, student, wilson
 from cca_tools.studies.pages import drawings, page_of
 from cca_tools.studies.origin import Origin
@@ -102,7 +102,7 @@ class Plans(WithPlan):
             ("plan = 1", "plan = 2", "`plan` is 2; it has to be a whole number from 1 to 1"),
             ("auctions = 3", "auctions = 0", "`auctions` is 0; it has to be a whole number from 1 to 1000000"),
             ("[1, 2]", "[1, 3]", "[vary]: `version` is [1, 3]; it has to be a list of whole numbers from 1 to 2"),
-            ("share", "shares", "[vary]: the key `shares` isn't known here"),
+            ("share", "sharing", "[vary]: the key `sharing` isn't known here"),
             (
                 "[vary]",
                 "[vary]\nbidders = 3",
@@ -328,7 +328,7 @@ class Runs(WithPlan):
         other.write_text(f"#!/bin/sh\n{os.path.abspath(PROGRAM)} \"$@\" | sed 's/ pays / pays 9/'\n")
         other.chmod(0o755)
         plan = read_plan(self.plan())
-        rows.audited.add(hashlib.sha256(other.read_bytes()).hexdigest())
+        awarding.audited.add(hashlib.sha256(other.read_bytes()).hexdigest())
         with unittest.mock.patch.dict(os.environ, CCA_PROGRAM=str(other)):
             (made,) = rows.rows_of(plan, [Job(0, 2)], None)
         self.assertEqual(made.stop[:2], ("cca: audit", 70))

@@ -12,12 +12,15 @@ machine:
 
 `model = "packages"` has tables [[bidder.package]] with `lots` and `value`. `global` has `lot` and `synergy`, by how
 many percent each further lot raises the worth of all (20), `local` has `lot`, `a` (320), `b` (10) and `neighbours`,
-pairs of categories; in both `most` is the greatest number of lots that is worth something.
+pairs of categories; in both `most` is the greatest number of lots that is worth something. Each table may also have
+`share` (in percent), `shade` and `budget` (amounts): the bidder names that share of its values less the shade, and
+never more than the budget.
 
 In the clock each bidder is straightforward: it asks for the package of greatest profit within its points, its spectrum
-caps and the supply; of several for one with the most points, and of these for the first in the order of packages; for
-none if no profit is 0 or more. In the sealed round it lists each package (at most 300) with its value, or a share of
-it, and submits. With --fit entries above their caps are lowered to them first; without it such a list is refused.
+caps, its budget and the supply; of several for one with the most points, and of these for the first in the order of
+packages; for none if no profit is 0 or more. In the sealed round it lists each package (at most 300) with what it names
+of its value, and submits. With --fit entries above their caps are lowered to them first; without it such a list is
+refused. --share holds for the bidders whose tables have no share.
 
 With --pace the lines come one by one. With --desk the closes are left to you: LOG is watched, and the bidders go on
 when it has a close, so that a team can rehearse its day. Slips are lines that people send by mistake; they
@@ -40,11 +43,11 @@ from cca_tools.rules.printable import printable
 from cca_tools.rules.stops import MOST, WRITE_FAULT, Stop, load
 from cca_tools.rules.view import record_text
 from cca_tools.rules.words import NUMBER
-from cca_tools.studies.bidding import Strategy
 from cca_tools.studies.draws import draws_of
 from cca_tools.studies.rehearsal import Rehearsal, held
 from cca_tools.studies.slips import places_of, slipping
-from cca_tools.studies.values import Values, values_of_seed
+from cca_tools.studies.strategies import Strategy
+from cca_tools.studies.values import Values, drawn_strategies, drawn_values, read_values
 
 POLL = 0.2  # seconds
 
@@ -177,14 +180,15 @@ def rehearse(options: argparse.Namespace) -> str:
     if options.log == "-":
         parser().error("LOG is a file, since its lines may be read again")
     seed, count = whole_of(options.seed, "--seed", 2**32 - 1), whole_of(options.slips, "--slips", MOST["records"])
-    strategy, pace = Strategy(whole_of(options.share, "--share", 1000), options.fit), seconds_of(options.pace)
+    base, pace = Strategy(whole_of(options.share, "--share", 1000), fit=options.fit), seconds_of(options.pace)
     award = read_award(load(options.award, "award"))
-    values = values_of_seed(award, load(options.values, "values"), seed)
-    log, rehearsal, draws = LogFile(options.log), Rehearsal(award, values, strategy), draws_of(seed).of("slip")
-    places = places_of(held(award, values, strategy).lines, count, draws) if count else []
+    models, draws = read_values(load(options.values, "values"), award), draws_of(seed)
+    values, strategies = drawn_values(award, models, draws), drawn_strategies(award, models, draws, base)
+    log, rehearsal, slip_draws = LogFile(options.log), Rehearsal(award, values, strategies), draws.of("slip")
+    places = places_of(held(award, values, strategies).lines, count, slip_draws) if count else []
 
     def slips(lines: Iterator[Line], at: int) -> Iterator[Line]:
-        return paced(slipping(rehearsal.auction, lines, places, draws, at), pace)
+        return paced(slipping(rehearsal.auction, lines, places, slip_draws, at), pace)
 
     if options.desk:
         at_the_desk(rehearsal, log, slips)

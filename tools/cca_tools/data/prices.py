@@ -26,7 +26,7 @@ from cca_tools.rules.stops import CRASH, DONE, LIMIT, Stop, refused
 from cca_tools.rules.types import Amount, Package
 from cca_tools.rules.weights import read_weights
 
-BY_PROGRAM, BY_TOOL = "cca", "tools/price"
+BY_PROGRAM, BY_TOOL, BY_WIN = "cca", "tools/price", "cca win"
 NO_PROGRAM = "prices are found by the program; build it with ./cca, or say where it is with CCA_PROGRAM=PATH"
 
 
@@ -113,23 +113,29 @@ def stop_of(lines: Sequence[str], status: int, said: str) -> Stop:
 
 
 def price(book: Book, *, weights: Mapping[str, int] | None = None, program: str | None = None) -> Prices:
-    """The winners of a book and their prices, by the program at this path, or by the one that `need_program` finds.
+    """The winners of a book and their prices, by the program at this path, or by the one that `need_program` finds. If
+    more bidders win than it prices, `pricing` finds the prices, and the program tests them.
 
     With weights (1 to 20, and 1 for a bidder that has none) a price is as much above the Vickrey price as they say. A
     `Stop` says in words what is wrong with the book; or that there is no program, or that no prices are found, as if
     they need more than ten rows (`cca: limit rows 11`)."""
     read_book(book_text(book))
     path = program or need_program()
+    text = None if weights is None else weights_text(book, weights)
+    try:
+        return price_by_program(book, text, path)
+    except Stop as stop:
+        if not is_beyond(stop):
+            raise
+        return price_beyond(book, text, path)
+
+
+def price_by_program(book: Book, weights: bytes | None, path: str) -> Prices:
+    """The prices that the program at this path finds, by the bytes of a file of weights if there is one."""
     if weights is None:
-        try:
-            return prices_of(book.names, book.reserves, lines_of([path, "price", "/dev/stdin", "/dev/null"], book))
-        except Stop as stop:
-            if not is_beyond(stop):
-                raise
-            return price_beyond(book)
-    text = weights_text(book, weights)
+        return prices_of(book.names, book.reserves, lines_of([path, "price", "/dev/stdin", "/dev/null"], book))
     with tempfile.NamedTemporaryFile() as file:
-        file.write(text)
+        file.write(weights)
         file.flush()
         words = [path, "weigh", "/dev/stdin", file.name, "/dev/null"]
         return prices_of(book.names, book.reserves, lines_of(words, book))
@@ -157,12 +163,15 @@ def lines_of(words: Sequence[str], book: Book) -> list[str]:
     return lines
 
 
-def price_beyond(book: Book) -> Prices:
-    """The prices of a book with any number of winners, tested by the program."""
+def price_beyond(book: Book, weights: bytes | None, path: str) -> Prices:
+    """The prices of a book with any number of winners, tested by the program at this path."""
     with tempfile.TemporaryDirectory() as folder:
-        name, cert = Path(folder, "book"), Path(folder, "cert")
-        name.write_bytes(book_text(book))
-        made = make_certificate(Asked([str(name)]), book, str(cert))
+        names = [Path(folder, "book")] if weights is None else [Path(folder, "book"), Path(folder, "weights")]
+        for name, data in zip(names, (book_text(book), weights or b"")):
+            name.write_bytes(data)
+        asked = Asked(list(map(str, names)), weights is not None, path)
+        known = None if weights is None else read_weights(weights, book)
+        made = make_certificate(asked, book, str(Path(folder, "cert")), known)
     return prices_of(book.names, book.reserves, made.lines[1:], BY_TOOL)
 
 

@@ -25,10 +25,12 @@ class Judge:
 
 @dataclass(frozen=True)
 class Asked:
-    """The files of which the prices are: BOOK, BOOK WEIGHTS, or AWARD LOG."""
+    """The files of which the prices are: BOOK, BOOK WEIGHTS, or AWARD LOG; and the program that is asked, by default
+    the one that `program` finds."""
 
     files: list[str]
     is_weighted: bool = False
+    program: str | None = None
 
     @property
     def is_auction(self) -> bool:
@@ -38,7 +40,7 @@ class Asked:
 
 def judge_of(asked: Asked) -> Judge:
     """The program, or the file for the court. A `Stop` of status 70 if neither is there."""
-    path = program()
+    path = asked.program or program()
     if path:
         word = "audit" if asked.is_auction else "weigh-check" if asked.is_weighted else "check"
         return Judge(f"cca {word}", [path, word])

@@ -1,10 +1,10 @@
 """The nearest point of least sum that meets given rows, exactly, with the multipliers that show it.
 
-The point that meets the rows and is nearest to the Vickrey prices less a great multiple of the weights has the least
-sum among those that meet the rows, and is the nearest of these. Its dual is solved by an active set method (Lawson and
-Hanson, Solving Least Squares Problems, 1974) that starts from the rows of the turn before. The multiplier of a row in
-the active set is `second + great * first`. Both parts are solved for separately, in whole numbers (Bareiss). So
-`great` is part of no price, and whether it was great enough is tested at the end.
+The point that meets the rows and is nearest to a reference (the Vickrey prices, for `cca`) less a great multiple of
+the weights has the least sum among those that meet the rows, and is the nearest of these. Its dual is solved by an
+active set method (Lawson and Hanson, Solving Least Squares Problems, 1974) that starts from the rows of the turn
+before. The multiplier of a row in the active set is `second + great * first`. Both parts are solved for separately, in
+whole numbers (Bareiss). So `great` is part of no price, and whether it was great enough is tested at the end.
 
 Winners are numbered from 0 here, and amounts are net of reserve.
 """
@@ -61,9 +61,10 @@ def solved(matrix: Sequence[Sequence[int]], sides: Sequence[Sequence[int]]) -> l
 
 @dataclass
 class Nearest:
-    """The rows so far, and the active set of the last turn with its multipliers."""
+    """The reference (Vickrey prices or another point), the rows so far, and the active set of the last turn with its
+    multipliers."""
 
-    vickrey: list[Amount]
+    reference: list[Amount]
     weights: list[int]
     rows: list[Demand] = field(default_factory=list)
     great: int = 2**160
@@ -75,8 +76,8 @@ class Nearest:
         return sum(w for i, w in enumerate(self.weights) if members >> i & 1)
 
     def gap(self, row: Demand) -> Amount:
-        """How much the Vickrey prices are short of a row."""
-        return row.bound - sum(v for i, v in enumerate(self.vickrey) if row.holds(i))
+        """How much the reference is short of a row."""
+        return row.bound - sum(v for i, v in enumerate(self.reference) if row.holds(i))
 
     def gram(self, kept: Sequence[int]) -> list[list[int]]:
         """The weighted products of rows."""
@@ -155,7 +156,7 @@ class Nearest:
     def shows(self, first: Sequence[Fraction], second: Sequence[Fraction]) -> bool:
         """Whether the multipliers show the least sum and the nearest point, so that `great` was great enough."""
         kept = [self.rows[r] for r in self.kept]
-        sums = [sum(u for row, u in zip(kept, first) if row.holds(i)) for i in range(len(self.vickrey))]
+        sums = [sum(u for row, u in zip(kept, first) if row.holds(i)) for i in range(len(self.reference))]
         return all(total == 1 for total in sums) and all(u > 0 or u == 0 <= w for u, w in zip(first, second))
 
     def made(self, first: list[Fraction], second: list[Fraction]) -> Point:
@@ -163,6 +164,6 @@ class Nearest:
         kept = [self.rows[r] for r in self.kept]
         pays = [
             Fraction(v) + w * sum(x for row, x in zip(kept, second) if row.holds(i))
-            for i, (v, w) in enumerate(zip(self.vickrey, self.weights))
+            for i, (v, w) in enumerate(zip(self.reference, self.weights))
         ]
         return Point(pays, list(self.kept), first, second)

@@ -8,6 +8,7 @@ from __future__ import annotations
 
 import dataclasses
 import math
+import operator
 import re
 from collections.abc import Iterable, Mapping, Sequence
 
@@ -46,7 +47,7 @@ MISSING = object()
 
 def dot(left: Iterable[int], right: Iterable[int]) -> int:
     """The sum of the products, place by place."""
-    return sum(a * b for a, b in zip(left, right))
+    return sum(map(operator.mul, left, right))
 
 
 @dataclasses.dataclass(frozen=True)

@@ -54,11 +54,13 @@ class Fields:
         self.need(isinstance(value, str) and (not choices or value in choices), name, rule)
         return str(value)
 
-    def texts(self, name: str) -> list[str]:
-        """A text, or a list of texts."""
-        value = self.take(name)
+    def texts(self, name: str, choices: Sequence[str] = (), default: object = MISSING) -> list[str]:
+        """A text, or a list of texts; each is one of the choices if there are any."""
+        value = self.take(name, default)
         value = value if isinstance(value, list) else [value]
-        self.need(bool(value) and all(isinstance(it, str) for it in value), name, "a text or a list of texts")
+        right = bool(value) and all(isinstance(it, str) and (not choices or it in choices) for it in value)
+        rule = f"one of {', '.join(choices)}, or a list of these" if choices else "a text or a list of texts"
+        self.need(right, name, rule)
         return [str(it) for it in value]
 
     def whole(self, name: str, low: int, high: int, default: object = MISSING) -> int:

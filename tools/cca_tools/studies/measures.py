@@ -11,7 +11,7 @@ from dataclasses import dataclass
 from fractions import Fraction
 from typing import TypeAlias
 
-from cca_tools.studies.plan import FIELDS, Case, Plan
+from cca_tools.studies.plan import Case, Plan
 from cca_tools.studies.rows import Row
 
 Measure: TypeAlias = Callable[[Row], Fraction]
@@ -195,12 +195,12 @@ def results_of(plan: Plan, table: Sequence[Row]) -> Results:
 def pairs_of(results: Results) -> list[Pair]:
     """The pairs of cases that differ in one field only, there by one step of the plan, and have auctions in common."""
     plan = results.plan
-    steps = {name: list(dict.fromkeys(getattr(case, name) for case in plan.cases)) for name in plan.varied}
+    steps = {name: list(dict.fromkeys(case.get(name) for case in plan.cases)) for name in plan.varied}
     found = []
     for first in plan.cases:
         for second in plan.cases:
-            names = [name for name in FIELDS if getattr(first, name) != getattr(second, name)]
-            if len(names) == 1 and is_step(steps[names[0]], getattr(first, names[0]), getattr(second, names[0])):
+            names = [name for name in plan.fields if first.get(name) != second.get(name)]
+            if len(names) == 1 and is_step(steps[names[0]], first.get(names[0]), second.get(names[0])):
                 if results.rows[first].keys() & results.rows[second].keys():
                     found.append(Pair(names[0], first, second))
     return found

@@ -9,9 +9,10 @@ from cca_tools.page.document import Block, Card, Cards, Content, Figures, Key, P
 from cca_tools.page.document import columns as heads
 from cca_tools.page.words import count, listed, minus
 from cca_tools.studies import pictures
+from cca_tools.studies.answers import Answer, answers_of, equilibria_of
 from cca_tools.studies.measures import MEASURES, RULES, Measure, OfBest, Pair, Results, Spread, pairs_of, per_cent
 from cca_tools.studies.origin import Origin
-from cca_tools.studies.plan import FIELDS, Plan
+from cca_tools.studies.plan import Plan
 from cca_tools.studies.pictures import Bar
 
 MEANS = {
@@ -21,6 +22,12 @@ MEANS = {
     "share": "what bidders name of their values in the sealed round, in percent",
     "bidders": "how many bidders there are, the first of the award",
     "reserve": "the award's reserves, in percent of them",
+    "format": "clock: a combinatorial clock auction; sealed: sealed bids alone, without caps",
+}
+PART_MEANS = {
+    "share": "what {} names of its values, in percent",
+    "shade": "what {} names less than its values",
+    "budget": "the most that {} asks and bids for",
 }
 SPREAD_NOTE = (
     "A line goes from the value below which 5 % of the auctions are to that of 95 %, a box from 25 % to 75 % with the"
@@ -40,17 +47,24 @@ def tried(plan: Plan, limits: int) -> Iterator[Block]:
         ]
     )
     rows: list[list[Content]] = [
-        [name, ", ".join(dict.fromkeys(str(getattr(case, name)) for case in plan.cases)), MEANS[name]]
-        for name in FIELDS
+        [name, ", ".join(dict.fromkeys(str(case.get(name)) for case in plan.cases)), means_of(name)]
+        for name in plan.fields
     ]
     yield Table("What the plan varies", heads("Field", "Values", "What it is"), rows)
     yield Words(
         "An auction of the same number has the same values of bidders in all cases. Bidders are straightforward in the"
-        " clock, and list their values, or the share of them, within their caps."
+        " clock, within their budgets, and list what their strategies name of their values, within their caps; if bids"
+        " are sealed alone there are no caps."
     )
     if limits:
         was, are = ("was", "is") if limits == 1 else ("were", "are")
         yield Words(f"{count(limits, 'auction')} {was} stopped by a limit, and {are} left out below.", tone="bad")
+
+
+def means_of(name: str) -> str:
+    """What a field is, or a part of a bidder's strategy, as `elm_share`."""
+    bidder, _, part = name.rpartition("_")
+    return MEANS[name] if name in MEANS else PART_MEANS[part].format(bidder)
 
 
 def case_rows(results: Results) -> list[list[Content]]:
@@ -154,7 +168,7 @@ def pair_title(pair: Pair) -> str:
     if pair.field == "version":
         with_cap = "with the final cap (version 2)", "without (version 1)"
         return " against ".join(with_cap if pair.second.version == 2 else with_cap[::-1])
-    return f"{pair.field} {getattr(pair.second, pair.field)} against {getattr(pair.first, pair.field)}"
+    return f"{pair.field} {pair.second.get(pair.field)} against {pair.first.get(pair.field)}"
 
 
 def change_words(name: str, spread: Spread) -> str:
@@ -173,7 +187,7 @@ def difference_words(bars: Sequence[Bar]) -> str:
 
 def others(results: Results, pair: Pair) -> str:
     """What both cases of a pair have alike of what varies."""
-    return ", ".join(f"{name} {getattr(pair.first, name)}" for name in results.plan.varied if name != pair.field)
+    return ", ".join(f"{name} {pair.first.get(name)}" for name in results.plan.varied if name != pair.field)
 
 
 def difference_bars(results: Results, pair: Pair) -> list[Bar]:
@@ -245,6 +259,39 @@ def sections_of(results: Results) -> Iterator[Section]:
         )
 
 
+ANSWERS = (
+    "What a bidder gains, on average and in the award's unit, while all else stays as it is: its best answer of what"
+    " the plan tries, and by how much less it gains otherwise, in the same auctions. A best answer is no more certain"
+    " than its lead over the next."
+)
+
+
+def answer_table(answer: Answer) -> Table:
+    """What a bidder tries, and what it gains."""
+    rows: list[list[Content]] = [
+        [f"{it.label}, best" if it is answer.best else it.label, it.profit.words(), it.gain.words()]
+        for it in answer.tried
+    ]
+    title = f"{answer.bidder}, with {answer.others}" if answer.others else answer.bidder
+    return Table(title, heads("", "Profit #", "Less than the best answer #"), rows)
+
+
+def equilibrium_words(results: Results, answers: Sequence[Answer]) -> str:
+    """The equilibria of the grid in a sentence."""
+    found = equilibria_of(results, answers)
+    if not found:
+        return "No case has best answers of all of these bidders."
+    labels = "; ".join(results.plan.label(case) for case in found)
+    return f"All of these bidders answer best in {'this case' if len(found) == 1 else 'these cases'}: {labels}."
+
+
+def answer_sections(results: Results) -> Iterator[Section]:
+    """The best answers, if the plan varies a bidder's strategy."""
+    if answers := answers_of(results):
+        words = [Words(ANSWERS), Words(equilibrium_words(results, answers))]
+        yield Section("answers", "Best answers", [*words, *map(answer_table, answers)])
+
+
 def made_with(origin: Origin) -> Section:
     """What made the rows."""
     rows: list[list[Content]] = [
@@ -261,7 +308,7 @@ def made_with(origin: Origin) -> Section:
 def page_of(results: Results, title: str, origin: Origin) -> Page:
     """The page of a study."""
     under = "Auctions of bidders with drawn values, priced by the program. `table.csv` has a row for each."
-    return Page(f"Study: {title}", under, [*sections_of(results), made_with(origin)])
+    return Page(f"Study: {title}", under, [*sections_of(results), *answer_sections(results), made_with(origin)])
 
 
 def summary(results: Results) -> Iterator[str]:
@@ -273,5 +320,9 @@ def summary(results: Results) -> Iterator[str]:
     for pair in pairs_of(results):
         yield f"{', '.join(filter(None, [pair_title(pair), others(results, pair)]))}, in % of the best value"
         yield from (f"  {name}: {spread.words(3)}" for name, spread, _ in difference_bars(results, pair))
+    for answer in answers_of(results):
+        lead = sorted(it.gain.mean for it in answer.tried)[-2:][0]
+        about = f"{answer.bidder}, with {answer.others}" if answer.others else answer.bidder
+        yield f"best answer of {about}: {answer.best.label} (ahead of the next by {abs(lead):.3f})"
     if left := stopped(results):
         yield f"stopped by a limit: {left}"

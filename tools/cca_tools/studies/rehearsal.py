@@ -8,16 +8,17 @@ from cca_tools.rules.auction import Auction
 from cca_tools.rules.award import Award
 from cca_tools.rules.log import Line
 from cca_tools.rules.types import Amount, BidderNumber, Kind, Package
-from cca_tools.studies.bidding import Strategy, Straightforward, sealed_list
+from cca_tools.studies.bidding import bidder_of, sealed_list
+from cca_tools.studies.strategies import Strategy
 from cca_tools.studies.values import Values
 
 
 class Rehearsal:
-    """The bidders of an auction, and the auction as far as it went."""
+    """The bidders of an auction, each with its values and its strategy, and the auction as far as it went."""
 
-    def __init__(self, award: Award, values: Sequence[Values], strategy: Strategy) -> None:
-        self.auction, self.values, self.strategy = Auction(award), values, strategy
-        self.bidders = [Straightforward(award, of_one) for of_one in values]
+    def __init__(self, award: Award, values: Sequence[Values], strategies: Sequence[Strategy]) -> None:
+        self.auction, self.values, self.strategies = Auction(award), values, strategies
+        self.bidders = [bidder_of(award, *of_one) for of_one in zip(values, strategies)]
 
     def line(self, kind: Kind, j: BidderNumber = 0, package: Package = (), amount: Amount = 0) -> Line:
         """The next line of the log."""
@@ -39,8 +40,8 @@ class Rehearsal:
 
     def sealed_lines(self) -> Iterator[Line]:
         """Each bidder's list, and its submission."""
-        for j, values in enumerate(self.values, 1):
-            listed = sealed_list(self.auction, j, values, self.strategy)
+        for j, (values, strategy) in enumerate(zip(self.values, self.strategies), 1):
+            listed = sealed_list(self.auction, j, values, strategy)
             for package, amount in listed.items():
                 yield self.line("draft", j, package, amount)
             if listed:
@@ -54,9 +55,9 @@ class Rehearsal:
             yield self.line("close")
 
 
-def held(award: Award, values: Sequence[Values], strategy: Strategy) -> Auction:
+def held(award: Award, values: Sequence[Values], strategies: Sequence[Strategy]) -> Auction:
     """The auction after all lines."""
-    rehearsal = Rehearsal(award, values, strategy)
+    rehearsal = Rehearsal(award, values, strategies)
     for line in rehearsal.right_lines():
         rehearsal.auction.take(line)
     return rehearsal.auction

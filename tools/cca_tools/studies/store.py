@@ -16,9 +16,10 @@ from cca_tools.rules.printable import printable
 from cca_tools.rules.stops import CRASH, WRITE_FAULT, Stop
 from cca_tools.studies.origin import Origin, differences
 from cca_tools.studies.plan import Plan
-from cca_tools.studies.rows import MADE, Done, Job, Row, columns_of
+from cca_tools.studies.rows import MADE, Done, Job, Row, columns_of, long_columns_of, long_rows
 
-ROWS, TABLE, PAGE, INPUTS, LOCK = "rows.jsonl", "table.csv", "page.html", "inputs", ".lock"
+ROWS, TABLE, LONG, PAGE = "rows.jsonl", "table.csv", "bidders.csv", "page.html"
+INPUTS, LOCK = "inputs", ".lock"
 
 
 class Store:
@@ -168,7 +169,19 @@ def cells_of(columns: Sequence[str], row: Row, made: Row) -> list[str]:
     return [made.get(name) or row.get(name) or "" for name in columns]
 
 
+def made_cells(store: Store) -> Row:
+    """What made the rows of a study."""
+    return dict(zip(MADE, (store.origin.program, store.origin.maker, store.origin.plan)))
+
+
 def table_text(store: Store, mark: Mark = ".") -> str:
     """The table of a study, of which each row names what made it."""
-    made = dict(zip(MADE, (store.origin.program, store.origin.maker, store.origin.plan)))
+    made = made_cells(store)
     return csv_table(store.columns, (cells_of(store.columns, row, made) for row in store.table()), mark)
+
+
+def long_text(store: Store, mark: Mark = ".") -> str:
+    """The table with a row for each bidder of each auction."""
+    made, columns = made_cells(store), long_columns_of(store.plan)
+    rows = (one for row in store.table() for one in long_rows(store.plan, row))
+    return csv_table(columns, (cells_of(columns, row, made) for row in rows), mark)

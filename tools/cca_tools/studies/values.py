@@ -1,30 +1,42 @@
-"""The file of values: for each bidder a model of what packages are worth to it, and its valuation drawn from a seed."""
+"""The file of values: for each bidder a model of what packages are worth to it, and how it bids; both are drawn from a
+seed."""
 
 from __future__ import annotations
 
+import functools
 import itertools
-from collections.abc import Mapping
+from collections.abc import Mapping, Sequence
+from dataclasses import dataclass
 
 from cca_tools.rules.award import Award
 from cca_tools.rules.types import Amount, BidderNumber, Package
 from cca_tools.studies.draws import Draws, draws_of
 from cca_tools.studies.fields import fields_of
 from cca_tools.studies.models import Model, Valuation, read_model
+from cca_tools.studies.strategies import Strategy, StrategyModel, read_strategy
 
 # What each package is worth to a bidder, of those that it may be allocated and that are worth something to it.
 Values = Mapping[Package, Amount]
 
 
-def read_values(data: bytes, award: Award) -> list[Model]:
+@dataclass(frozen=True)
+class BidderModel:
+    """What packages are worth to a bidder, and how it bids."""
+
+    model: Model
+    strategy: StrategyModel
+
+
+def read_values(data: bytes, award: Award) -> list[BidderModel]:
     """The model of each bidder of the award, in its order. A table without `names` is for all that no other has."""
     top = fields_of(data, "values")
     top.whole("values", 1, 1)
     categories = [category.name for category in award.categories]
-    found: dict[str, Model] = {}
-    rest: Model | None = None
+    found: dict[str, BidderModel] = {}
+    rest: BidderModel | None = None
     for table in top.tables("bidder"):
         names = table.texts("names") if table.has("names") else []
-        model = read_model(table, award.supply, categories)
+        model = BidderModel(read_model(table, award.supply, categories), read_strategy(table))
         table.no_more()
         known = f"names of bidders of the award, which are {', '.join(award.names)}"
         table.need(all(map(award.number_of, names)), "names", known)
@@ -38,6 +50,7 @@ def read_values(data: bytes, award: Award) -> list[Model]:
     return [found.get(name) or rest or top.stop(f"no table is for the bidder {name}") for name in award.names]
 
 
+@functools.lru_cache(maxsize=1024)
 def packages_of(award: Award, j: BidderNumber) -> list[Package]:
     """The packages that the rules let bidder j win, in order: within the supply, its spectrum caps and the points that
     it has in the first round. The empty one isn't among them."""
@@ -56,10 +69,26 @@ def values_of(award: Award, j: BidderNumber, valuation: Valuation) -> Values:
     return {package: worth for package, worth in worths.items() if worth > 0}
 
 
-def drawn_values(award: Award, models: list[Model], draws: Draws) -> list[Values]:
+def drawn_values(award: Award, models: Sequence[BidderModel], draws: Draws) -> list[Values]:
     """The values of each bidder of the award; those of a bidder depend on its name, and on no other bidder."""
-    valuations = [model.drawn(draws.of(name)) for name, model in zip(award.names, models)]
+    valuations = [it.model.drawn(draws.of(name)) for name, it in zip(award.names, models)]
     return [values_of(award, j, valuation) for j, valuation in enumerate(valuations, 1)]
+
+
+def drawn_strategies(
+    award: Award,
+    models: Sequence[BidderModel],
+    draws: Draws,
+    base: Strategy = Strategy(),
+    fixed: Mapping[str, Mapping[str, int]] | None = None,
+) -> list[Strategy]:
+    """The strategy of each bidder of the award. `fixed` has parts that are set for bidders by their names, and `base`
+    those that neither `fixed` nor the file states."""
+    known = fixed or {}
+    return [
+        it.strategy.drawn(draws.of(name, "strategy"), base, known.get(name, {}))
+        for name, it in zip(award.names, models)
+    ]
 
 
 def values_of_seed(award: Award, data: bytes, seed: int) -> list[Values]:

@@ -1,0 +1,121 @@
+"""Prices by other rules of the same bids, with the winners that the program finds.
+
+`nearest_to` has the core point of least sum that is nearest to a point of reference, as Erdil and Klemperer (2010) and
+Day and Cramton (2012) compare them: zero, the reserves, or the bids. Its rows are coalitions that `cca win` finds on
+bids lowered by surpluses, and `cca win` answers at the end that no coalition blocks. The least sum has to be the
+revenue that the program printed. That the point is the nearest is tested by nothing but the equations here.
+"""
+
+from __future__ import annotations
+
+import math
+from collections.abc import Sequence
+from dataclasses import dataclass
+from fractions import Fraction
+from typing import Literal, TypeAlias, get_args
+
+from cca_tools.data.prices import BY_WIN, Price, Prices, lines_of
+from cca_tools.pricing.nearest import Demand, Nearest
+from cca_tools.rules.book import Book
+from cca_tools.rules.stops import CRASH, MOST, Stop, limit
+from cca_tools.rules.types import Amount, Bid, Package
+
+Reference: TypeAlias = Literal["zero", "reserve", "bids"]
+REFERENCES: tuple[Reference, ...] = get_args(Reference)
+
+
+@dataclass(frozen=True)
+class Won:
+    """What the program's winners win, by their numbers from 0, and the value of their choice, net."""
+
+    packages: dict[int, tuple[Package, Amount]]
+    net: Amount
+
+
+def winners_of(book: Book, path: str) -> Won:
+    """The winners of a book by `cca win`, which has no limit of winners."""
+    numbers = {name: k for k, name in enumerate(book.names)}
+    packages, net = dict[int, tuple[Package, Amount]](), 0
+    for line in lines_of([path, "win", "/dev/stdin"], book):
+        word, *fields = line.split(" ")
+        if word == "winner":
+            package = tuple(map(int, fields[1:-1]))
+            packages[numbers[fields[0]]] = package, int(fields[-1])
+        elif word == "net":
+            net = int(fields[0])
+    return Won(packages, net)
+
+
+def vickrey_prices(book: Book, path: str) -> Prices:
+    """The winners and their Vickrey prices, by `cca win` of the book and of the book without each winner: these have no
+    limit of winners or of rows. A price in the core isn't known here, so each winner's is its Vickrey price."""
+    won, rows = winners_of(book, path), [Price(name, None) for name in book.names]
+    for k, (package, bid) in won.packages.items():
+        reserve = book.reserve(package)
+        bids = [[] if j == k else of_one for j, of_one in enumerate(book.bids)]
+        others = winners_of(Book(book.supply, book.reserves, book.names, bids), path)
+        vickrey = others.net - (won.net - (bid - reserve)) + reserve
+        rows[k] = Price(book.names[k], package, reserve, bid, vickrey, Fraction(vickrey))
+    return Prices(tuple(rows), won.net, BY_WIN)
+
+
+# Other points of reference.
+
+
+def point_of(row: Price, reference: Reference) -> Amount:
+    """What a winner would pay at the point of reference, net of its reserve."""
+    return {"zero": -row.reserve, "reserve": 0, "bids": row.bid_net}[reference]
+
+
+def nearest_to(book: Book, prices: Prices, reference: Reference, path: str) -> Prices:
+    """The prices of the same winners that are in the core, of least sum, and of these the nearest to the reference. A
+    `Stop` of status 7 if lowered bids would be above the greatest amount, and of status 70 if their sum isn't the
+    revenue."""
+    winners = [k for k, row in enumerate(prices.rows) if row.package is not None]
+    rows = [prices.rows[k] for k in winners]
+    nearest = Nearest([point_of(row, reference) for row in rows], [1] * len(rows))
+    nearest.rows = [Demand(1 << i, row.vickrey_net, ()) for i, row in enumerate(rows)]
+    while True:
+        pays = nearest.point().pays
+        demand = blocking(book, prices, winners, pays, path)
+        if demand is None:
+            break
+        nearest.rows.append(demand)
+    paid = {
+        k: Price(row.bidder, row.package, row.reserve, row.bid, row.vickrey, row.reserve + pay)
+        for k, row, pay in zip(winners, rows, pays)
+    }
+    found = Prices(tuple(paid.get(k, row) for k, row in enumerate(prices.rows)), prices.net, BY_WIN)
+    if found.revenue != prices.revenue:
+        why = f"prices nearest to {reference} have the sum {found.revenue}, and the least is {prices.revenue}"
+        raise Stop("cca: audit", CRASH, why=why)
+    return found
+
+
+def blocking(book: Book, prices: Prices, winners: Sequence[int], pays: Sequence[Fraction], path: str) -> Demand | None:
+    """The row of a coalition that blocks these payments most, net, or None."""
+    den = math.lcm(1, *(pay.denominator for pay in pays))
+    surplus = {k: max(0, int(den * (prices.rows[k].bid_net - pay))) for k, pay in zip(winners, pays)}
+    lowered = [lowered_bids(book, k, den, surplus.get(k, 0)) for k, _ in enumerate(book.names)]
+    if most := max((amount for bids in lowered for _, amount in bids if amount > MOST["amount"]), default=0):
+        raise limit("amount", most, "lowered bids are above the greatest amount")
+    won = winners_of(Book(book.supply, (0,) * len(book.supply), book.names, lowered), path)
+    members = [
+        i for i, (k, pay) in enumerate(zip(winners, pays)) if k not in won.packages and pay <= prices.rows[k].bid_net
+    ]
+    value = sum(net_of(book, k, package) for k, (package, _) in won.packages.items())
+    bound = value - sum(prices.rows[k].bid_net for i, k in enumerate(winners) if i not in members)
+    if bound <= sum((pays[i] for i in members), Fraction(0)):
+        return None
+    return Demand(sum(1 << i for i in members), bound, ())
+
+
+def lowered_bids(book: Book, k: int, den: int, less: int) -> list[Bid]:
+    """The bids of a bidder, net, times `den` and less its surplus; those below 0 are left out."""
+    worths = [(package, den * net - less) for (package, _), net in zip(book.bids[k], book.net[k])]
+    return [(package, worth) for package, worth in worths if worth >= 0]
+
+
+def net_of(book: Book, k: int, package: Package) -> Amount:
+    """What a bidder offers for a package, net."""
+    return next(net for (of_bid, _), net in zip(book.bids[k], book.net[k]) if of_bid == package)
