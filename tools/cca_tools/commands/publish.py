@@ -5,6 +5,7 @@
     bidders/NAME.html bidders/NAME.txt       what each bidder sees of it
     tables/NAME.csv                          winners, rounds, prices and bids, for a spreadsheet
     audit.html                               the page that tests the auction in a browser, if it was built
+    placed/CATEGORY.slots placed/CATEGORY.cert   where its lots are in its band, with --placed
     names.toml                               the names for people, with --names
     auction.key auction.posted               the key, and the lines as they were posted, with --key and --posted
     auction.journal kept/NAME                the journal of the desk with --journal, and each log that was cut or
@@ -34,7 +35,7 @@ from typing import cast
 from cca_tools.command_line import Parser, run_command
 from cca_tools.desk.disk import Refused, read_file
 from cca_tools.desk.record import ByHand, Record, Tester, need_kept, need_published
-from cca_tools.page import findings, plain, sheets, source, winners
+from cca_tools.page import findings, places, plain, sheets, source, winners
 from cca_tools.page.document import Page
 from cca_tools.page.html import parts
 from cca_tools.page.report import page as report_page
@@ -56,6 +57,7 @@ from cca_tools.rules.publication import (
     LOG,
     NAMES,
     PAGE,
+    PLACED,
     POSTED,
     SUMS,
     Made,
@@ -77,13 +79,24 @@ from cca_tools.version import commit, version
 def parser() -> Parser:
     """The words of the command."""
     words = Parser(
-        "publish", __doc__, "[--names FILE] [--key KEY --posted POSTED [--journal JOURNAL]] AWARD LOG CERT FOLDER"
+        "publish",
+        __doc__,
+        "[--names FILE] [--placed CATEGORY SLOTS CERT].. [--key KEY --posted POSTED [--journal JOURNAL]]"
+        " AWARD LOG CERT FOLDER",
     )
     words.add_file("AWARD", "the terms of the auction")
     words.add_file("LOG", "its lines")
     words.add_file("CERT", "its certificate")
     words.add_file("FOLDER", "the folder to make")
     words.add_argument("--names", metavar="FILE", help="a file of names for people; tools/state --help has its form")
+    words.add_argument(
+        "--placed",
+        nargs=3,
+        metavar=("CATEGORY", "SLOTS", "CERT"),
+        action="append",
+        default=[],
+        help="where the lots of a category are in its band: its slots and the certificate of `cca place`",
+    )
     words.add_argument("--key", metavar="KEY", help="the key of the seals, as `tools/seal new` made it")
     words.add_argument("--posted", metavar="POSTED", help="the lines as they were posted (LOG.posted of the desk)")
     words.add_argument("--journal", metavar="JOURNAL", help="the journal of the desk (LOG.desk)")
@@ -233,6 +246,7 @@ def reports(options: argparse.Namespace, award: Award) -> tuple[dict[str, bytes]
     progress.step("making the report")
     facts = source.of_files([options.award, options.log, options.cert], names=options.names)
     facts.long = dataclasses.replace(facts.long, title=facts.long.title or title_of(options))
+    places.read_all(facts, options.placed)
     for file in facts.sums:
         file.name = {"award": AWARD, "log": LOG, "cert": CERT}[file.kind]
     tables = sheets.sheets(facts)
@@ -273,6 +287,9 @@ def publish(options: argparse.Namespace) -> str:
     files = {AWARD: data["award"], LOG: data["log"], CERT: data["cert"], **given.files, **made_reports}
     if options.names:
         files[NAMES] = load(options.names, "names")
+    for category, slots, cert in options.placed:
+        files[f"{PLACED}/{category}.slots"] = load(slots, "slots")
+        files[f"{PLACED}/{category}.cert"] = load(cert, "cert")
     files |= audit_page()
     text = "\n".join(prices)
     index = page(names.title or title_of(options), result, files, made)

@@ -17,7 +17,7 @@ import sys
 from collections.abc import Sequence
 
 from cca_tools.command_line import Parser, run_command
-from cca_tools.page import plain, source
+from cca_tools.page import places, plain, source
 from cca_tools.page.document import Page
 from cca_tools.page.report import page
 from cca_tools.rules.stops import NO, Stop
@@ -27,7 +27,7 @@ from cca_tools.terminal import is_terminal, progress
 def parser() -> Parser:
     """The words of the command."""
     forms = (
-        "[--text] [--program-sum] [--bidder NAME] [--names FILE] AWARD LOG [CERT]",
+        "[--text] [--program-sum] [--bidder NAME] [--names FILE] [--placed CATEGORY SLOTS CERT].. AWARD LOG [CERT]",
         "[--text] [--program-sum] BOOK [CERT]",
     )
     words = Parser("report", __doc__, *forms)
@@ -42,6 +42,17 @@ def parser() -> Parser:
         ),
     )
     words.add_argument("--names", metavar="FILE", help="a file of names for people; tools/state --help has its form")
+    words.add_argument(
+        "--placed",
+        nargs=3,
+        metavar=("CATEGORY", "SLOTS", "CERT"),
+        action="append",
+        default=[],
+        help=(
+            "show where the lots of a category are in its band: the slots, which are its lots with their winners, and"
+            " the certificate that `cca place` made of them; the names may have the frequencies"
+        ),
+    )
     words.add_argument("--program-sum", action="store_true", help="print the sum (SHA-256) of the program too")
     return words
 
@@ -61,6 +72,9 @@ def report(options: argparse.Namespace) -> str:
         parser().error(f"there are at most three files, and {len(options.files)} are given")
     name = options.bidder or ""
     facts = facts_for(options.files, name, options.names)
+    if options.placed and (name or facts.award is None):
+        parser().error("--placed is for the report for everybody of an award and its log")
+    places.read_all(facts, options.placed)
     progress.step("making the report")
     made = page(facts, name, options.program_sum)
     text = plain.text(made) if as_text else html_page(made)

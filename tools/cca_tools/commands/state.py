@@ -14,6 +14,8 @@ The names for people are a file of TOML, which no rule reads. Each key may be le
     [category.p700]
     name = "700 MHz paired"
     mhz = 10                         # of a lot
+    start = 703                      # where the band's first lot begins, in MHz; for reports with a placement
+    step = 5                         # from a lot to the next, if that isn't mhz: of paired lots
     [bidder.aurora]
     name = "Aurora Telecom plc"
 

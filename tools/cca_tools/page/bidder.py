@@ -98,11 +98,13 @@ def posted(view: View, shown: Sequence[Round]) -> Iterator[Card]:
         name = view.source.names.categories[c]
         title, about = f"{name}: posted prices", rounds.price_about(name, shown, c)
         draw = drawing(c, title, about, [it.prices[c] for it in shown], scale)
-        picture = Picture(title, about, draw, posted_table(view, shown, c), findings.of_posted(shown, c))
+        picture = Picture(
+            title, about, draw, posted_table(view, shown, c), findings.of_posted(shown, c, view.source.units)
+        )
         yield Card(
             name,
             [picture if len(shown) > 1 else picture.table],
-            f"{count(category.supply, 'lot')}, reserve {number(category.reserve)}",
+            f"{count(category.supply, 'lot')}, reserve {number(category.reserve)}{view.source.units}",
         )
 
 
@@ -206,18 +208,19 @@ def own_words(view: View) -> Iterator[str]:
         return
     package, bid = source.won(j)
     pays, vickrey = source.pays(j), source.vickrey(j)
-    won = f"You win {source.names.package(package)} with your bid of {number(bid)}"
-    yield f"{won}, and pay {price(pays)}, {per_cent(pays, bid)} of it."
+    won = f"You win {source.names.package(package)} with your bid of {number(bid)}{source.units}"
+    yield f"{won}, and pay {price(pays)}{source.units}, {per_cent(pays, bid)} of it."
     if pays == vickrey:
         yield "That is your Vickrey price: what the others would offer more for the same lots if you hadn't bid."
         return
-    own = f"Your Vickrey price, what the others would offer more if you hadn't bid, is {number(vickrey)}."
-    yield f"{own} You pay {price(pays - vickrey)} more."
+    own = f"Your Vickrey price, what the others would offer more if you hadn't bid, is {number(vickrey)}{source.units}."
+    yield f"{own} You pay {price(pays - vickrey)}{source.units} more."
     for share in source.reasons.shares(j):
         if share.coalition and share.amount > 0:
             offer = source.reasons.coalitions[share.coalition - 1]
+            members = prices.names_of(source, offer.members)
             yield (
-                f"Others offered {number(offer.gross)} for what {prices.names_of(source, offer.members)} win, so these"
+                f"Others offered {number(offer.gross)}{source.units} for what {members} win, so these"
                 " pay that together. Of the payments of least sum the nearest to the Vickrey prices are taken."
             )
 

@@ -388,11 +388,13 @@ def paid(key: str, title: str, about: str, winners: Sequence[Paid], unit: str = 
 @dataclass(frozen=True)
 class Band:
     """The lots of a category: its name, for each part of them whose it is, as the number of a winner or 0 for the
-    unsold ones, with how many there are, and how wide a lot is: its MHz, or 1 if they aren't known."""
+    unsold ones, with how many there are, and how wide a lot is: its MHz, or 1 if they aren't known. If the lots were
+    placed, the parts are in the order of the band, and `where` has the place of each."""
 
     name: str
     parts: Sequence[tuple[int, int]]
     width: Fraction | int = 1
+    where: Sequence[str] = ()
 
     @property
     def supply(self) -> int:
@@ -459,9 +461,11 @@ def bands(key: str, title: str, about: str, every: Sequence[Band], names: Sequen
         drawing.text(0, y + 13, shortened(band.name, WIDE - width_of(room) - 10), "ink", is_bold=True)
         drawing.text(share(1), y + 13, room, side="end")
         y += 20
-        for at, (winner, lots) in enumerate((it for it in band.parts for _ in range(it[1]))):
+        where = [f" ({place})" for place in band.where] or [""] * len(band.parts)
+        each = [(*part, place) for part, place in zip(band.parts, where) for _ in range(part[1])]
+        for at, (winner, lots, place) in enumerate(each):
             who = f"{names[winner - 1]} wins {lots:,}" if winner else f"{lots:,} stay unsold"
-            says = f"{who} of {words.count(band.supply, 'lot')} of {band.name}"
+            says = f"{who}{place} of {words.count(band.supply, 'lot')} of {band.name}"
             x = (at % strip.in_row * strip.cell, strip.cell)
             letter = letters[winner - 1] if winner else "\N{EN DASH}"
             draw_cell(drawing, x, y + at // strip.in_row * ROW, winner, letter, says)

@@ -43,10 +43,10 @@ def raised_by(source: Source, raised: Sequence[BidderNumber]) -> str:
     else:
         who = listed(names)
     if len(set(above.values())) == 1:
-        return f"{who} by {price(above[raised[0]])}{' each' if len(raised) > 1 else ''}"
+        return f"{who} by {price(above[raised[0]])}{source.units}{' each' if len(raised) > 1 else ''}"
     if len(raised) > NAMED:
-        return f"{who} by {price(whole)} together"
-    return listed(f"{name} by {price(amount)}" for name, amount in zip(names, above.values()))
+        return f"{who} by {price(whole)}{source.units} together"
+    return listed(f"{name} by {price(amount)}{source.units}" for name, amount in zip(names, above.values()))
 
 
 def of_prices(source: Source) -> str:
@@ -71,10 +71,9 @@ def of_award(source: Source) -> str:
     whole, left = sum(book.supply), sum(book.left(given(source.certificate).choice))
     pays = sum((source.pays(j) for j in source.winners), Fraction(0))
     who = f"{source.names.bidder(source.winners[0])} pays" if many == 1 else f"{capital(spelled(many))} winners pay"
-    unit = f" {source.long.amounts()}" if source.long.amounts() else ""
     every = {1: "the only lot", 2: "both lots"}.get(whole, f"all {number(whole)} lots")
     lots = f"{number(whole - left)} of {number(whole)} lots" if left else every
-    return f"{who} {price(pays)}{unit} for {lots}"
+    return f"{who} {price(pays)}{source.units} for {lots}"
 
 
 def of_payments(source: Source) -> str:
@@ -84,7 +83,7 @@ def of_payments(source: Source) -> str:
     one = len(source.winners) == 1
     return (
         f"{'The winner pays' if one else 'Winners pay'} {per_cent(pays, bid)} of what {'it' if one else 'they'} bid:"
-        f" {price(pays)} of {number(bid)}"
+        f" {price(pays)} of {number(bid)}{source.units}"
     )
 
 
@@ -113,16 +112,18 @@ def of_lots(source: Source) -> str:
     )
 
 
-def of_posted(shown: Sequence[Round], c: int) -> str:
-    """How the price of a category went."""
+def of_posted(shown: Sequence[Round], c: int, units: str = "") -> str:
+    """How the price of a category went, in these units."""
     first, last = shown[0].prices[c], shown[-1].prices[c]
     rose = f" by {per_cent(last - first, first)}" if first else ""
-    return f"The price stayed at {number(first)}" if first == last else f"The price rose{rose} to {number(last)}"
+    if first == last:
+        return f"The price stayed at {number(first)}{units}"
+    return f"The price rose{rose} to {number(last)}{units}"
 
 
-def of_category(shown: Sequence[Round], c: int, has_open: bool) -> str:
+def of_category(shown: Sequence[Round], c: int, has_open: bool, units: str = "") -> str:
     """How the price of a category went, and in how many closed rounds more than the supply was asked for."""
-    closed, went = shown[:-1] if has_open else shown, of_posted(shown, c)
+    closed, went = shown[:-1] if has_open else shown, of_posted(shown, c, units)
     above, whole = sum(closing.excess[c] > 0 for closing in closed), len(closed)
     if not closed:
         return went
@@ -177,4 +178,4 @@ def of_core(source: Source) -> str:
     if not above:
         return "Nobody blocks the Vickrey prices"
     names = listed(source.names.bidder(j) for j in source.winners)
-    return f"{names} pay {price(above)} more than their Vickrey prices, the least that nobody blocks"
+    return f"{names} pay {price(above)}{source.units} more than their Vickrey prices, the least that nobody blocks"

@@ -119,6 +119,8 @@ def block_lines(block: Block) -> Iterator[str]:
     elif isinstance(block, (Table, Picture)):
         yield from table_lines(block.table if isinstance(block, Picture) else block)
     elif isinstance(block, Fold):
+        title = block.title.partition(" (")[0]  # nothing has to be opened in a text
+        yield from [title, "-" * len(title), ""]
         for inner in block.blocks:
             yield from block_lines(inner)
     elif isinstance(block, Cards):

@@ -3,7 +3,7 @@ winner's Vickrey price."""
 
 from __future__ import annotations
 
-from collections.abc import Iterable, Iterator, Mapping
+from collections.abc import Iterable, Iterator, Mapping, Sequence
 from fractions import Fraction
 
 from cca_tools.page import core, findings
@@ -13,6 +13,7 @@ from cca_tools.page.document import (
     Cards,
     Cell,
     Content,
+    Fold,
     Heading,
     Key,
     Picture,
@@ -23,7 +24,7 @@ from cca_tools.page.document import (
     columns,
 )
 from cca_tools.page.source import Source, Turn, given
-from cca_tools.page.words import listed, number, price, price_cell
+from cca_tools.page.words import listed, minus, number, price, price_cell
 from cca_tools.rules.types import Amount, Bid, BidderNumber
 from cca_tools.rules.why import LEGEND, Offer, offer_of, vickrey_offer
 
@@ -45,7 +46,7 @@ def bid_words(source: Source, bid: Bid | None) -> str:
 
 def signed(value: Amount) -> str:
     """An amount with its sign."""
-    return f"{value:+,}" if value else "0"
+    return minus(f"{value:+,}") if value else "0"
 
 
 def offer_table(source: Source, offer: Offer, title: str, last: str) -> Table:
@@ -70,7 +71,9 @@ def winner_card(source: Source, j: BidderNumber) -> Card:
     package, bid = source.won(j)
     table = offer_table(source, vickrey_offer(given(source.certificate), j), f"Without {name}", "its Vickrey price")
     return Card(
-        name, [table], f"wins {source.names.package(package)} with {number(bid)} and pays {price(source.pays(j))}"
+        name,
+        [table],
+        f"wins {source.names.package(package)} with {number(bid)} and pays {price(source.pays(j))}{source.units}",
     )
 
 
@@ -98,21 +101,18 @@ def block_words(source: Source, turn: Turn) -> str:
 def turns(source: Source) -> list[Block]:
     """The turns of pricing, as the program has them."""
     if not source.turns:
-        why = "doesn't price so many winners" if source.program else "isn't here to show the turns of pricing"
-        missing = f"The program {why}. What follows is from the certificate."
-        return [Words(missing)] if given(source.certificate).rows else []
+        return []
     cards = [Card(f"Turn {turn.number}", [Words(text) for text in turn_words(source, turn)]) for turn in source.turns]
-    return [Heading("Turn by turn"), Cards(cards, size="wide")]
+    return [Fold("The turns of pricing, one by one", [Cards(cards, size="wide")])]
 
 
 def coalition_card(source: Source, place: int, offer: Offer) -> Card:
     """A coalition, and how what it asks for is shared."""
-    told = source.told(source.reasons.asked(offer))
     table = offer_table(source, offer, f"What is offered for what {names_of(source, offer.members)} win", "offered")
     vickrey = " + ".join(number(source.vickrey(j)) for j in offer.members)
     sums = f"Their Vickrey prices come to {vickrey} = {number(sum(map(source.vickrey, offer.members)))}."
     shared = source.told(source.reasons.sharing(place))
-    return Card(f"Coalition {place}", [Words(f"{told}."), table, Words(f"{sums} {shared}")])
+    return Card(f"Coalition {place}", [table, Words(f"{sums} {shared}")])
 
 
 def coalitions(source: Source) -> list[Block]:
@@ -197,11 +197,38 @@ def core_blocks(source: Source) -> list[Block]:
     return [Heading("The core"), Words(told), Key(key), Cards([Card("", [core_picture(source)])], size="wide")]
 
 
+def raised_by(source: Source, j: BidderNumber) -> int:
+    """The number of the one coalition that raises a winner's price; 0 if there is none, or more than one."""
+    shares = source.reasons.shares(j)
+    return shares[0].coalition if len(shares) == 1 and shares[0].coalition and shares[0].amount > 0 else 0
+
+
+def raised_words(source: Source, members: Sequence[BidderNumber], coalition: int) -> str:
+    """Why several winners pay what they pay, all because of one coalition."""
+    verb = ["pays", *[""] * (len(members) - 1)]
+    each = listed(
+        " ".join(filter(None, [source.names.bidder(j), word, price(source.pays(j))])) for j, word in zip(members, verb)
+    )
+    vickrey, more = [number(source.vickrey(j)) for j in members], [source.pays(j) - source.vickrey(j) for j in members]
+    above = f"{price(more[0])} more each" if len(set(more)) == 1 else f"{listed(map(price, more))} more"
+    since = source.told(source.reasons.asked(source.reasons.coalitions[coalition - 1]))
+    return f"{each}: their Vickrey prices of {listed(vickrey)}, and {above}, since {since}."
+
+
 def sentences(source: Source) -> list[str]:
-    """Why each winner pays what it pays; those that nothing raises above their Vickrey prices have one sentence."""
+    """Why each winner pays what it pays. Those that nothing raises above their Vickrey prices have one sentence, and so
+    have those that the same coalition raises."""
     plain = [j for j in source.winners if source.pays(j) == source.vickrey(j) and not source.reasons.is_asked(j)]
     others = [j for j in source.winners if j not in plain or len(plain) == 1]
-    told = [source.told(source.reasons.sentence(j)) for j in others]
+    groups = dict[int, list[BidderNumber]]()
+    for j in others:
+        groups.setdefault(raised_by(source, j) or -j, []).append(j)
+    told = [
+        raised_words(source, members, coalition)
+        if len(members) > 1
+        else source.told(source.reasons.sentence(members[0]))
+        for coalition, members in groups.items()
+    ]
     if len(plain) == 1 or not plain:
         return told
     each = listed(f"{source.names.bidder(j)} ({price(source.pays(j))})" for j in plain)
@@ -218,7 +245,7 @@ def section(source: Source) -> Section | None:
         return None
     blocks: list[Block] = [
         Points(sentences(source)),
-        Words(LEGEND),
+        Words(f"{LEGEND} All amounts here include reserves{source.in_unit}."),
         *turns(source),
         *coalitions(source),
     ]
@@ -226,7 +253,7 @@ def section(source: Source) -> Section | None:
         blocks += core_blocks(source)
     told = (
         "What the others would bring more without a winner is its Vickrey price, lots that stay unsold counted at their"
-        " reserve. All amounts here include reserves."
+        " reserve."
     )
     blocks += [
         Heading("Vickrey prices"),

@@ -109,11 +109,11 @@ def categories(source: Source, rounds: Sequence[Round]) -> Iterator[Card]:
         about = category_about(name, rounds, category.supply, c)
         draw = drawing(c, title, about, prices, demand, category.supply, scales)
         table = category_table(source, category.supply, rounds, c)
-        picture = Picture(title, about, draw, table, findings.of_category(rounds, c, has_open))
+        picture = Picture(title, about, draw, table, findings.of_category(rounds, c, has_open, source.units))
         yield Card(
             name,
             [picture if len(rounds) > 1 else table],
-            f"{count(category.supply, 'lot')}, reserve {number(category.reserve)}",
+            f"{count(category.supply, 'lot')}, reserve {number(category.reserve)}{source.units}",
         )
 
 

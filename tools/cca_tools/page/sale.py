@@ -32,7 +32,7 @@ def bidders(award: Award, names: Names) -> Table:
     return Table("Who may bid", columns("Bidder", "Points in round 1 #", "Holds already"), rows)
 
 
-def steps(award: Award) -> Table:
+def steps(award: Award, units: str) -> Table:
     """From which excess on a price rises by how much."""
     rows: list[list[Content]] = []
     followers: list[Step | None] = [*award.steps[1:], None]
@@ -45,7 +45,7 @@ def steps(award: Award) -> Table:
             else f"{step.excess} or more"
         )
         rows.append([lots, f"{step.permille // 10}.{step.permille % 10} %"])
-    note = f"Raises are rounded up to a multiple of {number(award.tick)}, and are at least that."
+    note = f"Raises are rounded up to a multiple of {number(award.tick)}{units}, and are at least that."
     return Table("How prices rise", columns("Lots asked for above the supply", "Price rises by #"), rows, note=note)
 
 
@@ -81,7 +81,7 @@ def section(source: Source, for_all: bool = True, more: Sequence[Block] = ()) ->
         bids = f"A book of bids, with {count(given(source.book).bidders, 'bidder')}."
         sold = f"{bids} It has no log, so nothing is shown of rounds and lines."
         return Section("sale", "The sale", [Words(sold), Cards([Card("", [categories(source)])])])
-    cards = [Card("", [categories(source)]), Card("", [steps(source.award)])]
+    cards = [Card("", [categories(source)]), Card("", [steps(source.award, source.units)])]
     if for_all:
         cards.insert(1, Card("", [bidders(source.award, source.names)]))
     return Section(

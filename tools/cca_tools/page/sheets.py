@@ -15,7 +15,6 @@ from operator import mul
 from cca_tools.page.source import Source, given
 from cca_tools.page.winners import origins
 from cca_tools.rules.printing import fraction
-from cca_tools.rules.types import BidderNumber
 
 FOLDER = "tables"
 Row = Sequence[str | int]
@@ -33,27 +32,16 @@ def wide(widths: Sequence[Fraction], package: Sequence[int]) -> Fraction:
     return sum(map(mul, widths, package), Fraction(0))
 
 
-def categories(source: Source) -> list[str]:
-    """The short names of the categories."""
-    short = {long: name for name, long in source.long.categories.items()}
-    return [short.get(name, name) for name in source.names.categories]
-
-
-def bidder(source: Source, j: BidderNumber) -> str:
-    """The short name of a bidder."""
-    return source.long.short.get(source.names.bidder(j), source.names.bidder(j))
-
-
 def winners(source: Source) -> Sheet:
     """Who won what and pays what, with the price of a MHz if the names have the width of all lots."""
     widths = source.widths
     by_mhz = ["mhz", "pays_per_mhz"] if widths else []
-    yield ["bidder", "name", *categories(source), "reserve", "bid", "vickrey", "pays", "pays_as_printed", *by_mhz]
+    yield ["bidder", "name", *source.short_categories, "reserve", "bid", "vickrey", "pays", "pays_as_printed", *by_mhz]
     for j in source.winners:
         package, bid = source.won(j)
         pays, mhz = source.pays(j), wide(widths, package)
         more = [decimal(mhz), decimal(pays / mhz)] if widths else []
-        names = [bidder(source, j), source.names.bidder(j)]
+        names = [source.short_bidder(j), source.names.bidder(j)]
         amounts: list[str | int] = [source.reserve(j), bid, source.vickrey(j), decimal(pays), fraction(pays)]
         yield [*names, *package, *amounts, *more]
 
@@ -63,7 +51,7 @@ def rounds(source: Source) -> Sheet:
     supply = given(source.award).supply
     yield ["round", "category", "price", "asked", "supply", "excess"]
     for it in given(source.auction).rounds:
-        for row in zip(categories(source), it.prices, it.demand, supply, it.excess):
+        for row in zip(source.short_categories, it.prices, it.demand, supply, it.excess):
             yield [it.number, *row]
 
 
@@ -74,7 +62,7 @@ def prices(source: Source) -> Sheet:
     widths = source.widths
     more = ["mhz", "reserve_per_mhz", "last_price_per_mhz"] if widths else []
     yield ["category", "name", "supply", "sold", "reserve", "last_price", *more]
-    for c, (it, short) in enumerate(zip(award.categories, categories(source))):
+    for c, (it, short) in enumerate(zip(award.categories, source.short_categories)):
         by_mhz = [widths[c], it.reserve / widths[c], last[c] / widths[c]] if widths else []
         yield [short, it.name, it.supply, sold[c], it.reserve, last[c], *map(decimal, by_mhz)]
 
@@ -82,12 +70,12 @@ def prices(source: Source) -> Sheet:
 def bids(source: Source) -> Sheet:
     """Each bid of the book: its package, its amount, where it comes from, and whether it wins."""
     book, choice = given(source.book), given(source.certificate).choice
-    yield ["bidder", "number", *categories(source), "amount", "net", "from", "wins"]
+    yield ["bidder", "number", *source.short_categories, "amount", "net", "from", "wins"]
     for j, (pairs, nets) in enumerate(zip(book.bids, book.net), 1):
         whence = origins(given(source.auction), j)
         for place, ((package, amount), net) in enumerate(zip(pairs, nets), 1):
             wins = "yes" if choice[j - 1] == place else "no"
-            yield [bidder(source, j), place, *package, amount, net, whence[package], wins]
+            yield [source.short_bidder(j), place, *package, amount, net, whence[package], wins]
 
 
 SHEETS = {"winners": winners, "rounds": rounds, "prices": prices, "bids": bids}

@@ -14,7 +14,7 @@ import tempfile
 from collections.abc import Sequence
 from dataclasses import dataclass, field
 from fractions import Fraction
-from typing import TypeVar
+from typing import TYPE_CHECKING, TypeVar
 
 from cca_tools.page.words import Names, commas
 from cca_tools.rules.auction import Auction, replay
@@ -31,6 +31,9 @@ from cca_tools.rules.types import Amount, Bid, BidderNumber, Choice
 from cca_tools.rules.view import read_log_or_view
 from cca_tools.rules.why import Reasons
 from cca_tools.rules.words import bidder_of
+
+if TYPE_CHECKING:
+    from cca_tools.page.places import Run
 
 NAME = 0xE000
 TURN = re.compile(r"round (\d+) point ((?:\S+ )*?)(?:row ((?:\d+ )+)choice ((?:\d+ )+)excess (\S+)|end)")
@@ -84,6 +87,7 @@ class Source:
     said: str = ""  # the first line of the program about the certificate
     program: str = ""  # where the program is
     long: LongNames = NO_NAMES  # the names for people, which are in award, auction and book already
+    places: dict[int, list[Run]] = field(default_factory=dict)  # of categories that are placed, from 0
 
     @property
     def has_prices(self) -> bool:
@@ -103,9 +107,37 @@ class Source:
         return [wide[name] for name in names] if all(name in wide for name in names) else []
 
     @property
+    def short_categories(self) -> list[str]:
+        """The short names of the categories."""
+        short = {long: name for name, long in self.long.categories.items()}
+        return [short.get(name, name) for name in self.names.categories]
+
+    def short_bidder(self, j: BidderNumber) -> str:
+        """The short name of a bidder."""
+        return self.long.short.get(self.names.bidder(j), self.names.bidder(j))
+
+    def frequencies(self, c: int) -> tuple[Fraction, Fraction] | None:
+        """Where the first lot of a category begins, and how far the next one is, in MHz; None unless it is named."""
+        name = self.short_categories[c]
+        step = self.long.step.get(name, self.long.mhz.get(name))
+        if name not in self.long.start or step is None:
+            return None
+        return Fraction(str(self.long.start[name])), Fraction(str(step))
+
+    @property
     def unit(self) -> str:
         """What amounts are in, as it follows a head: `, thousand EUR`; empty if no currency is named."""
         return f", {self.long.amounts()}" if self.long.amounts() else ""
+
+    @property
+    def units(self) -> str:
+        """What an amount is in, as it follows the amount in a sentence: ` thousand EUR`; empty without a currency."""
+        return f" {self.long.amounts()}" if self.long.amounts() else ""
+
+    @property
+    def in_unit(self) -> str:
+        """In what amounts are, as it ends a sentence: `, in thousand EUR`; empty without a currency."""
+        return f", in {self.long.amounts()}" if self.long.amounts() else ""
 
     def amounts(self) -> str:
         """What amounts are in, and how wide lots are, in sentences."""

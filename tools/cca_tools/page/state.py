@@ -10,7 +10,13 @@ from cca_tools.rules.state import ListState, category_states, clock_states, clos
 
 def categories(source: Source) -> Table:
     """The categories in the open round."""
-    heads = columns("Category", "Price #", "Asked for, of supply #", "Excess #", "Price after a close #")
+    heads = columns(
+        "Category",
+        f"Price{source.unit} #",
+        "Asked for, of supply #",
+        "Excess #",
+        f"Price after a close{source.unit} #",
+    )
     rows: list[list[Content]] = []
     for name, it in zip(source.names.categories, category_states(given(source.auction))):
         after = "no round" if it.after is None else number(it.after)

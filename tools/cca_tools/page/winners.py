@@ -3,11 +3,12 @@
 from __future__ import annotations
 
 import os
+import re
 from collections.abc import Iterator, Sequence
 from fractions import Fraction
 from operator import mul
 
-from cca_tools.page import charts, findings
+from cca_tools.page import charts, findings, places
 from cca_tools.page.charts import Band, Paid
 from cca_tools.page.ink import WINNERS
 from cca_tools.page.document import (
@@ -19,6 +20,7 @@ from cca_tools.page.document import (
     Content,
     Figures,
     Fold,
+    Heading,
     Key,
     Picture,
     Points,
@@ -62,12 +64,15 @@ def unsold_reserve(source: Source) -> Amount:
 def result_table(source: Source) -> Table:
     """Who won what and pays what: the result, in as few columns as there may be."""
     widths = source.widths
-    heads = columns("Winner", "Won", *(["MHz #"] if widths else []), f"Pays{source.unit} #")
+    where = ["Where in the band"] if source.places else []
+    heads = columns("Winner", "Won", *where, *(["MHz #"] if widths else []), f"Pays{source.unit} #")
     rows = list[list[Content]]()
     for j in source.winners:
         package = source.won(j)[0]
         wide = [price(sum(map(mul, widths, package), Fraction(0)))] if widths else []
-        rows.append([source.names.bidder(j), source.names.package(package), *wide, price_cell(source.pays(j), "good")])
+        placed = ["; ".join(places.of_winner(source, j)) or "\N{EN DASH}"] if where else []
+        own = [source.names.bidder(j), source.names.package(package)]
+        rows.append([*own, *placed, *wide, price_cell(source.pays(j), "good")])
     return Table("", heads, rows, is_result=True)
 
 
@@ -139,11 +144,12 @@ def paid_picture(source: Source) -> Picture:
 
 def letters_of(names: Sequence[str]) -> list[str]:
     """A letter or two for each winner: the first one of its name where these differ, else what comes after the letters
-    that all names begin with, and else A, B, C .."""
+    that all names begin with, else the first ones of its first two words, and else A, B, C .."""
     first = [name[:1].upper() for name in names]
     same = len(os.path.commonprefix(list(names)))
     after = [name[same : same + 2] for name in names]
-    for found in first, after:
+    words = ["".join(word[0] for word in re.split(r"[\W_]+", name) if word)[:2].upper() for name in names]
+    for found in first, after, words:
         if len(set(found)) == len(found) and all(it.isalnum() for it in found):
             return found
     return [chr(ord("A") + at) for at in range(len(names))]
@@ -153,7 +159,13 @@ def bands_of(source: Source) -> Iterator[Band]:
     """Of each category whose its lots are."""
     widths = source.widths
     for c, name in enumerate(source.names.categories):
-        sold = [(place, source.won(j)[0][c]) for place, j in enumerate(source.winners, 1)]
+        order = {j: place for place, j in enumerate(source.winners, 1)}
+        if c in source.places:
+            runs = source.places[c]
+            parts = [(order.get(run.winner, 0), run.lots) for run in runs]
+            yield Band(name, parts, widths[c] if widths else 1, [places.span(source, c, run) for run in runs])
+            continue
+        sold = [(place, source.won(j)[0][c]) for j, place in order.items()]
         parts = [part for part in [*sold, (0, unsold(source)[c])] if part[1]]
         yield Band(name, parts, widths[c] if widths else 1)
 
@@ -180,7 +192,18 @@ def bands_card(source: Source) -> Card:
     scale = (
         "A cell is a lot, as wide as its MHz." if charts.has_widths(every) else "A cell is a lot; all are equally wide."
     )
+    if source.places:
+        placed = listed(source.names.categories[c] for c in sorted(source.places))
+        scale += f" The lots of {placed} are in the order of the band."
     return Card("", [bands_key(names, letters, any(unsold(source))), Words(scale), picture])
+
+
+def places_blocks(source: Source) -> list[Block]:
+    """Where the lots are in their bands, if that was found."""
+    if not source.places:
+        return []
+    cards = [Card("", [table]) for table in places.tables(source)]
+    return [Heading("Where in the band"), Words(places.words(source)), Cards(cards, size="mid")]
 
 
 def lots_table(source: Source) -> Table:
@@ -205,7 +228,7 @@ def lots_table(source: Source) -> Table:
         heads,
         rows,
         note=(
-            f"Unsold lots stay with the seller, here at {number(unsold_reserve(source))} in reserves."
+            f"Unsold lots stay with the seller, here at {number(unsold_reserve(source))}{source.units} in reserves."
             if any(unsold(source))
             else "All lots are sold."
         ),
@@ -303,6 +326,7 @@ def result(source: Source) -> list[Block]:
             *tied(source),
             Cards([Card("", [paid_key(source), paid_picture(source)])], size="wide"),
             Cards([bands_card(source)], size="full"),
+            *places_blocks(source),
             Cards([Card("", [net_table(source)])], size="wide"),
         ]
     if source.has_prices:

@@ -11,6 +11,8 @@ An award has short names alone, and no other key. So these are in a file of TOML
     [category.p700]
     name = "700 MHz paired"
     mhz = 10                         # of a lot
+    start = 703                      # where the first lot of the band begins, in MHz
+    step = 5                         # from a lot to the next, if that isn't mhz: of paired lots
 
     [bidder.aurora]
     name = "Aurora Telecom plc"
@@ -36,6 +38,7 @@ from cca_tools.rules.toml import read_toml
 LONGEST = 80
 MOST_UNIT = 10**9
 MOST_MHZ = 10_000
+MOST_START = 1_000_000
 UNITS = {1: "", 1_000: "thousand ", 1_000_000: "million ", 1_000_000_000: "billion "}
 # Characters that no name has: control, format (among them those of direction), private and unassigned ones, halves of
 # characters, and the separators of lines.
@@ -46,7 +49,8 @@ HIDDEN = ("Cc", "Cf", "Co", "Cn", "Cs", "Zl", "Zp")
 class LongNames:
     """The names of an award's categories and bidders, by their short ones, and what else people want to read.
 
-    `unit` is how many of the currency an amount of 1 is; `mhz` has the width of a lot.
+    `unit` is how many of the currency an amount of 1 is; `mhz` has the width of a lot, `start` the frequency at which
+    the first lot of a category begins, and `step` how far the next lot is.
     """
 
     title: str = ""
@@ -56,6 +60,8 @@ class LongNames:
     unit: int = 1
     categories: Mapping[str, str] = dataclasses.field(default_factory=dict)
     mhz: Mapping[str, int | float] = dataclasses.field(default_factory=dict)
+    start: Mapping[str, int | float] = dataclasses.field(default_factory=dict)
+    step: Mapping[str, int | float] = dataclasses.field(default_factory=dict)
     bidders: Mapping[str, str] = dataclasses.field(default_factory=dict)
 
     def category(self, name: str) -> str:
@@ -131,11 +137,16 @@ def unit_of(value: object) -> int:
     return value
 
 
-def mhz_of(value: object, key: str) -> int | float:
-    """The width of a lot."""
-    if not isinstance(value, (int, float)) or isinstance(value, bool) or not 0 < value <= MOST_MHZ:
-        fault(f"`{key}` has to be a number above 0 and at most {MOST_MHZ}")
+def mhz_of(value: object, key: str, most: int) -> int | float:
+    """A width or a frequency."""
+    if not isinstance(value, (int, float)) or isinstance(value, bool) or not 0 < value <= most:
+        fault(f"`{key}` has to be a number above 0 and at most {most}")
     return value
+
+
+def mhz_by(tables: Mapping[str, Mapping[str, object]], key: str, most: int = MOST_MHZ) -> dict[str, int | float]:
+    """The categories that have this key, each with its MHz."""
+    return {name: mhz_of(it[key], f"category.{name}.{key}", most) for name, it in tables.items() if key in it}
 
 
 def need_keys(table: Mapping[str, object], known: Collection[str], where: str) -> None:
@@ -180,7 +191,10 @@ def names_of(data: bytes, award: Award) -> LongNames:
     need_keys(top, ("title", "held", "seller", "currency", "unit", "category", "bidder"), "of the names")
     categories = entries(top, "category", [category.name for category in award.categories])
     bidders = entries(top, "bidder", award.names)
-    for kind, tables, known in (("category", categories, ("name", "mhz")), ("bidder", bidders, ("name",))):
+    for kind, tables, known in (
+        ("category", categories, ("name", "mhz", "start", "step")),
+        ("bidder", bidders, ("name",)),
+    ):
         for name, table in tables.items():
             need_keys(table, known, f"of [{kind}.{name}]")
     if "unit" in top and "currency" not in top:
@@ -192,7 +206,9 @@ def names_of(data: bytes, award: Award) -> LongNames:
         currency=text_of(top["currency"], "currency") if "currency" in top else "",
         unit=unit_of(top.get("unit", 1)),
         categories=texts(categories, "category", [category.name for category in award.categories]),
-        mhz={name: mhz_of(it["mhz"], f"category.{name}.mhz") for name, it in categories.items() if "mhz" in it},
+        mhz=mhz_by(categories, "mhz"),
+        start=mhz_by(categories, "start", MOST_START),
+        step=mhz_by(categories, "step"),
         bidders=texts(bidders, "bidder", award.names),
     )
 

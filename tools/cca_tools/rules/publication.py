@@ -27,6 +27,7 @@ NAMES, KEY, POSTED, JOURNAL, KEPT = (
     "auction.journal",
     "kept",
 )
+PLACED = "placed"
 AUDIT = "audit.html"
 # where the page that audits an auction in a browser is: in a release, and in a checkout in which it was built
 TOP = pathlib.Path(__file__).resolve().parents[3]
@@ -104,6 +105,9 @@ def about(name: str) -> str:
     """What a file of the set is."""
     if name.startswith(f"{KEPT}/"):
         return "what was taken away from the log on the day, as the journal says"
+    if name.startswith(f"{PLACED}/"):
+        kind = "winners and bids for places" if name.endswith(".slots") else "the certificate of the places"
+        return f"{kind} in the band of {pathlib.PurePath(name).stem}"
     return ABOUT[name] if name in ABOUT else f"what {pathlib.PurePath(name).stem} sees of the auction"
 
 
@@ -147,6 +151,11 @@ def commands(files: Mapping[str, bytes]) -> list[tuple[str, str]]:
             f"tools/caps {AWARD} {LOG} NAME --view | diff - own.view",
         ),
     ]
+    for name in sorted(files):
+        if name.startswith(f"{PLACED}/") and name.endswith(".slots"):
+            stem = name.removesuffix(".slots")
+            what = f"The places in the band of {pathlib.PurePath(stem).name}"
+            found.append((what, f"tools/check-places {name} {stem}.cert"))
     if POSTED not in files:
         return found
     if JOURNAL in files:
