@@ -10,7 +10,7 @@ import re
 import subprocess
 import tempfile
 
-from checks.desk_browser import HEIGHT, REPLY_FORM, WIDTH, Desk, Screen
+from checks.desk_browser import HEIGHT, REPLY_FORM, WIDTH, Desk, Screen, until
 from checks.desk_held import PROGRAM, REPLY, STEPS, Auction, check
 from checks.desk_scenes import AWARD, EXAMPLES, KEYS, LOG, SMALL, See, lines
 
@@ -342,23 +342,32 @@ def two(screen: Screen, see: See) -> str:
         enter(screen, held.desk, held.desk.key, "Anna First")
         held.inside = screen.ask("location.href")
         enter(other, held.desk, held.desk.second, "Bo Second")
-        inside = other.ask("location.href")
         held.write(1, 1)
         screen.push("What would a close do?")
         screen.fill("typed", "end the clock")
         screen.push("End the clock")
         held.need_log(1)
-        other.load(inside)
+        see("approve-first")
+        until(lambda: waits(other), "what waits on the second person's page")
         other.push("look at it")
         check("what the second person sees", other.heading(), "End the clock?")
         other.push("Approve: End the clock")
         held.need_log(2)
+        until(lambda: screen.has_heading("Written and synced"), "the page of the close in the first browser")
         journal = held.log_path.with_name("day.log.desk").read_text()
         check("both names", '"by": "Anna First", "approved": "Bo Second"' in journal, True)
     finally:
         other.close()
     held.close_files()
     return "a close, approved"
+
+
+def waits(screen: Screen) -> bool:
+    """Whether the page of the second person, which loads itself again, says that something waits."""
+    try:
+        return "look at it" in screen.text()
+    except (RuntimeError, KeyError):  # (between two pages)
+        return False
 
 
 def enter(screen: Screen, desk: Desk, key: str, name: str) -> None:

@@ -186,6 +186,20 @@ class Faults(DeskTest):
         self.assertEqual((client.answer.status_code, self.log()), (200, b"bid,everest,2 0 4 0,\n"))
         self.assertEqual((self.folder / "day.log.torn-1").read_bytes(), b"hello\n")
 
+    def test_what_is_no_line_is_taken_out_after_a_restart(self) -> None:
+        client = self.open()
+        client.write("bid,everest,2 0 4 0,")
+        with self.log_path.open("ab") as file:
+            file.write(b"hello\nbid,tarn,1 0 0 0,\n")
+        client = self.open()
+        self.assertEqual(client.load("").status_code, 503)
+        self.assertIn("The log has something that is no line.", client.text())
+        client.send("mend", mend="take out", why="an editor")
+        self.assertEqual((client.answer.status_code, self.log()), (200, b"bid,everest,2 0 4 0,\n"))
+        self.assertEqual((self.folder / "day.log.torn-1").read_bytes(), b"hello\nbid,tarn,1 0 0 0,\n")
+        client.write("bid,tarn,1 0 0 0,")
+        self.assertIn("admitted", client.text())
+
     def test_a_full_disk_is_called_one(self) -> None:
         self.assertIn("the disk is full: make room", why_of(OSError(28, "No space left on device")))
         self.assertEqual(why_of(OSError(5, "Input/output error")), "Input/output error")
@@ -280,6 +294,15 @@ class TwoPeople(DeskTest):
             found.append(client)
         return found
 
+    def places(self, client):
+        """Where the forms of a page are sent to."""
+        return [place.removeprefix(f"{self.guard.inside}/") for place, _ in Reader(client.page).forms]
+
+    def goes_on(self, client):
+        """The heading of the page that the first person's browser comes to once the second person has decided."""
+        client.load(client.load("approve").headers["Location"])
+        return client.heading()
+
     def test_a_close_waits_for_the_second_person(self) -> None:
         one, two = self.two(b"bid,tarn,1 0 0 0,\n")
         log = self.log()
@@ -290,11 +313,18 @@ class TwoPeople(DeskTest):
         self.assertEqual(self.log(), log)
         two.load("")
         self.assertIn("A close or a cut waits for the second person", two.text())
+        self.assertEqual(self.places(two), ["leave"])
+        self.assertIn('http-equiv="refresh"', two.page)
         two.load("approve")
         self.assertEqual(two.heading(), "End the clock?")
         self.assertIn("Anna First asks for it; Bo Second approves or declines.", two.text())
+        self.assertNotIn('http-equiv="refresh"', two.page)
+        one.load("approve")
+        self.assertIn('http-equiv="refresh"', one.page)
         two.send("approve", says="approve")
         self.assertEqual(self.log(), log + b"close,,,\n")
+        self.assertEqual(self.goes_on(one), "Written and synced")
+        self.assertEqual(self.goes_on(one), "Lists are taken")
         journal = (self.folder / "day.log.desk").read_text()
         self.assertIn('"by": "Anna First", "approved": "Bo Second"', journal)
         one.load("protocol")
@@ -309,11 +339,14 @@ class TwoPeople(DeskTest):
         self.assertIn("too early", two.text())
         two.send("approve", says="decline")
         self.assertEqual(self.log(), log)
+        self.goes_on(one)
+        self.assertIn("Nothing was written: it was taken back or declined.", one.text())
         one.load("again")
         one.send("again", record="1", why="too early", typed="cut after 1")
         two.load("approve")
         two.send("approve", says="approve")
         self.assertEqual(self.log(), b"bid,tarn,1 0 0 0,\n")
+        self.assertEqual(self.goes_on(one), "The log is cut")
 
     def test_what_waits_is_gone_with_another_log(self) -> None:
         one, two = self.two(b"bid,tarn,1 0 0 0,\n")

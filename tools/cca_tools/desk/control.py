@@ -150,7 +150,7 @@ class Desk:
         self.answers, self.pins = files.answers, files.pins
         self.mark = files.mark
         about = {"program": self.mark.text, "tools": f"version {version()}, commit {commit() or 'unknown'}"}
-        self.log = LogFile(log_path, self.answers.pins, copies, about)
+        self.log = LogFile(log_path, self.answers.pins, copies, about, self.takes)
         self.award, self.names = self.answers.award, names
         self.speech, self.has_pricer = Speech(self.award, names), PRICER.exists()
         self.feed = Feed(feed) if feed else None
@@ -161,6 +161,17 @@ class Desk:
         if self.log.stop() is None:
             with contextlib.suppress(Stopped):  # (the first page says it)
                 self.settle()
+
+    def takes(self, data: bytes) -> bool:
+        """Whether each record of a log states a line. If the programs differ, or one of them doesn't answer, the page
+        that follows says so."""
+        try:
+            self.answers.auction(data)
+        except NoLine:
+            return False
+        except (Differ, NoProgram):
+            return True
+        return True
 
     def settle(self, is_publish: bool = False) -> None:
         """Posts what is due, and that the set is made. Nothing is written to the log before that is done. Raises

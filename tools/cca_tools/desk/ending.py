@@ -181,7 +181,7 @@ class Ending:
         if first.printed != second.printed or first.status != second.status:
             return "The programs differ on the certificate. Publish nothing, and keep all files.", False
         if first.status != DONE or not first.printed.startswith("yes\n"):
-            return f"Both programs refuse the certificate {self.cert}: move it away, and award again.", False
+            return f"Both programs refuse the certificate {self.cert.name}: move it away, and award again.", False
         return "Both programs say yes, and print the same to the byte.", True
 
     def make_cert(self, what: str, command: Sequence[str | Path]) -> Run:
@@ -210,7 +210,7 @@ class Ending:
         ]
         if any(it.status != DONE for it in made):
             return Outcome("The report isn't made.", False, made)
-        return Outcome(f"The report is in {self.page} and {self.text}.", True, made)
+        return Outcome(f"The report is in {self.page.name} and {self.text.name}, next to the log.", True, made)
 
     def written(self, made: Run, path: Path) -> Run:
         """Writes what a run printed into a file, instead of an older one."""
@@ -229,7 +229,7 @@ class Ending:
         is tested."""
         folder = self.folder()
         if folder.exists():
-            return Outcome(f"The set is in {folder} already, and all its sums hold.", True, [])
+            return Outcome(f"The set is in {folder.name} already, next to the log, and all its checksums hold.", True, [])
         self.desk.settle(is_publish=True)
         key, journal = (self.desk.log_path.with_name(f"{self.desk.log_path.name}.{kind}") for kind in ("key", "desk"))
         given: list[str | Path] = ["--key", key, "--journal", journal, "--posted", self.desk.log.posted_path]
@@ -237,7 +237,7 @@ class Ending:
         made = run("tools/publish", [*words, *self.files, folder], self.desk.program)
         if made.status != DONE:
             return Outcome("The set isn't made.", False, [made])
-        return Outcome(f"The set is in {folder}.", True, [made])
+        return Outcome(f"The set is in {folder.name}, next to the log.", True, [made])
 
     def folder(self) -> Path:
         """The folder of the set of these files, or the first name for one that isn't there."""

@@ -139,17 +139,19 @@ class LogFile:
         pins: Mapping[str, str],
         copies: Path | None = None,
         about: Mapping[str, str] | None = None,
+        takes: Callable[[bytes], bool] = lambda data: True,
     ) -> None:
         """Makes the files that aren't there, and notes lines that no desk had answered.
 
         `pins` are the checksums of award and program by name, and `about` is what else the journal's first entry says
-        about them. Raises `Refused` where locks don't work, a file is a link, the
+        about them. `takes` says whether each record of a log states a line: what is no line is never noted, so that it
+        can be taken out. Raises `Refused` where locks don't work, a file is a link, the
         key is lost, or the journal began with other pins; `Unsure` where a new file can't be synced.
         """
         self.path, self.copies, self.key = path, copies, b""
         self._key_path, self._journal = beside(path, "key"), Journal(beside(path, "desk"))
         self.posted_path, self._about = beside(path, "posted"), dict(about or {})
-        self._pins, self._unsure, self._found = dict(pins), "", 0
+        self._pins, self._unsure, self._found, self._takes = dict(pins), "", 0, takes
         self._need_copies()
         self._start()
         self._presence = disk.presence(self._key_path)
@@ -413,7 +415,7 @@ class LogFile:
         if last.what == "cut":  # (whoever cut was killed, or couldn't sync it)
             disk.write_again(self.path, last.length)
             self._note_again("cut ended")
-        if len(data) <= last.length:
+        if len(data) <= last.length or not self._takes(data):
             return last
         disk.write_again(self.path, last.length)
         found = entry("found", last.epoch, data, last.length)

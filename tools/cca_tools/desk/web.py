@@ -110,6 +110,7 @@ class Pages:
         self.lock = threading.RLock()  # of everything but the room's screen
         self.room = ""  # the room's screen as it was shown last
         self.asked: Asked | None = None  # what waits for the second person
+        self.decided = ""  # the page of what the second person has decided, for the first one, who waits
         self.asked_keep: tuple[str, bytes] | None = None  # why to go on with which changed log, if that waits
         self.cuts: dict[str, views.CutDone] = {}
         self.outcomes: dict[str, tuple[str, Outcome]] = {}  # of each step: the log's sum, and what it came to
@@ -487,9 +488,12 @@ class Pages:
         return self.to("approve")
 
     def approval(self) -> Answer:
-        """What waits for the second person, as it would be done now."""
+        """What waits for the second person, as it would be done now; once that is decided, what came of it."""
         if not self.asked:
-            return self.to("")
+            if self.is_second():
+                return self.to("")
+            place, self.decided = self.decided, ""
+            return self.to(place)
         moment = self.desk.noted()
         if moment.data != self.asked.data:
             self.asked = None
@@ -511,17 +515,18 @@ class Pages:
     def approve(self) -> Answer:
         """Does what waits, once the second person has approved it; the first may only take it back."""
         asked, says = self.asked, request.form.get("says", "")
-        self.asked = None if says in ("decline", "approve") else asked
-        if not asked or says != "approve":
-            return (
-                self.keep("entry", notice="Nothing was written: it was taken back or declined.")
-                if asked
-                else self.to("")
-            )
-        if not self.is_second():
-            self.asked = asked
-            return self.to("approve")
-        people = self.people.names()
+        if not asked or says not in ("decline", "approve") or says == "approve" and not self.is_second():
+            return self.to("approve" if asked else "")
+        self.asked = None
+        if says == "decline":
+            answer = self.keep("entry", notice="Nothing was written: it was taken back or declined.")
+        else:
+            answer = self.done(asked, self.people.names())
+        self.decided = answer.headers["Location"].removeprefix(f"{self.guard.inside}/") if self.is_second() else ""
+        return answer
+
+    def done(self, asked: Asked, people: Mapping[str, str]) -> Answer:
+        """Does what the second person has approved."""
         try:
             if asked.kind == "close":
                 return self.to_lines(self.desk.close(asked.base, asked.form["typed"], people), 1)
@@ -640,7 +645,7 @@ class Pages:
         if not why:
             return FormFault("why", ["Nothing was cut: give the reason; everybody reads it."])
         if not agrees(request.form.get("typed", ""), cut_words(record)):
-            return FormFault("typed", [f"Nothing was cut: for the close that you chose, type {cut_words(record)}."])
+            return FormFault("typed", [f"Nothing was cut. For the close that you chose, type: {cut_words(record)}"])
         return FormFault()
 
     def do_cut(self, base: Base, moment: Moment, record: int, why: str, people: Mapping[str, str]) -> Answer:
@@ -706,7 +711,7 @@ class Pages:
             if not why:
                 raise Refused("Nothing was changed: give the reason, for the journal.")
             if mend == KEEP and not agrees(request.form.get("typed", ""), KEEP_WORDS):
-                raise Refused(f"Nothing was changed: to go on with the changed log, type {KEEP_WORDS}.")
+                raise Refused(f"Nothing was changed. To go on with the changed log, type: {KEEP_WORDS}")
             if mend == KEEP and self.people.by_two:
                 return self.keep_by_two(why)
             self.desk.mend(mend, why)
