@@ -229,7 +229,8 @@ class Ending:
         is tested."""
         folder = self.folder()
         if folder.exists():
-            return Outcome(f"The set is in {folder.name} already, next to the log, and all its checksums hold.", True, [])
+            there = f"The set is in {folder.name} already, next to the log, and all its checksums hold."
+            return Outcome(there, True, [])
         self.desk.settle(is_publish=True)
         key, journal = (self.desk.log_path.with_name(f"{self.desk.log_path.name}.{kind}") for kind in ("key", "desk"))
         given: list[str | Path] = ["--key", key, "--journal", journal, "--posted", self.desk.log.posted_path]
