@@ -113,51 +113,113 @@ def tight_rows(market: Market, found: Found, most: int) -> Tight:
 
 
 class Makers:
-    """How independent rows add up to others."""
+    """How the independent rows that show a point add up to others, with their multipliers in whole numbers: an exchange
+    tries many rows, and fractions would take most of its time."""
 
-    def __init__(self, rows: Sequence[Demand], size: int) -> None:
-        self.rows, self.size = rows, size
+    def __init__(self, shown: Shown, size: int) -> None:
+        self.shown, rows = shown, shown.rows
+        self.members = {row.members for row in rows}
         gram = [[(r.members & s.members).bit_count() for s in rows] for r in rows]
         found = solved(gram, [[int(r.holds(i)) for r in rows] for i in range(size)])
         assert found is not None
         self.den = math.lcm(1, *(x.denominator for column in found for x in column))
         self.columns = [[int(x * self.den) for x in column] for column in found]  # of each winner
+        self.holders = [[k for k, r in enumerate(rows) if r.holds(i)] for i in range(size)]
+        self.first, self.first_den = in_whole_numbers(shown.first)
+        self.second, self.second_den = in_whole_numbers(shown.second)
 
     def shares(self, new: Demand) -> list[int] | None:
         """How often each row is taken to make the new one, times `den`; None if they don't make it."""
         columns = [column for i, column in enumerate(self.columns) if new.holds(i)]
         made = [sum(parts) for parts in zip(*columns)]
-        for i in range(self.size):
-            if sum(x for x, r in zip(made, self.rows) if r.holds(i)) != new.holds(i) * self.den:
+        for i, holders in enumerate(self.holders):
+            if sum(made[k] for k in holders) != new.holds(i) * self.den:
                 return None
         return made
 
+    def most_part(self, made: Sequence[int]) -> tuple[Fraction, int]:
+        """The most of the first multipliers that a row can take over, and a row that is left without one; 0 if it
+        can't."""
+        gone = -1
+        for k, (u, x) in enumerate(zip(self.first, made)):
+            if x > 0 and (gone < 0 or u * made[gone] < self.first[gone] * x):
+                gone = k
+        return Fraction(self.first[gone] * self.den, self.first_den * made[gone]) if gone >= 0 else Fraction(0), gone
 
-def taken_over(shown: Shown, new: Demand, made: Sequence[int], den: int) -> Iterator[Shown]:
-    """The rows after the new row has taken over: all of the first multipliers that it can, or none; and as much of the
-    second ones as makes a row idle that has no first one."""
-    for part in {min((u * den / x for u, x in zip(shown.first, made) if x > 0), default=Fraction(0)), Fraction(0)}:
-        first = [u - part * x / den for u, x in zip(shown.first, made)]
-        for move in sorted({w * den / x for u, w, x in zip(first, shown.second, made) if u == 0 and x}):
-            second = [w - move * x / den for w, x in zip(shown.second, made)]
-            if all(u > 0 or w >= 0 for u, w in zip([*first, part], [*second, move])):
-                yield Shown([*shown.rows, new], [*first, part], [*second, move]).without_idle()
+    def moves(self, first: Sequence[int], made: Sequence[int]) -> list[tuple[Fraction, int]]:
+        """How much of the second multipliers can be taken over so that a row without a first one is left without both,
+        and that row."""
+        rows = [k for k, (u, x) in enumerate(zip(first, made)) if u == 0 and x]
+        moves = {Fraction(self.second[k] * self.den, self.second_den * made[k]): k for k in rows}
+        return sorted(moves.items())
+
+
+def in_whole_numbers(parts: Sequence[Fraction]) -> tuple[list[int], int]:
+    """Fractions as whole numbers, and their denominator."""
+    den = math.lcm(1, *(part.denominator for part in parts))
+    return [int(part * den) for part in parts], den
+
+
+def left_over(multipliers: Sequence[int], made: Sequence[int], k: int) -> list[int]:
+    """A positive multiple of the multipliers that are left after a new row took over all of row k's; -1 for none."""
+    if k < 0:
+        return list(multipliers)
+    sign = 1 if made[k] > 0 else -1
+    return [sign * (u * made[k] - multipliers[k] * x) for u, x in zip(multipliers, made)]
+
+
+@dataclass(frozen=True)
+class Exchange:
+    """A new row that takes over a part of the first multipliers and a move of the second ones, and the rows that then
+    have a multiplier."""
+
+    makers: Makers
+    new: Demand
+    made: list[int]
+    part: Fraction
+    move: Fraction
+    rows: list[Demand]
+
+    def shown(self) -> Shown:
+        """The rows after the exchange."""
+        before, den = self.makers.shown, self.makers.den
+        first = [u - self.part * x / den for u, x in zip(before.first, self.made)]
+        second = [w - self.move * x / den for w, x in zip(before.second, self.made)]
+        return Shown([*before.rows, self.new], [*first, self.part], [*second, self.move]).without_idle()
+
+
+def exchanges(makers: Makers, new: Demand, made: list[int]) -> Iterator[Exchange]:
+    """What a new row can take over: all of the first multipliers that it can, or none; and as much of the second ones
+    as makes a row idle that has no first one."""
+    most, gone = makers.most_part(made)
+    for part in {most, Fraction(0)}:
+        first = left_over(makers.first, made, gone if part else -1)
+        for move, k in makers.moves(first, made):
+            second = left_over(makers.second, made, k)
+            if (part > 0 or move >= 0) and all(u > 0 or w >= 0 for u, w in zip(first, second)):
+                rows = [row for row, u, w in zip(makers.shown.rows, first, second) if u or w]
+                yield Exchange(makers, new, made, part, move, [*rows, *([new] if part or move else [])])
+
+
+def exchanges_with(makers: Makers, new: Demand) -> Iterator[Exchange]:
+    """The exchanges with a row, none if it is one of the rows or they don't make it."""
+    made = None if new.members in makers.members else makers.shares(new)
+    return exchanges(makers, new, made) if made else iter(())
 
 
 def exchanged(shown: Shown, tight: Sequence[Demand], seen: set[frozenset[int]], size: int) -> Shown | None:
     """Fewer rows by one exchange, or else as many rows that were not seen before; None if there are neither."""
-    level: Shown | None = None
-    kept, makers = {row.members for row in shown.rows}, Makers(shown.rows, size)
+    level: Exchange | None = None
+    makers = Makers(shown, size)
     for new in tight:
-        made = makers.shares(new) if new.members not in kept else None
-        for other in taken_over(shown, new, made, makers.den) if made else ():
+        for other in exchanges_with(makers, new):
             if len(other.rows) < len(shown.rows):
-                return other
+                return other.shown()
             names = frozenset(row.members for row in other.rows)
             if level is None and len(other.rows) == len(shown.rows) and names not in seen:
                 seen.add(names)
                 level = other
-    return level
+    return level.shown() if level else None
 
 
 def fewer(shown: Shown, tight: Sequence[Demand], most: int, size: int) -> Shown:
@@ -196,13 +258,9 @@ def searched(shown: Shown, tight: Tight, most: int, size: int, seconds: float) -
 def wandered(shown: Shown, tight: Sequence[Demand], size: int, chance: random.Random) -> Shown:
     """The rows after some random exchanges that don't make them more."""
     for _ in range(chance.randint(0, 2 * size)):
-        makers, kept = Makers(shown.rows, size), {row.members for row in shown.rows}
-        new = chance.choice(tight)
-        made = makers.shares(new) if new.members not in kept else None
-        others = (
-            [it for it in taken_over(shown, new, made, makers.den) if len(it.rows) <= len(shown.rows)] if made else []
-        )
-        shown = chance.choice(others) if others else shown
+        found = exchanges_with(Makers(shown, size), chance.choice(tight))
+        others = [it for it in found if len(it.rows) <= len(shown.rows)]
+        shown = chance.choice(others).shown() if others else shown
     return shown
 
 
