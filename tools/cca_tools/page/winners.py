@@ -70,7 +70,7 @@ def result_table(source: Source) -> Table:
     for j in source.winners:
         package = source.won(j)[0]
         wide = [price(sum(map(mul, widths, package), Fraction(0)))] if widths else []
-        placed = ["; ".join(places.of_winner(source, j)) or "\N{EN DASH}"] if where else []
+        placed = ["; ".join(places.of_winner(source, j))] if where else []
         own = [source.names.bidder(j), source.names.package(package)]
         rows.append([*own, *placed, *wide, price_cell(source.pays(j), "good")])
     return Table("", heads, rows, is_result=True)
