@@ -3,12 +3,12 @@ from fractions import Fraction
 from checks.cases.limit_books import RESERVE, SUPPLY
 
 
-def fraction(word):
+def fraction(word: str) -> Fraction:
     whole, _, rest = word.partition("+")
     return int(whole) + (Fraction(rest) if rest else 0)
 
 
-def prices_of(printed):
+def prices_of(printed: str) -> Priced:
     """The winners with their net amounts and Vickrey prices, the net value, and of each turn the point with the
     greatest lowered sum."""
     winners, turns, net = [], [], None
@@ -28,7 +28,7 @@ def prices_of(printed):
     return winners, net, turns
 
 
-def wanted_of(printed):
+def wanted_of(printed: str) -> list[Wanted]:
     """The winner determinations of a pricing: the surpluses, the bidder that is left out, and the greatest sum."""
     winners, net, turns = prices_of(printed)
     wanted = [({}, None, net)]

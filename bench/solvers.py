@@ -7,7 +7,7 @@ from checks.cases.limit_books import OUT, RESERVE, SUPPLY, timed
 SOLVERS = tuple(solver for solver in ("cbc", "glpsol") if shutil.which(solver))
 
 
-def terms_of(book, surplus, skip):
+def terms_of(book: Book, surplus: Surplus, skip: int | None) -> tuple[list[Term], float]:
     """What each bid counts where its bidder's surplus is taken off, without one bidder, and the idle worths, which are
     a constant."""
     terms, idle = [], 0.0
@@ -24,7 +24,7 @@ def terms_of(book, surplus, skip):
     return terms, idle
 
 
-def write_program(terms):
+def write_program(terms: Sequence[Term]) -> str:
     name = os.path.join(OUT, "solver.lp")
     with open(name, "w") as f:
         f.write("Maximize\n value: " + "\n + ".join(f"{w:.9f} {x}" for x, w, _, _ in terms) + "\nSubject To\n")
@@ -36,7 +36,7 @@ def write_program(terms):
     return name
 
 
-def optimum(solver, program, seconds):
+def optimum(solver: str, program: str, seconds: int) -> tuple[float, float | None]:
     """The CPU time in milliseconds, and the optimum, or None where the solver was cut off after this many seconds."""
     answer = os.path.join(OUT, "solver.answer")
     if os.path.exists(answer):
@@ -55,7 +55,7 @@ def optimum(solver, program, seconds):
     return spent, abs(float(re.search(value, text)[1])) if re.search(proved, text, re.M) else None
 
 
-def beside(solver, book, wanted, seconds):
+def beside(solver: str, book: Book, wanted: Iterable[Wanted], seconds: int) -> tuple[float, bool, bool]:
     """The CPU time for these winner determinations, each with its surpluses, the bidder that is left out and the
     greatest sum that cca
     states; whether each was solved to its end, and whether all that were have that sum."""
@@ -69,7 +69,7 @@ def beside(solver, book, wanted, seconds):
     return spent, whole, same
 
 
-def told(solver, ours, spent, whole, same):
+def told(solver: str, ours: float, spent: float, whole: bool, same: bool) -> str:
     """A line on a solver beside cca: how many times as long it took, at least this many where it was cut off."""
     least = "" if whole else "at least "
     return f"  {solver:<7}{least}{spent:,.0f} ms, {least}{spent / ours:,.0f} times as long; same optima: {same}"

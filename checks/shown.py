@@ -10,7 +10,7 @@ EXAMPLES = pathlib.Path(HERE).parent / "examples"
 LONGEST = 2**36, 2**42
 
 
-def award_text(tick, categories, bidders, steps):
+def award_text(tick: int, categories: Categories, bidders: Iterable[tuple[str, int]], steps: Iterable[tuple[int, int]]) -> str:
     lines = ["version = 2", f"tick = {tick}"]
     for name, supply, points, reserve in categories:
         lines += [
@@ -28,12 +28,12 @@ def award_text(tick, categories, bidders, steps):
     return "\n".join(lines) + "\n"
 
 
-def long_names(count, stem):
+def long_names(count: int, stem: str) -> list[str]:
     """Names of 20 bytes."""
     return [f"{stem}{'_wide' * 4}"[: 20 - len(str(n))] + str(n) for n in range(1, count + 1)]
 
 
-def hostile(folder):
+def hostile(folder: pathlib.Path) -> list[Word]:
     """The longest names, the greatest amounts, six categories and 16 bidders."""
     names, kinds = long_names(16, "bidder_mmmm"), long_names(6, "category_wwww")
     reserve = LONGEST[0] - 10**9
@@ -60,7 +60,7 @@ def hostile(folder):
     return awarded(folder, *written(folder, "hostile", award, log + ["close,,,"]))
 
 
-def three_hundred(folder):
+def three_hundred(folder: pathlib.Path) -> list[Word]:
     """As many rounds as there may be, with 16 bidders that ask for less and less."""
     names = [f"b{n}" for n in range(1, 17)]
     award = award_text(1, [("a", 4, 3, 1000), ("b", 6, 1, 10)], [(name, 30) for name in names], [(1, 5)])
@@ -76,14 +76,14 @@ def three_hundred(folder):
     return awarded(folder, *written(folder, "rounds300", award, log + ["close,,,"]))
 
 
-def written(folder, name, award, log):
+def written(folder: pathlib.Path, name: str, award: str, log: Iterable[str]) -> tuple[pathlib.Path, pathlib.Path]:
     paths = folder / f"{name}.award", folder / f"{name}.log"
     paths[0].write_text(award)
     paths[1].write_text("".join(line + "\n" for line in log))
     return list(paths)
 
 
-def awarded(folder, award, log):
+def awarded(folder: pathlib.Path, award: pathlib.Path, log: pathlib.Path) -> list[Word]:
     """The award, the log and a certificate of the program."""
     cert = folder / f"{pathlib.Path(log).stem}.cert"
     cert.unlink(missing_ok=True)
@@ -91,7 +91,7 @@ def awarded(folder, award, log):
     return [award, log, cert]
 
 
-def made(folder, number="7"):
+def made(folder: pathlib.Path, number: str="7") -> list[Word]:
     """The auction that the program makes of a number."""
     paths = folder / f"made{number}.award", folder / f"made{number}.log"
     for path in paths:
@@ -100,17 +100,17 @@ def made(folder, number="7"):
     return awarded(folder, *paths)
 
 
-def spectrum(folder):
+def spectrum(folder: pathlib.Path) -> list[Word]:
     return awarded(folder, EXAMPLES / "spectrum.award", EXAMPLES / "spectrum.log")
 
 
-def begun(folder):
+def begun(folder: pathlib.Path) -> list[Word]:
     """The sample, of which the second round is open."""
     lines = (EXAMPLES / "spectrum.log").read_text().splitlines()[:15]
     return written(folder, "begun", (EXAMPLES / "spectrum.award").read_text(), lines)
 
 
-def three(folder):
+def three(folder: pathlib.Path) -> list[Word]:
     """A book in which three win, and in which what two of them pay is limited by a third."""
     lines = ["book 1", "supply 1 1 1", "reserve 100 100 50"]
     bids = (
@@ -131,7 +131,7 @@ def three(folder):
     return [book, cert]
 
 
-def no_bids(folder):
+def no_bids(folder: pathlib.Path) -> list[Word]:
     return awarded(
         folder, *written(folder, "no_bids", (EXAMPLES / "spectrum.award").read_text(), ["close,,,", "close,,,"])
     )
@@ -154,7 +154,7 @@ SHOWN = {
 DRAWN = [f"drawn{number}" for number in range(1, 11)]
 
 
-def files_of(name, folder):
+def files_of(name: str, folder: pathlib.Path) -> list[Word]:
     """The words of the report of this name, or of the auction that the program makes of its number. What is made of it
     is in the folder."""
     return made(folder, name.removeprefix("drawn")) if name in DRAWN else SHOWN[name](folder)
@@ -181,7 +181,7 @@ STUDIES = {"study": 6, "small-study": 2}  # how many auctions of each case
 SITE = ("index.html", "docs/AUCTIONEER.html", "docs/FORMATS.html")
 
 
-def made_set(name, folder):
+def made_set(name: str, folder: pathlib.Path) -> list[pathlib.Path]:
     """The page and the report of a published set, with names or without."""
     place = folder / name
     shutil.rmtree(place, ignore_errors=True)
@@ -193,7 +193,7 @@ def made_set(name, folder):
     return [place / "index.html", place / "report.html"]
 
 
-def made_study(name, folder):
+def made_study(name: str, folder: pathlib.Path) -> list[pathlib.Path]:
     """The page of a study of so many auctions of each case."""
     for kind in ("award", "values"):
         shutil.copy(EXAMPLES / f"final-cap.{kind}", folder)
@@ -205,7 +205,7 @@ def made_study(name, folder):
     return [folder / name / "page.html"]
 
 
-def made_site(folder):
+def made_site(folder: pathlib.Path) -> list[pathlib.Path]:
     """Pages of the site of the documents."""
     place = folder / "site"
     shutil.rmtree(place, ignore_errors=True)

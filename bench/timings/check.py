@@ -21,20 +21,20 @@ BREAKS = 20
 SIGNED_LINES = ("den", "value", "t", "pay", "mult")
 
 
-def first_line(words):
+def first_line(words: Sequence[str]) -> str:
     return timed(words, may_fail=True)[1].split("\n")[0]
 
 
-def median(runs):
+def median(runs: Iterable[tuple[float, str]]) -> float:
     return statistics.median(spent for spent, _ in runs)
 
 
-def tell(word, ours, theirs, same) -> None:
+def tell(word: str, ours: Runs, theirs: Runs, same: bool) -> None:
     ours, theirs = median(ours), median(theirs)
     print(f"  {word:<7}{ours:>8.1f} ms{theirs:>8.1f} ms{ours / theirs:>7.2f}  {same}")
 
 
-def broken_verdicts(kind, book, cert, plain):
+def broken_verdicts(kind: str, book: str, cert: str, plain: str) -> tuple[int, int]:
     """How many broken certificates both checkers judge, and for how many of them they don't say the same."""
     rng, text, name = random.Random(kind), read(cert), os.path.join(OUT, "broken.cert")
     judged, differ = 0, 0
@@ -48,7 +48,7 @@ def broken_verdicts(kind, book, cert, plain):
     return judged, differ
 
 
-def compare(kind, plain, runs, seconds) -> None:
+def compare(kind: str, plain: str, runs: int, seconds: int) -> None:
     cert, plain_cert = (os.path.join(OUT, name) for name in ("check.cert", "plain.cert"))
     book, bids = priced_book(kind)
     ours = {"win": [timed([CCA, "win", book]) for _ in range(runs)]}
@@ -77,7 +77,7 @@ def compare(kind, plain, runs, seconds) -> None:
         print(told(solver, median(ours["check"]), *beside(solver, bids, wanted_of(printed), seconds)), flush=True)
 
 
-def main(runs, seconds) -> None:
+def main(runs: int, seconds: int) -> None:
     build_cca()
     plain = build_plain()
     for kind in KINDS:

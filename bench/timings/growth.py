@@ -29,7 +29,7 @@ STEPS = {"bidders": (2, 4, 8, 16), "bids": (75, 150, 300, 600), "states": tuple(
 COMMANDS = ("win", "price", "check")
 
 
-def write_book(bidders, bids, states):
+def write_book(bidders: int, bids: int, states: int) -> str:
     """A book in which each package has at least three lots of the first category, so that at most five bidders win."""
     rng = random.Random(f"{bidders} {bids} {states}")
     supply = SUPPLIES[states]
@@ -47,7 +47,7 @@ def write_book(bidders, bids, states):
     return name
 
 
-def edits_file(book, bidder, count):
+def edits_file(book: str, bidder: int, count: int) -> str:
     """A file of edits, each of which raises the first bid of a bidder by 1."""
     with open(book) as f:
         lines = f.read().splitlines()
@@ -59,7 +59,7 @@ def edits_file(book, bidder, count):
     return name
 
 
-def edit_time(book, bidder, runs):
+def edit_time(book: str, bidder: int, runs: int) -> float:
     """The CPU time of an edit, in microseconds: that of many less that of few, by how many more they are."""
     few, many = (
         min(timed([CCA, "review", book, edits_file(book, bidder, count)])[0] for _ in range(runs))
@@ -68,7 +68,7 @@ def edit_time(book, bidder, runs):
     return 1000 * max(many - few, 0) / (MANY - FEW)
 
 
-def times_of(sizes, runs):
+def times_of(sizes: Mapping[str, int], runs: int) -> tuple[dict[str, float], int, int]:
     """The least CPU time of each command on a book of these sizes, the bytes of its certificate, and how many bidders
     win."""
     book, cert = write_book(**sizes), os.path.join(OUT, "growth.cert")
@@ -81,7 +81,7 @@ def times_of(sizes, runs):
     return times, os.path.getsize(cert), of["win"]()[1].count("winner ")
 
 
-def write_turns():
+def write_turns() -> str:
     """Six winners of a lot each, and a bidder with a bid for each set of their lots, nearly as high as the set is
     large.
 
@@ -103,7 +103,7 @@ def write_turns():
     return name
 
 
-def write_slots(bidders):
+def write_slots(bidders: int) -> str:
     """A band of 40 slots in which all bidders have room, each with a bid on each slot where it may begin, worth more
     near a place of its own."""
     rng = random.Random(f"slots {bidders}")
@@ -121,20 +121,20 @@ def write_slots(bidders):
     return name
 
 
-def place(slots, cert):
+def place(slots: str, cert: str) -> tuple[float, str]:
     if os.path.exists(cert):
         os.remove(cert)
     return timed([CCA, "place", slots, cert])
 
 
-def place_times(bidders, runs):
+def place_times(bidders: int, runs: int) -> tuple[float, float]:
     """The least CPU time of `place` and of `place-check` on slots with this many bidders."""
     slots, cert = write_slots(bidders), os.path.join(OUT, "growth.placed")
     placed = min(place(slots, cert)[0] for _ in range(runs))
     return placed, min(timed([CCA, "place-check", slots, cert])[0] for _ in range(runs))
 
 
-def keep(rows) -> None:
+def keep(rows: Iterable[Row]) -> None:
     """Keeps the times in bench/growth.csv, from which `build/draw pictures` draws docs/pictures/growth.svg."""
     with open(MEASURED, "w", newline="", encoding="utf-8") as file:
         writer = csv.writer(file, lineterminator="\n")
@@ -143,7 +143,7 @@ def keep(rows) -> None:
             writer.writerow([grown, *sizes.values(), *(f"{times[command]:.1f}" for command in COMMANDS), winners])
 
 
-def main(runs) -> None:
+def main(runs: int) -> None:
     build_cca()
     rows, known = [], {}
     print(f"{'bidders':>8}{'bids':>6}{'states':>8}{'win':>9}{'price':>9}{'check':>9}{'bytes':>13}{'winners':>9}")

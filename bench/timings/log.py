@@ -12,14 +12,14 @@ from checks.cases.hostile_logs import LOGS, award, text_of
 from checks.cases.limit_books import CCA, OUT, build_cca, timed
 
 
-def file_of(name, text):
+def file_of(name: str, text: str) -> str:
     path = os.path.join(OUT, name)
     with open(path, "w") as f:
         f.write(text)
     return path
 
 
-def cost(terms, log, runs):
+def cost(terms: str, log: str, runs: int) -> float:
     """The median CPU time of `cca auction` in milliseconds, and the last line that it prints."""
     book, spent, last = os.path.join(OUT, "log.book"), [], ""
     for _ in range(runs):
@@ -31,7 +31,7 @@ def cost(terms, log, runs):
     return statistics.median(spent), last
 
 
-def main(runs) -> None:
+def main(runs: int) -> None:
     build_cca()
     terms = file_of("log.award", award())
     start, _ = cost(terms, file_of("empty.log", ""), runs)

@@ -15,7 +15,7 @@ from bench.pricings import wanted_of
 from bench.solvers import SOLVERS, beside, told
 
 
-def main(runs, seconds) -> None:
+def main(runs: int, seconds: int) -> None:
     build_cca()
     plain = build_plain()
     cert, plain_cert = (os.path.join(OUT, name) for name in ("price.cert", "plain.cert"))

@@ -16,35 +16,35 @@ from checks.cases.limit_books import BIDDERS, CCA, KINDS, OUT, build_cca, priced
 FEW, MANY = 10, 110
 
 
-def least_cpu(words, runs):
+def least_cpu(words: Sequence[str], runs: int) -> tuple[float, str]:
     found = [timed(words) for _ in range(runs)]
     return min(spent for spent, _ in found), found[-1][1]
 
 
-def written(name, lines):
+def written(name: str, lines: Iterable[str]) -> str:
     path = os.path.join(OUT, name)
     with open(path, "w") as f:
         f.write("\n".join(lines) + "\n")
     return path
 
 
-def raises(j, bid, count):
+def raises(j: int, bid: Bid, count: int) -> list[str]:
     """Edits, each of which raises the bid of bidder j by 1."""
     counts, amount = " ".join(map(str, bid[0])), bid[1]
     return [f"raise b{j} {counts} {amount + more}" for more in range(1, count + 1)]
 
 
-def swaps(j, bid, count):
+def swaps(j: int, bid: Bid, count: int) -> list[str]:
     """Edits that take the bid of bidder j out and put it in again."""
     counts, amount = " ".join(map(str, bid[0])), bid[1]
     return [f"drop b{j} {counts}", f"add b{j} {counts} {amount}"] * (count // 2)
 
 
-def edits_file(edits):
+def edits_file(edits: Sequence[str]) -> str:
     return written(f"review-{len(edits)}.edits", ["edits 1", *edits, "end"])
 
 
-def raised_book(book, j, bid, count):
+def raised_book(book: str, j: int, bid: Bid, count: int) -> str:
     """The book with this bid of bidder j raised by the count."""
     counts, amount = " ".join(map(str, bid[0])), bid[1]
     with open(book) as f:
@@ -56,7 +56,7 @@ def raised_book(book, j, bid, count):
     return written("raised.book", lines)
 
 
-def winning_bids(book, bids):
+def winning_bids(book: str, bids: Sequence[Sequence[Bid]]) -> Iterator[tuple[int, Bid]]:
     """The bidder and the bid of each winner."""
     rows = [line.split() for line in timed([CCA, "win", book])[1].splitlines() if line.startswith("winner ")]
     for row in rows:
@@ -64,7 +64,7 @@ def winning_bids(book, bids):
         yield j, next(bid for bid in bids[j - 1] if list(bid[0]) == [int(n) for n in row[2:-1]])
 
 
-def row(kind, what, book, j, edits_of, bid, after, scratch, runs) -> None:
+def row(kind: str, what: str, book: str, j: int, edits_of: Callable[[int, Bid, int], list[str]], bid: Bid, after: str, scratch: float, runs: int) -> None:
     few, _ = least_cpu([CCA, "review", book, edits_file(edits_of(j, bid, FEW))], runs)
     many, text = least_cpu([CCA, "review", book, edits_file(edits_of(j, bid, MANY))], runs)
     edit = max(many - few, 0) / (MANY - FEW)
@@ -73,7 +73,7 @@ def row(kind, what, book, j, edits_of, bid, after, scratch, runs) -> None:
     print(f"{kind:<8}{what:<7}{j:>7}{edit:>10.3f}ms{scratch:>9.2f}ms{edit / scratch:>8.3f}  {same}")
 
 
-def main(runs) -> None:
+def main(runs: int) -> None:
     build_cca()
     tiny = written("tiny.book", ["book 1", "supply 1", "reserve 0", "end"])
     start = least_cpu([CCA, "win", tiny], runs)[0]

@@ -11,12 +11,12 @@ from checks.cases.limit_books import CCA, DENSE_KINDS, KINDS, OUT, build_cca, bu
 from bench.solvers import SOLVERS, beside, told
 
 
-def least_cpu(words, runs):
+def least_cpu(words: Sequence[str], runs: int) -> tuple[float, str]:
     found = [timed(words) for _ in range(runs)]
     return min(spent for spent, _ in found), found[-1][1]
 
 
-def main(runs, seconds) -> None:
+def main(runs: int, seconds: int) -> None:
     build_cca()
     plain = build_plain()
     tiny = os.path.join(OUT, "tiny.book")

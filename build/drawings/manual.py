@@ -31,17 +31,17 @@ SAID = {
 }
 
 
-def plain(text):
+def plain(text: str) -> str:
     """A text without the marks of a document, in the letters of a manual page."""
     text = re.sub(r"\*\*(.*?)\*\*", r"\1", text).replace("`", "").replace("\\", "\\e").replace("-", "\\-")
     return "\\&" + text if text.startswith((".", "'")) else text
 
 
-def cells(row):
+def cells(row: str) -> list[str]:
     return [plain(cell.strip()) for cell in row.strip().strip("|").split("|")]
 
 
-def table(rows):
+def table(rows: Iterable[str]) -> Iterator[str]:
     """A tagged paragraph for each row after the head: the first cell is its tag, and the others are its text."""
     head, *body = [cells(row) for row in rows if not re.fullmatch(r"[|\s-]+", row)]
     for tag, *others in body:
@@ -49,7 +49,7 @@ def table(rows):
         yield ".TP\n" + (f".B {tag}" if tag else "\\&") + "\n" + (" ".join(said) or "\\&")
 
 
-def paragraph(lines):
+def paragraph(lines: Iterable[str]) -> Iterator[str]:
     """A paragraph, or a list: an item is a line that begins with "- ", with the lines after it."""
     items = re.split(r"\n(?=- )", "\n".join(line.strip() for line in lines))
     for item in items:
@@ -57,11 +57,11 @@ def paragraph(lines):
         yield head + "\n".join(plain(line) for line in item.removeprefix("- ").split("\n"))
 
 
-def block(lines):
+def block(lines: Sequence[str]) -> Iterator[str]:
     yield ".PP\n.nf\n.RS\n" + "\n".join(plain(line) for line in lines[1:-1]) + "\n.RE\n.fi"
 
 
-def split(text):
+def split(text: str) -> Iterator[str]:
     """The parts of a document in order: blocks of code, headings, tables and paragraphs."""
     for number, piece in enumerate(re.split(r"^(```\w*\n.*?^```)$", text, flags=re.M | re.S)):
         if number % 2:
@@ -70,7 +70,7 @@ def split(text):
             yield from (it for it in re.split(r"\n\s*\n", piece) if it.strip())
 
 
-def in_order(text):
+def in_order(text: str) -> str:
     """The document with its commands before its introduction, and without what the desk writes."""
     sections = [part for part in re.split(r"^(?=##? )", text, flags=re.M) if part and not part.startswith(OF_THE_DESK)]
     introduction, commands, *others = sections
@@ -78,7 +78,7 @@ def in_order(text):
     return "\n".join([synopsis + "\n", introduction + "A command reads" + said, *others])
 
 
-def manual(text):
+def manual(text: str) -> str:
     """The manual page of a document."""
     made = [HEAD]
     for piece in split(in_order(text)):
@@ -94,7 +94,7 @@ def manual(text):
     return "\n".join(made) + "\n" + TAIL
 
 
-def main(root) -> None:
+def main(root: pathlib.Path) -> None:
     """Writes docs/cca.1 below this folder."""
     (root / "docs").mkdir(parents=True, exist_ok=True)
     (root / "docs" / "cca.1").write_text(manual((DOCS / "FORMATS.md").read_text()))

@@ -14,7 +14,7 @@ EXAMPLES = ROOT / "examples"
 REPORTS = {"spectrum.html": (), "spectrum.txt": ("--text",), "day-cramton.html": ()}
 
 
-def files_of(name):
+def files_of(name: str) -> list[pathlib.Path]:
     """The files of a report. The certificate of the sample is made by the program."""
     if name.startswith("day-cramton"):
         return [EXAMPLES / "day-cramton.book", EXAMPLES / "day-cramton.cert"]
@@ -25,14 +25,14 @@ def files_of(name):
     return [*files, cert]
 
 
-def made(name):
+def made(name: str) -> str:
     how = {**os.environ, "CCA_PROGRAM": CCA}
     return subprocess.run(
         [ROOT / "tools" / "report", *REPORTS[name], *files_of(name)], check=True, stdout=subprocess.PIPE, env=how
     ).stdout.decode()
 
 
-def main(root) -> None:
+def main(root: pathlib.Path) -> None:
     """Writes the reports of examples/ below this folder."""
     build_cca()
     (root / "examples").mkdir(parents=True, exist_ok=True)

@@ -5,12 +5,16 @@ from the program too where CCA_PROGRAM names it.
 
 A case that an answer is written beside has to get this answer. It needs python3.
 """
+
+from __future__ import annotations
+
 import os
 import pathlib
 import shutil
 import tempfile
+from collections.abc import Collection, Sequence
 
-
+from cca_tools.rules.book import Book
 from checks.cases.second_auctions import second_auction
 from checks.cases.voices import FILES, Stop, books, court_answer, is_alike, program_answer, rules_answer, rules_book
 
@@ -20,27 +24,32 @@ PROGRAM = os.environ.get("CCA_PROGRAM") and os.path.abspath(os.environ["CCA_PROG
 class Vectors:
     """The cases so far, and the bytes of the files that they name."""
 
-    def __init__(self, folder) -> None:
-        self.folder, self.files, self.blocks, self.names = folder, {}, [], set()
-        self.auctions = []  # of each case of `auction` its name, why, award and log
+    def __init__(self, folder: str) -> None:
+        self.folder = folder
+        self.files: dict[str, bytes] = {}
+        self.blocks: list[str] = []
+        self.names: set[str] = set()
+        self.auctions: list[tuple[str, str, bytes, bytes]] = []  # of each case of `auction` its name, why, award and log
 
-    def file(self, name, text, others):
-        """The name of a file with this text: that of an earlier one where the texts are the same, unless it is among others."""
+    def file(self, name: str, text: bytes, others: Collection[str]) -> str:
+        """The name of a file with this text: the earlier file if the texts are the same, unless it is among others."""
         known = next((known for known, one in self.files.items() if one == text and known not in others), name)
         if self.files.setdefault(known, text) != text:
             raise ValueError(f"two files {name}")
         pathlib.Path(self.folder, known).write_bytes(text)
         return known
 
-    def case(self, name, why, command, texts, answer=None, made=()) -> None:
-        """A case of a command: its texts, or names of files as str that are there or missing, and the first line of its answer where it is known."""
+    def case(self, name: str, why: str, command: str, texts: Sequence[bytes | str], answer: str | None=None, made: Sequence[tuple[str, int, str]]=()) -> None:
+        """A case of a command: its texts, or names of files as str that are there or missing, and the first line of its
+        answer if it is known."""
         if name in self.names:
             raise ValueError(f"two cases {name}")
         self.names.add(name)
         if command == "auction":
-            self.auctions.append((name, why, *texts[:2]))
+            award, log = (text for text in texts[:2] if isinstance(text, bytes))
+            self.auctions.append((name, why, award, log))
         kinds = FILES.get(command, ("award", "log", "book"))
-        words = []
+        words: list[str] = []
         for kind, text in zip(kinds + ("more",) * 3, texts):
             words.append(text if isinstance(text, str) else self.file(f"{name}.{kind}", text, words))
         for file, count, text in made:
@@ -64,15 +73,15 @@ class Vectors:
         ]
         self.blocks.append("\n".join(block))
 
-    def answer(self, command, words):
+    def answer(self, command: str, words: Sequence[str]) -> tuple[str, int]:
         """What is printed, and the status, on which all voices agree."""
         paths = [
             word if word == "/dev/null" else os.path.join(self.folder, word) if word and word[0] != "-" else word
             for word in words
         ]
         said = [court_answer(command, paths) if command in FILES else auction_answer(paths)]
-        if command not in FILES and not is_alike(*books(*paths[:2])):
-            raise AssertionError(f"{words}: the books are {books(*paths[:2])}")
+        if command not in FILES and not is_alike(*books(paths[0], paths[1])):
+            raise AssertionError(f"{words}: the books are {books(paths[0], paths[1])}")
         if command in FILES and said[0] != ("cca: words", 2):
             said.append(rules_answer(command, paths))
         if PROGRAM:
@@ -81,7 +90,7 @@ class Vectors:
             raise AssertionError(f"{command} {words}: {said}")
         return said[0]
 
-    def book(self, award, log):
+    def book(self, award: bytes, log: bytes) -> Book | None:
         """The book of an award and a log, on which the voices agree, or None where there is none."""
         paths = [os.path.join(self.folder, f"a-book.{kind}") for kind in ("award", "log")]
         for path, text in zip(paths, (award, log)):
@@ -95,12 +104,13 @@ class Vectors:
             return None
 
 
-def auction_answer(paths):
-    printed, _, status = second_auction(*paths[:2])
+def auction_answer(paths: Sequence[str]) -> tuple[str, int]:
+    """What `auction` prints of an award and a log, and the status."""
+    printed, _, status = second_auction(paths[0], paths[1])
     return printed.removesuffix("\n"), status
 
 
-def main(root) -> None:
+def main(root: pathlib.Path) -> None:
     """Writes vectors/ below this folder."""
     from checks.cases.vector_cases import add_all
     from checks.cases.vector_winners import add_winners
@@ -115,6 +125,5 @@ def main(root) -> None:
         for name in vectors.files:
             shutil.copy(os.path.join(folder, name), kept / "files" / name)
     (kept / "cases").write_text("\n\n".join(vectors.blocks) + "\n")
-    print(
-        f"{len(vectors.blocks)} cases, {len(vectors.files)} files, {sum(map(len, vectors.files.values()))} bytes, {2 + bool(PROGRAM)} voices"
-    )
+    length = sum(map(len, vectors.files.values()))
+    print(f"{len(vectors.blocks)} cases, {len(vectors.files)} files, {length} bytes, {2 + bool(PROGRAM)} voices")

@@ -4,6 +4,9 @@ A day is told as steps, and the desk's own log writes its files, by a clock of t
 the same day told again with other steps, by the same key and at the same times: all parts of its files agree. What is
 found then is found by lines that somebody noted.
 """
+
+from __future__ import annotations
+
 import contextlib
 import dataclasses
 import datetime
@@ -15,10 +18,12 @@ import re
 import subprocess
 import tempfile
 import unittest.mock
+from collections.abc import Callable, Iterable, Iterator, Mapping, Sequence
+from typing import Any
 
 from checks.cases.samples import sample, taking
 
-from cca_tools.desk.journal import chained, line_sum
+from cca_tools.desk.journal import Entry, chained, line_sum
 from cca_tools.desk.logfile import LogFile
 from cca_tools.desk.record import closes_of
 from cca_tools.rules.auction import replay
@@ -50,18 +55,18 @@ class Step:
     minute: int = 0
 
     @property
-    def is_reopened(self):
+    def is_reopened(self) -> bool:
         """Whether the last close is taken back alone."""
         return not self.text and self.back is None and not self.is_publish
 
 
-def rounds(log):
+def rounds(log: bytes) -> list[bytes]:
     """The lines of a log, up to and with each close, and what is after the last one."""
     parts = [part + CLOSE for part in log.split(CLOSE)]
     return [*parts[:-1], parts[-1].removesuffix(CLOSE)]
 
 
-def honest(log=LOG):
+def honest(log: bytes = LOG) -> list[Step]:
     """The day: the first round is closed too early and that close is taken back; the second one is held again; a line
     comes after the end."""
     first, *others, last = rounds(log)
@@ -87,11 +92,11 @@ class Files:
     log: bytes
     journal: bytes
     posted: bytes
-    kept: dict
+    kept: Mapping[str, bytes]
     key: bytes = KEY
     is_made_again: bool = False  # as a whole, by the desk's own log
 
-    def but(self, **others):
+    def but(self, **others: Any) -> Files:
         """These files, some of them changed by an editor."""
         return dataclasses.replace(self, is_made_again=False, **others)
 
@@ -102,7 +107,7 @@ class Clock:
     def __init__(self) -> None:
         self.time = START
 
-    def now(self):
+    def now(self) -> str:
         """The time as an entry has it."""
         self.time += datetime.timedelta(seconds=1)
         return self.time.isoformat(timespec="milliseconds")
@@ -111,18 +116,18 @@ class Clock:
 class Day:
     """A day at the desk's log, by steps."""
 
-    def __init__(self, folder, award, key, about) -> None:
+    def __init__(self, folder: str, award: bytes, key: bytes, about: Mapping[str, str]) -> None:
         self.path, self.award, self.rules = pathlib.Path(folder, "day.log"), award, read_award(award)
         pathlib.Path(f"{self.path}.key").write_bytes(key)
         self.log = LogFile(self.path, {"award": sum_of(award), "program": sum_of(b"program")}, about=about)
 
-    def replies(self, text):
+    def replies(self, text: bytes) -> Callable[[bytes], list[str]]:
         """The replies to the last lines of a log."""
         return lambda log: [it.text() for it in replay(self.rules, read_log(log, self.rules)).replies][
             -text.count(b"\n") :
         ]
 
-    def do(self, step) -> None:
+    def do(self, step: Step) -> None:
         """Does a step, and posts what is due."""
         data = self.log.read()
         base = self.log.base(data)
@@ -135,14 +140,14 @@ class Day:
             self.log.cut(base, closes[step.back - 1] if step.back else 0, step.why)
         self.log.post(lambda log: closes_of(self.rules, log), step.is_publish)
 
-    def files(self):
+    def files(self) -> Files:
         """The files as they are now."""
         log, desk, posted = (pathlib.Path(f"{self.path}{kind}").read_bytes() for kind in ("", ".desk", ".posted"))
         kept = {path.name: path.read_bytes() for path in sorted(self.path.parent.glob("day.log.cut-*"))}
         return Files(self.award, log, desk, posted, kept, self.log.key, True)
 
 
-def told(steps, award=AWARD, key=KEY, about=PROGRAM):
+def told(steps: Iterable[Step], award: bytes = AWARD, key: bytes = KEY, about: Mapping[str, str] = PROGRAM) -> Files:
     """The files of a day that is told by steps: each step begins at its own minute."""
     clock, epochs = Clock(), (f"{it:016}" for it in itertools.count())
     with contextlib.ExitStack() as patches:
@@ -162,37 +167,38 @@ def told(steps, award=AWARD, key=KEY, about=PROGRAM):
 # What is changed.
 
 
-def line_of_journal(files, place, change, torn=b""):
+def line_of_journal(files: Files, place: int, change: Callable[[Entry], Entry], torn: bytes = b"") -> Files:
     """The files with a change of an entry's fields, or a torn line before it; the chain is made again, and no seal."""
-    lines, before = [], None
+    lines: list[bytes] = []
+    before: bytes | None = None
     for number, it in enumerate(chained(files.journal)):
         new = change(it) if number == place else it
         if torn and number == place:
             lines.append(torn)
-            before += b"\n" + torn
+            before = (before or b"") + b"\n" + torn
         before = dataclasses.replace(new, prev=line_sum(before)).line()
         lines.append(before)
     return files.but(journal=b"\n".join(lines) + b"\n")
 
 
-def without_line(files, *rows):
+def without_line(files: Files, *rows: int) -> Files:
     """The files without some lines of LOG.posted."""
     lines = files.posted.splitlines(True)
     return files.but(posted=b"".join(it for row, it in enumerate(lines, 1) if row not in rows))
 
 
-def swapped(award):
+def swapped(award: bytes) -> bytes:
     """An award with its first two bidders in the other order."""
     parts = re.split(rb"(?=\[\[bidder\]\])", award)
     return b"".join([parts[0], parts[2], parts[1], *parts[3:]])
 
 
-def cheaper(award):
+def cheaper(award: bytes) -> bytes:
     """An award with another reserve."""
     return award.replace(b"reserve = 15000", b"reserve = 14900")
 
 
-def shorter(files, count):
+def shorter(files: Files, count: int) -> Files:
     """The files up to a number of posted lines: journal, log and posted lines end there."""
     entries = chained(files.journal)
     place = [at for at, it in enumerate(entries) if it.what == "posted"][count - 1]
@@ -201,22 +207,22 @@ def shorter(files, count):
     return files.but(journal=b"".join(lines), log=log, posted=b"".join(files.posted.splitlines(True)[: 3 + count]))
 
 
-def with_draft(log):
+def with_draft(log: bytes) -> bytes:
     """A log with another amount in one draft of the sealed round."""
     return log.replace(b"draft,everest,1 0 3 0,420000", b"draft,everest,1 0 3 0,420001")
 
 
-def with_bid(log):
+def with_bid(log: bytes) -> bytes:
     """A log with another bid in the first round."""
     return log.replace(b"2 0 4 0", b"1 0 4 0", 1)
 
 
-def with_past_line(log):
+def with_past_line(log: bytes) -> bytes:
     """A log with another bid in the fourth round."""
     return log.replace(b"bid,niche,0 0 5 0,", b"bid,niche,0 0 4 0,")
 
 
-def with_time(steps, place, seconds):
+def with_time(steps: Sequence[Step], place: int, seconds: int) -> list[Step]:
     """The steps with another time of one."""
     return [dataclasses.replace(it, late=seconds) if at == place else it for at, it in enumerate(steps)]
 
@@ -231,10 +237,10 @@ class Found:
 
     check: str
     publish: str
-    foreign: tuple
+    foreign: tuple[int, ...]
 
 
-def write(folder, files):
+def write(folder: str, files: Files) -> dict[str, str]:
     """Writes files as they are published, with the certificate: that of the sample, or a new one for other files where
     the program is there to make it. Returns their names."""
     names = {
@@ -252,7 +258,7 @@ def write(folder, files):
     return names
 
 
-def said(run, *words):
+def said(run: Callable[[list[str]], str], *words: str) -> str:
     """What a tool prints, without its `no` and without the path of a file: `yes`, or why not."""
     with contextlib.redirect_stderr(io.StringIO()), unittest.mock.patch.dict(os.environ, {"CCA_PROGRAM": "/nowhere"}):
         try:
@@ -262,7 +268,7 @@ def said(run, *words):
     return "yes" if text.startswith(("yes", "winner")) else text
 
 
-def found(day, files):
+def found(day: Files, files: Files) -> Found:
     """What the tools, and the witnesses of the day's lines, find of changed files."""
     with tempfile.TemporaryDirectory() as folder:
         names = write(folder, files)
@@ -274,7 +280,7 @@ def found(day, files):
         return Found(check, published, tuple(foreign(day, names, folder)) if check == "yes" else ())
 
 
-def foreign(day, names, folder):
+def foreign(day: Files, names: Mapping[str, str], folder: str) -> Iterator[int]:
     """The numbers of the posted lines of the day that are NOT of these files; 0 is the line of the award."""
     for number, line in enumerate(day.posted.decode().splitlines()[2:]):
         note = pathlib.Path(folder, "noted")
@@ -284,13 +290,13 @@ def foreign(day, names, folder):
             yield number
 
 
-def foreign_of(day, files):
+def foreign_of(day: Files, files: Files) -> tuple[int, ...]:
     """The numbers of the posted lines of a day that are NOT of some files, by a witness of each one."""
     with tempfile.TemporaryDirectory() as folder:
         return tuple(foreign(day, write(folder, files), folder))
 
 
-def note_of(day, text):
+def note_of(day: Files, text: str) -> str:
     """What is said of a note, by the files of the day."""
     with tempfile.TemporaryDirectory() as folder:
         names = write(folder, day)
@@ -299,7 +305,7 @@ def note_of(day, text):
         files = [names[kind] for kind in ("key", "award", "log")]
         with unittest.mock.patch.dict(os.environ, {"CCA_PROGRAM": "/nowhere"}):
             try:
-                return seal(["check", "--journal", names["journal"], *files, str(note)])
+                return str(seal(["check", "--journal", names["journal"], *files, str(note)]))
             except Stop as stop:
                 return stop.line + (f"\n{stop.why}" if stop.why else "")
 
@@ -310,12 +316,12 @@ class Attack:
     `tools/journal --check` and `tools/publish` say, and which lines a witness finds not to be of the files."""
 
     name: str
-    make: object
+    make: Callable[[Files], Files]
     check: str
     publish: str
-    foreign: tuple = ()
+    foreign: tuple[int, ...] = ()
 
-    def differs(self, it):
+    def differs(self, it: Found) -> list[tuple[str, str] | tuple[tuple[int, ...], tuple[int, ...]]]:
         """Where what was found isn't what is expected; nothing if all is. What a set of a whole new day comes to isn't
         asked without the program, which has to make its certificate."""
         wanted = [(self.check, it.check), (self.publish, it.publish)][: 1 if self.publish == "yes" and not PATH else 2]
@@ -324,7 +330,7 @@ class Attack:
         ]
 
 
-def outcome(it):
+def outcome(it: Found) -> str:
     """Who finds an attack, in words, by what was found."""
     words = []
     if it.check != "yes":

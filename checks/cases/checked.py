@@ -1,16 +1,21 @@
 """What theory says of auctions of bidders that follow their values, tested on one auction."""
+
+from __future__ import annotations
+
 import pathlib
 import subprocess
 import tempfile
+from collections.abc import Iterator, Mapping, Sequence
 from fractions import Fraction
 
 from checks.cases import rehearsed
-from checks.cases import samples  # noqa: F401  (it says where the package is)
 from checks.cases.enumerated import best, core_sum
 from checks.cases.program import PROGRAM
 
-from cca_tools.data.prices import prices_of
-from cca_tools.rules.award import read_award
+from cca_tools.data.prices import Prices, prices_of
+from cca_tools.rules.auction import Auction
+from cca_tools.rules.award import Award, read_award
+from cca_tools.rules.types import Package
 from cca_tools.studies.rehearsal import held
 from cca_tools.studies.rows import best_of_values
 from cca_tools.studies.awarding import log_text
@@ -18,7 +23,7 @@ from cca_tools.studies.strategies import Strategy
 from cca_tools.studies.values import values_of_seed
 
 
-def awarded(award_bytes, auction):
+def awarded(award_bytes: bytes, auction: Auction) -> tuple[list[str], list[str]]:
     """What the program prints, and its replies."""
     with tempfile.TemporaryDirectory() as folder:
         award, log = pathlib.Path(folder, "award"), pathlib.Path(folder, "log")
@@ -31,7 +36,7 @@ def awarded(award_bytes, auction):
     return run[0].stdout.splitlines(), run[1].stdout.splitlines()
 
 
-def faults(number, is_small=False):
+def faults(number: int, is_small: bool = False) -> tuple[str, list[str]]:
     """The form of auction `number`, and what isn't as theory says; "limit" where the program doesn't price it."""
     form, award_bytes, values_bytes = rehearsed.drawn(number, is_small)
     award = read_award(award_bytes)
@@ -57,7 +62,7 @@ def faults(number, is_small=False):
     return form, found
 
 
-def differing(award, values, prices):
+def differing(award: Award, values: Sequence[Mapping[Package, int]], prices: Prices) -> Iterator[str]:
     """What differs from going through all allocations of these values."""
     every = range(len(values))
     # What is worth less than its reserves can't be bid for, and is never in the best allocation.

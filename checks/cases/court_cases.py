@@ -1,8 +1,14 @@
 """Drawn books, slots, weights and auctions with right and altered certificates, and what is made of them by the voices
 of checks/cases/voices.py."""
+
+from __future__ import annotations
+
 import itertools
 import os
+import random
 import re
+from collections.abc import Iterable, Iterator, Sequence
+from typing import TypeAlias
 
 from cca_tools.rules.auction import replay
 from cca_tools.rules.award import read_award
@@ -10,11 +16,13 @@ from cca_tools.rules.log import read_log
 from cca_tools.rules.stops import Stop
 from checks.cases.damage import broken, scaled, slipped, widened
 from checks.cases.drawn_auctions import broken_award, broken_log, bytes_of, odd_award, odd_log
-from checks.cases.searches import dot
+from checks.cases.searches import Bidders, Bids, dot
 from checks.cases.second_auctions import drawn
 from checks.cases.small_certs import book_certificate, place_certificate
 from checks.cases.voices import FILES, court_answer, program_answer, rules_answer
 
+# A command, and the texts of its files.
+Case: TypeAlias = tuple[str, tuple[bytes, ...]]
 # The last number of a range of docs/, or of a machine's word, and the first one after it.
 ENDS = (
     65_535,
@@ -33,7 +41,8 @@ ENDS = (
 )
 
 
-def answers(folder, command, texts, program=None):
+
+def answers(folder: str, command: str, texts: Sequence[bytes], program: str | None = None) -> list[tuple[str, int]]:
     """How the court's file, the rules, and the program where one is named answer for these texts."""
     names = [os.path.join(folder, kind) for kind in FILES[command]]
     for name, text in zip(names, texts):
@@ -49,30 +58,29 @@ def answers(folder, command, texts, program=None):
 # ---- drawn cases ----
 
 
-def cases(rng):
+def cases(rng: random.Random) -> Iterator[Case]:
     """Drawn cases without end, each a command with its texts."""
     for kind in itertools.cycle([book_cases, auction_cases, slot_cases, auction_cases, faulty_auctions, wide_cases]):
         yield from kind(rng)
 
 
-def changed(rng, text, count):
+def changed(rng: random.Random, text: bytes, count: int) -> Iterator[bytes]:
     """Texts that come of a certificate, the first one as it was made."""
-    text = text.decode()
-    yield text.encode()
+    yield text
     for _ in range(count):
-        yield rng.choice([broken, broken, broken, slipped, scaled, widened, moved])(rng, text).encode()
+        yield rng.choice([broken, broken, broken, slipped, scaled, widened, moved])(rng, text.decode()).encode()
 
 
-def moved(rng, text):
+def moved(rng: random.Random, text: str) -> str:
     """Payments of the same sum."""
-    numbers = list(map(int, re.search(r"^pay(.*)$", text, re.M)[1].split()))
+    numbers = list(map(int, re.findall(r"^pay(.*)$", text, re.M)[0].split()))
     if len(numbers) > 1:
         one, other = rng.sample(range(len(numbers)), 2)
         numbers[one], numbers[other] = numbers[one] + 1, numbers[other] - 1
     return re.sub(r"^pay.*$", " ".join(["pay", *map(str, numbers)]), text, count=1, flags=re.M)
 
 
-def book_cases(rng):
+def book_cases(rng: random.Random) -> Iterator[Case]:
     supply = [rng.randint(1, rng.choice([1, 2, 3])) for _ in range(rng.choice([1, 2, 2, 3]))]
     reserves, top = [rng.choice([0, 0, 1, 7]) for _ in supply], rng.choice([1, 3, 12, 2**41])
     bidders = [drawn_bids(rng, supply, reserves, top) for _ in range(rng.choice([0, 1, 2, 3, 3, 4, 5]))]
@@ -89,23 +97,25 @@ def book_cases(rng):
         yield from (("weigh-check", (text.encode(), f(rng, weight_text).encode(), weighed)) for f in (slipped, broken))
 
 
-def drawn_bids(rng, supply, reserves, top):
+def drawn_bids(
+    rng: random.Random, supply: Sequence[int], reserves: Sequence[int], top: int
+) -> list[tuple[tuple[int, ...], int]]:
     packages = {tuple(rng.choice([0, rng.randint(0, most)]) for most in supply) for _ in range(rng.randint(0, 4))}
     return [(package, dot(package, reserves) + rng.randint(0, top)) for package in sorted(packages) if any(package)]
 
 
-def book_text(supply, reserves, bidders):
+def book_text(supply: Sequence[int], reserves: Sequence[int], bidders: Bids) -> str:
     lines = ["book 1", f"supply {joined(supply)}", f"reserve {joined(reserves)}"]
     for j, bids in enumerate(bidders):
         lines += [f"bidder b{j}", *(f"bid {joined(package)} {amount}" for package, amount in bids)]
     return "\n".join([*lines, "end", ""])
 
 
-def joined(numbers):
+def joined(numbers: Iterable[int]) -> str:
     return " ".join(map(str, numbers))
 
 
-def slot_cases(rng):
+def slot_cases(rng: random.Random) -> Iterator[Case]:
     band, bidders = rng.choice([1, 3, 5, 8, 40]), []
     for _ in range(rng.choice([0, 1, 2, 3, 3, 4])):
         free = band - sum(width for width, _ in bidders)
@@ -123,7 +133,7 @@ def slot_cases(rng):
         yield from (("place-check", (f(rng, text).encode(), cert)) for f in (slipped, broken))
 
 
-def auction_cases(rng):
+def auction_cases(rng: random.Random) -> Iterator[Case]:
     """An auction with its certificate, altered; with lines of its log left out or twice, and with other versions of its
     award."""
     award_text, log, _ = drawn(rng)
@@ -150,7 +160,7 @@ def auction_cases(rng):
         )
 
 
-def faulty_auctions(rng):
+def faulty_auctions(rng: random.Random) -> Iterator[Case]:
     """Awards with a rule broken or of any TOML, and logs with a record that states no line or of any CSV."""
     award, log, size = drawn(rng)
     for kind in (broken_award, broken_award, broken_award, odd_award):

@@ -1,16 +1,21 @@
 """Texts that are changed: by another number or a slip of form; and certificates that are written otherwise and still
 right."""
+
+from __future__ import annotations
+
 import collections
+import random
 import re
+from collections.abc import Collection
 
 RANGE = 2**120
 LINE = re.compile(r"(\w+) .*")
 NUMBER = re.compile(r"-?\d+")
 
 
-def broken(rng, text, kinds=None):
+def broken(rng: random.Random, text: str, kinds: Collection[str] | None = None) -> str:
     """The text with another number in one line of these kinds, each kind as likely as any other."""
-    lines = collections.defaultdict(list)
+    lines: collections.defaultdict[str, list[tuple[int, int]]] = collections.defaultdict(list)
     for line in LINE.finditer(text):
         if NUMBER.search(line[0]):
             lines[line[1]].append(line.span())
@@ -23,7 +28,7 @@ def broken(rng, text, kinds=None):
     return text[:start] + str(other) + text[end:]
 
 
-def slipped(rng, text):
+def slipped(rng: random.Random, text: str) -> str:
     """The text with a slip of form: a byte, a line or the end that isn't as it was."""
     lines, at = text.splitlines(keepends=True), rng.randrange(len(text))
     n = rng.randrange(len(lines))
@@ -42,7 +47,7 @@ def slipped(rng, text):
     )
 
 
-def respelt(rng, text):
+def respelt(rng: random.Random, text: str) -> str:
     """The text with a number that is written otherwise."""
     number = rng.choice(list(NUMBER.finditer(text)))
     other = rng.choice(
@@ -63,7 +68,7 @@ def respelt(rng, text):
     return text[: number.start()] + other + text[number.end() :]
 
 
-def with_other_fields(rng, line):
+def with_other_fields(rng: random.Random, line: str) -> str:
     """A line with a field that is missing, is there twice, or has changed its place."""
     fields = line[:-1].split(" ")
     at, to = rng.randrange(len(fields)), rng.randrange(len(fields))
@@ -77,12 +82,15 @@ def with_other_fields(rng, line):
     return " ".join(fields) + "\n"
 
 
-def scaled(rng, text):
+def scaled(rng: random.Random, text: str) -> str:
     """A certificate over a greater denominator: the payments, the multipliers and the lowered table are as many times
     greater."""
     factor = rng.choice([2, 3, 7, 10**6, 2**60])
     head, lowered = text.split("\nlowered\n")
-    times = lambda line: NUMBER.sub(lambda number: str(factor * int(number[0])), line[0])
+
+    def times(line: re.Match[str]) -> str:
+        return NUMBER.sub(lambda number: str(factor * int(number[0])), line[0])
+
     return (
         re.sub(r"^(den|pay|mult) .*", times, head, flags=re.M)
         + "\nlowered\n"
@@ -90,7 +98,7 @@ def scaled(rng, text):
     )
 
 
-def widened(rng, text):
+def widened(rng: random.Random, text: str) -> str:
     """A certificate in which an entry of a table is greater by one: no test asks that a table is exact."""
     start, end = rng.choice(
         [number.span() for line in re.finditer(r"^t .*", text, re.M) for number in NUMBER.finditer(text, *line.span())]

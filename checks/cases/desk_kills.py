@@ -4,6 +4,9 @@ A child of this process does something to a log while strace kills it at a syste
 desk starts on what is left, mends what it reports, and everything is done again: no line that was answered may be lost,
 and none may be written twice.
 """
+
+from __future__ import annotations
+
 import collections
 import contextlib
 import ctypes
@@ -16,8 +19,8 @@ import subprocess
 import sys
 import tempfile
 import time
-
-from checks.cases import samples  # noqa: F401, finds cca_tools
+from collections.abc import Callable, Iterable, Iterator, Mapping, Sequence
+from typing import TextIO, TypeAlias
 
 from cca_tools.desk.journal import Journal, replayed
 from cca_tools.desk.logfile import Base, Grown, LogFile, Refused, Unsure
@@ -33,7 +36,7 @@ UNTRACED = "strace isn't installed, or may not attach to a process: no desk was 
 PR_SET_PTRACER, ANY = 0x59616D61, -1
 
 
-def ok(wanted):
+def ok(wanted: bytes) -> list[str]:
     """The replies to a log, of whatever lines."""
     return ["ok"]
 
@@ -44,10 +47,10 @@ class Ended:
 
     said: str
     is_killed: bool
-    calls: tuple
+    calls: tuple[tuple[str, str], ...]
 
 
-def child(act, ready, out) -> None:
+def child(act: Callable[[], object], ready: int, out: int) -> None:
     """The child: waits until it is traced, acts, says what came of it, and is gone."""
     try:
         ctypes.CDLL(None).prctl(PR_SET_PTRACER, ctypes.c_ulong(ANY), 0, 0, 0)
@@ -64,7 +67,7 @@ def child(act, ready, out) -> None:
         os._exit(70)
 
 
-def traced(act, *faults):
+def traced(act: Callable[[], object], *faults: str) -> Ended:
     """Runs `act` in a child whose system calls are traced, each fault injected. Raises `OSError` where that isn't
     allowed."""
     (ready, go), (result, out) = os.pipe(), os.pipe()
@@ -80,7 +83,7 @@ def traced(act, *faults):
             tracer = subprocess.Popen(words, stderr=subprocess.PIPE, text=True)
         except OSError:
             tracer = None
-        is_traced = tracer and "attached" in tracer.stderr.readline()
+        is_traced = tracer and tracer.stderr and "attached" in tracer.stderr.readline()
         os.write(go, b"x")
         with open(result, "rb") as said:
             text = said.read().decode()
@@ -90,11 +93,11 @@ def traced(act, *faults):
             tracer.communicate(timeout=SECONDS)
         if not is_traced:
             raise OSError(UNTRACED)
-        calls = tuple(found.groups() for found in map(CALL.match, trace.read().splitlines()) if found)
+        calls = tuple((found[1], found[2]) for found in map(CALL.match, trace.read().splitlines()) if found)
     return Ended(text, os.WIFSIGNALED(status), calls)
 
 
-def can_trace():
+def can_trace() -> bool:
     """Whether a child can be traced."""
     try:
         return traced(lambda: "here").said == "here"
@@ -102,20 +105,21 @@ def can_trace():
         return False
 
 
-def numbered(calls):
+def numbered(calls: Iterable[tuple[str, str]]) -> Iterator[tuple[str, int]]:
     """Each call by its name, with its number among those of its name."""
-    seen = collections.Counter()
+    seen: collections.Counter[str] = collections.Counter()
     for name, _ in calls:
         seen[name] += 1
         yield name, seen[name]
 
 
-def need(right, *what) -> None:
+def need(right: object, *what: object) -> None:
+    """Raises an error of what was seen, if something isn't right."""
     if not right:
         raise AssertionError(what)
 
 
-def kept_beside(path):
+def kept_beside(path: pathlib.Path) -> dict[str, bytes]:
     """The bytes of all that is kept beside a log."""
     return {file.name: file.read_bytes() for file in path.parent.iterdir() if re.search(r"-\d+$", file.name)}
 
@@ -126,10 +130,10 @@ class Scene:
     name = ""
     before = FIRST
 
-    def __init__(self, folder) -> None:
+    def __init__(self, folder: str) -> None:
         self.path = pathlib.Path(folder, "a.log")
 
-    def open(self):
+    def open(self) -> LogFile:
         return LogFile(self.path, PINS)
 
     def prepare(self) -> None:
@@ -139,18 +143,18 @@ class Scene:
             log.append(log.base(b""), self.before, ok)
         self.log, self.base, self.answered = log, log.base(log.read()), log.read()
 
-    def act(self):
+    def act(self) -> object:
         raise NotImplementedError
 
-    def outcome(self):
+    def outcome(self) -> str:
         """What the kill left, in two words, with nothing changed."""
         return "whole" if self.path.read_bytes() == self.answered else "changed"
 
-    def check(self):
+    def check(self) -> None:
         """Starts a desk on what is left, mends it, and does it again. Raises `AssertionError`."""
         raise NotImplementedError
 
-    def check_whole(self, log, wanted) -> None:
+    def check_whole(self, log: LogFile, wanted: bytes) -> None:
         """The log is the one that is wanted, nothing is wrong, and the journal alone leads to it."""
         need(log.stop() is None, "a stop", log.stop())
         need(log.read() == wanted, "the log", log.read(), wanted)
@@ -165,10 +169,10 @@ class Write(Scene):
 
     name, text = "write", SECOND
 
-    def act(self):
+    def act(self) -> object:
         return self.log.append(self.base, self.text, ok).was_there
 
-    def outcome(self):
+    def outcome(self) -> str:
         data, whole = self.path.read_bytes(), self.answered + self.text
         if data == self.answered:
             return "not there"
@@ -199,7 +203,7 @@ class ShortWrite(Write):
 
     name = "write, full disk"
 
-    def act(self):
+    def act(self) -> object:
         room = len(self.answered) + 5
         # (the journal is longer than the log already, and isn't written)
         resource.setrlimit(resource.RLIMIT_FSIZE, (room, resource.RLIM_INFINITY))
@@ -211,10 +215,10 @@ class Cut(Scene):
 
     name, before = "cut", FIRST + THIRD
 
-    def act(self):
+    def act(self) -> object:
         return self.log.cut(self.base, len(FIRST), "doubled").name
 
-    def outcome(self):
+    def outcome(self) -> str:
         if self.path.read_bytes() == FIRST:
             return "cut"
         return "begun, not ended" if self.open().stop() else "not begun"
@@ -249,10 +253,10 @@ class Mend(Scene):
         self.path.write_bytes(self.spoilt)
         self.left_before = kept_beside(self.path)
 
-    def act(self):
+    def act(self) -> object:
         return self.log.mend(self.mend, "by hand")
 
-    def outcome(self):
+    def outcome(self) -> str:
         return "to mend still" if self.open().stop() else "mended"
 
     def check(self) -> None:
@@ -263,14 +267,14 @@ class Mend(Scene):
         self.check_whole(self.open(), self.wanted)
         need(self.is_kept(kept_beside(self.path)), "kept", kept_beside(self.path))
 
-    def is_kept(self, beside):
+    def is_kept(self, beside: Mapping[str, bytes]) -> bool:
         return True
 
 
 class TakeBack(Mend):
     name, mend, spoilt, wanted = "take back", "take back", FIRST + SECOND + b"bid,we", FIRST + SECOND
 
-    def is_kept(self, beside):
+    def is_kept(self, beside: Mapping[str, bytes]) -> bool:
         return b"bid,we" in beside.values()
 
 
@@ -282,7 +286,7 @@ class KeepChanged(Mend):
     name, mend, before, spoilt = "keep changed log", "keep changed log", FIRST + SECOND, FIRST.upper() + SECOND
     wanted = spoilt
 
-    def is_kept(self, beside):
+    def is_kept(self, beside: Mapping[str, bytes]) -> bool:
         return {self.spoilt, self.answered} <= set(beside.values())
 
 
@@ -290,7 +294,7 @@ class PutBack(Mend):
     name, mend, before, spoilt = "put back", "put back", FIRST + SECOND, FIRST.upper() + SECOND
     wanted = FIRST + SECOND
 
-    def is_kept(self, beside):
+    def is_kept(self, beside: Mapping[str, bytes]) -> bool:
         return self.spoilt in beside.values()
 
 
@@ -302,10 +306,10 @@ class Start(Scene):
     def prepare(self) -> None:
         self.answered = b""
 
-    def act(self):
+    def act(self) -> object:
         return self.open().base(b"").length
 
-    def outcome(self):
+    def outcome(self) -> str:
         return f"{len([kind for kind in ('', '.key', '.desk') if pathlib.Path(f'{self.path}{kind}').exists()])} files"
 
     def check(self) -> None:
@@ -327,7 +331,7 @@ class Found(Write):
         with open(self.path, "ab") as file:
             file.write(self.text)
 
-    def act(self):
+    def act(self) -> object:
         return self.open().note_found()
 
 
@@ -336,7 +340,7 @@ class Copies(Scene):
 
     name = "copies"
 
-    def open(self):
+    def open(self) -> LogFile:
         return LogFile(self.path, PINS, self.path.parent / "copies")
 
     def prepare(self) -> None:
@@ -347,10 +351,10 @@ class Copies(Scene):
         log.append(self.base, SECOND, ok)
         self.answered = log.read()
 
-    def act(self):
+    def act(self) -> object:
         return self.log.copy_out()
 
-    def outcome(self):
+    def outcome(self) -> str:
         return "old" if (self.path.parent / "copies" / "a.log").read_bytes() == FIRST else "new"
 
     def check(self) -> None:
@@ -372,7 +376,7 @@ SCENES = Write, ShortWrite, Cut, TakeBack, EndLine, KeepChanged, PutBack, Start,
 
 
 @contextlib.contextmanager
-def staged(scene):
+def staged(scene: type[Scene]) -> Iterator[Scene]:
     """A scene in a folder of its own, prepared."""
     with tempfile.TemporaryDirectory() as folder:
         it = scene(folder)
@@ -380,7 +384,7 @@ def staged(scene):
         yield it
 
 
-def calls_of(scene):
+def calls_of(scene: type[Scene]) -> tuple[tuple[str, str], ...]:
     """The calls of a scene that nothing disturbs."""
     with staged(scene) as it:
         ended = traced(it.act)
@@ -388,7 +392,7 @@ def calls_of(scene):
         return ended.calls
 
 
-def kill(scene, call, number):
+def kill(scene: type[Scene], call: str, number: int) -> str:
     """Kills the scene's child at this call, and tests what is left. Gives what the kill left."""
     with staged(scene) as it:
         ended = traced(it.act, f"{call}:signal=KILL:when={number}")
@@ -400,8 +404,11 @@ def kill(scene, call, number):
 
 # Races
 
+# A process, the file to its words, and the file of its answers.
+Racer: TypeAlias = tuple[int, TextIO, TextIO]
 
-def racer(read, write) -> None:
+
+def racer(read: int, write: int) -> None:
     """A process that writes what it is asked to, when it is asked."""
     with open(read) as words, open(write, "w", buffering=1) as out:
         for row in words:
@@ -422,11 +429,11 @@ class Racers:
     """Two processes that write at the same time."""
 
     def __init__(self) -> None:
-        self.both = []
+        self.both: list[Racer] = []
         for _ in range(2):
             self.both.append(self.started())
 
-    def started(self):
+    def started(self) -> Racer:
         (words, to), (back, out) = os.pipe(), os.pipe()
         pid = os.fork()
         if not pid:
@@ -440,7 +447,7 @@ class Racers:
         os.close(words), os.close(out)
         return pid, open(to, "w", buffering=1), open(back)
 
-    def race(self, path, base, texts):
+    def race(self, path: pathlib.Path, base: Base, texts: Sequence[str]) -> tuple[str, ...]:
         """What both came to, in order, where they write these lines onto one base."""
         when = time.time() + 0.01
         for (_, to, _), text in zip(self.both, texts):
@@ -453,7 +460,7 @@ class Racers:
             os.waitpid(pid, 0)
 
 
-def race(racers, is_same):
+def race(racers: Racers, is_same: bool) -> tuple[str, ...]:
     """One race, and a test of what came of it."""
     with tempfile.TemporaryDirectory() as folder:
         path = pathlib.Path(folder, "a.log")

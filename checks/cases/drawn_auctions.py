@@ -1,6 +1,16 @@
 """Random small auctions, and faulty ones: awards with a rule broken or of other TOML, logs with lines that aren't or of
 other CSV."""
+
+from __future__ import annotations
+
+import random
 import re
+from collections.abc import Collection, Sequence
+from typing import Protocol, TypeAlias
+
+# A table of an award, and an award: of each key its value as TOML spells it, or a list of tables.
+Table: TypeAlias = dict[str, str]
+Terms: TypeAlias = dict[str, str | list[Table]]
 
 TABLES = {
     "category": ["name", "supply", "points", "reserve"],
@@ -222,11 +232,12 @@ LINES = [
 ]
 
 
-def quoted(name):
+def quoted(name: str) -> str:
+    """A name as a text of TOML."""
     return f'"{name}"'
 
 
-def terms_of(rng):
+def terms_of(rng: random.Random) -> tuple[Terms, list[int], int]:
     """A right award as tables of spelled values."""
     categories, bidders, top = (
         rng.randint(1, 3),
@@ -236,41 +247,41 @@ def terms_of(rng):
     supply, points = ([rng.randint(low, low + 3) for _ in range(categories)] for low in (1, 0))
     most = sum(s * p for s, p in zip(supply, points))
     reserves = [2**36 - rng.randint(0, 20) if top else rng.randint(0, 20) for _ in range(categories)]
-    terms = {"version": str(rng.randint(1, 2)), "tick": str(rng.choice([1, 1, 2, 7]))}
+    version, tick = str(rng.randint(1, 2)), str(rng.choice([1, 1, 2, 7]))
     values = enumerate(zip(supply, points, reserves))
-    terms["category"] = [dict(zip(TABLES["category"], [quoted(f"c{c}"), *map(str, numbers)])) for c, numbers in values]
-    terms["bidder"] = [
+    sold = [dict(zip(TABLES["category"], [quoted(f"c{c}"), *map(str, numbers)])) for c, numbers in values]
+    of_bidders = [
         {"name": quoted(f"b{j}"), "eligibility": str(rng.choice([most, most, rng.randint(most // 2, most)]))}
         for j in range(bidders)
     ]
-    for bidder in terms["bidder"]:
+    for bidder in of_bidders:
         if rng.random() < 0.3:
             bidder["holding"] = str([rng.randint(0, 1) for _ in range(categories)])
-    terms["step"] = [
+    steps = [
         {"excess": str(excess), "permille": str(rng.choice([1, 50, 200, 1000]))}
         for excess in sorted({1, rng.randint(2, 4)})
     ]
     weights = [[rng.randint(0, 2) for _ in range(categories)] for _ in range(rng.choice([0, 0, 1, 2]))]
-    terms["cap"] = [{"weight": str(weight), "limit": str(rng.randint(6, 16))} for weight in weights]
+    caps = [{"weight": str(weight), "limit": str(rng.randint(6, 16))} for weight in weights]
+    terms: Terms = {"version": version, "tick": tick}
+    terms |= {"category": sold, "bidder": of_bidders, "step": steps, "cap": caps}
     return terms, supply, bidders
 
 
-def text_of(terms, inline=()):
+def text_of(terms: Terms, inline: Collection[str] = ()) -> str:
     """The text of an award; the lists named inline are written in one line."""
-    lines = [f"{key} = {value}" for key, value in terms.items() if not isinstance(value, list)]
+    lists = {key: value for key, value in terms.items() if isinstance(value, list)}
+    lines = [f"{key} = {value}" for key, value in terms.items() if key not in lists]
     for key in inline:
-        lines.append(
-            f"{key} = ["
-            + ", ".join("{" + ", ".join(f"{k} = {v}" for k, v in table.items()) + "}" for table in terms[key])
-            + "]"
-        )
-    for key, tables in terms.items():
-        for table in tables if isinstance(tables, list) and key not in inline else []:
+        tables = ("{" + ", ".join(f"{k} = {v}" for k, v in table.items()) + "}" for table in lists[key])
+        lines.append(f"{key} = [{', '.join(tables)}]")
+    for key, of_key in lists.items():
+        for table in of_key if key not in inline else []:
             lines += [f"[[{key}]]", *(f"{k} = {v}" for k, v in table.items())]
     return "\n".join(lines) + "\n"
 
 
-def broken_award(rng):
+def broken_award(rng: random.Random) -> str:
     """An award with one rule or two of its fields broken, or perhaps none."""
     terms, _, _ = terms_of(rng)
     for _ in range(rng.choice([1, 1, 2])):
@@ -278,10 +289,13 @@ def broken_award(rng):
     return text_of(terms, [key for key in TABLES if isinstance(terms.get(key), list) and rng.random() < 0.15])
 
 
-def break_field(rng, terms) -> None:
+def break_field(rng: random.Random, terms: Terms) -> None:
+    """Breaks a drawn field of an award, or leaves it out."""
     key = rng.choice([key for key in ["version", "tick", *TABLES] if key in terms])
-    table = rng.choice(terms[key]) if key in TABLES and isinstance(terms[key], list) and terms[key] else terms
-    field = rng.choice(TABLES[key]) if table is not terms else key
+    tables = terms[key]
+    one = rng.choice(tables) if isinstance(tables, list) and tables else None
+    table: Table | Terms = terms if one is None else one
+    field = key if one is None else rng.choice(TABLES[key])
     kind = rng.random()
     if kind < 0.2:
         table.pop(field, None)
@@ -289,15 +303,14 @@ def break_field(rng, terms) -> None:
         table[rng.choice(["x", "names", "Supply", "'points '", "limit", "weight", "step"])] = rng.choice(
             ["1", "[]", "{}"]
         )
-    elif kind < 0.4 and table is not terms:
-        terms[key] = rng.choice(
-            [terms[key] + [dict(table)], terms[key] * 8, "[]", "1", "{}", "[1]", f"[{{}}, {rng.choice(WRONG)}]"]
-        )
+    elif kind < 0.4 and one is not None and isinstance(tables, list):
+        longer = [[*tables, dict(one)], tables * 8]
+        terms[key] = rng.choice([*longer, "[]", "1", "{}", "[1]", f"[{{}}, {rng.choice(WRONG)}]"])
     else:
         table[field] = rng.choice(WRONG + [quoted("c0"), quoted("b0"), "1", "2"])
 
 
-def odd_award(rng):
+def odd_award(rng: random.Random) -> str:
     """Text that is or isn't TOML, around a right award or alone."""
     terms, kind = text_of(terms_of(rng)[0]), rng.random()
     if kind < 0.4:
@@ -307,7 +320,7 @@ def odd_award(rng):
     return damaged(rng, terms, "\"'[]{}=,.#\n\r\t \\-+_0123456789abxeT:Z\x00\ufeff\u00e9")
 
 
-def damaged(rng, text, signs):
+def damaged(rng: random.Random, text: str, signs: str) -> str:
     """A text with some signs taken out, put in or replaced, or cut."""
     for _ in range(rng.choice([1, 1, 2, 5])):
         at, kind = rng.randrange(len(text) + 1), rng.random()
@@ -322,14 +335,29 @@ def damaged(rng, text, signs):
     return text
 
 
+class Desk(Protocol):
+    """What takes the lines of a log that is drawn."""
+
+    @property
+    def stage(self) -> str:
+        """The stage that the log has reached."""
+
+    def take(self, line: str) -> None:
+        """Takes a line."""
+
+    def turns(self, j: int, package: tuple[int, ...]) -> Sequence[int]:
+        """The amounts of a package at which an answer to bidder j may turn."""
+
+
 class Lines:
     """Draws the lines of a log. `desk` takes them, and says the stage and the amounts at which an answer may turn."""
 
-    def __init__(self, rng, desk, supply, bidders) -> None:
+    def __init__(self, rng: random.Random, desk: Desk, supply: Sequence[int], bidders: int) -> None:
         self.rng, self.desk, self.supply, self.bidders = rng, desk, supply, bidders
-        self.asked, self.since_close, self.patience = {}, 0, rng.choice([0.1, 0.2, 0.5])
+        self.asked: dict[int, list[int]] = {}
+        self.since_close, self.patience = 0, rng.choice([0.1, 0.2, 0.5])
 
-    def package(self, j):
+    def package(self, j: int) -> list[int]:
         """Often what the bidder asked for before, a lot less, or a lot of another category for it, or else any, often
         nearly all."""
         before, kind = self.asked.get(j), self.rng.random()
@@ -341,13 +369,15 @@ class Lines:
         low = [max(0, s - 1) if self.desk.stage == "clock" and kind < 0.9 else 0 for s in self.supply]
         return [self.rng.randint(least, s) + (self.rng.random() < 0.02) for least, s in zip(low, self.supply)]
 
-    def amount(self, j, package):
+    def amount(self, j: int, package: Sequence[int]) -> int:
+        """Often an amount at which an answer may turn, or one more or less."""
         turns = self.desk.turns(j + 1, tuple(package))
         if turns and self.rng.random() < 0.7:
             return max(0, self.rng.choice(turns) + self.rng.choice([-1, 0, 0, 0, 1]))
         return self.rng.choice([self.rng.randint(0, 60), self.rng.randint(20, 200), 2**42, 2**42 + 1])
 
-    def line(self):
+    def line(self) -> str:
+        """The next line."""
         if self.closes():
             self.since_close = 0
             return "close,,,"
@@ -365,15 +395,17 @@ class Lines:
             self.asked[j] = package
         return f"{kind},b{j},{' '.join(map(str, package))},{self.amount(j, package) if kind == 'draft' else ''}"
 
-    def closes(self):
+    def closes(self) -> bool:
+        """Whether the next line is a close."""
         if self.desk.stage == "sealed":
             return self.rng.random() < 0.03
         return self.rng.random() < (self.patience if self.since_close >= self.bidders else 0.03)
 
 
-def log_of(rng, desk, supply, bidders):
+def log_of(rng: random.Random, desk: Desk, supply: Sequence[int], bidders: int) -> str:
     """Lines that mostly belong to the stage that the log has reached."""
-    lines, drawn = [], Lines(rng, desk, supply, bidders)
+    lines: list[str] = []
+    drawn = Lines(rng, desk, supply, bidders)
     while len(lines) < 120 and not (desk.stage == "closed" and rng.random() < 0.7 or rng.random() < 0.003):
         lines.append(drawn.line())
         desk.take(lines[-1])
@@ -402,7 +434,7 @@ NUMBERS = [
 ]
 
 
-def broken_record(rng, categories):
+def broken_record(rng: random.Random, categories: int) -> str:
     """A record in which some field isn't of its form, or perhaps all are."""
     fields = [
         rng.choice(["bid", "draft", "drop", "submit", "close", "Bid", "bids", "", " bid"]),
@@ -421,13 +453,13 @@ def broken_record(rng, categories):
     return ",".join(fields[:4] if rng.random() < 0.9 else fields * 2)
 
 
-def broken_log(rng, log, categories):
+def broken_log(rng: random.Random, log: str, categories: int) -> str:
     lines = log.splitlines(True)
     lines.insert(rng.randrange(len(lines) + 1), broken_record(rng, categories) + "\n")
     return "".join(lines)
 
 
-def odd_log(rng, log):
+def odd_log(rng: random.Random, log: str) -> str:
     """A log of other CSV: other ends of lines, quotes, blank lines, marks, and damage."""
     ends = rng.choice(["\n", "\r\n", "\r", "\n\n", "\n\r", "\r\r\n"])
     log = "".join(line + (ends if rng.random() < 0.9 else rng.choice(["\n", "\r"])) for line in log.splitlines())
@@ -436,7 +468,7 @@ def odd_log(rng, log):
     return damaged(rng, log, '",\r\n 01b') if rng.random() < 0.4 else log
 
 
-def with_quotes(rng, field):
+def with_quotes(rng: random.Random, field: str) -> str:
     kind = rng.random()
     if kind < 0.9:
         return field
@@ -455,7 +487,7 @@ def with_quotes(rng, field):
     )
 
 
-def bytes_of(rng, text):
+def bytes_of(rng: random.Random, text: str) -> bytes:
     """The bytes of a text, now and then with some that aren't UTF-8."""
     data = text.encode("utf-8", "surrogatepass")
     if rng.random() < 0.1:

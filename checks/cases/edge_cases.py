@@ -3,6 +3,9 @@
 Each case makes its files in a folder of its own, runs the program there, and tests the status, the last line and what
 every file holds.
 """
+
+from __future__ import annotations
+
 import os
 import resource
 import shutil
@@ -11,6 +14,9 @@ import subprocess
 import tempfile
 import threading
 import time
+from collections.abc import Sequence
+from typing import Any
+
 from checks.cases.limit_books import CCA, HERE
 
 EXAMPLES = os.path.abspath(os.path.join(HERE, "..", "examples"))
@@ -42,16 +48,16 @@ READERS = [
 ]
 
 
-def text_of(name):
+def text_of(name: str) -> bytes:
     with open(name, "rb") as f:
         return f.read()
 
 
-def texts():
+def texts() -> dict[str, bytes]:
     return {name: text_of(name) for name in sorted(os.listdir(".")) if os.path.isfile(name)}
 
 
-def ended(words, code, line=None, **how):
+def ended(words: Sequence[str], code: int, line: bytes | None = None, **how: Any) -> bytes:
     """What a run prints that ends with this code, and whose last line this is."""
     how.setdefault("stdin", subprocess.DEVNULL)
     if "input" in how:
@@ -78,7 +84,7 @@ def samples() -> None:
         ended(words, 0)
 
 
-def other_names(name):
+def other_names(name: str) -> list[str]:
     """Names of one file: spellings, a symbolic and a hard link, and a way through a link of the folder."""
     os.symlink(name, "link")
     os.link(name, "hard")
@@ -136,7 +142,7 @@ def words_that_name_no_file() -> None:
     ended(("make", "7", "made", "log2"), 0)
 
 
-def fed(text, pieces):
+def fed(text: bytes, pieces: int) -> threading.Thread:
     """A named pipe that gets the text in this many pieces, and the process that writes it."""
     os.mkfifo("fifo")
 
@@ -151,7 +157,7 @@ def fed(text, pieces):
     return writer
 
 
-def made_by(words, new, **how):
+def made_by(words: Sequence[str], new: Sequence[str], **how: Any) -> tuple[bytes, list[bytes]]:
     """What a run prints, and the file that it appends to, if there is one; that file is removed again."""
     printed = ended((*words, *new), 0, **how)
     made = [text_of(name) for name in new]
@@ -160,7 +166,9 @@ def made_by(words, new, **how):
     return printed, made
 
 
-def through_a_pipe(command, inputs, place, new, wanted) -> None:
+def through_a_pipe(
+    command: str, inputs: Sequence[str], place: int, new: Sequence[str], wanted: tuple[bytes, list[bytes]]
+) -> None:
     """One input as the standard input, and as a named pipe that gets it in three pieces."""
     text = text_of(inputs[place])
     words = [(command, *inputs[:place], name, *inputs[place + 1 :]) for name in ("/dev/stdin", "fifo")]
@@ -200,7 +208,7 @@ def devices_and_folders() -> None:
         ended(("win", "/dev/zero"), 7, b"cca: limit bytes 1048577")
 
 
-def two_runs_at_once():
+def two_runs_at_once() -> list[int]:
     samples()
     ended(("award", "award", "log", "whole"), 0)
     whole, counts = text_of("whole"), [0, 0]
@@ -216,7 +224,7 @@ def two_runs_at_once():
     return counts
 
 
-def full_pipe():
+def full_pipe() -> tuple[int, int]:
     reading, writing = os.pipe()
     os.set_blocking(writing, False)
     try:
@@ -252,7 +260,7 @@ def stopped_run() -> None:
     assert text_of("new") == whole * 2
 
 
-def traced(words, *options):
+def traced(words: Sequence[str], *options: str) -> tuple[int, bytes, list[bytes]]:
     """How a run ends that strace looks at, and the lines of the trace."""
     made = subprocess.run(
         ["strace", "-f", "-o", "trace", *options, CCA, *words],
@@ -263,7 +271,7 @@ def traced(words, *options):
     return made.returncode, made.stdout, text_of("trace").splitlines()
 
 
-def syncs():
+def syncs() -> bool:
     """What is appended to a regular file is synced before the run ends, and a sync that fails is a fault of writing.
     Needs strace."""
     samples()

@@ -1,13 +1,21 @@
 """Logs of 100,000 records: an ordinary one, and the ones that cost most of those found."""
-import itertools
 
+from __future__ import annotations
+
+import itertools
+from collections.abc import Callable, Iterator, Sequence
+from typing import TypeAlias
+
+# A package of two categories, and what was bid for packages.
+Pair: TypeAlias = tuple[int, int]
+Amounts: TypeAlias = list[tuple[Pair, int]]
 RECORDS, ROUNDS, DRAFTS = 100_000, 300, 300
 SUPPLY, POINTS = (20, 19), (20, 1)
 BIDDERS = 16
 MOST = sum(s * p for s, p in zip(SUPPLY, POINTS))
 
 
-def award():
+def award() -> str:
     """Two categories in which 420 packages have points that all differ, prices that rise by one in each round, 16
     bidders."""
     lines = ["version = 2", "tick = 1"]
@@ -18,11 +26,11 @@ def award():
     return "\n".join(lines + ["[[step]]", "excess = 1", "permille = 1"]) + "\n"
 
 
-def package_of(points):
+def package_of(points: int) -> Pair:
     return divmod(points, POINTS[0])
 
 
-def line(kind, j, package, amount=""):
+def line(kind: str, j: int, package: Pair, amount: int | str = "") -> str:
     return f"{kind},b{j},{package[0]} {package[1]},{amount}"
 
 
@@ -30,7 +38,9 @@ class Clock:
     """300 rounds in which bidder 1 falls by one point a round while bidder 2 asks for all, and the final one."""
 
     def __init__(self) -> None:
-        self.lines, self.prices, prices = [], [], [1000, 1000]
+        self.lines: list[str] = []
+        self.prices: list[tuple[Pair, tuple[int, ...]]] = []
+        prices = [1000, 1000]
         for r in range(1, ROUNDS):
             held = package_of(MOST - r)
             self.lines += [line("bid", 1, held), line("bid", 2, SUPPLY), "close,,,"]
@@ -38,12 +48,12 @@ class Clock:
             prices = [p + max(1, -(-p // 1000)) if h else p for p, h in zip(prices, held)]
         self.lines += [line("bid", 1, package_of(MOST - ROUNDS)), "close,,,"]
 
-    def amounts(self):
+    def amounts(self) -> list[tuple[Pair, int]]:
         """What bidder 1 bid for its packages, the largest package first."""
         return [(held, sum(n * p for n, p in zip(held, prices))) for held, prices in self.prices]
 
 
-def ordinary():
+def ordinary() -> list[str]:
     """16 bidders who bid in each of 300 rounds and then draft, drop and submit in turn."""
     lines = []
     for r in range(1, ROUNDS):
@@ -60,38 +70,38 @@ def ordinary():
             return lines
 
 
-def behind_the_clock(more):
+def behind_the_clock(more: Callable[[Amounts], Iterator[str]]) -> list[str]:
     clock = Clock()
     lines = clock.lines + [line("draft", 1, p, a) for p, a in clock.amounts()]
     return lines + list(itertools.islice(more(clock.amounts()), RECORDS - len(lines)))
 
 
-def submits(amounts):
+def submits(amounts: Amounts) -> Iterator[str]:
     while True:
         yield "submit,b1,,"
 
 
-def drafts_and_submits(amounts):
+def drafts_and_submits(amounts: Amounts) -> Iterator[str]:
     package, amount = amounts[150]
     for n in itertools.count():
         yield line("draft", 1, package, amount + n % 2)
         yield "submit,b1,,"
 
 
-def drafts_and_drops(amounts):
+def drafts_and_drops(amounts: Amounts) -> Iterator[str]:
     package, amount = amounts[-1]
     while True:
         yield line("drop", 1, package)
         yield line("draft", 1, package, amount)
 
 
-def low_drafts(amounts):
+def low_drafts(amounts: Amounts) -> Iterator[str]:
     package, amount = amounts[0]
     while True:
         yield line("draft", 1, package, amount - 1)
 
 
-def bids():
+def bids() -> list[str]:
     return [line("bid", 1 + n % BIDDERS, package_of(MOST - n % 400)) for n in range(RECORDS)]
 
 
@@ -105,5 +115,5 @@ LOGS = {
 }
 
 
-def text_of(kind):
+def text_of(kind: str) -> str:
     return "\n".join(LOGS[kind]()[:RECORDS]) + "\n"

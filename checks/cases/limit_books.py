@@ -1,10 +1,18 @@
 """Books at the limits, the programs that read them, and their CPU time."""
+
+from __future__ import annotations
+
 import itertools
 import os
 import random
 import resource
 import subprocess
+from collections.abc import Sequence
+from typing import TypeAlias
 
+# How many lots of each category, and a package with a gross amount.
+Package: TypeAlias = tuple[int, ...]
+Bid: TypeAlias = tuple[Package, int]
 HERE = os.path.dirname(os.path.dirname(os.path.realpath(__file__)))
 OUT = os.path.join(HERE, "out")
 CCA = os.environ.get("CCA_PROGRAM") or os.path.join(HERE, "..", "crates", "cca", "out", "cca.built")
@@ -25,7 +33,7 @@ def build_cca() -> None:
     subprocess.run([os.path.join(HERE, "..", "cca"), "win", tie], check=True, capture_output=True)
 
 
-def build_plain():
+def build_plain() -> str:
     """The plain Rust program of this folder. It has the commands `win`, `price` and `check` of cca, and as cca it runs
     on any processor: the
     vector code that it could choose at run time is left out."""
@@ -50,12 +58,12 @@ def build_plain():
     return program
 
 
-def read(name):
+def read(name: str) -> str:
     with open(name) as f:
         return f.read()
 
 
-def timed(words, may_fail=False):
+def timed(words: Sequence[str], may_fail: bool = False) -> tuple[float, str]:
     """The CPU time of a run in milliseconds, and what it prints."""
     before = resource.getrusage(resource.RUSAGE_CHILDREN)
     text = subprocess.run(words, capture_output=True, check=not may_fail, text=True).stdout
@@ -63,7 +71,7 @@ def timed(words, may_fail=False):
     return 1000 * (after.ru_utime + after.ru_stime - before.ru_utime - before.ru_stime), text
 
 
-def memory_of(words):
+def memory_of(words: Sequence[str]) -> float:
     """The most memory that a run keeps at one time, in megabytes."""
     made = os.posix_spawn(
         words[0], words, os.environ, file_actions=[(os.POSIX_SPAWN_OPEN, 1, os.devnull, os.O_WRONLY, 0)]
@@ -72,14 +80,14 @@ def memory_of(words):
     return spent.ru_maxrss / 1024
 
 
-def price(book, cert, *flags, program=CCA):
+def price(book: str, cert: str, *flags: str, program: str = CCA) -> tuple[float, str]:
     """The CPU time of `price` with a fresh certificate file, and what it prints."""
     if os.path.exists(cert):
         os.remove(cert)
     return timed([program, "price", book, cert, *flags])
 
 
-def packages_of(kind, rng):
+def packages_of(kind: str, rng: random.Random) -> list[Package]:
     # each package has a lot of the first category, so at most six bidders win
     every = [p for p in itertools.product(*(range(s + 1) for s in SUPPLY)) if p[0] > 0]
     if kind in ("small", "dense"):
@@ -89,7 +97,7 @@ def packages_of(kind, rng):
     return sorted(rng.sample(every, 600))
 
 
-def dense_bids_of(kind, rng):
+def dense_bids_of(kind: str, rng: random.Random) -> list[Bid]:
     """The bids of a bidder with its own taste for each category: its worths add up, or grow by 2 to 8 percent with each
     further lot."""
     taste = [rng.randrange(3600, 4401) for _ in SUPPLY]
@@ -101,7 +109,7 @@ def dense_bids_of(kind, rng):
     return bids
 
 
-def bids_of(kind, rng):
+def bids_of(kind: str, rng: random.Random) -> list[Bid]:
     if kind in DENSE_KINDS:
         return dense_bids_of(kind, rng)
     bids = []
@@ -111,7 +119,7 @@ def bids_of(kind, rng):
     return bids
 
 
-def priced_book(kind):
+def priced_book(kind: str) -> tuple[str, list[list[Bid]]]:
     """The name of a book of 16 bidders with 600 bids each over 15,876 states and with at most six winners, and its
     bids.
 

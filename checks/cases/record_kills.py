@@ -5,12 +5,18 @@ cuts and links: before the call, or in the middle of a write. After each step it
 desk starts on what is left, and does what its stop asks for. Every answered line and every posted line that was seen
 has to be in log, journal and LOG.posted then, and the whole record has to agree.
 """
+
+from __future__ import annotations
+
 import contextlib
 import json
 import os
 import pathlib
+import random
 import signal
 import tempfile
+from collections.abc import Callable, Sequence
+from typing import Any, TypeAlias
 
 from checks.cases.samples import sample
 
@@ -28,15 +34,17 @@ CLOSE = b"close,,,\n"
 BIDS = [f"bid,{name},{count},\n".encode() for name in ("east", "west") for count in range(4)]
 CALLS = "write", "pwrite", "fsync", "ftruncate", "link", "unlink", "replace"
 STEPS = 12
+# What a child reports: the log and LOG.posted as texts, and what it does next.
+Seen: TypeAlias = dict[str, str]
 PARTLY = 0.4  # of the kills at a write
 
 
-def closes(log):
+def closes(log: bytes) -> tuple[list[int], bool]:
     """The closes of a log, as `LogFile.post` asks for them."""
     return closes_of(RULES, log)
 
 
-def replies(text):
+def replies(text: bytes) -> Callable[[bytes], list[str]]:
     """The replies to the last lines of a log."""
     return lambda log: [it.text() for it in replay(RULES, read_log(log, RULES)).replies][-text.count(b"\n") :]
 
@@ -44,7 +52,7 @@ def replies(text):
 class Acting:
     """The child: a day of drawn steps. `report` is called with what was seen after each."""
 
-    def __init__(self, path, draw, report) -> None:
+    def __init__(self, path: pathlib.Path, draw: random.Random, report: Callable[[Seen], None]) -> None:
         self.path, self.draw, self.report = path, draw, report
 
     def act(self) -> None:
@@ -73,24 +81,24 @@ class Acting:
         else:
             self.write(b"".join(self.draw.choices(BIDS, k=1 if kind == "line" else 3)))
 
-    def seen(self, doing) -> None:
+    def seen(self, doing: str) -> None:
         """Reports what anybody has seen, and what is done next."""
         self.report({"log": self.log.read().decode(), "posted": self.log.posted().decode(), "doing": doing})
 
-    def write(self, text) -> None:
+    def write(self, text: bytes) -> None:
         """Writes lines; nobody has their replies before that."""
         self.seen("write")
         self.log.append(self.log.base(self.log.read()), text, replies(text))
         self.seen("post")
         self.posted(False)
 
-    def cut(self, data, length, stay) -> None:
+    def cut(self, data: bytes, length: int, stay: bool) -> None:
         """Cuts the log."""
         self.seen("cut")
         self.log.cut(self.log.base(data), length, "a reason", stay)
         self.posted(False)
 
-    def change(self, data) -> None:
+    def change(self, data: bytes) -> None:
         """Somebody changes the log with an editor, and it is put back or kept."""
         self.seen("hand")
         other = data.replace(b"bid,east", b"bid,west", 1)
@@ -99,7 +107,7 @@ class Acting:
             self.log.mend(self.draw.choice(("put back", "keep changed log")), "a reason")
             self.posted(False)
 
-    def posted(self, is_publish) -> None:
+    def posted(self, is_publish: bool) -> None:
         """Posts what is due."""
         self.log.post(closes, is_publish)
         self.seen("posted")
@@ -108,15 +116,15 @@ class Acting:
 class Killer:
     """Kills this process at a number of its calls, and before that lets them through."""
 
-    def __init__(self, number, draw) -> None:
+    def __init__(self, number: int, draw: random.Random) -> None:
         self.left, self.draw = number, draw
         for name in CALLS:
             setattr(os, name, self.watched(name, getattr(os, name)))
 
-    def watched(self, name, call):
+    def watched(self, name: str, call: Callable[..., object]) -> Callable[..., object]:
         """A call that is counted."""
 
-        def counted(*words, **more):
+        def counted(*words: Any, **more: Any) -> object:
             self.left -= 1
             if not self.left:
                 if name == "write" and self.draw.random() < PARTLY:
@@ -127,11 +135,11 @@ class Killer:
         return counted
 
 
-def child(path, number, draw, out) -> None:
+def child(path: pathlib.Path, number: int, draw: random.Random, out: int) -> None:
     """The child process."""
     write = os.write
 
-    def report(state) -> None:
+    def report(state: Seen) -> None:
         write(out, json.dumps(state).encode() + b"\n")
 
     try:
@@ -143,7 +151,7 @@ def child(path, number, draw, out) -> None:
         os._exit(70)
 
 
-def run(path, number, draw):
+def run(path: pathlib.Path, number: int, draw: random.Random) -> tuple[bool, list[Seen]]:
     """Runs a child until it is killed at this call. Returns whether it was, and what it reported."""
     read, out = os.pipe()
     pid = os.fork()
@@ -158,12 +166,12 @@ def run(path, number, draw):
     return os.WIFSIGNALED(status), seen
 
 
-def need(right, *what) -> None:
+def need(right: object, *what: object) -> None:
     if not right:
         raise AssertionError(what)
 
 
-def started(path):
+def started(path: pathlib.Path) -> LogFile:
     """A desk's log that is started on what a kill has left, and does what its stops ask for."""
     log = LogFile(path, PINS)
     for _ in range(3):
@@ -177,7 +185,7 @@ def started(path):
     return log
 
 
-def check(path, seen):
+def check(path: pathlib.Path, seen: Sequence[Seen]) -> str:
     """Starts a desk on what a kill has left, and tests it. Returns what the kill left, in words."""
     left = (path.with_name("a.log.posted").read_bytes() if path.with_name("a.log.posted").exists() else b"").count(
         b"\n"
@@ -193,7 +201,7 @@ def check(path, seen):
     return "LOG.posted was short" if 0 < left < posted.count(b"\n") else "LOG.posted was whole"
 
 
-def need_answered(last, log) -> None:
+def need_answered(last: Seen, log: bytes) -> None:
     """Tests that every answered line is in the log, if nothing was under way that takes lines away."""
     answered = last["log"].encode()
     if last["doing"] in ("write", "post", "posted", "started"):
@@ -205,7 +213,7 @@ def need_answered(last, log) -> None:
         need(log in (answered, changed), "the log after a change", last, log)
 
 
-def need_agreed(path, log) -> None:
+def need_agreed(path: pathlib.Path, log: LogFile) -> None:
     """Tests that log, journal and LOG.posted agree in all parts."""
     journal = path.with_name("a.log.desk").read_bytes()
     record = Tester(AWARD, log.key).record(journal)
@@ -214,7 +222,7 @@ def need_agreed(path, log) -> None:
     need(log.posted() == path.with_name("a.log.posted").read_bytes(), "LOG.posted")
 
 
-def kill(draw, most=250):
+def kill(draw: random.Random, most: int=250) -> tuple[str, str] | None:
     """One kill of a drawn day at a drawn call, tested. Returns what the kill left; None if the day ended before it."""
     with tempfile.TemporaryDirectory() as folder:
         path = pathlib.Path(folder, "a.log")

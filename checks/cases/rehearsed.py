@@ -1,10 +1,14 @@
 """Drawn awards and files of values, for tests of whole auctions of bidders with values."""
+
+from __future__ import annotations
+
 import random
+from collections.abc import Sequence
 
 FORMS = ("separable", "complement", "global", "local", "packages")
 
 
-def award_of(draw, form, is_small):
+def award_of(draw: random.Random, form: str, is_small: bool) -> tuple[str, list[int]]:
     """The text of an award. Where values are separable each bidder may win all, so that nothing but its values limits
     it."""
     supply = (
@@ -27,12 +31,12 @@ def award_of(draw, form, is_small):
     return "\n".join(lines), supply
 
 
-def lots_of(draw, supply):
+def lots_of(draw: random.Random, supply: Sequence[int]) -> list[list[int]]:
     low = [draw.randint(0, 30) for _ in supply]
     return [[least, least + draw.randint(10, 120)] for least in low]
 
 
-def values_of(draw, form, supply):
+def values_of(draw: random.Random, form: str, supply: Sequence[int]) -> str:
     """The text of a file of values, one model for all bidders."""
     lines = ["values = 1\n[[bidder]]"]
     if form == "packages":
@@ -55,7 +59,7 @@ def values_of(draw, form, supply):
     return "\n".join(lines) + "\n"
 
 
-def drawn(number, is_small=False):
+def drawn(number: int, is_small: bool=False) -> tuple[str, bytes, bytes]:
     """The form, the award and the values of this number. (Only this number decides.)"""
     draw = random.Random(number)
     form = FORMS[number % len(FORMS)]

@@ -1,6 +1,11 @@
 """The court's own files and the rules of cca_tools, which have to answer alike, called in this process. A run that
 takes too long is an error."""
+
+from __future__ import annotations
+
 import signal
+from collections.abc import Iterable
+from typing import NoReturn
 
 from checks.cases.voices import audit, check, check_places
 from cca_tools.commands import explain
@@ -9,7 +14,7 @@ from cca_tools.rules.stops import Stop
 SECONDS = 60  # of processor time
 
 
-def explained(words):
+def explained(words: list[str]) -> str:
     """What tools/explain prints."""
     return explain.explain(explain.parser().parse_args(words))
 
@@ -17,11 +22,11 @@ def explained(words):
 TOOLS = {"audit": audit, "check": check, "check-places": check_places, "explain": explained}
 
 
-def late(*_):
+def late(*_: object) -> NoReturn:
     raise TimeoutError(f"a tool took more than {SECONDS} seconds")
 
 
-def answer(name, words):
+def answer(name: str, words: Iterable[str]) -> tuple[str, int]:
     """What a tool prints of these words, without the last line feed, and its status."""
     signal.signal(signal.SIGVTALRM, late)
     signal.setitimer(signal.ITIMER_VIRTUAL, SECONDS)

@@ -1,28 +1,47 @@
 """Certificates of small books and placements, by a plain search: no part of cca or of its second program is in them."""
+
+from __future__ import annotations
+
 import itertools
 import math
+from collections.abc import Collection, Iterator, Sequence
 from fractions import Fraction
-from checks.cases.samples import certificate_of, spaced
-from checks.cases.searches import choices_of_book, choices_of_slots, core_point, dot, solution, starts_of, winning
+from typing import TypeAlias
 
-MOST_WINNERS, MOST_ROWS = 3, 10
+from checks.cases.samples import certificate_of, spaced
+from checks.cases.searches import (
+    Bidders,
+    Bids,
+    Choice,
+    choices_of_book,
+    choices_of_slots,
+    core_point,
+    dot,
+    solution,
+    starts_of,
+    winning,
+)
+
+MOST_WINNERS = 3
+# The members of a row, its two multipliers, and its choice; and all that a certificate has of prices.
+Row: TypeAlias = tuple[list[int], int, int, tuple[int, ...]]
+Parts: TypeAlias = tuple[tuple[int, ...], dict[int, tuple[int, ...]], int, list[int], list[Row]]
 
 
 class Prices:
     """The winning choice with its prices, and what shows that they are right; all by the numbers of bidders from 0.
 
     `rows` has for each set of winners the best choice without them and the bound that it gives; `first` and `second`
-    are the multipliers of those
-    that are tight.
+    are the multipliers of those that are tight.
     """
 
-    def __init__(self, choices, nets, weights) -> None:
+    def __init__(self, choices: Sequence[Choice], nets: Sequence[Sequence[int]], weights: Sequence[int]) -> None:
         self.choice, self.value = winning(choices)
         self.winners = [j for j, number in enumerate(self.choice) if number]
         own = {j: nets[j][self.choice[j] - 1] for j in self.winners}
         self.without = {j: winning([one for one in choices if not one[0][j]]) for j in self.winners}
         self.vickrey = [self.without[j][1] - self.value + own[j] for j in self.winners]
-        self.rows = []
+        self.rows: list[tuple[tuple[int, ...], int, tuple[int, ...]]] = []
         for members in (
             m for size in range(1, len(self.winners) + 1) for m in itertools.combinations(self.winners, size)
         ):
@@ -34,10 +53,11 @@ class Prices:
         )
         self.den, self.first, self.second = self.multipliers()
 
-    def coefficients(self, members):
+    def coefficients(self, members: Collection[int]) -> list[int]:
+        """1 for each winner among these members, else 0."""
         return [1 if j in members else 0 for j in self.winners]
 
-    def multipliers(self):
+    def multipliers(self) -> tuple[int, dict[int, int], dict[int, int]]:
         """A denominator, and of the tight rows both multipliers over it, by their places in the list of rows."""
         tight = [
             r for r, (members, bound, _) in enumerate(self.rows) if dot(self.coefficients(members), self.pay) == bound
@@ -46,10 +66,11 @@ class Prices:
         for first in self.sums(tight, [Fraction(1)] * len(self.winners), ()):
             for second in self.sums(tight, pull, first):
                 den = math.lcm(*(Fraction(x).denominator for x in [*self.pay, *first.values(), *second.values()]))
-                return den, *({r: int(x * den) for r, x in one.items()} for one in (first, second))
+                whole, other = ({r: int(x * den) for r, x in one.items()} for one in (first, second))
+                return den, whole, other
         raise ValueError("no multipliers of few rows")
 
-    def sums(self, tight, wanted, free):
+    def sums(self, tight: Sequence[int], wanted: Sequence[Fraction], free: Collection[int]) -> Iterator[dict[int, Fraction]]:
         """Ways to add a few tight rows up to what is wanted at each winner, none below 0 but of rows that are free."""
         for size in range(len(wanted) + 1):
             for rows in itertools.combinations(tight, size):
@@ -57,7 +78,8 @@ class Prices:
                 if found is not None and all(x >= 0 or r in free for r, x in found.items()):
                     yield {r: x for r, x in found.items() if x}
 
-    def combination(self, rows, wanted):
+    def combination(self, rows: Sequence[int], wanted: Sequence[Fraction]) -> dict[int, Fraction] | None:
+        """How often each of these rows is added to come to what is wanted, None where that can't be."""
         lines = [self.coefficients(self.rows[r][0]) for r in rows]
         gram = [[dot(a, b) for b in lines] for a in lines]
         found = solution(gram, [dot(a, wanted) for a in lines]) if rows else []
@@ -67,7 +89,7 @@ class Prices:
             return None
         return dict(zip(rows, found))
 
-    def parts(self, bidders):
+    def parts(self, bidders: int) -> Parts:
         """What a certificate has of these prices, bidders counted from 1: choice, without, den, payments, rows."""
         pay = [int(self.den * self.pay[self.winners.index(j)]) if j in self.winners else 0 for j in range(bidders)]
         used = sorted({*self.first, *self.second})
@@ -78,7 +100,7 @@ class Prices:
         return self.choice, {j + 1: choice for j, (choice, _) in self.without.items()}, self.den, pay, rows
 
 
-def book_certificate(supply, reserves, bids, weights=None):
+def book_certificate(supply: Sequence[int], reserves: Sequence[int], bids: Bids, weights: Sequence[int] | None=None) -> bytes | None:
     """The text of a certificate of a small book, or None where too many bidders win for a plain search."""
     choices = list(choices_of_book(supply, reserves, bids))
     if sum(map(bool, winning(choices)[0])) > MOST_WINNERS:
@@ -91,7 +113,7 @@ def book_certificate(supply, reserves, bids, weights=None):
     return certificate_of(supply, bids, *parts, head=head, reserves=reserves)
 
 
-def place_certificate(bidders):
+def place_certificate(bidders: Bidders) -> bytes | None:
     """The text of a certificate of slots, of bidders as (width, bids), or None where too many win."""
     choices = list(choices_of_slots(bidders))
     if sum(map(bool, winning(choices)[0])) > MOST_WINNERS:
@@ -122,10 +144,10 @@ def place_certificate(bidders):
     return "\n".join([*text, "lowered", lowered, "end", ""]).encode()
 
 
-def placed_lines(bidders, choice):
+def placed_lines(bidders: Bidders, choice: Sequence[int]) -> list[str]:
     """The first order that allows a choice, and the choice."""
 
-    def allows(order):
+    def allows(order: Sequence[int]) -> bool:
         starts = starts_of(order, bidders)
         return all(
             not number or bids[number - 1][0] == starts[j] for j, (number, (_, bids)) in enumerate(zip(choice, bidders))
@@ -135,7 +157,7 @@ def placed_lines(bidders, choice):
     return [spaced("order", [j + 1 for j in order]), spaced("choice", choice)]
 
 
-def set_table(bidders, worths):
+def set_table(bidders: Bidders, worths: Sequence[Sequence[int]]) -> str:
     """The exact table of sets: what those outside each set can still bring, where the set is placed first."""
     best = [0] * 2 ** len(bidders)
     for members in reversed(range(len(best) - 1)):

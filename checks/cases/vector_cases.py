@@ -1,7 +1,13 @@
 """What the cases of vectors/ are: for each command, what is right, what fails and where, and why."""
-import itertools
 
-from checks.cases.samples import book_of, certificate_of, lines, sample, six_bidders
+from __future__ import annotations
+
+import itertools
+from collections.abc import Iterable, Mapping, Sequence
+from typing import Any, Protocol
+
+from cca_tools.rules.book import Book
+from checks.cases.samples import Bids, Package, Row, book_of, certificate_of, lines, sample, six_bidders
 from checks.cases.small_certs import book_certificate, place_certificate
 
 BOOK, CERT, WEIGHTS, SLOTS = (
@@ -11,15 +17,35 @@ WIDE = 2**120
 HEADS = {1: ("cert 1",), 2: ("cert 2", "limits 16 16384")}
 
 
-def edited(text, was, put):
+class Cases(Protocol):
+    """What takes the cases. `auctions` has of each case of `auction` its name, why, award and log."""
+
+    auctions: list[tuple[str, str, bytes, bytes]]
+
+    def case(
+        self,
+        name: str,
+        why: str,
+        command: str,
+        texts: Sequence[bytes | str],
+        answer: str | None = None,
+        made: Sequence[tuple[str, int, str]] = (),
+    ) -> None:
+        """Takes a case of a command: its texts, or names of files as str that are there or missing, and the first line
+        of its answer if it is known."""
+
+    def book(self, award: bytes, log: bytes) -> Book | None:
+        """The book of an award and a log, or None if there is none."""
+
+
+def edited(text: bytes, was: str, put: str) -> bytes:
     """The text with the first place of a part replaced."""
-    was, put = was.encode(), put.encode()
-    if was not in text:
-        raise ValueError(f"no {was} in {text}")
-    return text.replace(was, put, 1)
+    if was.encode() not in text:
+        raise ValueError(f"no {was} in {text!r}")
+    return text.replace(was.encode(), put.encode(), 1)
 
 
-def add_all(v) -> None:
+def add_all(v: Cases) -> None:
     """Adds all cases."""
     for add in (
         right,
@@ -54,7 +80,7 @@ def add_all(v) -> None:
 # ---- certificates of books ----
 
 
-def right(v) -> None:
+def right(v: Cases) -> None:
     """Certificates that pass."""
     v.case("day-cramton", "the example of docs/CERTIFICATES.md", "check", (BOOK, CERT), "yes")
     scaled = certificate_of((1, 1), DAY_BIDS, DAY, DAY_WITHOUT, 3, (51, 45, 0, 0, 0), [((1, 2), 3, 9, (0, 0, 1, 0, 0))])
@@ -305,19 +331,19 @@ DAY_LOG = lines(
 )
 
 
-def both(v, name, why, cert, answer) -> None:
+def both(v: Cases, name: str, why: str, cert: bytes, answer: str) -> None:
     """A certificate of the book of Day and Cramton, by its book and by its auction."""
     v.case(name, why, "check", (BOOK, cert), answer)
     v.case(f"{name}-audited", why, "audit", (DAY_AWARD, DAY_LOG, cert), answer)
 
 
-def certificate_tests(v) -> None:
+def certificate_tests(v: Cases) -> None:
     v.case("day-cramton-audited", "an auction with the book of the example", "audit", (DAY_AWARD, DAY_LOG, CERT), "yes")
     for number, (was, put, answer, why) in enumerate(TESTS, 1):
         both(v, f"test-{number}", why, edited(CERT, was, put), answer)
 
 
-def day(**changes):
+def day(**changes: Any) -> bytes:
     """The certificate of Day and Cramton with some parts otherwise, and tables that are exact for them."""
     parts = {
         "choice": DAY,
@@ -330,10 +356,10 @@ def day(**changes):
     return certificate_of((1, 1), DAY_BIDS, *(parts[key] for key in ("choice", "without", "den", "pay", "rows")))
 
 
-def alone(v) -> None:
+def alone(v: Cases) -> None:
     """Certificates of which one test fails at one place, and all else holds: who leaves this test out says yes."""
 
-    def add(name, why, book, cert, answer) -> None:
+    def add(name: str, why: str, book: Any, cert: bytes, answer: str) -> None:
         """Adds a case of a book, and of an auction that has this book; a book is its text, or supply and bids."""
         text, auction = (book, (DAY_AWARD, DAY_LOG)) if book == BOOK else (book_of(*book), auction_of(*book))
         v.case(f"alone-{name}", f"nothing else fails: {why}", "check", (text, cert), answer)
@@ -437,7 +463,7 @@ def alone(v) -> None:
     nil = [[((1,), 0), ((2,), 9)], [((1,), 4)], [((1,), 0)], [((2,), 3)]]
     good = dict(choice=(2, 0, 0, 0), without={1: (0, 1, 1, 0)}, pay=(4, 0, 0, 0))
 
-    def of_nil(without=(0, 1, 1, 0), row=(0, 1, 1, 0), members=(1,), pay=(4, 0, 0, 0)):
+    def of_nil(without: Sequence[int]=(0, 1, 1, 0), row: Sequence[int]=(0, 1, 1, 0), members: Sequence[int]=(1,), pay: Sequence[int]=(4, 0, 0, 0)) -> bytes:
         return certificate_of((2,), nil, (2, 0, 0, 0), {1: without}, 1, pay, [(members, 1, 0, row)])
 
     text = book_of((2,), nil)
@@ -491,7 +517,7 @@ def alone(v) -> None:
     free = [[((1,), 5)], [((1,), 4)]]
     pair, none = ((2,), free), (0, 0)
 
-    def of_pair(*rows):
+    def of_pair(*rows: Row) -> bytes:
         return certificate_of((2,), free, (1, 1), {1: (0, 1), 2: (1, 0)}, 1, none, rows)
 
     v.case(
@@ -559,10 +585,10 @@ def alone(v) -> None:
     )
 
 
-def ties(v) -> None:
+def ties(v: Cases) -> None:
     """Choices of the same value, of which the first wins."""
 
-    def of(supply, bids, choice, without, pay, rows):
+    def of(supply: Package, bids: Bids, choice: Sequence[int], without: Mapping[int, Sequence[int]], pay: Sequence[int], rows: Sequence[Row]) -> tuple[bytes, bytes]:
         return book_of(supply, bids), certificate_of(supply, bids, choice, without, 1, pay, rows)
 
     own = [[((1,), 5), ((2,), 9)], [((1,), 3)]]
@@ -732,7 +758,7 @@ FORMS = [
 ]
 
 
-def certificate_forms(v) -> None:
+def certificate_forms(v: Cases) -> None:
     for number, (was, put, place, why) in enumerate((row for row in FORMS if row[3]), 1):
         both(v, f"cert-form-{number}", why, edited(CERT, was, put), f"cca: refused cert {place}")
     for count in (0, 1, 6, 100, 475):
@@ -768,7 +794,7 @@ def certificate_forms(v) -> None:
         )
 
 
-def numbers(v) -> None:
+def numbers(v: Cases) -> None:
     """Numbers about the ends of 128 bits, where a checker with numbers of some size may go wrong."""
     one = [[((1,), 1)]]
     book = book_of((1,), one)
@@ -879,7 +905,7 @@ BOOKS = [
 ]
 
 
-def books(v) -> None:
+def books(v: Cases) -> None:
     for number, (text, place, why) in enumerate(BOOKS, 1):
         v.case(f"book-form-{number}", why, "check", (lines(text), b""), f"cca: refused book {place}")
     v.case("book-empty", "an empty file", "check", (b"", b""), "cca: refused book 0")
@@ -912,7 +938,7 @@ def books(v) -> None:
         )
 
 
-def book_limits(v) -> None:
+def book_limits(v: Cases) -> None:
     for supply, answer, why in [
         ("1 1 1 1 1 1 1", "categories 7", "seven categories"),
         ("41", "lots 41", "41 lots"),
@@ -998,8 +1024,8 @@ def book_limits(v) -> None:
 WEIGHED = certificate_of((1, 1), DAY_BIDS, DAY, DAY_WITHOUT, 2, (31, 33, 0, 0, 0), [((1, 2), 2, 3, (0, 0, 1, 0, 0))])
 
 
-def weighings(v) -> None:
-    def add(name, why, answer, weights=WEIGHTS, cert=WEIGHED, book=BOOK) -> None:
+def weighings(v: Cases) -> None:
+    def add(name: str, why: str, answer: str, weights: bytes=WEIGHTS, cert: bytes=WEIGHED, book: bytes=BOOK) -> None:
         v.case(f"weights-{name}", why, "weigh-check", (book, weights, cert), answer)
 
     add(
@@ -1125,7 +1151,7 @@ PLACE_TESTS = [
 ]
 
 
-def placements(v) -> None:
+def placements(v: Cases) -> None:
     v.case("places", "the example of docs/CERTIFICATES.md", "place-check", (SLOTS, PLACED), "* placed z 3 1")
     v.case(
         "places-nobody",
@@ -1185,19 +1211,19 @@ def placements(v) -> None:
     )
 
 
-def certificate_lines(den):
+def certificate_lines(den: int) -> bytes:
     """The certificate of one bidder with a bid of 5 that counts, over a denominator."""
     return lines(
         f"pcert 1 / den {den} / value 5 / order 1 / choice 1 / table / t 5 0 / without 1 / order 1 / choice 0 / table / t 0 0 / pay 0 / rows 1 / row 1 / mult {den} 0 / order 1 / choice 0 / lowered / t 0 0 / end"
     )
 
 
-def placement_faults(v) -> None:
+def placement_faults(v: Cases) -> None:
     for number, (was, put, answer, why) in enumerate(PLACE_TESTS, 1):
         v.case(f"place-test-{number}", why, "place-check", (SLOTS, edited(PLACED, was, put)), answer)
 
 
-def slot_forms(v) -> None:
+def slot_forms(v: Cases) -> None:
     rows = [
         ("slots 1", "slots 2", 0, "another version"),
         ("end\n", "put\n", len(SLOTS) - 4, "a last line as long as `end`"),
@@ -1334,11 +1360,11 @@ AWARDS = [
 ]
 
 
-def audits(v, name, why, award, log, cert, answer) -> None:
+def audits(v: Cases, name: str, why: str, award: bytes, log: str | bytes, cert: bytes, answer: str) -> None:
     v.case(name, why, "audit", (award, lines(log) if isinstance(log, str) else log, cert), answer)
 
 
-def awards(v) -> None:
+def awards(v: Cases) -> None:
     audits(
         v,
         "auction",
@@ -1437,7 +1463,7 @@ TOML = [
 ]
 
 
-def toml(v) -> None:
+def toml(v: Cases) -> None:
     """Spellings of the small sale."""
     audits(v, "toml-line-ends", "line ends CR LF", SALE.replace(b"\n", b"\r\n"), ROW, SALE_CERT, "yes")
     for number, (was, put, why) in enumerate(TOML, 1):
@@ -1532,7 +1558,7 @@ LOGS = [
 ]
 
 
-def logs(v) -> None:
+def logs(v: Cases) -> None:
     for number, text in enumerate(LOGS, 1):
         audits(
             v,
@@ -1605,7 +1631,7 @@ def logs(v) -> None:
     )
 
 
-def csv_texts(v) -> None:
+def csv_texts(v: Cases) -> None:
     """Spellings of one log, of which the book is the same."""
     text = lines(ROW)
     rows = [
@@ -1652,10 +1678,10 @@ FULL = (
 )
 
 
-def replies(v) -> None:
+def replies(v: Cases) -> None:
     """Each reply, as `auction` prints it; the first reason that holds is reported."""
 
-    def add(name, why, award, log, answer) -> None:
+    def add(name: str, why: str, award: bytes, log: str, answer: str) -> None:
         v.case(f"reply-{name}", why, "auction", (award, lines(log), "/dev/null"), answer)
 
     add("all-of-a-small-sale", "admitted lines, a refused submission, and closes", SALE, ROW, "* 9 relative-cap 2 44")
@@ -1752,7 +1778,7 @@ def replies(v) -> None:
     )
 
 
-def relative_caps(v) -> None:
+def relative_caps(v: Cases) -> None:
     two = (
         'version = {}\ntick = 1\ncategory = [{{name = "a", supply = 2, points = 1, reserve = 10}}, {{name = "c", supply = 3, points = 1, reserve = 10}}]\n'
         'bidder = [{{name = "east", eligibility = 3}}, {{name = "west", eligibility = 1}}]\nstep = [{{excess = 1, permille = 1000}}]\n'
@@ -1803,7 +1829,7 @@ def relative_caps(v) -> None:
     )
 
 
-def ends(v) -> None:
+def ends(v: Cases) -> None:
     """Logs whose book depends on a rule: who gets the rule wrong says another verdict."""
     audits(
         v,
@@ -1943,7 +1969,7 @@ def ends(v) -> None:
     )
 
 
-def full_lists(v) -> None:
+def full_lists(v: Cases) -> None:
     """A list of 300 drafts, in which another package would win by the order of ties, and one of them at another amount."""
     packages = [(a, b) for a in range(20) for b in range(20)][1:300] + [(19, 19)]
     drafts = [f"draft,east,{a} {b},{10 * (a + b) + (500 if a == b == 19 else 0)}" for a, b in packages]
@@ -1984,7 +2010,7 @@ def full_lists(v) -> None:
     )
 
 
-def auction_of(supply, bids):
+def auction_of(supply: Package, bids: Bids) -> tuple[bytes, bytes]:
     """The award and the log of an auction with this book, without reserves.
 
     Each bidder asks for its last package at 0. If that is more than the supply in each category all prices rise beyond
@@ -2006,11 +2032,11 @@ def auction_of(supply, bids):
     return award.encode(), lines(" / ".join([*text, "close,,,"]))
 
 
-def spaced(counts):
+def spaced(counts: Iterable[int]) -> str:
     return " ".join(map(str, counts))
 
 
-def ties_audited(v) -> None:
+def ties_audited(v: Cases) -> None:
     """Ties in auctions: who is first in the award, and which package is first, decides."""
     same, tie = [[((1,), 9)], [((1,), 9)]], [[((1,), 5), ((2,), 9)], [((1,), 4)]]
     first = certificate_of((1,), same, (1, 0), {1: (0, 1)}, 1, (9, 0), [((1,), 1, 0, (0, 1))])
@@ -2054,7 +2080,7 @@ def ties_audited(v) -> None:
     )
 
 
-def books_of_replies(v) -> None:
+def books_of_replies(v: Cases) -> None:
     """Each auction whose replies are a case, with a close for its end: its book, shown by a certificate."""
     for name, why, award, log in v.auctions:
         text = log + b"close,,,\n"
@@ -2071,7 +2097,7 @@ def books_of_replies(v) -> None:
     audits(v, "audit-holding", "a holding counts in the second of two spectrum caps", held, log, cert, "yes")
 
 
-def filled(*tables, top="version = 1\ntick = 1\n"):
+def filled(*tables: tuple[str, Mapping[str, object]], top: str="version = 1\ntick = 1\n") -> bytes:
     """An award of these tables: categories and bidders by their fields, and one step."""
     more = "".join(
         f"[[{word}]]\n" + "".join(f"{key} = {value}\n" for key, value in table.items()) for word, table in tables
@@ -2079,14 +2105,14 @@ def filled(*tables, top="version = 1\ntick = 1\n"):
     return (top + more).encode()
 
 
-def category(name, supply, points=1, reserve=0):
+def category(name: str, supply: int, points: int=1, reserve: int=0) -> tuple[str, dict[str, object]]:
     return "category", {"name": f'"{name}"', "supply": supply, "points": points, "reserve": reserve}
 
 
 STEP = ("step", {"excess": 1, "permille": 1})
 
 
-def last_allowed(v) -> None:
+def last_allowed(v: Cases) -> None:
     """Each limit at the greatest value that it allows: the answer is what comes after it."""
     top = "version = 2\ntick = 68719476736\n"
     bidders = [
@@ -2137,7 +2163,7 @@ def last_allowed(v) -> None:
         )
 
 
-def orders_of_limits(v) -> None:
+def orders_of_limits(v: Cases) -> None:
     """Awards above several limits, of which the first is reported."""
     for supply, bidders, answer in (
         ((9,) * 7, 17, "categories 7"),
@@ -2151,7 +2177,7 @@ def orders_of_limits(v) -> None:
         audits(v, f"award-order-{answer.split()[0]}", why, filled(*tables, STEP), "", b"", f"cca: limit {answer}")
 
 
-def words(v) -> None:
+def words(v: Cases) -> None:
     v.case("words-none", "no file", "check", (), "cca: words")
     v.case("words-one", "a file too few", "check", (BOOK,), "cca: words")
     v.case("words-three", "a file too many", "check", (BOOK, CERT, "more"), "cca: words")

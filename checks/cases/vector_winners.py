@@ -1,26 +1,33 @@
 """Cases of vectors/ with more winners than the program prices: eight, ten and eleven. The prices are closed forms."""
 
-from checks.cases.samples import book_of, certificate_of, lines
-from checks.cases.vector_cases import auction_of, edited
+from __future__ import annotations
 
+from collections.abc import Collection, Sequence
+from typing import TypeAlias
+
+from checks.cases.samples import Row, book_of, certificate_of, lines
+from checks.cases.vector_cases import Cases, auction_of, edited
+
+# Of each loser how many lots it bids for, and its amount.
+Losers: TypeAlias = Sequence[tuple[int, int]]
 EIGHT, TEN = [20] * 8, [100] * 10
 FIRST_LOSERS = [(1, 50), (1, 40)]
 
 
-def sale(amounts, losers):
+def sale(amounts: Sequence[int], losers: Sequence[tuple[int, int]]) -> tuple[tuple[int], list[list[tuple[tuple[int], int]]]]:
     """The supply and the bids if each amount is bid for one lot of as many, and the losers bid for their counts."""
     return (len(amounts),), [[((1,), amount)] for amount in amounts] + [
         [((count,), amount)] for count, amount in losers
     ]
 
 
-def certificate(amounts, losers, pay, rows, without, den=1):
+def certificate(amounts: Sequence[int], losers: Losers, pay: Sequence[int], rows: Sequence[Row], without: Collection[int], den: int=1) -> bytes:
     """A certificate in which all but the losers win. `without` is, for each winner, the number of the loser's bid that
     takes its place; a row has its members, its multipliers and the losers that its choice uses."""
     supply, bids = sale(amounts, losers)
     size = len(amounts)
 
-    def choice(members, used):
+    def choice(members: Collection[int], used: Collection[int]) -> tuple[int, ...]:
         return tuple(int(j not in members) for j in range(1, size + 1)) + tuple(
             int(n in used) for n in range(len(losers))
         )
@@ -32,23 +39,23 @@ def certificate(amounts, losers, pay, rows, without, den=1):
     return certificate_of(supply, bids, every, others, den, [*pay, *[0] * len(losers)], found, head=head)
 
 
-def shared(losing, pay, second=1):
+def shared(losing: int, pay: Sequence[int], second: int=1) -> bytes:
     """Eight win, and a ninth who bids for all of eight lots makes them pay `losing` together. Without one of them the
     others still win, so each Vickrey price is 0."""
     every = tuple(range(1, 9))
     return certificate(EIGHT, [(8, losing)], pay, [(every, 1, second, (0,))], ())
 
 
-def own_rows(count, losers=FIRST_LOSERS, left_out=()):
+def own_rows(count: int, losers: Losers=FIRST_LOSERS, left_out: Collection[int]=()) -> bytes:
     """As many win as rows are needed. Each pays the first loser's bid of 50, since without it that loser wins."""
     rows = [((j,), 1, 0, (0,)) for j in range(1, count + 1) if j not in left_out]
     return certificate([100] * count, losers, [50] * count, rows, (0,))
 
 
-def add_winners(v) -> None:
+def add_winners(v: Cases) -> None:
     """Adds the cases."""
 
-    def both(name, why, amounts, losers, cert, answer) -> None:
+    def both(name: str, why: str, amounts: Sequence[int], losers: Losers, cert: bytes, answer: str) -> None:
         """A case of the book, and one of an auction with this book."""
         supply, bids = sale(amounts, losers)
         v.case(name, why, "check", (book_of(supply, bids), cert), answer)
@@ -80,7 +87,7 @@ def add_winners(v) -> None:
     weighted(v)
 
 
-def weighted(v) -> None:
+def weighted(v: Cases) -> None:
     """By weights of 1 to 8 the winners pay 2 to 16 of the 72 that the ninth asks for."""
     book = book_of(*sale(EIGHT, [(8, 72)]))
     weights = lines(" / ".join(["weights 1", *(f"weight b{j} {j}" for j in range(1, 9)), "weight b9 1", "end"]))

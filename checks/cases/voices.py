@@ -4,6 +4,9 @@ the program, and the checker of the second proof.
 `audit`, `check` and `check_places` take names of files and ask the court's file and the rules, which have to answer
 alike. They give what is printed of a yes; any other end is a `Stop`.
 """
+
+from __future__ import annotations
+
 import importlib.machinery
 import importlib.util
 import os
@@ -13,10 +16,13 @@ import subprocess
 import sys
 import tempfile
 import unittest.mock
+from collections.abc import Mapping, Sequence
+from types import ModuleType
+from typing import Any, NoReturn
 
 from cca_tools.rules.auction import replay
 from cca_tools.rules.award import read_award
-from cca_tools.rules.book import read_book
+from cca_tools.rules.book import Book, read_book
 from cca_tools.rules.certificate import read_certificate
 from cca_tools.rules.certificate_tests import first_fault
 from cca_tools.rules.log import read_log
@@ -38,7 +44,7 @@ NO_VERDICT = 9  # of an award that TOML 1.0 doesn't have
 CHECKER = os.path.join(TOOLS, "..", "second_proof", "built", "checker")
 
 
-def script(name):
+def script(name: str) -> ModuleType:
     """A tool of one file as a module."""
     loader = importlib.machinery.SourceFileLoader(name.replace("-", "_"), os.path.join(TOOLS, name))
     module = importlib.util.module_from_spec(importlib.util.spec_from_loader(loader.name, loader))
@@ -50,7 +56,7 @@ def script(name):
 AUDIT, CHECK = script("audit"), script("check")
 
 
-def court_answer(command, names):
+def court_answer(command: str, names: Sequence[str]) -> tuple[str, int]:
     """What the court's own files print for a command of cca with these names, and the status."""
     if command == "audit":
         return AUDIT.answer(names)
@@ -61,11 +67,11 @@ def court_answer(command, names):
     return CHECK.answer(names, CHECK.check, 2)
 
 
-def court_book(award, log):
+def court_book(award: str, log: str) -> tuple[list[list[tuple[tuple[int, ...], int]]] | str, int]:
     """The bids of the book that tools/audit makes of these files, or what it prints instead, and the status."""
     made = []
 
-    def keep(cert, terms, bids):
+    def keep(cert: object, terms: object, bids: Any) -> NoReturn:
         made.append(bids)
         raise AUDIT.Stop("", 0)
 
@@ -74,7 +80,7 @@ def court_book(award, log):
     return (made[0], 0) if made else said
 
 
-def books(award, log):
+def books(award: str, log: str) -> tuple[tuple[object, int], tuple[object, int]]:
     """The bids of the book of these files, by tools/audit and by the rules; or the line and status of a stop."""
     try:
         rules = [list(bids) for bids in rules_book({"award": award, "log": log}).bids], 0
@@ -83,7 +89,7 @@ def books(award, log):
     return court_book(award, log), rules
 
 
-def rules_text(command, names):
+def rules_text(command: str, names: Sequence[str]) -> str:
     """What the rules of cca_tools say of these files, as `cca` prints it; any other end than a yes is a `Stop`."""
     files = dict(zip(FILES[command], names))
     if command == "place-check":
@@ -100,7 +106,7 @@ def rules_text(command, names):
     return "\n".join(["yes", *lines(certificate)])
 
 
-def rules_book(files):
+def rules_book(files: Mapping[str, str]) -> Book:
     """The book of an audit's award and log, or the one that is named."""
     if "book" in files:
         return read_book(load(files["book"], "book"))
@@ -108,7 +114,7 @@ def rules_book(files):
     return replay(award, read_log(load(files["log"], "log"), award)).need_book()
 
 
-def rules_answer(command, names):
+def rules_answer(command: str, names: Sequence[str]) -> tuple[str, int]:
     """What the rules answer, and the status."""
     try:
         return rules_text(command, names), 0
@@ -116,19 +122,19 @@ def rules_answer(command, names):
         return stop.line, stop.status
 
 
-def is_alike(*said):
+def is_alike(*said: tuple[object, int]) -> bool:
     """Whether all say the same. The court's file, which is first, gives no verdict of an award that isn't TOML 1.0."""
     first, *others = said
     return all(one == others[0] for one in others) and (first == others[0] or first[1] == NO_VERDICT)
 
 
-def program_answer(program, command, names):
+def program_answer(program: str, command: str, names: Sequence[str]) -> tuple[str, int]:
     """What the program prints, without its last line feed, and the status."""
     ended = subprocess.run([program, command, *names], stdin=subprocess.DEVNULL, capture_output=True)
     return ended.stdout.decode().removesuffix("\n"), ended.returncode
 
 
-def plain_files(award, log, cert):
+def plain_files(award: bytes, log: bytes, cert: bytes) -> tuple[bytes, bytes, bytes]:
     """The files of an audit as the checker of the second proof reads them; a `Stop` if there are none such."""
     try:
         award = plain_award(award)
@@ -142,7 +148,7 @@ def plain_files(award, log, cert):
         raise Stop("cca: refused log", REFUSED) from None
 
 
-def checker_answer(command, texts):
+def checker_answer(command: str, texts: Sequence[bytes]) -> tuple[str, int]:
     """What the checker of the second proof prints for these texts, and the status. An audit gets the plain spellings of
     the award and the log, as `second_proof/audit` does."""
     try:
@@ -156,14 +162,14 @@ def checker_answer(command, texts):
         return program_answer(CHECKER, command, names)
 
 
-def is_confirmed(checked, said):
+def is_confirmed(checked: tuple[str, int], said: tuple[str, int]) -> bool:
     """Whether an answer of the second proof's checker is the answer `said`. It numbers no part of an award or a log that
     it refuses, and reads TOML 1.0 alone."""
     unnumbered = re.sub(r"^(cca: refused (?:award|log)) .*", r"\1", said[0]), said[1]
     return checked in (said, unnumbered) or checked[1] == NO_VERDICT
 
 
-def agreed(command, names):
+def agreed(command: str, names: Sequence[str]) -> str:
     """What the court's file and the rules say alike, or a `Stop`."""
     said = court_answer(command, names)
     if said == ("cca: words", WORDS):
@@ -174,14 +180,14 @@ def agreed(command, names):
     return rules_text(command, names)
 
 
-def audit(names):
+def audit(names: Sequence[str]) -> str:
     return agreed("audit", names)
 
 
-def check(names):
+def check(names: Sequence[str]) -> str:
     """BOOK CERT [WEIGHTS], as tools/check takes them."""
     return agreed("weigh-check", [names[0], *names[:0:-1]]) if len(names) == 3 else agreed("check", names)
 
 
-def check_places(names):
+def check_places(names: Sequence[str]) -> str:
     return agreed("place-check", names)
