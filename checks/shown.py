@@ -10,7 +10,9 @@ EXAMPLES = pathlib.Path(HERE).parent / "examples"
 LONGEST = 2**36, 2**42
 
 
-def award_text(tick: int, categories: Categories, bidders: Iterable[tuple[str, int]], steps: Iterable[tuple[int, int]]) -> str:
+def award_text(
+    tick: int, categories: Categories, bidders: Iterable[tuple[str, int]], steps: Iterable[tuple[int, int]]
+) -> str:
     lines = ["version = 2", f"tick = {tick}"]
     for name, supply, points, reserve in categories:
         lines += [
@@ -91,7 +93,7 @@ def awarded(folder: pathlib.Path, award: pathlib.Path, log: pathlib.Path) -> lis
     return [award, log, cert]
 
 
-def made(folder: pathlib.Path, number: str="7") -> list[Word]:
+def made(folder: pathlib.Path, number: str = "7") -> list[Word]:
     """The auction that the program makes of a number."""
     paths = folder / f"made{number}.award", folder / f"made{number}.log"
     for path in paths:

@@ -64,7 +64,17 @@ def winning_bids(book: str, bids: Sequence[Sequence[Bid]]) -> Iterator[tuple[int
         yield j, next(bid for bid in bids[j - 1] if list(bid[0]) == [int(n) for n in row[2:-1]])
 
 
-def row(kind: str, what: str, book: str, j: int, edits_of: Callable[[int, Bid, int], list[str]], bid: Bid, after: str, scratch: float, runs: int) -> None:
+def row(
+    kind: str,
+    what: str,
+    book: str,
+    j: int,
+    edits_of: Callable[[int, Bid, int], list[str]],
+    bid: Bid,
+    after: str,
+    scratch: float,
+    runs: int,
+) -> None:
     few, _ = least_cpu([CCA, "review", book, edits_file(edits_of(j, bid, FEW))], runs)
     many, text = least_cpu([CCA, "review", book, edits_file(edits_of(j, bid, MANY))], runs)
     edit = max(many - few, 0) / (MANY - FEW)

@@ -29,7 +29,9 @@ class Vectors:
         self.files: dict[str, bytes] = {}
         self.blocks: list[str] = []
         self.names: set[str] = set()
-        self.auctions: list[tuple[str, str, bytes, bytes]] = []  # of each case of `auction` its name, why, award and log
+        self.auctions: list[
+            tuple[str, str, bytes, bytes]
+        ] = []  # of each case of `auction` its name, why, award and log
 
     def file(self, name: str, text: bytes, others: Collection[str]) -> str:
         """The name of a file with this text: the earlier file if the texts are the same, unless it is among others."""
@@ -39,7 +41,15 @@ class Vectors:
         pathlib.Path(self.folder, known).write_bytes(text)
         return known
 
-    def case(self, name: str, why: str, command: str, texts: Sequence[bytes | str], answer: str | None=None, made: Sequence[tuple[str, int, str]]=()) -> None:
+    def case(
+        self,
+        name: str,
+        why: str,
+        command: str,
+        texts: Sequence[bytes | str],
+        answer: str | None = None,
+        made: Sequence[tuple[str, int, str]] = (),
+    ) -> None:
         """A case of a command: its texts, or names of files as str that are there or missing, and the first line of its
         answer if it is known."""
         if name in self.names:

@@ -41,7 +41,6 @@ ENDS = (
 )
 
 
-
 def answers(folder: str, command: str, texts: Sequence[bytes], program: str | None = None) -> list[tuple[str, int]]:
     """How the court's file, the rules, and the program where one is named answer for these texts."""
     names = [os.path.join(folder, kind) for kind in FILES[command]]
@@ -169,15 +168,15 @@ def faulty_auctions(rng: random.Random) -> Iterator[Case]:
         yield "audit", (award.encode(), bytes_of(rng, other), b"")
 
 
-def wide_cases(rng):
+def wide_cases(rng: random.Random) -> Iterator[Case]:
     """Right cases in each of whose texts a number is about the end of a range, or has more bits than a machine's word."""
     for kind in (book_cases, auction_cases, slot_cases):
-        command, texts = next(kind(rng), (None, ()))
+        command, texts = next(kind(rng), ("", ()))
         for at, text in enumerate(texts):
             yield from ((command, (*texts[:at], wide(rng, text), *texts[at + 1 :])) for _ in range(2))
 
 
-def wide(rng, text):
+def wide(rng: random.Random, text: bytes) -> bytes:
     """The text with another number in one place. A reader that drops the high bits of 2^64 and more takes the old one."""
     numbers = list(re.finditer(rb"\d+", text))
     if not numbers:

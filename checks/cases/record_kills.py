@@ -222,7 +222,7 @@ def need_agreed(path: pathlib.Path, log: LogFile) -> None:
     need(log.posted() == path.with_name("a.log.posted").read_bytes(), "LOG.posted")
 
 
-def kill(draw: random.Random, most: int=250) -> tuple[str, str] | None:
+def kill(draw: random.Random, most: int = 250) -> tuple[str, str] | None:
     """One kill of a drawn day at a drawn call, tested. Returns what the kill left; None if the day ended before it."""
     with tempfile.TemporaryDirectory() as folder:
         path = pathlib.Path(folder, "a.log")

@@ -59,7 +59,7 @@ def values_of(draw: random.Random, form: str, supply: Sequence[int]) -> str:
     return "\n".join(lines) + "\n"
 
 
-def drawn(number: int, is_small: bool=False) -> tuple[str, bytes, bytes]:
+def drawn(number: int, is_small: bool = False) -> tuple[str, bytes, bytes]:
     """The form, the award and the values of this number. (Only this number decides.)"""
     draw = random.Random(number)
     form = FORMS[number % len(FORMS)]

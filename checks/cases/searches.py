@@ -25,11 +25,13 @@ CoreRow: TypeAlias = tuple[Sequence[int], int]
 
 
 @overload
-def dot(a: Iterable[int], b: Iterable[int]) -> int: ...
+def dot(a: Iterable[int], b: Iterable[int]) -> int:
+    ...
 
 
 @overload
-def dot(a: Iterable[Rational], b: Iterable[Rational]) -> Rational: ...
+def dot(a: Iterable[Rational], b: Iterable[Rational]) -> Rational:
+    ...
 
 
 def dot(a: Iterable[Rational], b: Iterable[Rational]) -> Rational:
@@ -147,7 +149,7 @@ def fraction_text(x: Fraction) -> str:
     return f"{whole}+{rest}" if rest else f"{whole}"
 
 
-def book_prices(book: tuple[Sequence[int], Sequence[int], Bids], weights: Sequence[int] | None=None) -> str:
+def book_prices(book: tuple[Sequence[int], Sequence[int], Bids], weights: Sequence[int] | None = None) -> str:
     """What is printed of the prices of a book by these weights, by 1 for each bidder without any."""
     supply, reserves, bidders = book
     choices = list(choices_of_book(*book))

@@ -70,7 +70,9 @@ class Prices:
                 return den, whole, other
         raise ValueError("no multipliers of few rows")
 
-    def sums(self, tight: Sequence[int], wanted: Sequence[Fraction], free: Collection[int]) -> Iterator[dict[int, Fraction]]:
+    def sums(
+        self, tight: Sequence[int], wanted: Sequence[Fraction], free: Collection[int]
+    ) -> Iterator[dict[int, Fraction]]:
         """Ways to add a few tight rows up to what is wanted at each winner, none below 0 but of rows that are free."""
         for size in range(len(wanted) + 1):
             for rows in itertools.combinations(tight, size):
@@ -100,7 +102,9 @@ class Prices:
         return self.choice, {j + 1: choice for j, (choice, _) in self.without.items()}, self.den, pay, rows
 
 
-def book_certificate(supply: Sequence[int], reserves: Sequence[int], bids: Bids, weights: Sequence[int] | None=None) -> bytes | None:
+def book_certificate(
+    supply: Sequence[int], reserves: Sequence[int], bids: Bids, weights: Sequence[int] | None = None
+) -> bytes | None:
     """The text of a certificate of a small book, or None where too many bidders win for a plain search."""
     choices = list(choices_of_book(supply, reserves, bids))
     if sum(map(bool, winning(choices)[0])) > MOST_WINNERS:

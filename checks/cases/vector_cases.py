@@ -463,7 +463,12 @@ def alone(v: Cases) -> None:
     nil = [[((1,), 0), ((2,), 9)], [((1,), 4)], [((1,), 0)], [((2,), 3)]]
     good = dict(choice=(2, 0, 0, 0), without={1: (0, 1, 1, 0)}, pay=(4, 0, 0, 0))
 
-    def of_nil(without: Sequence[int]=(0, 1, 1, 0), row: Sequence[int]=(0, 1, 1, 0), members: Sequence[int]=(1,), pay: Sequence[int]=(4, 0, 0, 0)) -> bytes:
+    def of_nil(
+        without: Sequence[int] = (0, 1, 1, 0),
+        row: Sequence[int] = (0, 1, 1, 0),
+        members: Sequence[int] = (1,),
+        pay: Sequence[int] = (4, 0, 0, 0),
+    ) -> bytes:
         return certificate_of((2,), nil, (2, 0, 0, 0), {1: without}, 1, pay, [(members, 1, 0, row)])
 
     text = book_of((2,), nil)
@@ -588,7 +593,14 @@ def alone(v: Cases) -> None:
 def ties(v: Cases) -> None:
     """Choices of the same value, of which the first wins."""
 
-    def of(supply: Package, bids: Bids, choice: Sequence[int], without: Mapping[int, Sequence[int]], pay: Sequence[int], rows: Sequence[Row]) -> tuple[bytes, bytes]:
+    def of(
+        supply: Package,
+        bids: Bids,
+        choice: Sequence[int],
+        without: Mapping[int, Sequence[int]],
+        pay: Sequence[int],
+        rows: Sequence[Row],
+    ) -> tuple[bytes, bytes]:
         return book_of(supply, bids), certificate_of(supply, bids, choice, without, 1, pay, rows)
 
     own = [[((1,), 5), ((2,), 9)], [((1,), 3)]]
@@ -1025,7 +1037,9 @@ WEIGHED = certificate_of((1, 1), DAY_BIDS, DAY, DAY_WITHOUT, 2, (31, 33, 0, 0, 0
 
 
 def weighings(v: Cases) -> None:
-    def add(name: str, why: str, answer: str, weights: bytes=WEIGHTS, cert: bytes=WEIGHED, book: bytes=BOOK) -> None:
+    def add(
+        name: str, why: str, answer: str, weights: bytes = WEIGHTS, cert: bytes = WEIGHED, book: bytes = BOOK
+    ) -> None:
         v.case(f"weights-{name}", why, "weigh-check", (book, weights, cert), answer)
 
     add(
@@ -2097,7 +2111,7 @@ def books_of_replies(v: Cases) -> None:
     audits(v, "audit-holding", "a holding counts in the second of two spectrum caps", held, log, cert, "yes")
 
 
-def filled(*tables: tuple[str, Mapping[str, object]], top: str="version = 1\ntick = 1\n") -> bytes:
+def filled(*tables: tuple[str, Mapping[str, object]], top: str = "version = 1\ntick = 1\n") -> bytes:
     """An award of these tables: categories and bidders by their fields, and one step."""
     more = "".join(
         f"[[{word}]]\n" + "".join(f"{key} = {value}\n" for key, value in table.items()) for word, table in tables
@@ -2105,7 +2119,7 @@ def filled(*tables: tuple[str, Mapping[str, object]], top: str="version = 1\ntic
     return (top + more).encode()
 
 
-def category(name: str, supply: int, points: int=1, reserve: int=0) -> tuple[str, dict[str, object]]:
+def category(name: str, supply: int, points: int = 1, reserve: int = 0) -> tuple[str, dict[str, object]]:
     return "category", {"name": f'"{name}"', "supply": supply, "points": points, "reserve": reserve}
 
 

@@ -14,14 +14,23 @@ EIGHT, TEN = [20] * 8, [100] * 10
 FIRST_LOSERS = [(1, 50), (1, 40)]
 
 
-def sale(amounts: Sequence[int], losers: Sequence[tuple[int, int]]) -> tuple[tuple[int], list[list[tuple[tuple[int], int]]]]:
+def sale(
+    amounts: Sequence[int], losers: Sequence[tuple[int, int]]
+) -> tuple[tuple[int], list[list[tuple[tuple[int], int]]]]:
     """The supply and the bids if each amount is bid for one lot of as many, and the losers bid for their counts."""
     return (len(amounts),), [[((1,), amount)] for amount in amounts] + [
         [((count,), amount)] for count, amount in losers
     ]
 
 
-def certificate(amounts: Sequence[int], losers: Losers, pay: Sequence[int], rows: Sequence[Row], without: Collection[int], den: int=1) -> bytes:
+def certificate(
+    amounts: Sequence[int],
+    losers: Losers,
+    pay: Sequence[int],
+    rows: Sequence[Row],
+    without: Collection[int],
+    den: int = 1,
+) -> bytes:
     """A certificate in which all but the losers win. `without` is, for each winner, the number of the loser's bid that
     takes its place; a row has its members, its multipliers and the losers that its choice uses."""
     supply, bids = sale(amounts, losers)
@@ -39,14 +48,14 @@ def certificate(amounts: Sequence[int], losers: Losers, pay: Sequence[int], rows
     return certificate_of(supply, bids, every, others, den, [*pay, *[0] * len(losers)], found, head=head)
 
 
-def shared(losing: int, pay: Sequence[int], second: int=1) -> bytes:
+def shared(losing: int, pay: Sequence[int], second: int = 1) -> bytes:
     """Eight win, and a ninth who bids for all of eight lots makes them pay `losing` together. Without one of them the
     others still win, so each Vickrey price is 0."""
     every = tuple(range(1, 9))
     return certificate(EIGHT, [(8, losing)], pay, [(every, 1, second, (0,))], ())
 
 
-def own_rows(count: int, losers: Losers=FIRST_LOSERS, left_out: Collection[int]=()) -> bytes:
+def own_rows(count: int, losers: Losers = FIRST_LOSERS, left_out: Collection[int] = ()) -> bytes:
     """As many win as rows are needed. Each pays the first loser's bid of 50, since without it that loser wins."""
     rows = [((j,), 1, 0, (0,)) for j in range(1, count + 1) if j not in left_out]
     return certificate([100] * count, losers, [50] * count, rows, (0,))

@@ -152,7 +152,7 @@ def checker_answer(command: str, texts: Sequence[bytes]) -> tuple[str, int]:
     """What the checker of the second proof prints for these texts, and the status. An audit gets the plain spellings of
     the award and the log, as `second_proof/audit` does."""
     try:
-        texts = plain_files(*texts) if command == "audit" else texts
+        texts = plain_files(texts[0], texts[1], texts[2]) if command == "audit" else texts
     except Stop as stop:
         return stop.line, stop.status
     with tempfile.TemporaryDirectory() as folder:
