@@ -1,16 +1,29 @@
 """Winner determinations as integer programs, for the general solvers that are installed."""
+
+from __future__ import annotations
+
 import os
 import re
 import shutil
-from checks.cases.limit_books import OUT, RESERVE, SUPPLY, timed
+from collections.abc import Iterable, Mapping, Sequence
+from fractions import Fraction
+from typing import TypeAlias
 
+from bench.pricings import Wanted
+from checks.cases.limit_books import OUT, RESERVE, SUPPLY, Bid, Package, timed
+
+# Of each bidder its bids; surpluses by bidders; and a variable with its worth, its bidder and its package.
+Book: TypeAlias = Sequence[Sequence[Bid]]
+Surplus: TypeAlias = Mapping[int, Fraction | int]
+Term: TypeAlias = tuple[str, float, int, Package]
 SOLVERS = tuple(solver for solver in ("cbc", "glpsol") if shutil.which(solver))
 
 
 def terms_of(book: Book, surplus: Surplus, skip: int | None) -> tuple[list[Term], float]:
     """What each bid counts where its bidder's surplus is taken off, without one bidder, and the idle worths, which are
     a constant."""
-    terms, idle = [], 0.0
+    terms: list[Term] = []
+    idle = 0.0
     for j, bids in enumerate(book):
         own = float(surplus.get(j, 0))
         rest = max(0.0, -own)
@@ -52,13 +65,13 @@ def optimum(solver: str, program: str, seconds: int) -> tuple[float, float | Non
         return spent, None
     with open(answer) as f:
         text = f.read()
-    return spent, abs(float(re.search(value, text)[1])) if re.search(proved, text, re.M) else None
+    found = re.search(value, text)
+    return spent, abs(float(found[1])) if found and re.search(proved, text, re.M) else None
 
 
 def beside(solver: str, book: Book, wanted: Iterable[Wanted], seconds: int) -> tuple[float, bool, bool]:
     """The CPU time for these winner determinations, each with its surpluses, the bidder that is left out and the
-    greatest sum that cca
-    states; whether each was solved to its end, and whether all that were have that sum."""
+    greatest sum that cca states; whether each was solved to its end, and whether all that were have that sum."""
     spent, whole, same = 0.0, True, True
     for surplus, skip, most in wanted:
         terms, idle = terms_of(book, surplus, skip)

@@ -1,11 +1,19 @@
 """The reports that checks/looks looks at: of the samples, of a made auction, and of auctions that are hard to show."""
+
+from __future__ import annotations
+
 import pathlib
 import random
 import shutil
 import subprocess
+from collections.abc import Callable, Iterable
+from typing import TypeAlias
 
 from checks.cases.limit_books import CCA, HERE
 
+# Each category with its supply, its points and its reserve; and a word of tools/report.
+Categories: TypeAlias = Iterable[tuple[str, int, int, int]]
+Word: TypeAlias = str | pathlib.Path
 EXAMPLES = pathlib.Path(HERE).parent / "examples"
 LONGEST = 2**36, 2**42
 
@@ -45,7 +53,8 @@ def hostile(folder: pathlib.Path) -> list[Word]:
         [(name, 30000) for name in names],
         [(1, 1)],
     )
-    rng, log = random.Random(1), []
+    rng = random.Random(1)
+    log: list[str] = []
     small = [tuple(rng.randrange(2) if c else 1 for c in range(6)) for _ in names]
     for name, package in zip(names, small):
         log.append(f"bid,{name},{' '.join(map(str, package))},")
@@ -66,7 +75,7 @@ def three_hundred(folder: pathlib.Path) -> list[Word]:
     """As many rounds as there may be, with 16 bidders that ask for less and less."""
     names = [f"b{n}" for n in range(1, 17)]
     award = award_text(1, [("a", 4, 3, 1000), ("b", 6, 1, 10)], [(name, 30) for name in names], [(1, 5)])
-    log = []
+    log: list[str] = []
     for number in range(1, 301):
         asking = 3 if number < 300 else 2
         for place, name in enumerate(names):
@@ -82,7 +91,7 @@ def written(folder: pathlib.Path, name: str, award: str, log: Iterable[str]) -> 
     paths = folder / f"{name}.award", folder / f"{name}.log"
     paths[0].write_text(award)
     paths[1].write_text("".join(line + "\n" for line in log))
-    return list(paths)
+    return paths
 
 
 def awarded(folder: pathlib.Path, award: pathlib.Path, log: pathlib.Path) -> list[Word]:
@@ -109,7 +118,7 @@ def spectrum(folder: pathlib.Path) -> list[Word]:
 def begun(folder: pathlib.Path) -> list[Word]:
     """The sample, of which the second round is open."""
     lines = (EXAMPLES / "spectrum.log").read_text().splitlines()[:15]
-    return written(folder, "begun", (EXAMPLES / "spectrum.award").read_text(), lines)
+    return list(written(folder, "begun", (EXAMPLES / "spectrum.award").read_text(), lines))
 
 
 def three(folder: pathlib.Path) -> list[Word]:
@@ -139,7 +148,7 @@ def no_bids(folder: pathlib.Path) -> list[Word]:
     )
 
 
-SHOWN = {
+SHOWN: dict[str, Callable[[pathlib.Path], list[Word]]] = {
     "spectrum": spectrum,
     "day-cramton": lambda folder: [EXAMPLES / "day-cramton.book", EXAMPLES / "day-cramton.cert"],
     "three": three,
@@ -187,7 +196,7 @@ def made_set(name: str, folder: pathlib.Path) -> list[pathlib.Path]:
     """The page and the report of a published set, with names or without."""
     place = folder / name
     shutil.rmtree(place, ignore_errors=True)
-    more = []
+    more: list[Word] = []
     if name != "set":
         (folder / "names.toml").write_text(NAMES)
         more = ["--names", folder / "names.toml"]
@@ -202,7 +211,7 @@ def made_study(name: str, folder: pathlib.Path) -> list[pathlib.Path]:
     text = (EXAMPLES / "final-cap.plan").read_text().replace("auctions = 1000", f"auctions = {STUDIES[name]}")
     (folder / f"{name}.plan").write_text(text)
     shutil.rmtree(folder / name, ignore_errors=True)
-    words = [TOOLS / "study", "--out", folder / name, folder / f"{name}.plan"]
+    words: list[Word] = [TOOLS / "study", "--out", folder / name, folder / f"{name}.plan"]
     subprocess.run(words, check=True, capture_output=True)
     return [folder / name / "page.html"]
 

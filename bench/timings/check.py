@@ -9,19 +9,28 @@ are installed, solve again all winner determinations that the certificate shows,
 what has to be done
 if there is no certificate. It needs rustc and python3.
 """
+
+from __future__ import annotations
+
 import os
 import random
 import statistics
+from collections.abc import Iterable, Sequence
+from typing import TypeAlias
+
 from checks.cases.damage import broken
 from checks.cases.limit_books import CCA, KINDS, OUT, build_cca, build_plain, memory_of, price, priced_book, read, timed
 from bench.pricings import wanted_of
 from bench.solvers import SOLVERS, beside, told
 
+# The CPU time of each run, and what it printed.
+Runs: TypeAlias = Sequence[tuple[float, str]]
 BREAKS = 20
 SIGNED_LINES = ("den", "value", "t", "pay", "mult")
 
 
 def first_line(words: Sequence[str]) -> str:
+    """The first line that a run prints."""
     return timed(words, may_fail=True)[1].split("\n")[0]
 
 
@@ -30,8 +39,9 @@ def median(runs: Iterable[tuple[float, str]]) -> float:
 
 
 def tell(word: str, ours: Runs, theirs: Runs, same: bool) -> None:
-    ours, theirs = median(ours), median(theirs)
-    print(f"  {word:<7}{ours:>8.1f} ms{theirs:>8.1f} ms{ours / theirs:>7.2f}  {same}")
+    """Prints a line on the runs of a command by both programs."""
+    own, plain = median(ours), median(theirs)
+    print(f"  {word:<7}{own:>8.1f} ms{plain:>8.1f} ms{own / plain:>7.2f}  {same}")
 
 
 def broken_verdicts(kind: str, book: str, cert: str, plain: str) -> tuple[int, int]:

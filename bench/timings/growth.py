@@ -7,16 +7,24 @@ that raises a bid of a middle bidder by 1, in microseconds, and `price` on a boo
 were found, whose points take the most work; more than a second is an error. And `place` and `place-check` on slots at
 their limits, a band of 40 with a bid on each slot where a bidder may begin, as bidders grow to 6.
 """
+
+from __future__ import annotations
+
 import csv
 import itertools
 import os
 import random
 import sys
+from collections.abc import Callable, Iterable, Mapping
+from typing import TypeAlias
+
 from build.drawings.growth import FIELDS, MEASURED
 from checks.cases.limit_books import CCA, OUT, build_cca, price, timed
 
+# What grows, the sizes of the book, the times by commands, the bytes of the certificate, and how many win.
+Row: TypeAlias = tuple[str, dict[str, int], dict[str, float], int, int]
 FEW, MANY = 10, 510
-SUPPLIES = {
+SUPPLIES: dict[int, tuple[int, ...]] = {
     1024: (15, 3, 3, 3),
     2048: (15, 7, 3, 3),
     4096: (15, 7, 7, 3),
@@ -25,7 +33,7 @@ SUPPLIES = {
 }
 RESERVE = (1000, 300, 150, 60, 25)
 MOST = {"bidders": 16, "bids": 600, "states": 16384}
-STEPS = {"bidders": (2, 4, 8, 16), "bids": (75, 150, 300, 600), "states": tuple(SUPPLIES)}
+STEPS: dict[str, tuple[int, ...]] = {"bidders": (2, 4, 8, 16), "bids": (75, 150, 300, 600), "states": tuple(SUPPLIES)}
 COMMANDS = ("win", "price", "check")
 
 
@@ -72,7 +80,7 @@ def times_of(sizes: Mapping[str, int], runs: int) -> tuple[dict[str, float], int
     """The least CPU time of each command on a book of these sizes, the bytes of its certificate, and how many bidders
     win."""
     book, cert = write_book(**sizes), os.path.join(OUT, "growth.cert")
-    of = {
+    of: dict[str, Callable[[], tuple[float, str]]] = {
         "win": lambda: timed([CCA, "win", book]),
         "price": lambda: price(book, cert),
         "check": lambda: timed([CCA, "check", book, cert]),
@@ -145,7 +153,8 @@ def keep(rows: Iterable[Row]) -> None:
 
 def main(runs: int) -> None:
     build_cca()
-    rows, known = [], {}
+    rows: list[Row] = []
+    known: dict[tuple[int, ...], tuple[dict[str, float], int, int]] = {}
     print(f"{'bidders':>8}{'bids':>6}{'states':>8}{'win':>9}{'price':>9}{'check':>9}{'bytes':>13}{'winners':>9}")
     for grown, steps in STEPS.items():
         for step in steps:

@@ -6,8 +6,12 @@ the whole run takes. A hostile log is to take at most about ten times as long as
 of the CPU
 times in milliseconds, less that of a start.
 """
+
+from __future__ import annotations
+
 import os
 import statistics
+
 from checks.cases.hostile_logs import LOGS, award, text_of
 from checks.cases.limit_books import CCA, OUT, build_cca, timed
 
@@ -19,7 +23,7 @@ def file_of(name: str, text: str) -> str:
     return path
 
 
-def cost(terms: str, log: str, runs: int) -> float:
+def cost(terms: str, log: str, runs: int) -> tuple[float, str]:
     """The median CPU time of `cca auction` in milliseconds, and the last line that it prints."""
     book, spent, last = os.path.join(OUT, "log.book"), [], ""
     for _ in range(runs):

@@ -9,7 +9,11 @@ milliseconds, the
 least of the runs, whether both certificates are the same, and whether each optimum is that which cca states. It needs
 rustc and python3.
 """
+
+from __future__ import annotations
+
 import os
+
 from checks.cases.limit_books import KINDS, OUT, build_cca, build_plain, price, priced_book, read
 from bench.pricings import wanted_of
 from bench.solvers import SOLVERS, beside, told

@@ -10,8 +10,13 @@ the runs, then that of `cca win`, less that of a start on the smallest book; wha
 winners after
 the edits are those that `cca win` prints for the edited book.
 """
+
+from __future__ import annotations
+
 import os
-from checks.cases.limit_books import BIDDERS, CCA, KINDS, OUT, build_cca, priced_book, timed
+from collections.abc import Callable, Iterable, Iterator, Sequence
+
+from checks.cases.limit_books import BIDDERS, CCA, KINDS, OUT, Bid, build_cca, priced_book, timed
 
 FEW, MANY = 10, 110
 

@@ -6,7 +6,12 @@ glpsol, where
 they are installed, get the same winner determination as an integer program, for this many seconds at most. It needs
 rustc and python3.
 """
+
+from __future__ import annotations
+
 import os
+from collections.abc import Sequence
+
 from checks.cases.limit_books import CCA, DENSE_KINDS, KINDS, OUT, build_cca, build_plain, priced_book, timed
 from bench.solvers import SOLVERS, beside, told
 

@@ -3,8 +3,12 @@
 Headings become sections, blocks of code stay as they are, and tables become lists: a tagged paragraph for each row.
 The commands come first, and what only the desk writes is left out. `man -l docs/cca.1` shows the page.
 """
+
+from __future__ import annotations
+
 import pathlib
 import re
+from collections.abc import Iterable, Iterator, Sequence
 
 DOCS = pathlib.Path(__file__).resolve().parents[2] / "docs"
 HEAD = """.TH CCA 1 "" "" "Combinatorial clock auctions"

@@ -3,6 +3,9 @@
 They are the report of the UK's sample and that of Day and Cramton's book, each as a page, and the first as a text too.
 It needs the program.
 """
+
+from __future__ import annotations
+
 import os
 import pathlib
 import subprocess

@@ -15,8 +15,9 @@ import tempfile
 from collections.abc import Collection, Sequence
 
 from cca_tools.rules.book import Book
+from cca_tools.rules.stops import Stop
 from checks.cases.second_auctions import second_auction
-from checks.cases.voices import FILES, Stop, books, court_answer, is_alike, program_answer, rules_answer, rules_book
+from checks.cases.voices import FILES, books, court_answer, is_alike, program_answer, rules_answer, rules_book
 
 PROGRAM = os.environ.get("CCA_PROGRAM") and os.path.abspath(os.environ["CCA_PROGRAM"])
 

@@ -161,7 +161,8 @@ def told(steps: Iterable[Step], award: bytes = AWARD, key: bytes = KEY, about: M
         for step in steps:
             clock.time = START + datetime.timedelta(minutes=step.minute, seconds=step.late)
             day.do(step)
-        return day.files()
+        made = day.files()
+    return made
 
 
 # What is changed.

@@ -30,7 +30,7 @@ def awarded(award_bytes: bytes, auction: Auction) -> tuple[list[str], list[str]]
         award.write_bytes(award_bytes)
         log.write_bytes(log_text(auction))
         run = [
-            subprocess.run([PROGRAM, word, award, log, "/dev/null"], capture_output=True, text=True)
+            subprocess.run([PROGRAM or "cca", word, award, log, "/dev/null"], capture_output=True, text=True)
             for word in ("award", "auction")
         ]
     return run[0].stdout.splitlines(), run[1].stdout.splitlines()

@@ -7,7 +7,7 @@ import itertools
 import os
 import random
 import re
-from collections.abc import Iterable, Iterator, Sequence
+from collections.abc import Callable, Iterable, Iterator, Sequence
 from typing import TypeAlias
 
 from cca_tools.rules.auction import replay
@@ -23,6 +23,9 @@ from checks.cases.voices import FILES, court_answer, program_answer, rules_answe
 
 # A command, and the texts of its files.
 Case: TypeAlias = tuple[str, tuple[bytes, ...]]
+# What changes a text.
+Change: TypeAlias = Callable[[random.Random, str], str]
+SLIPS: tuple[Change, ...] = (slipped, broken)
 # The last number of a range of docs/, or of a machine's word, and the first one after it.
 ENDS = (
     65_535,
@@ -65,9 +68,10 @@ def cases(rng: random.Random) -> Iterator[Case]:
 
 def changed(rng: random.Random, text: bytes, count: int) -> Iterator[bytes]:
     """Texts that come of a certificate, the first one as it was made."""
+    changes: list[Change] = [broken, broken, broken, slipped, scaled, widened, moved]
     yield text
     for _ in range(count):
-        yield rng.choice([broken, broken, broken, slipped, scaled, widened, moved])(rng, text.decode()).encode()
+        yield rng.choice(changes)(rng, text.decode()).encode()
 
 
 def moved(rng: random.Random, text: str) -> str:
@@ -91,9 +95,9 @@ def book_cases(rng: random.Random) -> Iterator[Case]:
     cert, weighed = book_certificate(supply, reserves, bidders), book_certificate(supply, reserves, bidders, weights)
     if cert and weighed:
         yield from (("check", (text.encode(), other)) for other in changed(rng, cert, 8))
-        yield from (("check", (f(rng, text).encode(), cert)) for f in (slipped, broken))
+        yield from (("check", (f(rng, text).encode(), cert)) for f in SLIPS)
         yield from (("weigh-check", (text.encode(), weight_text.encode(), other)) for other in changed(rng, weighed, 3))
-        yield from (("weigh-check", (text.encode(), f(rng, weight_text).encode(), weighed)) for f in (slipped, broken))
+        yield from (("weigh-check", (text.encode(), f(rng, weight_text).encode(), weighed)) for f in SLIPS)
 
 
 def drawn_bids(
@@ -115,7 +119,8 @@ def joined(numbers: Iterable[int]) -> str:
 
 
 def slot_cases(rng: random.Random) -> Iterator[Case]:
-    band, bidders = rng.choice([1, 3, 5, 8, 40]), []
+    band = rng.choice([1, 3, 5, 8, 40])
+    bidders: list[tuple[int, list[tuple[int, int]]]] = []
     for _ in range(rng.choice([0, 1, 2, 3, 3, 4])):
         free = band - sum(width for width, _ in bidders)
         if free:
@@ -129,34 +134,33 @@ def slot_cases(rng: random.Random) -> Iterator[Case]:
     text, cert = "\n".join([*lines, "end", ""]), place_certificate(bidders)
     if cert:
         yield from (("place-check", (text.encode(), other)) for other in changed(rng, cert, 8))
-        yield from (("place-check", (f(rng, text).encode(), cert)) for f in (slipped, broken))
+        yield from (("place-check", (f(rng, text).encode(), cert)) for f in SLIPS)
 
 
 def auction_cases(rng: random.Random) -> Iterator[Case]:
     """An auction with its certificate, altered; with lines of its log left out or twice, and with other versions of its
     award."""
-    award_text, log, _ = drawn(rng)
-    award_text, log = award_text.encode(), log.encode()
-    award = read_award(award_text)
+    terms, records, _ = drawn(rng)
+    award, log = terms.encode(), records.encode()
+    rules = read_award(award)
     try:
-        book = replay(award, read_log(log, award)).need_book()
+        book = replay(rules, read_log(log, rules)).need_book()
     except Stop:
-        yield "audit", (award_text, log, b"")
+        yield "audit", (award, log, b"")
         return
     cert = book_certificate(book.supply, book.reserves, book.bids)
     if cert:
-        yield from (("audit", (award_text, log, other)) for other in changed(rng, cert, 3))
+        yield from (("audit", (award, log, other)) for other in changed(rng, cert, 3))
         lines, at = log.splitlines(True), rng.randrange(log.count(b"\n"))
-        yield from (
-            ("audit", (award_text, b"".join(other), cert))
-            for other in (lines[:at] + lines[at + 1 :], lines[:at] + lines[at:][::-1])
-        )
-        yield "audit", (award_text, odd_log(rng, log.decode()).encode(), cert)
-        yield "audit", (
-            re.sub(rb"version = .", lambda was: b"version = 1" if was[0][-1:] == b"2" else b"version = 2", award_text),
-            log,
-            cert,
-        )
+        others = (lines[:at] + lines[at + 1 :], lines[:at] + lines[at:][::-1])
+        yield from (("audit", (award, b"".join(other), cert)) for other in others)
+        yield "audit", (award, odd_log(rng, records).encode(), cert)
+        yield "audit", (re.sub(rb"version = .", other_version, award), log, cert)
+
+
+def other_version(was: re.Match[bytes]) -> bytes:
+    """The line of the other version of an award."""
+    return b"version = 1" if was[0][-1:] == b"2" else b"version = 2"
 
 
 def faulty_auctions(rng: random.Random) -> Iterator[Case]:

@@ -22,6 +22,7 @@ import time
 from collections.abc import Callable, Iterable, Iterator, Mapping, Sequence
 from typing import TextIO, TypeAlias
 
+from cca_tools.desk import faults
 from cca_tools.desk.journal import Journal, replayed
 from cca_tools.desk.logfile import Base, Grown, LogFile, Refused, Unsure
 
@@ -75,7 +76,8 @@ def traced(act: Callable[[], object], *faults: str) -> Ended:
     if not pid:
         os.close(go)
         child(act, ready, out)
-    os.close(ready), os.close(out)
+    os.close(ready)
+    os.close(out)
     with tempfile.NamedTemporaryFile("r") as trace:
         words = ["strace", "-o", trace.name, "-e", f"trace={','.join(CALLS)}", "-e", "signal=none", "-p", str(pid)]
         words += [word for fault in faults for word in ("-e", f"inject={fault}")]
@@ -179,7 +181,7 @@ class Write(Scene):
         if data != whole:
             return "torn"
         last = Journal(pathlib.Path(f"{self.path}.desk")).last()
-        return "answered" if last.length == len(data) else "there, not answered"
+        return "answered" if last and last.length == len(data) else "there, not answered"
 
     def check(self) -> None:
         left = self.path.read_bytes()
@@ -187,7 +189,8 @@ class Write(Scene):
         whole = self.answered + self.text
         need(whole.startswith(left) and left.startswith(self.answered), "the log after a kill", left)
         if left not in (self.answered, whole):
-            need(log.stop().mend == "take back", "a torn line", log.stop())
+            stop = log.stop()
+            need(stop and stop.mend == "take back", "a torn line", stop)
             log.mend("take back", "a kill")
             need(left[len(self.answered) :] in kept_beside(self.path).values(), "the torn line is kept")
         self.check_whole(self.open(), left if left == whole else self.answered)
@@ -246,7 +249,8 @@ class Cut(Scene):
 class Mend(Scene):
     """A mend of a log that somebody has spoilt."""
 
-    mend, spoilt, wanted = "none", b"", b""
+    mend: faults.Mend = "none"
+    spoilt, wanted = b"", b""
 
     def prepare(self) -> None:
         super().prepare()
@@ -254,7 +258,8 @@ class Mend(Scene):
         self.left_before = kept_beside(self.path)
 
     def act(self) -> object:
-        return self.log.mend(self.mend, "by hand")
+        self.log.mend(self.mend, "by hand")
+        return None
 
     def outcome(self) -> str:
         return "to mend still" if self.open().stop() else "mended"
@@ -352,7 +357,8 @@ class Copies(Scene):
         self.answered = log.read()
 
     def act(self) -> object:
-        return self.log.copy_out()
+        self.log.copy_out()
+        return None
 
     def outcome(self) -> str:
         return "old" if (self.path.parent / "copies" / "a.log").read_bytes() == FIRST else "new"
@@ -440,11 +446,13 @@ class Racers:
             try:
                 for _, other, _ in self.both:  # (the other one waits for the end of its words)
                     other.close()
-                os.close(to), os.close(back)
+                os.close(to)
+                os.close(back)
                 racer(words, out)
             finally:
                 os._exit(0)
-        os.close(words), os.close(out)
+        os.close(words)
+        os.close(out)
         return pid, open(to, "w", buffering=1), open(back)
 
     def race(self, path: pathlib.Path, base: Base, texts: Sequence[str]) -> tuple[str, ...]:
@@ -456,7 +464,8 @@ class Racers:
 
     def end(self) -> None:
         for pid, to, back in self.both:
-            to.close(), back.close()
+            to.close()
+            back.close()
             os.waitpid(pid, 0)
 
 

@@ -304,8 +304,8 @@ def break_field(rng: random.Random, terms: Terms) -> None:
             ["1", "[]", "{}"]
         )
     elif kind < 0.4 and one is not None and isinstance(tables, list):
-        longer = [[*tables, dict(one)], tables * 8]
-        terms[key] = rng.choice([*longer, "[]", "1", "{}", "[1]", f"[{{}}, {rng.choice(WRONG)}]"])
+        others: list[str | list[Table]] = [[*tables, dict(one)], tables * 8, "[]", "1", "{}", "[1]"]
+        terms[key] = rng.choice([*others, f"[{{}}, {rng.choice(WRONG)}]"])
     else:
         table[field] = rng.choice(WRONG + [quoted("c0"), quoted("b0"), "1", "2"])
 

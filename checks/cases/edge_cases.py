@@ -14,7 +14,7 @@ import subprocess
 import tempfile
 import threading
 import time
-from collections.abc import Sequence
+from collections.abc import Callable, Sequence
 from typing import Any
 
 from checks.cases.limit_books import CCA, HERE
@@ -30,7 +30,7 @@ SAMPLES = {
     "edits": "day-cramton.edits",
 }
 # each command that appends, with the files that it reads and the one that it appends to
-WRITERS = [
+WRITERS: list[tuple[str, tuple[str, ...], str]] = [
     ("price", ("book",), "cert"),
     ("weigh", ("book", "weights"), "cert"),
     ("auction", ("award", "log"), "book"),
@@ -38,7 +38,7 @@ WRITERS = [
     ("place", ("slots",), "cert"),
 ]
 # each command that only reads, with its files
-READERS = [
+READERS: list[tuple[str, tuple[str, ...]]] = [
     ("win", ("book",)),
     ("check", ("book", "cert")),
     ("weigh-check", ("book", "weights", "weighed")),
@@ -68,7 +68,8 @@ def ended(words: Sequence[str], code: int, line: bytes | None = None, **how: Any
     told = (words, made.returncode, (made.stdout or b"")[-200:])
     assert made.stderr == b"" and made.returncode == code, told
     assert line is None or made.stdout.splitlines()[-1:] == [line], told
-    return made.stdout
+    printed: bytes = made.stdout
+    return printed
 
 
 def samples() -> None:
@@ -181,8 +182,9 @@ def through_a_pipe(
 
 def pipes_to_read() -> None:
     samples()
-    for command, inputs, *output in [*READERS, *WRITERS]:
-        new = ["new"] if output else []
+    none: list[str] = []
+    writers = [(command, inputs, ["new"]) for command, inputs, _ in WRITERS]
+    for command, inputs, new in [*((command, inputs, none) for command, inputs in READERS), *writers]:
         wanted = made_by((command, *inputs), new)
         for place in range(len(inputs)):
             through_a_pipe(command, inputs, place, new, wanted)
@@ -313,21 +315,27 @@ def signals() -> None:
     assert len(text_of("new")) == 100
 
 
+def close(streams: Sequence[int]) -> None:
+    """Closes these streams."""
+    for stream in streams:
+        os.close(stream)
+
+
 def closed_streams() -> None:
     """A stream that is closed leaves its number free; no file of the command may take it."""
     samples()
     ended(("price", "book", "whole"), 0)
     for streams in ((1,), (0, 1), (0, 1, 2)):
         before = texts()
-        ended(("price", "book", "new"), 5, stdout=subprocess.DEVNULL, preexec_fn=lambda: [os.close(n) for n in streams])
+        ended(("price", "book", "new"), 5, stdout=subprocess.DEVNULL, preexec_fn=lambda: close(streams))
         assert text_of("new") == text_of("whole"), streams
         os.remove("new")
         assert texts() == before, streams
-    ended(("check", "book", "/dev/stdin"), 4, b"cca: read fault cert", preexec_fn=lambda: os.close(0))
+    ended(("check", "book", "/dev/stdin"), 4, b"cca: read fault cert", preexec_fn=lambda: close([0]))
 
 
 def run_all() -> None:
-    cases = [
+    cases: list[Callable[[], object]] = [
         one_file_under_two_words,
         two_outputs_that_are_one_file,
         words_that_name_no_file,
@@ -350,6 +358,6 @@ def run_all() -> None:
                 os.chdir(here)
         if case is syncs and not answer:
             print("syncs: not tested, since strace can't be run")
-        if case is two_runs_at_once:
+        if case is two_runs_at_once and isinstance(answer, list):
             print(f"two runs at once: {answer[0]} times one was refused, {answer[1]} times one text follows the other")
     print(f"{len(cases)} cases at the edge to the system: all ended as they have to")

@@ -4,7 +4,7 @@ is in it."""
 from __future__ import annotations
 
 import itertools
-from collections.abc import Collection, Mapping, Sequence
+from collections.abc import Collection, Iterator, Mapping, Sequence
 from fractions import Fraction
 from typing import TypeAlias
 
@@ -14,11 +14,12 @@ Values: TypeAlias = Sequence[Mapping[tuple[int, ...], int]]
 
 def best(supply: Sequence[int], reserves: Sequence[int], bids: Values, members: Collection[int]) -> int:
     """The greatest net value of an allocation in which only these bidders win."""
-    none = ((0,) * len(supply), 0)
+    none: tuple[tuple[int, ...], int] = (0,) * len(supply), 0
     ways = [[none, *bids[j].items()] if j in members else [none] for j in range(len(bids))]
+    choices: Iterator[tuple[tuple[tuple[int, ...], int], ...]] = itertools.product(*ways)
     return max(
         sum(amount - sum(n * r for n, r in zip(package, reserves)) for package, amount in choice)
-        for choice in itertools.product(*ways)
+        for choice in choices
         if all(sum(counts) <= most for counts, most in zip(zip(*(package for package, _ in choice)), supply))
     )
 

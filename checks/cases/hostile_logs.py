@@ -67,7 +67,8 @@ def ordinary() -> list[str]:
             lines.append(line("drop", j, p))
             lines.append(f"submit,b{j},,")
         if len(lines) > RECORDS:
-            return lines
+            break
+    return lines
 
 
 def behind_the_clock(more: Callable[[Amounts], Iterator[str]]) -> list[str]:
@@ -105,7 +106,7 @@ def bids() -> list[str]:
     return [line("bid", 1 + n % BIDDERS, package_of(MOST - n % 400)) for n in range(RECORDS)]
 
 
-LOGS = {
+LOGS: dict[str, Callable[[], list[str]]] = {
     "ordinary": ordinary,
     "bids": bids,
     "submits": lambda: behind_the_clock(submits),

@@ -74,10 +74,10 @@ def timed(words: Sequence[str], may_fail: bool = False) -> tuple[float, str]:
 def memory_of(words: Sequence[str]) -> float:
     """The most memory that a run keeps at one time, in megabytes."""
     made = os.posix_spawn(
-        words[0], words, os.environ, file_actions=[(os.POSIX_SPAWN_OPEN, 1, os.devnull, os.O_WRONLY, 0)]
+        words[0], list(words), os.environ, file_actions=[(os.POSIX_SPAWN_OPEN, 1, os.devnull, os.O_WRONLY, 0)]
     )
     _, _, spent = os.wait4(made, 0)
-    return spent.ru_maxrss / 1024
+    return float(spent.ru_maxrss / 1024)
 
 
 def price(book: str, cert: str, *flags: str, program: str = CCA) -> tuple[float, str]:

@@ -20,6 +20,7 @@ from typing import Any, TypeAlias
 
 from checks.cases.samples import sample
 
+from cca_tools.desk.faults import Mend
 from cca_tools.desk.logfile import LogFile
 from cca_tools.desk.record import Tester, closes_of
 from cca_tools.rules.auction import replay
@@ -33,13 +34,14 @@ PINS = {"award": sum_of(AWARD), "program": "b" * 64}
 CLOSE = b"close,,,\n"
 BIDS = [f"bid,{name},{count},\n".encode() for name in ("east", "west") for count in range(4)]
 CALLS = "write", "pwrite", "fsync", "ftruncate", "link", "unlink", "replace"
+HAND_MENDS: tuple[Mend, ...] = ("put back", "keep changed log")
 STEPS = 12
 # What a child reports: the log and LOG.posted as texts, and what it does next.
 Seen: TypeAlias = dict[str, str]
 PARTLY = 0.4  # of the kills at a write
 
 
-def closes(log: bytes) -> tuple[list[int], bool]:
+def closes(log: bytes) -> tuple[Sequence[int], bool]:
     """The closes of a log, as `LogFile.post` asks for them."""
     return closes_of(RULES, log)
 
@@ -104,7 +106,7 @@ class Acting:
         other = data.replace(b"bid,east", b"bid,west", 1)
         if other != data:
             self.path.write_bytes(other)
-            self.log.mend(self.draw.choice(("put back", "keep changed log")), "a reason")
+            self.log.mend(self.draw.choice(HAND_MENDS), "a reason")
             self.posted(False)
 
     def posted(self, is_publish: bool) -> None:

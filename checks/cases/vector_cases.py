@@ -7,8 +7,9 @@ from collections.abc import Iterable, Mapping, Sequence
 from typing import Any, Protocol
 
 from cca_tools.rules.book import Book
+from checks.cases import small_certs
 from checks.cases.samples import Bids, Package, Row, book_of, certificate_of, lines, sample, six_bidders
-from checks.cases.small_certs import book_certificate, place_certificate
+from checks.cases.searches import Bidders
 
 BOOK, CERT, WEIGHTS, SLOTS = (
     sample(name) for name in ("day-cramton.book", "day-cramton.cert", "day-cramton.weights", "band.slots")
@@ -36,6 +37,22 @@ class Cases(Protocol):
 
     def book(self, award: bytes, log: bytes) -> Book | None:
         """The book of an award and a log, or None if there is none."""
+
+
+def book_certificate(
+    supply: Sequence[int], reserves: Sequence[int], bids: Bids, weights: Sequence[int] | None = None
+) -> bytes:
+    """The certificate of a small book, in which few bidders win."""
+    made = small_certs.book_certificate(supply, reserves, bids, weights)
+    assert made is not None
+    return made
+
+
+def place_certificate(bidders: Bidders) -> bytes:
+    """The certificate of slots, in which few bidders win."""
+    made = small_certs.place_certificate(bidders)
+    assert made is not None
+    return made
 
 
 def edited(text: bytes, was: str, put: str) -> bytes:
@@ -1374,7 +1391,7 @@ AWARDS = [
 ]
 
 
-def audits(v: Cases, name: str, why: str, award: bytes, log: str | bytes, cert: bytes, answer: str) -> None:
+def audits(v: Cases, name: str, why: str, award: bytes, log: str | bytes, cert: bytes, answer: str | None) -> None:
     v.case(name, why, "audit", (award, lines(log) if isinstance(log, str) else log, cert), answer)
 
 

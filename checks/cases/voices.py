@@ -8,7 +8,6 @@ alike. They give what is printed of a yes; any other end is a `Stop`.
 from __future__ import annotations
 
 import importlib.machinery
-import importlib.util
 import os
 import pathlib
 import re
@@ -18,7 +17,7 @@ import tempfile
 import unittest.mock
 from collections.abc import Mapping, Sequence
 from types import ModuleType
-from typing import Any, NoReturn
+from typing import Any, NoReturn, TypeAlias
 
 from cca_tools.rules.auction import replay
 from cca_tools.rules.award import read_award
@@ -33,6 +32,9 @@ from cca_tools.rules.stops import NO, REFUSED, WORDS, Stop, load
 from cca_tools.rules.weights import read_weights
 from second_proof.coq_audit.plain import NotPlain, NotToml, plain_award, plain_log
 
+# What is printed, and the status; and of each bidder its bids.
+Answer: TypeAlias = tuple[str, int]
+Bids: TypeAlias = list[list[tuple[tuple[int, ...], int]]]
 TOOLS = os.path.join(os.path.dirname(os.path.realpath(__file__)), "..", "..", "tools")
 FILES = {
     "audit": ("award", "log", "cert"),
@@ -44,44 +46,51 @@ NO_VERDICT = 9  # of an award that TOML 1.0 doesn't have
 CHECKER = os.path.join(TOOLS, "..", "second_proof", "built", "checker")
 
 
-def script(name: str) -> ModuleType:
+def script(name: str) -> Any:
     """A tool of one file as a module."""
     loader = importlib.machinery.SourceFileLoader(name.replace("-", "_"), os.path.join(TOOLS, name))
-    module = importlib.util.module_from_spec(importlib.util.spec_from_loader(loader.name, loader))
+    module = ModuleType(loader.name)
+    module.__file__ = loader.path
     sys.dont_write_bytecode = True
     loader.exec_module(module)
     return module
 
 
-AUDIT, CHECK = script("audit"), script("check")
+# (mypy can't follow a module that is loaded from a file without a suffix)
+AUDIT: Any = script("audit")
+CHECK: Any = script("check")
 
 
-def court_answer(command: str, names: Sequence[str]) -> tuple[str, int]:
+def court_answer(command: str, names: Sequence[str]) -> Answer:
     """What the court's own files print for a command of cca with these names, and the status."""
+    said: Answer
     if command == "audit":
-        return AUDIT.answer(names)
-    if command == "place-check":
-        return CHECK.answer(names, CHECK.check_places, 2)
-    if command == "weigh-check":
-        return CHECK.answer([*names[:1], *names[2:], *names[1:2]], CHECK.check, 3)
-    return CHECK.answer(names, CHECK.check, 2)
+        said = AUDIT.answer(names)
+    elif command == "place-check":
+        said = CHECK.answer(names, CHECK.check_places, 2)
+    elif command == "weigh-check":
+        said = CHECK.answer([*names[:1], *names[2:], *names[1:2]], CHECK.check, 3)
+    else:
+        said = CHECK.answer(names, CHECK.check, 2)
+    return said
 
 
-def court_book(award: str, log: str) -> tuple[list[list[tuple[tuple[int, ...], int]]] | str, int]:
+def court_book(award: str, log: str) -> tuple[Bids | str, int]:
     """The bids of the book that tools/audit makes of these files, or what it prints instead, and the status."""
-    made = []
+    made: list[Bids] = []
 
-    def keep(cert: object, terms: object, bids: Any) -> NoReturn:
+    def keep(cert: object, terms: object, bids: Bids) -> NoReturn:
         made.append(bids)
         raise AUDIT.Stop("", 0)
 
     with unittest.mock.patch.object(AUDIT, "Certificate", keep):
-        said = AUDIT.answer([award, log, os.devnull])
-    return (made[0], 0) if made else said
+        line, status = AUDIT.answer([award, log, os.devnull])
+    return (made[0], 0) if made else (line, status)
 
 
-def books(award: str, log: str) -> tuple[tuple[object, int], tuple[object, int]]:
+def books(award: str, log: str) -> tuple[tuple[Bids | str, int], tuple[Bids | str, int]]:
     """The bids of the book of these files, by tools/audit and by the rules; or the line and status of a stop."""
+    rules: tuple[Bids | str, int]
     try:
         rules = [list(bids) for bids in rules_book({"award": award, "log": log}).bids], 0
     except Stop as stop:
@@ -94,16 +103,16 @@ def rules_text(command: str, names: Sequence[str]) -> str:
     files = dict(zip(FILES[command], names))
     if command == "place-check":
         slots = read_slots(load(files["slots"], "slots"))
-        certificate = read_places(load(files["cert"], "cert"), slots)
-        fault, lines = first_place_fault(slots, certificate), place_lines
+        placed = read_places(load(files["cert"], "cert"), slots)
+        fault, lines = first_place_fault(slots, placed), place_lines(placed)
     else:
         book = rules_book(files)
         weights = read_weights(load(files["weights"], "weights"), book) if "weights" in files else None
         certificate = read_certificate(load(files["cert"], "cert"), book)
-        fault, lines = first_fault(book, certificate, weights), price_lines
+        fault, lines = first_fault(book, certificate, weights), price_lines(certificate)
     if fault:
         raise Stop(fault.line, NO, why=fault.text())
-    return "\n".join(["yes", *lines(certificate)])
+    return "\n".join(["yes", *lines])
 
 
 def rules_book(files: Mapping[str, str]) -> Book:

@@ -11,12 +11,18 @@ exit status and the appended book. Printed is how many differ of each kind, and 
 is kept in
 checks/out.
 """
+
+from __future__ import annotations
+
 import collections
 import os
+import pathlib
 import random
 import re
 import subprocess
 import sys
+from collections.abc import Mapping
+
 from checks.cases import hostile_logs
 from checks.cases.drawn_auctions import broken_award, broken_log, bytes_of, odd_award, odd_log
 from checks.cases.limit_books import CCA, HERE, OUT, build_cca
@@ -27,7 +33,7 @@ from checks.cases.second_tools import answer
 EXAMPLES = os.path.join(HERE, "..", "examples")
 
 
-def path_of(name, data=None):
+def path_of(name: str, data: bytes | None=None) -> str:
     path = os.path.join(OUT, name)
     if data is not None:
         with open(path, "wb") as file:
@@ -37,20 +43,26 @@ def path_of(name, data=None):
     return path
 
 
-def read(path):
+def read(path: str) -> bytes | None:
+    """The bytes of a file, None if there is none."""
     if not os.path.exists(path):
         return None
     with open(path, "rb") as file:
         return file.read()
 
 
-def ours(*words):
+def ours(*words: str) -> tuple[str, int]:
     """What the program prints, and its status."""
     run = subprocess.run([CCA, *words], stdin=subprocess.DEVNULL, capture_output=True)
     return run.stdout.decode(), run.returncode
 
 
-def second_audit(*names):
+def whole(path: str) -> bytes:
+    """The bytes of a file that is there."""
+    return pathlib.Path(path).read_bytes()
+
+
+def second_audit(*names: str) -> tuple[str, int]:
     said, status = answer("audit", names)
     return said + "\n", status
 
@@ -59,9 +71,11 @@ class Tally:
     """How many runs of each kind there were, how many differ, and which answers came."""
 
     def __init__(self) -> None:
-        self.runs, self.differ, self.answers = collections.Counter(), collections.Counter(), collections.Counter()
+        self.runs: collections.Counter[str] = collections.Counter()
+        self.differ: collections.Counter[str] = collections.Counter()
+        self.answers: collections.Counter[str] = collections.Counter()
 
-    def add(self, kind, is_same, text, files) -> None:
+    def add(self, kind: str, is_same: bool, text: str, files: Mapping[str, bytes]) -> None:
         self.runs[kind] += 1
         self.answers.update(answer_of(line) for line in text.splitlines())
         if not is_same:
@@ -76,7 +90,7 @@ class Tally:
         print(", ".join(f"{word} {count}" for word, count in sorted(self.answers.items())))
 
 
-def answer_of(line):
+def answer_of(line: str) -> str:
     """The word of a reply, or the first words of a line that ends a run."""
     words = line.split(" ")
     if words[0].isdigit():
@@ -86,16 +100,17 @@ def answer_of(line):
     return " ".join(words[:2] if words[0] in ("no", "cca:") else words[:1])
 
 
-def compare_auction(tally, kind, award, log):
+def compare_auction(tally: Tally, kind: str, award: bytes, log: bytes) -> tuple[str, str] | None:
     """Compares one run of `auction`; gives the names of the files where a book was written."""
     names = path_of("random.award", award), path_of("random.log", log), path_of("random.book")
     printed, status = ours("auction", *names)
     written = read(names[2])
-    tally.add(kind, (printed, written, status) == second_auction(*names[:2]), printed, {"award": award, "log": log})
-    return names[:2] if written else None
+    is_same = (printed, written, status) == second_auction(names[0], names[1])
+    tally.add(kind, is_same, printed, {"award": award, "log": log})
+    return (names[0], names[1]) if written else None
 
 
-def altered(rng, cert):
+def altered(rng: random.Random, cert: bytes) -> bytes:
     """A certificate with a number changed, a line gone or twice, or a byte damaged."""
     lines, kind = cert.splitlines(True), rng.random()
     at = rng.randrange(len(lines))
@@ -119,18 +134,18 @@ def altered(rng, cert):
     )
 
 
-def compare_audit(tally, kind, files) -> None:
+def compare_audit(tally: Tally, kind: str, files: Mapping[str, bytes]) -> None:
     names = [path_of(f"audited.{name}", data) for name, data in files.items()]
     printed, status = ours("audit", *names)
     tally.add(kind, (printed, status) == second_audit(*names), printed, files)
 
 
-def compare_audits(rng, tally, names) -> None:
+def compare_audits(rng: random.Random, tally: Tally, names: tuple[str, str]) -> None:
     """Audits of the certificate that `award` writes: as it is, altered, and with another award or log."""
     cert = path_of("random.cert")
     if ours("award", *names, cert)[1] != 0:
         return
-    files = {"award": read(names[0]), "log": read(names[1]), "cert": read(cert)}
+    files = {"award": whole(names[0]), "log": whole(names[1]), "cert": whole(cert)}
     compare_audit(tally, "audits", files)
     for _ in range(2):
         compare_audit(tally, "altered certificates", {**files, "cert": altered(rng, files["cert"])})
@@ -142,13 +157,13 @@ def compare_audits(rng, tally, names) -> None:
     compare_audit(tally, "audits of other awards", {**files, "award": other})
 
 
-def compare_words(tally) -> None:
+def compare_words(tally: Tally) -> None:
     """The words, missing files and long ones."""
     award, log, cert = (os.path.join(EXAMPLES, name) for name in ("spectrum.award", "spectrum.log", "day-cramton.cert"))
-    long_award, long_log = path_of("long.award", read(award) + b"#" * 65_536), path_of("long.log", b"\n" * 8_388_609)
+    long_award, long_log = path_of("long.award", whole(award) + b"#" * 65_536), path_of("long.log", b"\n" * 8_388_609)
     most = path_of("most.log", b"close,,,\n" * 100_000), path_of("more.log", b"close,,,\n" * 100_000 + b"x")
-    whole = path_of("whole.award", read(award) + b"#" * (65_536 - os.path.getsize(award)))
-    rows = [
+    longest = path_of("whole.award", whole(award) + b"#" * (65_536 - os.path.getsize(award)))
+    rows: list[tuple[str, ...]] = [
         (),
         (award,),
         (award, log),
@@ -171,7 +186,7 @@ def compare_words(tally) -> None:
         (award, long_log, cert),
         (award, most[0], cert),
         (award, most[1], cert),
-        (whole, log, cert),
+        (longest, log, cert),
         (log, award, cert),
         (cert, log, award),
     ]
@@ -187,21 +202,24 @@ def compare_words(tally) -> None:
         )
 
 
-def compare_samples(rng, tally) -> None:
+def compare_samples(rng: random.Random, tally: Tally) -> None:
     """The samples, and two made auctions."""
-    files = [(read(os.path.join(EXAMPLES, "spectrum.award")), read(os.path.join(EXAMPLES, "spectrum.log")))]
+    files = [(whole(os.path.join(EXAMPLES, "spectrum.award")), whole(os.path.join(EXAMPLES, "spectrum.log")))]
     files += [(award_text().encode(), log_text(number).encode()) for number in (0, 4294967295)]
     for award, log in files:
-        compare_audits(rng, tally, compare_auction(tally, "samples and made auctions", award, log))
+        names = compare_auction(tally, "samples and made auctions", award, log)
+        if names is None:
+            raise ValueError("a sample has no book")
+        compare_audits(rng, tally, names)
 
 
-def compare_long_logs(tally) -> None:
+def compare_long_logs(tally: Tally) -> None:
     """Logs of 100,000 records, ordinary and hostile ones."""
     for kind in hostile_logs.LOGS:
         compare_auction(tally, "long logs", hostile_logs.award().encode(), hostile_logs.text_of(kind).encode())
 
 
-def main(number, seed):
+def main(number: int, seed: int) -> int:
     build_cca()
     os.makedirs(OUT, exist_ok=True)
     rng, tally = random.Random(seed), Tally()

@@ -11,38 +11,47 @@ a certificate has to come to what is paid. Printed is how often each kind of tex
 came; the last
 line says how much differs, and the status is 1 where anything does.
 """
+
+from __future__ import annotations
+
 import collections
 import itertools
 import os
 import random
 import re
 import subprocess
+from collections.abc import Callable, Iterable, Iterator, Sequence
+from typing import TypeAlias
+
 from checks.cases.damage import broken, scaled, slipped, widened
 from checks.cases.limit_books import CCA, HERE, OUT, build_cca
-from checks.cases.searches import book_prices, choices_of_book, dot, place_prices
+from checks.cases.searches import Bidders, Bids, book_prices, choices_of_book, dot, place_prices
 from checks.cases.second_tools import answer
-
-TOOLS = os.path.join(HERE, "..", "tools")
 from cca_tools.rules.book import read_book
 from cca_tools.rules.certificate import read_certificate
 from cca_tools.rules.stops import load
 from cca_tools.rules.weights import read_weights
 from cca_tools.rules.why import Reasons, vickrey_offer, why_lines
 
-BREAKS, SLIPS, INPUTS = 5, 4, 2
+# What is sold, the reserves, and of each bidder its bids.
+DrawnBook: TypeAlias = tuple[list[int], list[int], list[list[tuple[tuple[int, ...], int]]]]
+SLIPS: tuple[Callable[[random.Random, str], str], ...] = (slipped, broken)
+BREAKS, SLIPPED, INPUTS = 5, 4, 2
 
 
 class Comparison:
     """Counts by kind and by answer, and the cases that differ."""
 
     def __init__(self) -> None:
-        self.kinds, self.answers, self.differ = collections.Counter(), collections.Counter(), 0
+        self.kinds: collections.Counter[str] = collections.Counter()
+        self.answers: collections.Counter[str] = collections.Counter()
+        self.differ = 0
 
-    def tell(self, kind, what) -> None:
+    def tell(self, kind: str, what: str) -> None:
         self.differ += 1
         print(f"{kind}: {what}", flush=True)
 
-    def prices(self, kind, words, wanted) -> None:
+    def prices(self, kind: str, words: Sequence[str], wanted: str) -> None:
         """A command that prices has to print what the search finds. It appends to a fresh file."""
         if os.path.exists(words[-1]):
             os.remove(words[-1])
@@ -51,7 +60,7 @@ class Comparison:
         if printed != wanted + "\n":
             self.tell(kind, f"printed\n{printed}wanted\n{wanted}\nof " + "\n".join(map(read, words[1:-1])))
 
-    def answers_of(self, kind, command, tool, names) -> None:
+    def answers_of(self, kind: str, command: str, tool: str, names: Sequence[str]) -> None:
         """Both programs have to answer alike. The names are in the order of the second program, which has the weights
         last."""
         words = [names[0], names[2], names[1]] if len(names) == 3 else names
@@ -64,29 +73,30 @@ class Comparison:
             self.tell(kind, f"{command} says {ours.returncode} {ours.stdout}the tool says {status} {said}\nof {texts}")
 
 
-def read(name):
+def read(name: str) -> str:
     with open(name, encoding="utf-8", errors="replace") as f:
         return f.read()
 
 
-def write(name, text):
+def write(name: str, text: str) -> str:
     with open(name, "w", newline="") as f:
         f.write(text)
     return name
 
 
-def out(name):
+def out(name: str) -> str:
     return os.path.join(OUT, "agree." + name)
 
 
-def random_book(rng):
+def random_book(rng: random.Random) -> DrawnBook:
     # one book in fifty has more bidders, and one more states, than a certificate of version 1 takes
     kind = rng.randrange(50)
     supply = [7, 7, 7, 8] if kind == 1 else [rng.randint(1, 2) for _ in range(rng.choice([1, 2, 3]))]
     reserves = [rng.choice([0, 0, 1, 3]) for _ in supply]
     every = [p for p in itertools.product(*(range(s + 1) for s in supply)) if any(p)]
     # small amounts tie often, and great ones come near the ends of numbers
-    bidders, top = [], rng.choice([3, 12, 12, 2**41])
+    bidders: list[list[tuple[tuple[int, ...], int]]] = []
+    top = rng.choice([3, 12, 12, 2**41])
     for _ in range(rng.choice([0, 1, 2, 3, 3, 4, 4, 5, 5])):
         packages = sorted(rng.sample(every, rng.randint(0, min(3, len(every)))))
         bidders.append([(p, dot(p, reserves) + rng.randint(0, top)) for p in packages])
@@ -96,7 +106,7 @@ def random_book(rng):
     return supply, reserves, bidders
 
 
-def book_text(supply, reserves, bidders):
+def book_text(supply: Sequence[int], reserves: Sequence[int], bidders: Bids) -> str:
     lines = ["book 1", "supply " + " ".join(map(str, supply)), "reserve " + " ".join(map(str, reserves))]
     for j, bids in enumerate(bidders, 1):
         lines.append(f"bidder b{j}")
@@ -104,14 +114,15 @@ def book_text(supply, reserves, bidders):
     return "\n".join(lines + ["end"]) + "\n"
 
 
-def weights_text(weights):
+def weights_text(weights: Iterable[int]) -> str:
     return "".join(["weights 1\n", *(f"weight b{j} {weight}\n" for j, weight in enumerate(weights, 1)), "end\n"])
 
 
-def random_slots(rng):
+def random_slots(rng: random.Random) -> tuple[int, list[tuple[int, list[tuple[int, int]]]]]:
     """A band, and bidders as (width, bids)."""
     band = rng.choice([1, 3, 5, 8, 40])
-    bidders, free, top = [], band, rng.choice([3, 12, 12, 2**42])
+    bidders: list[tuple[int, list[tuple[int, int]]]] = []
+    free, top = band, rng.choice([3, 12, 12, 2**42])
     for _ in range(rng.choice([0, 1, 2, 3, 3, 4, 4, 5])):
         if free:
             width = rng.randint(1, min(3, free))
@@ -122,20 +133,20 @@ def random_slots(rng):
     return band, bidders
 
 
-def slots_text(band, bidders):
+def slots_text(band: int, bidders: Bidders) -> str:
     lines = ["slots 1", f"band {band}"]
     for j, (width, bids) in enumerate(bidders, 1):
         lines += [f"bidder b{j} {width}", *(f"place {start} {amount}" for start, amount in bids)]
     return "\n".join(lines + ["end"]) + "\n"
 
 
-def with_other_choices(book, text):
+def with_other_choices(book: DrawnBook, text: str) -> Iterator[str]:
     """Certificates whose head has another choice of the same value, and after it parts that no test reaches: the last
     part of C3 fails first."""
     (_, value), (_, *first) = (
         next(line.split() for line in text.splitlines() if line.startswith(word)) for word in ("value ", "choice")
     )
-    head, table = re.match(r"(.*?)choice.*?\n(table\n(?:t.*\n)+)", text, re.S).groups()
+    [(head, table)] = re.findall(r"\A(.*?)choice.*?\n(table\n(?:t.*\n)+)", text, re.S)
     empty = re.sub(r"\d+", "0", table)
     for choice, net in choices_of_book(*book):
         if net == int(value) and list(map(str, choice)) != first:
@@ -145,20 +156,20 @@ def with_other_choices(book, text):
             yield f"{head}{spaced('choice', choice)}\n{table}{without}{tail}"
 
 
-def spaced(word, numbers):
+def spaced(word: str, numbers: Iterable[int]) -> str:
     return " ".join(map(str, [word, *numbers]))
 
 
-def changed(rng, text):
+def changed(rng: random.Random, text: str) -> Iterator[tuple[str, str]]:
     """Texts that come of a certificate, each with the kind of its change."""
     yield "as made", text
     yield "scaled", scaled(rng, text)
     yield "wider", widened(rng, text)
     yield from (("a number", broken(rng, text)) for _ in range(BREAKS))
-    yield from (("a slip", slipped(rng, text)) for _ in range(SLIPS))
+    yield from (("a slip", slipped(rng, text)) for _ in range(SLIPPED))
 
 
-def compare_certs(comparison, rng, command, tool, names) -> None:
+def compare_certs(comparison: Comparison, rng: random.Random, command: str, tool: str, names: Sequence[str]) -> None:
     """The certificate, the second of the names, as it is and changed."""
     if command != "place-check":
         compare_why(comparison, names)
@@ -169,7 +180,7 @@ def compare_certs(comparison, rng, command, tool, names) -> None:
         )
 
 
-def compare_why(comparison, names) -> None:
+def compare_why(comparison: Comparison, names: Sequence[str]) -> None:
     """What tools/why says of a certificate has to come to what is paid, winner by winner and coalition by coalition."""
     book = read_book(load(names[0], "book"))
     weights = read_weights(load(names[2], "weights"), book) if len(names) == 3 else None
@@ -187,15 +198,15 @@ def compare_why(comparison, names) -> None:
         comparison.tell("why", f"{sums} of " + "\n".join(map(read, names)))
 
 
-def compare_inputs(comparison, rng, command, tool, names, at, kind) -> None:
+def compare_inputs(comparison: Comparison, rng: random.Random, command: str, tool: str, names: Sequence[str], at: int, kind: str) -> None:
     """The input at a place of the names, changed, with the certificate that was made."""
     text = read(names[at])
-    for worse in [f(rng, text) for f in (slipped, broken) for _ in range(INPUTS)]:
+    for worse in [f(rng, text) for f in SLIPS for _ in range(INPUTS)]:
         put = [*names[:at], write(out("other." + kind), worse), *names[at + 1 :]]
         comparison.answers_of(f"{command}, {kind}", command, tool, put)
 
 
-def compare_book(comparison, rng) -> None:
+def compare_book(comparison: Comparison, rng: random.Random) -> None:
     book = random_book(rng)
     names = [write(out("book"), book_text(*book)), out("cert")]
     comparison.prices("price", ["price", *names], book_prices(book))
@@ -208,7 +219,7 @@ def compare_book(comparison, rng) -> None:
     compare_weights(comparison, rng, book, names)
 
 
-def compare_weights(comparison, rng, book, names) -> None:
+def compare_weights(comparison: Comparison, rng: random.Random, book: DrawnBook, names: Sequence[str]) -> None:
     weights = [rng.choice([1, 1, 2, 3, 7, 20]) for _ in book[2]]
     names = [*names, write(out("weights"), weights_text(weights))]
     comparison.answers_of("weigh-check, certificate: without these weights", "weigh-check", "check", names)
@@ -223,7 +234,7 @@ def compare_weights(comparison, rng, book, names) -> None:
     compare_inputs(comparison, rng, "weigh-check", "check", names, 2, "weights")
 
 
-def compare_slots(comparison, rng) -> None:
+def compare_slots(comparison: Comparison, rng: random.Random) -> None:
     band, bidders = random_slots(rng)
     names = [write(out("slots"), slots_text(band, bidders)), out("places.cert")]
     comparison.prices("place", ["place", *names], place_prices(bidders))
@@ -231,7 +242,7 @@ def compare_slots(comparison, rng) -> None:
     compare_inputs(comparison, rng, "place-check", "check-places", names, 0, "slots")
 
 
-def books_about_limits():
+def books_about_limits() -> Iterator[str]:
     """Texts of books that reach a limit or go beyond it, by their heads, their bidders, their bids or their bytes."""
     supplies = [
         "2 2 2 2 2 2",
@@ -263,7 +274,7 @@ def books_about_limits():
         yield head + "#" * (more - len(head))
 
 
-def slots_about_limits():
+def slots_about_limits() -> Iterator[str]:
     for band in (0, 1, 40, 41, 999, 1000):
         yield f"slots 1\nband {band}\nend\n"
     for bidders in (6, 7):
@@ -274,7 +285,7 @@ def slots_about_limits():
         yield "slots 1\n" + "#" * (more - 8)
 
 
-def compare_limits(comparison) -> None:
+def compare_limits(comparison: Comparison) -> None:
     cert = write(out("other.cert"), "cert 1\n")
     for text in books_about_limits():
         comparison.answers_of("check, book about limits", "check", "check", [write(out("book"), text), cert])
@@ -293,7 +304,7 @@ def compare_limits(comparison) -> None:
     compare_words(comparison, book)
 
 
-def compare_words(comparison, book) -> None:
+def compare_words(comparison: Comparison, book: str) -> None:
     """Words that aren't the names of two files, files that are missing, and folders."""
     missing = out("missing")
     for words in [
@@ -312,7 +323,7 @@ def compare_words(comparison, book) -> None:
         comparison.answers_of("place-check, words and files", "place-check", "check-places", words)
 
 
-def main(number):
+def main(number: int) -> int:
     build_cca()
     comparison = Comparison()
     compare_limits(comparison)

@@ -5,18 +5,23 @@ The court's files are tools/audit and tools/check, the cases are drawn and alter
 word holds. Printed is how often each command was answered how, what differs, and last how much differs; the status is 1
 where something differs.
 """
+
+from __future__ import annotations
+
 import collections
 import itertools
 import os
 import random
 import re
 import tempfile
+
 from checks.cases.court_cases import answers, cases
 from checks.cases.voices import CHECKER, checker_answer, is_alike, is_confirmed
 
 
-def main(number, seed):
-    counts, differ = collections.Counter(), 0
+def main(number: int, seed: int) -> int:
+    counts: collections.Counter[tuple[str, str]] = collections.Counter()
+    differ = 0
     program, has_checker = os.environ.get("CCA_PROGRAM"), os.path.exists(CHECKER)
     with tempfile.TemporaryDirectory() as folder:
         for command, texts in itertools.islice(cases(random.Random(str(seed))), number):

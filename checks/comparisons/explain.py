@@ -5,10 +5,15 @@ NUMBER runs are made on the samples, each with some of its files damaged. Printe
 status of each
 command came.
 """
+
+from __future__ import annotations
+
 import collections
 import os
 import random
 import subprocess
+from collections.abc import Sequence
+
 from checks.cases.drawn_auctions import damaged
 from checks.cases.limit_books import CCA, HERE, OUT, build_cca
 from checks.cases.second_tools import answer
@@ -18,19 +23,19 @@ SIGNS = '0123456789 \n-abcdefghijklmnop_.,"'
 WRITES = ("auction", "award", "price", "weigh", "place")
 
 
-def sample(name):
+def sample(name: str) -> str:
     with open(os.path.join(EXAMPLES, name)) as file:
         return file.read()
 
 
-def winners(count, others):
+def winners(count: int, others: int) -> tuple[str, str]:
     """A book in which this many bidders win, and weights: 1 for all but the last few."""
     book = "".join(f"bidder b{j}\nbid 1 5\n" for j in range(count))
     weights = "".join(f"weight b{j} {1 if j < count - others else 2}\n" for j in range(count))
     return f"book 1\nsupply 11\nreserve 0\n{book}end\n", f"weights 1\n{weights}end\n"
 
 
-def written(command, *texts):
+def written(command: str, *texts: str) -> str:
     """The certificate that a command writes."""
     names, cert = [path_of(f"given.{at}", text) for at, text in enumerate(texts)], path_of("given.cert")
     subprocess.run([CCA, command, *names, cert], check=True, capture_output=True)
@@ -38,7 +43,7 @@ def written(command, *texts):
         return file.read()
 
 
-def path_of(name, text=None):
+def path_of(name: str, text: str | None=None) -> str:
     path = os.path.join(OUT, f"explained.{name}")
     if text is not None:
         with open(path, "w", newline="") as file:
@@ -48,7 +53,7 @@ def path_of(name, text=None):
     return path
 
 
-def samples():
+def samples() -> dict[str, list[tuple[str, ...]]]:
     """For each command the lists of texts of the files that it reads."""
     book, weights, slots = sample("day-cramton.book"), sample("day-cramton.weights"), sample("band.slots")
     auction, small = (sample("spectrum.award"), sample("spectrum.log")), [winners(7, 0), winners(5, 2), winners(5, 0)]
@@ -67,11 +72,11 @@ def samples():
     }
 
 
-def told(*words):
+def told(*words: str) -> tuple[str, int]:
     return answer("explain", words)
 
 
-def is_same(command, names):
+def is_same(command: str, names: Sequence[str]) -> tuple[bool, int]:
     """Whether the status is the same, and a line that ends the program's run is among those that are shown, and the
     status."""
     out = [path_of("out")] if command in WRITES else []
@@ -81,10 +86,11 @@ def is_same(command, names):
     return run.returncode == status and last in text.splitlines(), run.returncode
 
 
-def main(number, seed):
+def main(number: int, seed: int) -> int:
     build_cca()
     os.makedirs(OUT, exist_ok=True)
-    rng, given, differ, statuses = random.Random(seed), samples(), 0, collections.Counter()
+    rng, given, differ = random.Random(seed), samples(), 0
+    statuses: collections.Counter[str] = collections.Counter()
     for _ in range(number):
         command = rng.choice(list(given))
         texts = [text if rng.random() < 0.4 else damaged(rng, text, SIGNS) for text in rng.choice(given[command])]

@@ -11,6 +11,9 @@ prefix of it after a fault of writing, and nothing new otherwise. Printed is how
 status. Then come the
 cases of `edge_cases.py`. It needs python3, and strace for what is said of syncs.
 """
+
+from __future__ import annotations
+
 import collections
 import os
 import random
@@ -19,6 +22,8 @@ import resource
 import signal
 import subprocess
 import tempfile
+from collections.abc import Callable, Iterable, Mapping, Sequence
+
 from checks.cases import edge_cases
 from checks.cases.limit_books import CCA, HERE, build_cca
 
@@ -34,7 +39,7 @@ LINES = {
     7: rb"cca: limit \w+ \d+",
 }
 # each command with the files that it reads, the file that it appends to, and its flags
-COMMANDS = [
+COMMANDS: list[tuple[str, tuple[str, ...], str | None, tuple[str, ...]]] = [
     ("win", ("book",), None, ()),
     ("price", ("book",), "cert", ("--json", "--rounds")),
     ("check", ("book", "cert"), None, ()),
@@ -63,14 +68,14 @@ NUMBERS = [
 ]
 
 
-def originals():
+def originals() -> list[dict[str, bytes]]:
     """The samples by name: what each kind of file holds."""
 
-    def read(name):
+    def read(name: str) -> bytes:
         with open(os.path.join(EXAMPLES, name), "rb") as f:
             return f.read()
 
-    def book_of(name):
+    def book_of(name: str) -> bytes:
         with tempfile.TemporaryDirectory() as folder:
             book = os.path.join(folder, "book")
             award, log = (os.path.join(EXAMPLES, f"{name}.{kind}") for kind in ("award", "log"))
@@ -100,7 +105,7 @@ def originals():
     return samples
 
 
-def placement_cert(slots):
+def placement_cert(slots: str) -> bytes:
     with tempfile.TemporaryDirectory() as folder:
         cert = os.path.join(folder, "cert")
         subprocess.run([CCA, "place", slots, cert], check=True, capture_output=True)
@@ -108,7 +113,7 @@ def placement_cert(slots):
             return f.read()
 
 
-def lines_changed(rng, text):
+def lines_changed(rng: random.Random, text: bytes) -> bytes:
     lines = text.splitlines(keepends=True) or [b"\n"]
     i, j = rng.randrange(len(lines)), rng.randrange(len(lines))
     match rng.randrange(4):
@@ -123,7 +128,7 @@ def lines_changed(rng, text):
     return b"".join(lines)
 
 
-def number_changed(rng, text):
+def number_changed(rng: random.Random, text: bytes) -> bytes:
     found = list(re.finditer(rb"\d+", text))
     if not found:
         return text + rng.choice(NUMBERS)
@@ -132,7 +137,7 @@ def number_changed(rng, text):
     return text[: at.start()] + new + text[at.end() :]
 
 
-def changed(rng, text, other):
+def changed(rng: random.Random, text: bytes, other: bytes) -> bytes:
     """The text with one change."""
     i, j = sorted((rng.randrange(len(text) + 1), rng.randrange(len(text) + 1)))
     match rng.randrange(7):
@@ -150,7 +155,7 @@ def changed(rng, text, other):
             return number_changed(rng, text)
 
 
-def limited(memory, size):
+def limited(memory: int | None, size: int | None) -> Callable[[], None]:
     """What a run begins with: a limit of memory and one of file size, both in bytes, each perhaps none."""
 
     def begin() -> None:
@@ -162,26 +167,22 @@ def limited(memory, size):
     return begin
 
 
-def run(words, memory=None, size=None, full=False):
-    out = open("/dev/full", "wb") if full else subprocess.PIPE
-    try:
+def run(words: Sequence[str], memory: int | None=None, size: int | None=None, full: bool=False) -> tuple[int, bytes]:
+    with open("/dev/full" if full else os.devnull, "wb") as nowhere:
         made = subprocess.run(
             [CCA, *words],
             stdin=subprocess.DEVNULL,
-            stdout=out,
+            stdout=nowhere if full else subprocess.PIPE,
             stderr=subprocess.PIPE,
             timeout=SECONDS,
             preexec_fn=limited(memory, size),
             restore_signals=False,
         )
-    finally:
-        if full:
-            out.close()
     assert made.stderr == b"", made.stderr
     return made.returncode, made.stdout or b""
 
 
-def read_files(names):
+def read_files(names: Iterable[str]) -> dict[str, bytes]:
     kept = {}
     for name in names:
         if os.path.exists(name):
@@ -190,14 +191,14 @@ def read_files(names):
     return kept
 
 
-def one(rng, samples, folder):
+def one(rng: random.Random, samples: Sequence[Mapping[str, bytes]], folder: str) -> tuple[str, int]:
     """Draws a run and tests how it ended; gives the command and the status."""
     command, inputs, output, flags = rng.choice(COMMANDS)
     sample = rng.choice(samples)
-    texts = {kind: sample[kind] for kind in inputs}
+    texts: dict[str, bytes | None] = {kind: sample[kind] for kind in inputs}
     for _ in range(rng.choice((0, 1, 1, 1, 2))):
         kind = rng.choice(inputs)
-        texts[kind] = changed(rng, texts[kind], rng.choice(samples)[rng.choice(inputs)])
+        texts[kind] = changed(rng, texts[kind] or b"", rng.choice(samples)[rng.choice(inputs)])
     if output:
         texts[output] = rng.choice((None, b"", b"kept\n"))
     words = [command]
@@ -206,9 +207,10 @@ def one(rng, samples, folder):
         words.append(path)
         if os.path.exists(path):
             os.remove(path)
-        if texts[kind] is not None:
+        text = texts[kind]
+        if text is not None:
             with open(path, "wb") as f:
-                f.write(texts[kind])
+                f.write(text)
     words += rng.sample(flags, rng.randrange(len(flags) + 1))
     memory = rng.choice((None, None, None, 2**23, 2**24, 2**26, 2**28))
     size = rng.choice((None, None, None, 0, 3, 100, 2000))
@@ -240,9 +242,10 @@ def one(rng, samples, folder):
     return command, code
 
 
-def main(number, seed):
+def main(number: int, seed: int) -> int:
     build_cca()
-    rng, counts = random.Random(seed), collections.Counter()
+    rng = random.Random(seed)
+    counts: collections.Counter[tuple[str, int]] = collections.Counter()
     samples = originals()
     with tempfile.TemporaryDirectory() as folder:
         for _ in range(number):

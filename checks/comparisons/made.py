@@ -6,21 +6,25 @@ bytes and print its line, `award` has to be Done, and `audit` has to print `yes`
 many differ, and
 the CPU time of each command in milliseconds, the least and the greatest.
 """
+
+from __future__ import annotations
+
 import os
 import random
 import subprocess
+
 from checks.cases.limit_books import CCA, OUT, build_cca, timed
 from checks.cases.made_auction import BIDDERS, award_text, log_text
 
 AWARD, LOG, CERT = (os.path.join(OUT, "made." + part) for part in ("award", "log", "cert"))
 
 
-def read(name):
+def read(name: str) -> bytes:
     with open(name, "rb") as f:
         return f.read()
 
 
-def fresh(*words):
+def fresh(*words: str) -> tuple[float, str]:
     """The CPU time of a run over no file of an earlier one, and what it prints."""
     for word in words:
         if os.path.isabs(word) and os.path.exists(word):
@@ -28,7 +32,7 @@ def fresh(*words):
     return timed([CCA, *words])
 
 
-def is_made(number):
+def is_made(number: int) -> tuple[bool, float]:
     """Whether a run of make appends and prints what the generator gives, and its CPU time."""
     log = log_text(number)
     time, printed = fresh("make", str(number), AWARD, LOG)
@@ -36,7 +40,7 @@ def is_made(number):
     return (printed, read(AWARD), read(LOG)) == (line, award_text().encode(), log.encode()), time
 
 
-def differs(number, times):
+def differs(number: int, times: dict[str, list[float]]) -> bool:
     try:
         twice = [is_made(number) for _ in range(2)]
         if os.path.exists(CERT):
@@ -51,11 +55,11 @@ def differs(number, times):
     return not all(same for same, _ in twice) or audited[1] != "yes\n" + priced[1]
 
 
-def main(number, seed):
+def main(number: int, seed: int) -> int:
     build_cca()
     rng = random.Random(seed)
     numbers = [0, 7, 2**32 - 1, *(rng.randrange(2**32) for _ in range(number))]
-    times = {}
+    times: dict[str, list[float]] = {}
     faulty = [number for number in numbers if differs(number, times)]
     print(f"{len(numbers)} made auctions, {len(faulty)} differ", *faulty)
     for command, found in times.items():

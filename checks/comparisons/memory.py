@@ -14,17 +14,25 @@ replies have to be those of a desk that never saw it refused. Printed is, for ea
 requests it makes
 and how the runs ended. It needs a C compiler, python3 and a program that is linked to the system's library.
 """
+
+from __future__ import annotations
+
 import collections
 import os
 import subprocess
 import sys
 import tempfile
+from collections.abc import Mapping, Sequence
+from typing import TypeAlias
+
 from checks.cases.limit_books import CCA, HERE, build_cca
 
 EXAMPLES = os.path.join(HERE, "..", "examples")
 TESTS = os.path.join(HERE, "..", "crates", "auction_tests")
 REPLAYS = "desks::replays_are_as_worked_out"
 NO_BOOK = "no memory\\n"
+# The status of a run, what it printed, its errors, and the files that it left.
+Ended: TypeAlias = tuple[int, bytes, bytes, dict[str, bytes]]
 HELD = b"held before\n"
 MEMORY = 6
 
@@ -64,7 +72,7 @@ int posix_memalign(void **p, size_t a, size_t n) {
 """
 
 
-def build_refuser(folder):
+def build_refuser(folder: str) -> str:
     source, library = os.path.join(folder, "refuser.c"), os.path.join(folder, "refuser.so")
     with open(source, "w") as f:
         f.write(REFUSER)
@@ -72,7 +80,7 @@ def build_refuser(folder):
     return library
 
 
-def contents(folder):
+def contents(folder: str) -> dict[str, bytes]:
     found = {}
     for name in sorted(os.listdir(folder)):
         with open(os.path.join(folder, name), "rb") as f:
@@ -80,7 +88,7 @@ def contents(folder):
     return found
 
 
-def run(library, words, files, refused):
+def run(library: str, words: Sequence[str], files: Mapping[str, bytes], refused: int) -> tuple[Ended, bool]:
     """One run in a folder with these files: its status, what it printed, the files that it left, and whether a request
     was refused."""
     with tempfile.TemporaryDirectory() as folder, tempfile.TemporaryDirectory() as aside:
@@ -95,7 +103,7 @@ def run(library, words, files, refused):
         return (ended.returncode, ended.stdout, ended.stderr, contents(folder)), os.path.exists(told)
 
 
-def kind_of(ended, whole, files):
+def kind_of(ended: Ended, whole: Ended, files: Mapping[str, bytes]) -> str | None:
     """How a run ended beside one without a refusal, or None where it must not end so."""
     status, printed, errors, behind = ended
     if ended == whole:
@@ -105,11 +113,12 @@ def kind_of(ended, whole, files):
     return None
 
 
-def each_request(library, name, words, files):
+def each_request(library: str, name: str, words: Sequence[str], files: Mapping[str, bytes]) -> tuple[int, Ended]:
     whole, _ = run(library, words, files, 0)
     if whole[0] != 0:
         sys.exit(f"{name}: ended with {whole[0]} where nothing was refused: {whole[1][:100]}")
-    ends, number = collections.Counter(), 0
+    ends: collections.Counter[str] = collections.Counter()
+    number = 0
     while True:
         number += 1
         ended, was_refused = run(library, words, files, number)
@@ -128,7 +137,7 @@ def each_request(library, name, words, files):
     return ends["wrong"], whole
 
 
-def replays(library, program, refused):
+def replays(library: str, program: str, refused: int) -> tuple[int, str, bool]:
     """One run of the replays of the desk's tests: its status and errors, and whether a request was refused."""
     with tempfile.TemporaryDirectory() as aside:
         told = os.path.join(aside, "told")
@@ -139,7 +148,7 @@ def replays(library, program, refused):
         return ended.returncode, ended.stderr.decode(), os.path.exists(told)
 
 
-def kind_of_replays(status, errors):
+def kind_of_replays(status: int, errors: str) -> str | None:
     """How the replays ended, or None where they must not end so: before the desk, in the test's own texts, in a book,
     or not at all."""
     if status == 0:
@@ -153,10 +162,11 @@ def kind_of_replays(status, errors):
     return "no book" if found and right.startswith(front) else None
 
 
-def each_request_of_replays(library):
+def each_request_of_replays(library: str) -> int:
     subprocess.run(["rt", "test"], cwd=TESTS, check=True, stdin=subprocess.DEVNULL, capture_output=True)
     program = os.path.join(TESTS, "out", "auction_tests_tests")
-    ends, number = collections.Counter(), 0
+    ends: collections.Counter[str] = collections.Counter()
+    number = 0
     while True:
         number += 1
         status, errors, was_refused = replays(library, program, number)
@@ -174,10 +184,10 @@ def each_request_of_replays(library):
     return ends["wrong"]
 
 
-def main():
+def main() -> int:
     build_cca()
 
-    def read(name):
+    def read(name: str) -> bytes:
         with open(os.path.join(EXAMPLES, name), "rb") as f:
             return f.read()
 

@@ -10,22 +10,33 @@ same report. It has to agree on NUMBER drawn books too, and there no group of wi
 tenth is made as a
 page too. It needs the program; the status is 1 where something differs.
 """
+
+from __future__ import annotations
+
 import collections
 import os
 import pathlib
 import random
 import subprocess
+from collections.abc import Iterator, Sequence
+from typing import Any, TypeAlias
 
 from checks.cases.drawn_auctions import log_of, terms_of, text_of
 from checks.cases.limit_books import CCA, OUT, build_cca
 
 from cca_tools.page import html, plain, source
+from cca_tools.page.document import Page
 from cca_tools.page.report import page
 from cca_tools.rules.auction import Auction
-from cca_tools.rules.award import read_award
+from cca_tools.rules.award import Award, read_award
 from cca_tools.rules.log import read_log
+from cca_tools.rules.types import Package
 from cca_tools.rules.view import view_text
 
+# The words, the form and the tone of a cell; the rows of a table; and how often things came.
+Cell: TypeAlias = tuple[str, str, str]
+Rows: TypeAlias = list[list[Cell]]
+Counts: TypeAlias = collections.Counter[str]
 FOLDER = pathlib.Path(OUT, "told")
 WINNERS = "Winners and prices, reserves included"
 
@@ -33,18 +44,18 @@ WINNERS = "Winners and prices, reserves included"
 class Desk:
     """Takes the lines of a log that is drawn."""
 
-    def __init__(self, award) -> None:
+    def __init__(self, award: Award) -> None:
         self.auction = Auction(award)
 
     @property
-    def stage(self):
+    def stage(self) -> str:
         return self.auction.stage
 
-    def take(self, line) -> None:
+    def take(self, line: str) -> None:
         for one in read_log(line.encode(), self.auction.award):
             self.auction.take(one)
 
-    def turns(self, j, package):
+    def turns(self, j: int, package: Package) -> list[int]:
         return (
             [self.auction.award.reserve_of(package)]
             if self.auction.final and j <= len(self.auction.award.bidders)
@@ -52,13 +63,13 @@ class Desk:
         )
 
 
-def printed(*words):
+def printed(*words: str | pathlib.Path) -> list[str]:
     return subprocess.run([CCA, *words], stdin=subprocess.DEVNULL, stdout=subprocess.PIPE).stdout.decode().splitlines()
 
 
-def tables(made, key):
+def tables(made: Page, key: str) -> Iterator[tuple[str, Rows]]:
     """The tables of a section in order, each with its title and the words and the forms of its cells."""
-    left = [block for section in made.sections if section.key == key for block in section.blocks]
+    left: list[Any] = [block for section in made.sections if section.key == key for block in section.blocks]
     while left:
         block = left.pop(0)
         left += [
@@ -70,43 +81,40 @@ def tables(made, key):
             yield table.title, [[html.parts(cell) for cell in row] for row in table.rows]
 
 
-def table(made, key, title):
+def table(made: Page, key: str, title: str) -> Rows:
     """The rows of the one table of this title, or none."""
     return next((rows for found, rows in tables(made, key) if found == title), [])
 
 
-def plainly(text):
+def plainly(text: str) -> str:
     return text.replace(",", "")
 
 
-def exactly(cell):
+def exactly(cell: Cell) -> str:
     """A number of a cell in the program's form."""
     words, form = cell[:2]
     return plainly(form or words)
 
 
-def winner_lines(made):
+def winner_lines(made: Page) -> Iterator[str]:
     """The winners of a report, as the program prints them."""
     for name, won, *_, bid, vickrey, pays, _ in table(made, "winners", WINNERS):
         yield f"winner {name[0]} {won[1]} bid {exactly(bid)} vickrey {exactly(vickrey)} pays {exactly(pays)}"
 
 
-def figures(made):
-    return {
-        head: value
-        for section in made.sections
-        for block in section.blocks
-        for head, value in getattr(block, "pairs", ())
-    }
+def figures(made: Page) -> dict[str, str]:
+    blocks: list[Any] = [block for section in made.sections for block in section.blocks]
+    return {head: value for block in blocks for head, value in getattr(block, "pairs", ())}
 
 
-def turns(made):
+def turns(made: Page) -> list[bool]:
     """How many turns a report has, and of each whether some coalition blocks in it."""
-    cards = [card for section in made.sections for block in section.blocks for card in getattr(block, "cards", ())]
+    blocks: list[Any] = [block for section in made.sections for block in section.blocks]
+    cards = [card for block in blocks for card in getattr(block, "cards", ())]
     return [card.blocks[1].text.startswith("No coalition blocks") for card in cards if card.title.startswith("Turn ")]
 
 
-def sums_differ(made):
+def sums_differ(made: Page) -> bool:
     """Whether some sum of what the others would bring more isn't the Vickrey price that is among the winners."""
     own, prices = dict(tables(made, "why")), {
         row[0][0]: int(exactly(row[-3])) for row in table(made, "winners", WINNERS)
@@ -115,11 +123,11 @@ def sums_differ(made):
     return any(more[name][-1] != price or sum(more[name][:-1]) != price for name, price in prices.items())
 
 
-def replies(made):
+def replies(made: Page) -> list[str]:
     return [row[2][1] for _, rows in tables(made, "lines") for row in rows]
 
 
-def view_differs(files, facts):
+def view_differs(files: Sequence[pathlib.Path], facts: source.Source) -> bool:
     """Whether some bidder's report from its own view isn't the one from the whole log, before the award."""
     for j, name in enumerate(facts.award.names, 1):
         own = FOLDER / "log.own"
@@ -130,7 +138,7 @@ def view_differs(files, facts):
     return False
 
 
-def compared(number, rng, counts):
+def compared(number: int, rng: random.Random, counts: Counts) -> Iterator[str]:
     """What differs for one drawn auction, in words."""
     terms, supply, bidders = terms_of(rng)
     text = text_of(terms)
@@ -161,7 +169,7 @@ def compared(number, rng, counts):
         yield "a bidder's view"
 
 
-def drawn_book(rng):
+def drawn_book(rng: random.Random) -> str:
     """A book of few lots with packages that meet, so that coalitions block."""
     supply = [rng.randint(1, 2) for _ in range(rng.randint(2, 4))]
     reserve = [rng.choice([0, 0, 5]) for _ in supply]
@@ -181,7 +189,7 @@ def drawn_book(rng):
     return "\n".join([*lines, "end"]) + "\n"
 
 
-def book_differs(number, rng, counts):
+def book_differs(number: int, rng: random.Random, counts: Counts) -> Iterator[str]:
     """What differs for one drawn book, in words."""
     book, cert = FOLDER / "drawn.book", FOLDER / "drawn.cert"
     book.write_text(drawn_book(rng))
@@ -203,7 +211,7 @@ def book_differs(number, rng, counts):
         yield "a group that pays too little"
 
 
-def priced_differs(made, prices, facts):
+def priced_differs(made: Page, prices: Sequence[str], facts: source.Source) -> Iterator[str]:
     if list(winner_lines(made)) != [line for line in prices if line.startswith("winner ")]:
         yield "winners"
     shown = figures(made)
@@ -216,11 +224,12 @@ def priced_differs(made, prices, facts):
         yield "turns"
 
 
-def main(number, seed):
+def main(number: int, seed: int) -> int:
     build_cca()
     FOLDER.mkdir(parents=True, exist_ok=True)
     os.environ["CCA_PROGRAM"] = CCA
-    rng, counts, differ = random.Random(seed), collections.Counter(), 0
+    rng, differ = random.Random(seed), 0
+    counts: Counts = collections.Counter()
     for at in range(number):
         found = [*compared(at, rng, counts), *book_differs(at, rng, counts)]
         differ += bool(found)

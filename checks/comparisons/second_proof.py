@@ -16,6 +16,9 @@ It builds second_proof with `second_proof/build` where that isn't built yet. CCA
 It needs python3,
 coqc and ocamlopt.
 """
+
+from __future__ import annotations
+
 import collections
 import itertools
 import os
@@ -23,6 +26,9 @@ import random
 import re
 import subprocess
 import tempfile
+from collections.abc import Callable, Collection, Iterator, Mapping, Sequence
+from typing import TypeAlias
+
 from checks.cases.limit_books import CCA, HERE, build_cca
 
 from second_proof.coq_audit.plain import plain_award
@@ -30,13 +36,16 @@ from cca_tools.rules.auction import replay
 from cca_tools.rules.award import read_award
 from cca_tools.rules.log import read_log
 
+# A package with a net amount; and of each bidder what it asked for in the clock, with its prices.
+NetBid: TypeAlias = tuple[list[int], int]
+Asked: TypeAlias = Sequence[Sequence[tuple[Sequence[int], int]]]
 SECOND = os.path.join(HERE, "..", "second_proof")
 CHECKER = os.path.join(SECOND, "built", "checker")
 WIDE = 2**120
 NUMBER = re.compile(r"-?[0-9]+")
 
 
-def prepared():
+def prepared() -> str:
     """The program of cca, with both built where they aren't."""
     if not os.path.exists(CHECKER):
         subprocess.run([os.path.join(SECOND, "build")], check=True, stdout=subprocess.DEVNULL)
@@ -47,15 +56,15 @@ def prepared():
 # ---- drawn books, weights and slots ----
 
 
-def drawn_supply(rng):
+def drawn_supply(rng: random.Random) -> list[int]:
     kind = rng.randrange(60)
     if kind == 0:
         return [7, 7, 7, 8]
     return [rng.randint(1, rng.choice([1, 2, 3, 5])) for _ in range(rng.choice([1, 2, 2, 3, 3, 4]))]
 
 
-def drawn_bids(rng, supply, reserves):
-    every = set()
+def drawn_bids(rng: random.Random, supply: Sequence[int], reserves: Sequence[int]) -> str:
+    every: set[tuple[int, ...]] = set()
     for _ in range(rng.randint(0, 5)):
         every.add(tuple(rng.choice([0, rng.randint(0, s)]) for s in supply))
     top = rng.choice([1, 2, 9, 30, 1000])
@@ -63,7 +72,7 @@ def drawn_bids(rng, supply, reserves):
     return "".join(f"bid {' '.join(map(str, p))} {amount}\n" for p, amount in bids)
 
 
-def drawn_book(rng):
+def drawn_book(rng: random.Random) -> str:
     supply = drawn_supply(rng)
     reserves = [rng.choice([0, 0, 1, 7]) for _ in supply]
     bidders = rng.choice([0, 1, 2, 3, 4, 5, 6, 7]) if rng.randrange(40) else rng.randint(13, 16)
@@ -71,13 +80,13 @@ def drawn_book(rng):
     return head + "".join(f"bidder b{j}\n{drawn_bids(rng, supply, reserves)}" for j in range(bidders)) + "end\n"
 
 
-def drawn_weights(rng, book):
+def drawn_weights(rng: random.Random, book: str) -> str:
     weights = rng.choice([(1, 1), (1, 3), (1, 20)])
     names = re.findall(r"^bidder (\w+)$", book, re.M)
     return "weights 1\n" + "".join(f"weight {name} {rng.randint(*weights)}\n" for name in names) + "end\n"
 
 
-def drawn_slots(rng):
+def drawn_slots(rng: random.Random) -> str:
     band = rng.randint(1, 9)
     left, text = band, f"slots 1\nband {band}\n"
     for j in range(rng.randint(0, 6)):
@@ -93,7 +102,7 @@ def drawn_slots(rng):
 # ---- other certificates ----
 
 
-def mapped(text, change):
+def mapped(text: str, change: Callable[[str, list[str], bool], list[str]]) -> str:
     """The text with each line changed by its word and its fields; "lowered" says that the lowered table has begun."""
     lines, lowered = [], False
     for line in text.splitlines():
@@ -103,7 +112,7 @@ def mapped(text, change):
     return "\n".join(lines) + "\n"
 
 
-def scaled(rng, text):
+def scaled(rng: random.Random, text: str) -> str:
     """These prices over a greater denominator."""
     k = rng.randint(2, 9)
     return mapped(
@@ -114,14 +123,14 @@ def scaled(rng, text):
     )
 
 
-def one_line(rng, text, words):
+def one_line(rng: random.Random, text: str, words: Collection[str]) -> tuple[list[str], int | None]:
     """The number of some line that begins with one of these words, where there is one."""
     lines = text.splitlines()
     found = [n for n, line in enumerate(lines) if line.split(" ")[0] in words]
     return lines, rng.choice(found) if found else None
 
 
-def with_line(rng, text, words, change):
+def with_line(rng: random.Random, text: str, words: Collection[str], change: Callable[[list[str]], list[str]]) -> str:
     lines, n = one_line(rng, text, words)
     if n is not None:
         word, *fields = lines[n].split(" ")
@@ -129,7 +138,7 @@ def with_line(rng, text, words, change):
     return "\n".join(lines) + "\n"
 
 
-def other_number(rng, text):
+def other_number(rng: random.Random, text: str) -> str:
     """Another number in a line of some kind."""
     words = [
         "den",
@@ -149,7 +158,7 @@ def other_number(rng, text):
         "cert",
     ]
 
-    def change(fields):
+    def change(fields: list[str]) -> list[str]:
         if fields:
             i = rng.randrange(len(fields))
             n = int(fields[i])
@@ -160,10 +169,10 @@ def other_number(rng, text):
     return with_line(rng, text, [rng.choice(words)], change)
 
 
-def raised_entry(rng, text):
+def raised_entry(rng: random.Random, text: str) -> str:
     """A greater entry of a table, which often changes nothing."""
 
-    def change(fields):
+    def change(fields: list[str]) -> list[str]:
         i = rng.randrange(len(fields))
         fields[i] = str(int(fields[i]) + rng.choice([1, 5, 2**60]))
         return fields
@@ -171,10 +180,10 @@ def raised_entry(rng, text):
     return with_line(rng, text, ["t"], change)
 
 
-def moved_payment(rng, text):
+def moved_payment(rng: random.Random, text: str) -> str:
     """Payments of the same sum."""
 
-    def change(fields):
+    def change(fields: list[str]) -> list[str]:
         if len(fields) > 1:
             i, j = rng.sample(range(len(fields)), 2)
             step = rng.choice([1, 1, 2, 5])
@@ -184,12 +193,12 @@ def moved_payment(rng, text):
     return with_line(rng, text, ["pay"], change)
 
 
-def shuffled(rng, text):
+def shuffled(rng: random.Random, text: str) -> str:
     """Another choice or order of the same numbers, or other members."""
     return with_line(rng, text, ["choice", "order", "row"], lambda fields: rng.sample(fields, len(fields)))
 
 
-def without_row(rng, text):
+def without_row(rng: random.Random, text: str) -> str:
     """One row fewer, or one twice."""
     lines, n = one_line(rng, text, ["row"])
     if n is None:
@@ -201,16 +210,16 @@ def without_row(rng, text):
     return "\n".join(lines[:n] + (2 * lines[n : n + size] if twice else []) + lines[n + size :]) + "\n"
 
 
-def other_second(rng, text):
+def other_second(rng: random.Random, text: str) -> str:
     """Another second multiplier."""
     return with_line(rng, text, ["mult"], lambda fields: [fields[0], str(int(fields[1]) + rng.choice([-3, -1, 1, 2]))])
 
 
-def less_lowered(rng, text):
+def less_lowered(rng: random.Random, text: str) -> str:
     """A smaller entry of the lowered table."""
     head, lowered = text.split("\nlowered\n")
 
-    def change(fields):
+    def change(fields: list[str]) -> list[str]:
         i = rng.randrange(len(fields))
         fields[i] = str(int(fields[i]) - rng.choice([1, 1, 4]))
         return fields
@@ -218,10 +227,12 @@ def less_lowered(rng, text):
     return head + "\nlowered\n" + with_line(rng, lowered, ["t"], change)
 
 
-def copied_choice(rng, text):
+def copied_choice(rng: random.Random, text: str) -> str:
     """A choice, with the order before it where there is one, in the place of another."""
     lines, n = one_line(rng, text, ["choice"])
     _, m = one_line(rng, text, ["choice"])
+    if n is None or m is None:
+        raise ValueError("a certificate without a choice")
     lines[n] = lines[m]
     if lines[n - 1].startswith("order"):
         lines[n - 1] = lines[m - 1]
@@ -235,16 +246,17 @@ ALTERED = (
 )
 
 
-def altered(rng, text):
+def altered(rng: random.Random, text: str) -> str:
     for _ in range(rng.choice([1, 1, 1, 2, 3])):
         text = rng.choice(ALTERED)(rng, text)
     return text
 
 
-def read_book(book):
+def read_book(book: str) -> tuple[list[int], list[list[NetBid]]]:
     """The supply of a book, and the packages and net amounts of each bidder's bids."""
     lines = [line.split(" ") for line in book.splitlines()]
-    supply, reserves, bidders = [int(s) for s in lines[1][1:]], [int(r) for r in lines[2][1:]], []
+    supply, reserves = [int(s) for s in lines[1][1:]], [int(r) for r in lines[2][1:]]
+    bidders: list[list[NetBid]] = []
     for word, *fields in lines[3:-1]:
         if word == "bidder":
             bidders.append([])
@@ -254,18 +266,23 @@ def read_book(book):
     return supply, bidders
 
 
-def tied_choices(book, first):
+def tied_choices(book: str, first: tuple[int, ...]) -> Iterator[tuple[int, ...]]:
     """The other choices with the winners and the value of this one that fit."""
     supply, bidders = read_book(book)
-    won = lambda choice: [bids[i - 1] for bids, i in zip(bidders, choice) if i]
-    value = lambda choice: sum(net for _, net in won(choice))
+
+    def won(choice: Sequence[int]) -> list[NetBid]:
+        return [bids[i - 1] for bids, i in zip(bidders, choice) if i]
+
+    def value(choice: Sequence[int]) -> int:
+        return sum(net for _, net in won(choice))
+
     for choice in itertools.product(*(range(1, len(bids) + 1) if i else [0] for bids, i in zip(bidders, first))):
         counts = zip(supply, *(package for package, _ in won(choice)))
         if choice != first and value(choice) == value(first) and all(sum(taken) <= most for most, *taken in counts):
             yield choice
 
 
-def tied_certificates(book, cert):
+def tied_certificates(book: str, cert: str) -> Iterator[str]:
     """The certificate with another choice in its head that has the same winners and the same value."""
     line = next(line for line in cert.splitlines() if line.startswith("choice"))
     first = tuple(map(int, line.split(" ")[1:]))
@@ -276,7 +293,7 @@ def tied_certificates(book, cert):
 # ---- damaged texts ----
 
 
-def damaged(rng, text):
+def damaged(rng: random.Random, text: str) -> str:
     """The text with something that isn't of its form, for the most part."""
     lines, at = text.splitlines(keepends=True), rng.randrange(len(text))
     n, m = rng.randrange(len(lines)), rng.randrange(len(lines))
@@ -304,7 +321,7 @@ def damaged(rng, text):
 # ---- texts about the limits ----
 
 
-def limit_books():
+def limit_books() -> Iterator[str]:
     supplies = [
         "2 2 2 2 2 2",
         "2 2 2 2 2 2 2",
@@ -336,8 +353,8 @@ def limit_books():
         yield head + "#" * (more - len(head))
 
 
-def limit_slots():
-    for band in (0, 1, 40, 41, 999, 1000, "01"):
+def limit_slots() -> Iterator[str]:
+    for band in ("0", "1", "40", "41", "999", "1000", "01"):
         yield f"slots 1\nband {band}\nend\n"
     for bidders in (6, 7):
         yield "slots 1\nband 9\n" + "".join(f"bidder s{j} 1\n" for j in range(bidders)) + "end\n"
@@ -354,7 +371,7 @@ def limit_slots():
 # ---- drawn logs ----
 
 
-def drawn_award(rng):
+def drawn_award(rng: random.Random) -> tuple[str, list[int], int]:
     categories, bidders = rng.randint(1, 3), rng.randint(1, 5)
     supply = [rng.randint(1, 4) for _ in range(categories)]
     points = [rng.randint(0, 3) for _ in range(categories)]
@@ -372,14 +389,14 @@ def drawn_award(rng):
     return text, supply, bidders
 
 
-def drawn_line(rng, supply, bidders, kinds):
+def drawn_line(rng: random.Random, supply: Sequence[int], bidders: int, kinds: Sequence[str]) -> str:
     kind, name = rng.choice(kinds), f"b{rng.randrange(bidders) if rng.random() < 0.98 else bidders}"
     counts = " ".join(str(rng.choice([0, rng.randint(0, s)]) + (rng.random() < 0.02)) for s in supply)
     amount = rng.choice([rng.randint(0, 60), rng.randint(20, 300), 2**42 + 1]) if kind == "draft" else ""
     return {"submit": f"submit,{name},,", "close": "close,,,"}.get(kind, f"{kind},{name},{counts},{amount}")
 
 
-def drawn_round(rng, supply, bidders):
+def drawn_round(rng: random.Random, supply: Sequence[int], bidders: int) -> list[str]:
     """A clock round in which most bidders ask for much, with a few other lines, and its close."""
     eager = [j for j in range(bidders) if rng.random() < 0.9]
     lines = [f"bid,b{j},{' '.join(str(rng.choice([s, rng.randint(s // 2, s)])) for s in supply)}," for j in eager]
@@ -390,7 +407,7 @@ def drawn_round(rng, supply, bidders):
     return rng.sample(lines, len(lines)) + ["close,,,"]
 
 
-def clock_bids(award_text, lines):
+def clock_bids(award_text: str, lines: Sequence[str]) -> list[list[tuple[tuple[int, ...], int]]]:
     """What each bidder asked for in the clock, each package with its price then."""
     award = read_award(award_text.encode())
     auction = replay(award, read_log("\n".join(lines).encode(), award))
@@ -399,11 +416,12 @@ def clock_bids(award_text, lines):
     ]
 
 
-def near_draft(rng, supply, asked):
+def near_draft(rng: random.Random, supply: Sequence[int], asked: Asked) -> str:
     """A draft for a package that the bidder asked for, or one that differs in a category, at about its price then."""
     j = rng.randrange(len(asked))
-    package, price = rng.choice(asked[j] or [([0] * len(supply), 0)])
-    package = list(package)
+    nothing: tuple[Sequence[int], int] = [0] * len(supply), 0
+    counts, price = rng.choice(asked[j] or [nothing])
+    package = list(counts)
     if rng.random() < 0.5:
         k = rng.randrange(len(supply))
         package[k] = rng.randint(0, supply[k])
@@ -411,7 +429,7 @@ def near_draft(rng, supply, asked):
     return f"draft,b{j},{' '.join(map(str, package))},{amount}"
 
 
-def drawn_log(rng, award, supply, bidders):
+def drawn_log(rng: random.Random, award: str, supply: Sequence[int], bidders: int) -> str:
     """Rounds of bids, a round with one bid or none, which ends the clock, and then drafts, submissions and the last
     close."""
     sealed = ["draft", "drop", "submit", "submit", "submit", "bid"]
@@ -420,7 +438,11 @@ def drawn_log(rng, award, supply, bidders):
     lines += ["close,,,"] if rng.random() < 0.9 else []
     asked = clock_bids(award, lines)
     near = rng.choice([0.3, 0.8])
-    drawn = lambda: near_draft(rng, supply, asked) if rng.random() < near else drawn_line(rng, supply, bidders, sealed)
+
+    def drawn() -> str:
+        is_near = rng.random() < near
+        return near_draft(rng, supply, asked) if is_near else drawn_line(rng, supply, bidders, sealed)
+
     lines += [drawn() for _ in range(rng.choice([rng.randint(0, 12), rng.randint(20, 60)]))]
     lines += ["close,,,"] if rng.random() < 0.9 else []
     lines += [drawn_line(rng, supply, bidders, sealed + ["close"]) for _ in range(rng.randint(0, 2))]
@@ -433,11 +455,14 @@ def drawn_log(rng, award, supply, bidders):
 class Comparison:
     """Runs of both programs, and what they came to."""
 
-    def __init__(self, cca, folder) -> None:
+    def __init__(self, cca: str, folder: str) -> None:
         self.cca, self.folder = cca, folder
-        self.kinds, self.answers, self.replies, self.differ = (collections.Counter() for _ in range(4))
+        self.kinds: collections.Counter[str] = collections.Counter()
+        self.answers: collections.Counter[str] = collections.Counter()
+        self.replies: collections.Counter[str] = collections.Counter()
+        self.differ: collections.Counter[str] = collections.Counter()
 
-    def path(self, name, text=None):
+    def path(self, name: str, text: str | None=None) -> str:
         path = os.path.join(self.folder, name)
         if text is None:
             if os.path.exists(path):
@@ -447,7 +472,7 @@ class Comparison:
                 f.write(text)
         return path
 
-    def count(self, kind, same, answer, texts) -> None:
+    def count(self, kind: str, same: bool, answer: str, texts: Mapping[str, str]) -> None:
         self.kinds[kind] += 1
         self.answers[re.sub(r"^(no \w\d|cca: refused \w+) .*", r"\1", answer)] += 1
         if not same:
@@ -458,11 +483,11 @@ class Comparison:
                     f.write(text)
             print(f"{kind}: differs, see {keep}")
 
-    def check(self, kind, command, texts) -> None:
+    def check(self, kind: str, command: str, texts: Mapping[str, str]) -> None:
         """Both programs on these files, in the order of the command's words."""
         self.both(kind, [command] + [self.path(name, text) for name, text in texts.items()], texts)
 
-    def both(self, kind, words, texts) -> None:
+    def both(self, kind: str, words: Sequence[str], texts: Mapping[str, str]) -> None:
         """Both programs with these words."""
         ours, theirs = (
             subprocess.run([program, *words], capture_output=True, text=True) for program in (self.cca, CHECKER)
@@ -472,7 +497,7 @@ class Comparison:
             kind, same, ours.stdout.split("\n")[0], {**texts, "cca.said": ours.stdout, "checker.said": theirs.stdout}
         )
 
-    def certificate(self, command, texts):
+    def certificate(self, command: str, texts: Mapping[str, str]) -> str | None:
         """What cca writes of these files, or None."""
         names = [self.path(name, text) for name, text in texts.items()]
         cert = self.path("cert")
@@ -482,7 +507,7 @@ class Comparison:
         with open(cert) as f:
             return f.read()
 
-    def log(self, rng) -> None:
+    def log(self, rng: random.Random) -> None:
         award, supply, bidders = drawn_award(rng)
         texts = {"award": plain_award(award.encode()).decode(), "log": drawn_log(rng, award, supply, bidders)}
         names = [self.path(name, text) for name, text in texts.items()]
@@ -496,7 +521,7 @@ class Comparison:
         self.count("logs", same, last, {**texts, "cca.said": ours.stdout + book, "checker.said": theirs.stdout})
         self.audits(rng, texts)
 
-    def audits(self, rng, texts) -> None:
+    def audits(self, rng: random.Random, texts: Mapping[str, str]) -> None:
         """Audits of one log: of its certificate as made, altered and damaged, or of one of no form."""
         cert = self.certificate("award", texts)
         if cert is None:
@@ -511,7 +536,7 @@ class Comparison:
         self.check("audit, another log", "audit", {**texts, "log": short, "cert": cert})
 
 
-def drawn_subject(rng):
+def drawn_subject(rng: random.Random) -> tuple[str, str, dict[str, str]]:
     """The words that write and test a certificate, and the files that it is of."""
     kind = rng.randrange(10)
     if kind < 3:
@@ -522,7 +547,7 @@ def drawn_subject(rng):
     return "price", "check", {"book": book}
 
 
-def runs_of(rng, comparison) -> None:
+def runs_of(rng: random.Random, comparison: Comparison) -> None:
     """The runs on one subject: certificates as made, altered and damaged, and damaged subjects."""
     write, test, files = drawn_subject(rng)
     cert = comparison.certificate(write, files)
@@ -540,16 +565,19 @@ def runs_of(rng, comparison) -> None:
     runs_of_subject(rng, comparison, test, files, cert)
 
 
-def runs_of_subject(rng, comparison, test, files, cert) -> None:
+def runs_of_subject(rng: random.Random, comparison: Comparison, test: str, files: Mapping[str, str], cert: str) -> None:
     """The certificate with a damaged and with another book, weights or slots."""
-    another = lambda fields: fields[:-1] + [str(rng.randint(1, 20))] if fields else fields
+
+    def another(fields: list[str]) -> list[str]:
+        return fields[:-1] + [str(rng.randint(1, 20))] if fields else fields
+
     for name, text in files.items():
         comparison.check(f"{test}, damaged {name}", test, {**files, name: damaged(rng, text), "cert": cert})
         other = with_line(rng, text, ["bid", "place", "weight", "bidder"], another)
         comparison.check(f"{test}, another {name}", test, {**files, name: other, "cert": cert})
 
 
-def run_limits(comparison) -> None:
+def run_limits(comparison: Comparison) -> None:
     for book in limit_books():
         comparison.check("check, limits", "check", {"book": book, "cert": "cert 1\n"})
     for slots in limit_slots():
@@ -562,7 +590,7 @@ def run_limits(comparison) -> None:
         comparison.check("weigh-check, limits", "weigh-check", {"book": book, "weights": weights, "cert": "cert 1\n"})
 
 
-def run_words(comparison) -> None:
+def run_words(comparison: Comparison) -> None:
     """Words of no plain form, and files that are missing."""
     book, cert, missing = (
         comparison.path("book", "book 1\nsupply 1\nreserve 0\nend\n"),
@@ -589,18 +617,20 @@ def run_words(comparison) -> None:
         comparison.both("words and missing files", words, {})
 
 
-def run_spectrum(rng, comparison) -> None:
+def run_spectrum(rng: random.Random, comparison: Comparison) -> None:
     """The sample of the spectrum, whose certificate is some 300 kilobytes."""
     with open(os.path.join(HERE, "..", "examples", "six-bidders.book")) as f:
         book = f.read()
     cert = comparison.certificate("price", {"book": book})
+    if cert is None:
+        raise ValueError("the sample has no certificate")
     for text in (
         [cert, scaled(rng, cert)] + [altered(rng, cert) for _ in range(8)] + [damaged(rng, cert) for _ in range(4)]
     ):
         comparison.check("check, spectrum", "check", {"book": book, "cert": text})
 
 
-def run_all(rng, number, comparison) -> None:
+def run_all(rng: random.Random, number: int, comparison: Comparison) -> None:
     """Drawn files, and then words, limits and the sample."""
     while sum(comparison.kinds.values()) < number:
         runs_of(rng, comparison)
@@ -610,7 +640,7 @@ def run_all(rng, number, comparison) -> None:
     run_spectrum(rng, comparison)
 
 
-def main(number, seed):
+def main(number: int, seed: int) -> int:
     rng = random.Random(seed)
     with tempfile.TemporaryDirectory() as folder:
         comparison = Comparison(prepared(), folder)

@@ -7,9 +7,13 @@ are separable with decreasing marginal values, each price has to be the Vickrey 
 efficiency
 and revenue have to be those of a program that visits all allocations. It prints what isn't so, and ends with 1 then.
 """
+
+from __future__ import annotations
+
 import collections
 import concurrent.futures
 import functools
+from collections.abc import Iterable
 
 from checks.cases.limit_books import build_cca
 
@@ -18,9 +22,10 @@ from checks.cases import checked  # noqa: E402
 SMALL = 20
 
 
-def told(results):
+def told(results: Iterable[tuple[int, tuple[str, list[str]]]]) -> int:
     """Prints the faults, and gives how many auctions of each form there were, and how many have one."""
-    counts, wrong = collections.Counter(), 0
+    counts: collections.Counter[str] = collections.Counter()
+    wrong = 0
     for number, (form, found) in results:
         counts[form] += 1
         counts["limit winners"] += "limit" in found
@@ -32,7 +37,7 @@ def told(results):
     return wrong
 
 
-def main(number, first):
+def main(number: int, first: int) -> int:
     build_cca()
     with concurrent.futures.ProcessPoolExecutor() as pool:
         numbers = range(first, first + number)

@@ -6,8 +6,8 @@ import subprocess
 import sys
 import tempfile
 
-from coq_audit.plain import NotPlain, NotToml, plain_award, plain_log, without_comments
-from coq_audit.theorems import AUDIT, Kind, in_words, kind_of, proof
+from second_proof.coq_audit.plain import NotPlain, NotToml, plain_award, plain_log, without_comments
+from second_proof.coq_audit.theorems import AUDIT, Kind, in_words, kind_of, proof
 
 PROOFS = pathlib.Path(__file__).resolve().parent.parent
 CLOSED = "Closed under the global context"

@@ -2,7 +2,7 @@
 
 import dataclasses
 
-from coq_audit.terms import Terms, number_term
+from second_proof.coq_audit.terms import Terms, number_term
 
 HEAD = "Require Import Definitions Tests Headline Texts Read Audit.\n"
 
