@@ -16,7 +16,7 @@ from cca_tools.rules.log import read_log
 from cca_tools.rules.stops import Stop
 from checks.cases.damage import broken, scaled, slipped, widened
 from checks.cases.drawn_auctions import broken_award, broken_log, bytes_of, odd_award, odd_log
-from checks.cases.searches import Bidders, Bids, dot
+from checks.cases.searches import Bids, dot
 from checks.cases.second_auctions import drawn
 from checks.cases.small_certs import book_certificate, place_certificate
 from checks.cases.voices import FILES, court_answer, program_answer, rules_answer

@@ -33,7 +33,7 @@ from checks.cases.second_tools import answer
 EXAMPLES = os.path.join(HERE, "..", "examples")
 
 
-def path_of(name: str, data: bytes | None=None) -> str:
+def path_of(name: str, data: bytes | None = None) -> str:
     path = os.path.join(OUT, name)
     if data is not None:
         with open(path, "wb") as file:

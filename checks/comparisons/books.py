@@ -21,10 +21,11 @@ import random
 import re
 import subprocess
 from collections.abc import Callable, Iterable, Iterator, Sequence
+from fractions import Fraction
 from typing import TypeAlias
 
 from checks.cases.damage import broken, scaled, slipped, widened
-from checks.cases.limit_books import CCA, HERE, OUT, build_cca
+from checks.cases.limit_books import CCA, OUT, build_cca
 from checks.cases.searches import Bidders, Bids, book_prices, choices_of_book, dot, place_prices
 from checks.cases.second_tools import answer
 from cca_tools.rules.book import read_book
@@ -187,7 +188,7 @@ def compare_why(comparison: Comparison, names: Sequence[str]) -> None:
     certificate = read_certificate(load(names[1], "cert"), book)
     reasons = Reasons(certificate, weights)
     comparison.kinds["why"] += 1
-    sums = [
+    sums: list[tuple[int | Fraction, int | Fraction]] = [
         (sum(share.amount for share in reasons.shares(j)), reasons.pays(j) - reasons.vickrey(j))
         for j in certificate.winners
     ]
@@ -198,7 +199,9 @@ def compare_why(comparison: Comparison, names: Sequence[str]) -> None:
         comparison.tell("why", f"{sums} of " + "\n".join(map(read, names)))
 
 
-def compare_inputs(comparison: Comparison, rng: random.Random, command: str, tool: str, names: Sequence[str], at: int, kind: str) -> None:
+def compare_inputs(
+    comparison: Comparison, rng: random.Random, command: str, tool: str, names: Sequence[str], at: int, kind: str
+) -> None:
     """The input at a place of the names, changed, with the certificate that was made."""
     text = read(names[at])
     for worse in [f(rng, text) for f in SLIPS for _ in range(INPUTS)]:
@@ -307,7 +310,7 @@ def compare_limits(comparison: Comparison) -> None:
 def compare_words(comparison: Comparison, book: str) -> None:
     """Words that aren't the names of two files, files that are missing, and folders."""
     missing = out("missing")
-    for words in [
+    rows: list[list[str]] = [
         [],
         [book],
         [book, book],
@@ -318,7 +321,8 @@ def compare_words(comparison: Comparison, book: str) -> None:
         [missing, book],
         [book, missing],
         [OUT, book],
-    ]:
+    ]
+    for words in rows:
         comparison.answers_of("check, words and files", "check", "check", words)
         comparison.answers_of("place-check, words and files", "place-check", "check-places", words)
 

@@ -43,7 +43,7 @@ def written(command: str, *texts: str) -> str:
         return file.read()
 
 
-def path_of(name: str, text: str | None=None) -> str:
+def path_of(name: str, text: str | None = None) -> str:
     path = os.path.join(OUT, f"explained.{name}")
     if text is not None:
         with open(path, "w", newline="") as file:

@@ -16,6 +16,7 @@ from __future__ import annotations
 
 import collections
 import os
+import pathlib
 import random
 import re
 import resource
@@ -95,11 +96,9 @@ def originals() -> list[dict[str, bytes]]:
         )
         with tempfile.TemporaryDirectory() as folder:
             book, cert = os.path.join(folder, "book"), os.path.join(folder, "cert")
-            with open(book, "wb") as f:
-                f.write(sample["book"])
+            pathlib.Path(book).write_bytes(sample["book"])
             subprocess.run([CCA, "price", book, cert], check=True, capture_output=True)
-            with open(cert, "rb") as f:
-                sample["cert"] = f.read()
+            sample["cert"] = pathlib.Path(cert).read_bytes()
         sample["slots"], sample["edits"] = read("band.slots"), read("day-cramton.edits")
         sample["pcert"] = placement_cert(os.path.join(EXAMPLES, "band.slots"))
     return samples
@@ -167,7 +166,9 @@ def limited(memory: int | None, size: int | None) -> Callable[[], None]:
     return begin
 
 
-def run(words: Sequence[str], memory: int | None=None, size: int | None=None, full: bool=False) -> tuple[int, bytes]:
+def run(
+    words: Sequence[str], memory: int | None = None, size: int | None = None, full: bool = False
+) -> tuple[int, bytes]:
     with open("/dev/full" if full else os.devnull, "wb") as nowhere:
         made = subprocess.run(
             [CCA, *words],

@@ -116,7 +116,7 @@ def kind_of(ended: Ended, whole: Ended, files: Mapping[str, bytes]) -> str | Non
 def each_request(library: str, name: str, words: Sequence[str], files: Mapping[str, bytes]) -> tuple[int, Ended]:
     whole, _ = run(library, words, files, 0)
     if whole[0] != 0:
-        sys.exit(f"{name}: ended with {whole[0]} where nothing was refused: {whole[1][:100]}")
+        sys.exit(f"{name}: ended with {whole[0]} where nothing was refused: {whole[1][:100]!r}")
     ends: collections.Counter[str] = collections.Counter()
     number = 0
     while True:
@@ -127,7 +127,8 @@ def each_request(library: str, name: str, words: Sequence[str], files: Mapping[s
         kind = kind_of(ended, whole, files)
         if kind is None:
             print(
-                f"{name}: request {number}: status {ended[0]}, printed {ended[1][:60]}, errors {ended[2][:200]}, files changed {ended[3] != files}"
+                f"{name}: request {number}: status {ended[0]}, printed {ended[1][:60]!r}, errors {ended[2][:200]!r}, "
+                f"files changed {ended[3] != files}"
             )
         ends[kind or "wrong"] += 1
     print(

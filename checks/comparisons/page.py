@@ -13,10 +13,12 @@ import random
 import subprocess
 import sys
 import tempfile
+from collections.abc import Mapping
 
 from checks.browser import Browser
 from checks.comparisons import second_proof
 from checks.comparisons.second_proof import CHECKER, SECOND, Comparison, prepared, runs_of
+from second_proof.coq_audit.plain import plain_award
 
 PAGE = os.path.join(SECOND, "built", "audit.html")
 ANSWER = """(async given => {
@@ -51,18 +53,18 @@ class OnPage(Comparison):
         self.browser = Browser()
         self.browser.open(PAGE)
 
-    def check(self, kind: str, command: str, texts: dict[str, str]) -> None:
+    def check(self, kind: str, command: str, texts: Mapping[str, str]) -> None:
         """The program and the page on these files."""
         words = [self.cca, command, *(self.path(name, text) for name, text in texts.items())]
         said = subprocess.run(words, capture_output=True, text=True, check=False).stdout
-        heading, shown = self.browser.evaluate(ANSWER % json.dumps(texts))
+        heading, shown = self.browser.evaluate(ANSWER % json.dumps(dict(texts)))
         same = shown == said and heading.startswith(heading_of(said))
         self.count(kind, same, said.split("\n")[0], {**texts, "cca.said": said, "page.said": f"{heading}\n{shown}"})
 
     def log(self, rng: random.Random) -> None:
         """A drawn log: its replies and its book, and audits of certificates of it."""
         award, supply, bidders = second_proof.drawn_award(rng)
-        plain = second_proof.plain_award(award.encode()).decode()
+        plain = plain_award(award.encode()).decode()
         texts = {"award": plain, "log": second_proof.drawn_log(rng, award, supply, bidders)}
         words = [self.cca, "auction", *(self.path(name, text) for name, text in texts.items()), self.path("made.book")]
         said = subprocess.run(words, capture_output=True, text=True, check=False).stdout

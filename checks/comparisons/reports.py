@@ -129,6 +129,8 @@ def replies(made: Page) -> list[str]:
 
 def view_differs(files: Sequence[pathlib.Path], facts: source.Source) -> bool:
     """Whether some bidder's report from its own view isn't the one from the whole log, before the award."""
+    if facts.award is None or facts.auction is None:
+        raise ValueError("a report of no auction")
     for j, name in enumerate(facts.award.names, 1):
         own = FOLDER / "log.own"
         own.write_text(view_text(facts.auction, j))

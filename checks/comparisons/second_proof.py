@@ -303,19 +303,18 @@ def damaged(rng: random.Random, text: str) -> str:
     )
     fields = lines[n].rstrip("\n").split(" ")
     cut = fields[:-1] if rng.random() < 0.5 else fields + [rng.choice(["0", "1", ""])]
-    return rng.choice(
-        [
-            lambda: text[:at] + text[at + 1 :],
-            lambda: text[:at] + rng.choice(" \n\r\t0-a\u00e9\0") + text[at:],
-            lambda: text[:at],
-            lambda: "".join(lines[:n] + lines[n + 1 :]),
-            lambda: "".join(lines[: n + 1] + lines[n:]),
-            lambda: "".join(lines[:n] + [lines[m]] + lines[n + 1 :]),
-            lambda: text + rng.choice(["\n", " ", "end\n"]),
-            lambda: text[: number.start()] + spelt + text[number.end() :],
-            lambda: "".join(lines[:n] + [" ".join(cut) + "\n"] + lines[n + 1 :]),
-        ]
-    )()
+    ways: list[Callable[[], str]] = [
+        lambda: text[:at] + text[at + 1 :],
+        lambda: text[:at] + rng.choice(" \n\r\t0-a\u00e9\0") + text[at:],
+        lambda: text[:at],
+        lambda: "".join(lines[:n] + lines[n + 1 :]),
+        lambda: "".join(lines[: n + 1] + lines[n:]),
+        lambda: "".join(lines[:n] + [lines[m]] + lines[n + 1 :]),
+        lambda: text + rng.choice(["\n", " ", "end\n"]),
+        lambda: text[: number.start()] + spelt + text[number.end() :],
+        lambda: "".join(lines[:n] + [" ".join(cut) + "\n"] + lines[n + 1 :]),
+    ]
+    return rng.choice(ways)()
 
 
 # ---- texts about the limits ----
@@ -462,7 +461,7 @@ class Comparison:
         self.replies: collections.Counter[str] = collections.Counter()
         self.differ: collections.Counter[str] = collections.Counter()
 
-    def path(self, name: str, text: str | None=None) -> str:
+    def path(self, name: str, text: str | None = None) -> str:
         path = os.path.join(self.folder, name)
         if text is None:
             if os.path.exists(path):
