@@ -26,6 +26,7 @@ SMALL = {
     "court": (["60", "7"], r"^60 cases, [34] voices, 0 differ$"),
     "made": (["0"], r"^3 made auctions, 0 differ$"),
     "theory": (["2"], r"with a fault 0$"),
+    "economists": (["3", "3", "0"], r"^6 compared, 0 differ$"),
     "files": (["30"], r"^30 runs, seed 1: all ended as they have to$"),
     "earlier": (["20"], r"^335 runs, 0 differ$"),
 }

@@ -7,6 +7,7 @@ import re
 import subprocess
 import sys
 import unittest
+import unittest.mock
 from decimal import Decimal
 from fractions import Fraction
 
@@ -248,6 +249,55 @@ class Prices(unittest.TestCase):
             self.assertIn(why, caught.exception.why)
 
     @with_program
+    def test_each_fault_in_words(self) -> None:
+        """By the program that is named, and by the default one."""
+        day = cca_tools.read_book(sample("day-cramton.book"))
+
+        def book(package=(1,), amount=5, names=("a",), supply=(2,), reserves=(1,)):
+            return cca_tools.Book(supply, reserves, list(names), [[(package, amount)]])
+
+        faults = (
+            (book((3,)), {}, "`3` is read as a count of category 1"),
+            (book((0,)), {}, "a package isn't empty"),
+            (book((-1,)), {}, "`-1` is read as a count of category 1"),
+            (book((1, 1)), {}, "`bid` is followed by 3 fields"),
+            (book(amount=0), {}, "`0` is read as the amount (its least value is the package's reserve)"),
+            (book(amount=5.5), {}, "`5.5` is read as the amount"),
+            (book(amount=2**42 + 1), {}, "`4398046511105` is read as the amount"),
+            (book(names=["North"]), {}, "`North` is no name"),
+            (book(names=["a", "b"]), {}, "it has 2 names of bidders, and 1 lists of bids"),
+            (book(supply=(41,)), {}, "41 lots are more than the limit of 40"),
+            (book(reserves=()), {}, "`reserve` has to be followed by 1 numbers"),
+            (day, {"weights": {"b1": 0}}, "`0` is read as a weight, which is a whole number from 1 to 20"),
+            (day, {"weights": {"b1": 21}}, "`21` is read as a weight"),
+            (day, {"weights": {"b1": 2.5}}, "`2.5` is read as a weight"),
+        )
+        for asked, more, why in faults:
+            for named in ({}, {"program": os.path.abspath(PROGRAM)}):
+                with self.subTest(why, **named), self.assertRaises(Stop) as caught:
+                    cca_tools.price(asked, **more, **named)
+                self.assertIn(why, caught.exception.why)
+        for path, why in (
+            ("/bin/true", "`/bin/true` prints no prices, so it isn't the program"),
+            ("/bin", "`/bin` can't be run: Permission denied"),
+            ("/etc/passwd", "`/etc/passwd` can't be run: Permission denied"),
+            ("/bin/false", "the program answers `cca: status 1`"),
+        ):
+            with self.subTest(path), self.assertRaises(Stop) as caught:
+                cca_tools.price(day, program=path)
+            self.assertEqual(caught.exception.why, why)
+        with unittest.mock.patch.dict(os.environ, CCA_PROGRAM="/nowhere"), self.assertRaises(Stop) as caught:
+            cca_tools.price(day)
+        self.assertEqual((caught.exception.line, caught.exception.status), ("cca: no program", 70))
+
+    @with_program
+    def test_weights_of_many_winners(self) -> None:
+        """Seven winners have more weights than the program takes; it tests the prices that are found. All pay what the
+        eighth offers, whatever the weights, since that is their Vickrey price and in the core."""
+        found = cca_tools.price(cca_tools.read_book(SEVEN.encode()), weights={"b0": 9})
+        self.assertEqual(([row.pays for row in found.rows], found.found_by), ([3] * 7 + [0], "tools/price"))
+
+    @with_program
     def test_a_frame(self) -> None:
         try:
             import pandas  # noqa: F401
@@ -262,9 +312,9 @@ class Prices(unittest.TestCase):
         book = f"{TOOLS}/../examples/day-cramton.book"
         printed, status, said = run("prices", book, "--unit", "2")
         head, *rows = [line.split(",") for line in printed.splitlines()]
-        self.assertEqual((status, said, len(rows), len(head)), (0, "", 5, 14))
-        self.assertEqual(rows[0][1:], "b1,1 0,0,14,7,8.5,8.5,14,7,8.5,8.5,cca,".split(","))
-        self.assertEqual(rows[4][1:], "b5,,0,0,0,0,0,0,0,0,0,cca,".split(","))
+        self.assertEqual((status, said, len(rows), len(head)), (0, "", 5, 15))
+        self.assertEqual(rows[0][1:], "b1,1 0,0,14,7,8.5,8.5,14,7,8.5,8.5,no,cca,".split(","))
+        self.assertEqual(rows[4][1:], "b5,,0,0,0,0,0,0,0,0,0,no,cca,".split(","))
         printed, status, _ = run("prices", "--json", book)
         first, *_, last = map(json.loads, printed.splitlines())
         self.assertEqual((first["package"], first["price"], first["price_decimal"]), ([1, 0], 17, 17))
@@ -279,7 +329,8 @@ class Prices(unittest.TestCase):
         bids = "".join(f"bidder b{n}\nbid {lot} 5\n" for n, lot in enumerate(lots))
         book = f"book 1\nsupply 1 1 1\nreserve 0 0 0\n{bids}bidder g\nbid 1 1 1 10\nend\n"
         self.assertEqual(
-            run("prices", "-", input=book)[0].splitlines()[1], "-,b0,1 0 0,0,5,0,3+1/3,3.333333,5,0,3+1/3,3.333333,cca,"
+            run("prices", "-", input=book)[0].splitlines()[1],
+            "-,b0,1 0 0,0,5,0,3+1/3,3.333333,5,0,3+1/3,3.333333,no,cca,",
         )
         first = json.loads(run("prices", "--json", "-", input=book)[0].splitlines()[0])
         self.assertEqual((first["bid"], first["price"], first["price_decimal"]), (5, "3+1/3", 3.333333))
@@ -307,6 +358,9 @@ class Prices(unittest.TestCase):
         printed, status, _ = run("prices", "-", f"{TOOLS}/../examples/tie.book", input=ELEVEN)
         rows = [line.split(",") for line in printed.splitlines()[1:]]
         self.assertEqual((status, {row[-1] for row in rows[:15]}, rows[15][6]), (0, {"limit rows 11"}, "0"))
+        # (eleven of them offer 5, the others at most 4, so each Vickrey price is 4)
+        first = "-,b0,1,0,5,4,,,5,4,,,no,cca win,limit rows 11".split(",")
+        self.assertEqual((rows[0], rows[15][-3]), (first, "yes"))
 
     @with_program
     def test_who_has_found_the_prices_is_a_column(self) -> None:

@@ -6,6 +6,7 @@ import pathlib
 import random
 import tempfile
 import unittest
+import unittest.mock
 from fractions import Fraction
 
 from checks.cases.program import PROGRAM, run, with_program
@@ -13,15 +14,15 @@ from checks.cases.samples import EXAMPLES, called, sample
 from checks.cases.searches import choices_of_book, core_point, winning
 
 import cca_tools
-from cca_tools.data.prices import price
-from cca_tools.data.references import REFERENCES, nearest_to, vickrey_prices
+from cca_tools.data.prices import price, vickrey_prices
+from cca_tools.data.references import REFERENCES, nearest_to
 from cca_tools.page import plain
 from cca_tools.page.core import best_plainly
 from cca_tools.rules.award import read_award
 from cca_tools.rules.book import Book
 from cca_tools.rules.stops import Stop
 from cca_tools.rules.ties import ties_of
-from cca_tools.studies import best
+from cca_tools.pricing import best
 from cca_tools.studies.answers import answers_of, equilibria_of
 from cca_tools.studies.bidding import FastStraightforward, Straightforward, sealed_book
 from cca_tools.studies.draws import draws_of
@@ -307,14 +308,16 @@ class References(unittest.TestCase):
 
 class Best(unittest.TestCase):
     def test_the_greatest_value_and_ties(self):
-        """By all packages at once, as by going through the bids; with and without ties."""
+        """By all packages at once, and bid by bid, as by going through the bids; with and without ties."""
         draw, tied = random.Random(1), set()
         for number in range(150):
             supply, reserves, bids = drawn_book(draw)
             book = Book(supply, reserves, [f"b{j}" for j, _ in enumerate(bids)], bids)
-            self.assertEqual(best.best_value(book), best_plainly(book, ()), number)
-            self.assertEqual(best.has_tie(book), bool(ties_of(book, 1)), number)
-            tied.add(best.has_tie(book))
+            expected = best_plainly(book, ()), bool(ties_of(book, 1))
+            self.assertEqual((best.best_value(book), best.has_tie(book)), expected, number)
+            with unittest.mock.patch.object(best, "pairs_of", lambda supply: None):
+                self.assertEqual((best.best_value(book), best.has_tie(book)), expected, number)
+            tied.add(expected[1])
         self.assertEqual(tied, {True, False})
 
 

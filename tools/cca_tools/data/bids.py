@@ -6,6 +6,7 @@ from __future__ import annotations
 import csv
 import io
 import json
+import numbers
 import operator
 import re
 from collections.abc import Iterator, Mapping, Sequence
@@ -25,6 +26,7 @@ from cca_tools.rules.stops import MOST, LineSpot, Stop, within
 from cca_tools.rules.types import Amount, Package
 
 LONGEST, MOST_DECIMALS = 20, 9
+MISSING = ("None", "nan", "<NA>", "NaT")  # what a frame has in cells without a value
 
 
 @dataclass
@@ -172,9 +174,17 @@ def book_of_records(records: Sequence[object], sold: Sold | None, mark: Mark | N
 
 def read_frame(frame: Any, sold: Sold) -> Made:
     """The book of a frame of pandas or polars with a column for the bidder, for each category or for the package, and
-    for the amount."""
-    text = frame.to_json(orient="records", double_precision=15) if hasattr(frame, "to_json") else frame.write_json()
-    return read_bids(text.encode(), sold)
+    for the amount. Its numbers count as they are printed, and a missing cell is empty."""
+    records = frame.to_dict("records") if hasattr(frame, "to_json") else frame.to_dicts()
+    return book_of_records([{key: cell_of_frame(it) for key, it in record.items()} for record in records], sold)
+
+
+def cell_of_frame(value: object) -> object:
+    """A cell of a frame as JSON would have it: a missing value is null, and a tuple a list."""
+    if isinstance(value, tuple):
+        return [plain_number(it) for it in value]
+    is_missing = not isinstance(value, str) and str(value) in MISSING
+    return None if is_missing else plain_number(value)
 
 
 def make_book(
@@ -200,7 +210,8 @@ def plain_number(value: object) -> object:
         return value
     if isinstance(value, SupportsIndex):
         return operator.index(value)
-    return Decimal(repr(float(value))) if isinstance(value, float) else value
+    is_float = isinstance(value, numbers.Real) and not isinstance(value, numbers.Rational)
+    return Decimal(str(value)) if is_float else value
 
 
 # From a book.

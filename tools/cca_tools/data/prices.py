@@ -18,6 +18,7 @@ from pathlib import Path
 from typing import Any
 
 from cca_tools.data.numbers import Mark, decimal, exact, fraction_of
+from cca_tools.pricing.best import has_tie
 from cca_tools.pricing.judges import Asked
 from cca_tools.pricing.making import make_certificate
 from cca_tools.rules.book import Book, book_text, read_book
@@ -119,6 +120,8 @@ def price(book: Book, *, weights: Mapping[str, int] | None = None, program: str 
     With weights (1 to 20, and 1 for a bidder that has none) a price is as much above the Vickrey price as they say. A
     `Stop` says in words what is wrong with the book; or that there is no program, or that no prices are found, as if
     they need more than ten rows (`cca: limit rows 11`)."""
+    if len(book.names) != len(book.bids):
+        raise refused("book", why=f"it has {len(book.names)} names of bidders, and {len(book.bids)} lists of bids")
     read_book(book_text(book))
     path = program or need_program()
     text = None if weights is None else weights_text(book, weights)
@@ -151,8 +154,8 @@ def weights_text(book: Book, weights: Mapping[str, int]) -> bytes:
     return text
 
 
-def lines_of(words: Sequence[str], book: Book) -> list[str]:
-    """What the program prints for a book on standard input."""
+def lines_of(words: Sequence[str], book: Book, last: str = "revenue") -> list[str]:
+    """What the program prints for a book on standard input: lines of which the last begins with this word."""
     try:
         run = subprocess.run(words, input=book_text(book), capture_output=True)
     except OSError as fault:
@@ -160,6 +163,8 @@ def lines_of(words: Sequence[str], book: Book) -> list[str]:
     lines = run.stdout.decode("utf-8", "replace").splitlines()
     if run.returncode != DONE:
         raise stop_of(lines, run.returncode, run.stderr.decode("utf-8", "replace"))
+    if not lines or not lines[-1].startswith(f"{last} "):
+        raise Stop("cca: no program", CRASH, why=f"`{words[0]}` prints no prices, so it isn't the program")
     return lines
 
 
@@ -173,6 +178,41 @@ def price_beyond(book: Book, weights: bytes | None, path: str) -> Prices:
         known = None if weights is None else read_weights(weights, book)
         made = make_certificate(asked, book, str(Path(folder, "cert")), known)
     return prices_of(book.names, book.reserves, made.lines[1:], BY_TOOL)
+
+
+@dataclass(frozen=True)
+class Won:
+    """What the program's winners win, by their numbers from 0, and the value of their choice, net."""
+
+    packages: dict[int, tuple[Package, Amount]]
+    net: Amount
+
+
+def winners_of(book: Book, path: str) -> Won:
+    """The winners of a book by `cca win`, which has no limit of winners."""
+    numbers = {name: k for k, name in enumerate(book.names)}
+    packages, net = dict[int, tuple[Package, Amount]](), 0
+    for line in lines_of([path, "win", "/dev/stdin"], book, "net"):
+        word, *fields = line.split(" ")
+        if word == "winner":
+            package = tuple(map(int, fields[1:-1]))
+            packages[numbers[fields[0]]] = package, int(fields[-1])
+        elif word == "net":
+            net = int(fields[0])
+    return Won(packages, net)
+
+
+def vickrey_prices(book: Book, path: str) -> Prices:
+    """The winners and their Vickrey prices, by `cca win` of the book and of the book without each winner: these have no
+    limit of winners or of rows. A price in the core isn't known here, so each winner's is its Vickrey price."""
+    won, rows = winners_of(book, path), [Price(name, None) for name in book.names]
+    for k, (package, bid) in won.packages.items():
+        reserve = book.reserve(package)
+        bids = [[] if j == k else of_one for j, of_one in enumerate(book.bids)]
+        others = winners_of(Book(book.supply, book.reserves, book.names, bids), path)
+        vickrey = others.net - (won.net - (bid - reserve)) + reserve
+        rows[k] = Price(book.names[k], package, reserve, bid, vickrey, Fraction(vickrey))
+    return Prices(tuple(rows), won.net, BY_WIN)
 
 
 def is_beyond(stop: Stop) -> bool:
@@ -211,39 +251,39 @@ def price_object(names: Sequence[str], reserves: Sequence[Amount], lines: Sequen
 
 COLUMNS = (
     "book bidder package reserve bid vickrey price price_decimal"
-    " bid_net vickrey_net price_net price_net_decimal found_by stopped"
+    " bid_net vickrey_net price_net price_net_decimal tie found_by stopped"
 ).split()
 
-NUMBERS = COLUMNS[3:-2]
+NUMBERS = COLUMNS[3:-3]
 NUMBER = re.compile(r"-?[0-9]+(\.[0-9]+)?")
+VICKREY_CELLS = (0, 1, 2, 5, 6)  # of the amounts, those that need no core price
 # A decimal that is a whole cell.
 DECIMAL = re.compile(r"^(-?[0-9]+)\.([0-9]+)$")
 
 
-def cells_of(name: str, row: Price, unit: int, found_by: str) -> list[str]:
-    """The cells of a bidder, amounts divided by the unit."""
+def cells_of(name: str, row: Price, unit: int, last: Sequence[str]) -> list[str]:
+    """The cells of a bidder, amounts divided by the unit, with these last ones. Prices that aren't known are empty."""
     package = " ".join(map(str, row.package)) if row.package else ""
     gross: list[int | Fraction] = [row.reserve, row.bid, row.vickrey, row.pays]
     parts = [Fraction(value) / unit for value in gross]
     nets = [value - parts[0] for value in parts[1:]]
     amounts = [*map(exact, parts), decimal(parts[3]), *map(exact, nets), decimal(nets[2])]
-    return [name, row.bidder, package, *amounts, found_by, ""]
-
-
-def stopped_cells(name: str, bidder: str, line: str) -> list[str]:
-    """The cells of a bidder of a book that isn't priced, with why."""
-    return [name, bidder, *[""] * (len(COLUMNS) - 3), line.removeprefix("cca: ")]
+    if last[1] == BY_WIN:
+        amounts = [cell if at in VICKREY_CELLS else "" for at, cell in enumerate(amounts)]
+    return [name, row.bidder, package, *amounts, *last]
 
 
 def cells_of_book(name: str, book: Book, unit: int = 1) -> Iterator[list[str]]:
-    """The cells of each bidder of a book. A book beyond a limit has the limit in its last ones."""
+    """The cells of each bidder of a book. A book beyond a limit has the limit in its last ones, and packages, bids and
+    Vickrey prices alone."""
     try:
-        found = price(book)
-        yield from (cells_of(name, row, unit, found.found_by) for row in found.rows)
+        found, stopped = price(book), ""
     except Stop as stop:
         if stop.status != LIMIT:
             raise
-        yield from (stopped_cells(name, bidder, stop.line) for bidder in book.names)
+        found, stopped = vickrey_prices(book, need_program()), stop.line.removeprefix("cca: ")
+    last = ["yes" if has_tie(book) else "no", found.found_by, stopped]
+    yield from (cells_of(name, row, unit, last) for row in found.rows)
 
 
 def csv_text(rows: Iterable[Sequence[str]], mark: Mark = ".") -> str:

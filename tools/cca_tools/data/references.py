@@ -10,11 +10,10 @@ from __future__ import annotations
 
 import math
 from collections.abc import Sequence
-from dataclasses import dataclass
 from fractions import Fraction
 from typing import Literal, TypeAlias, get_args
 
-from cca_tools.data.prices import BY_WIN, Price, Prices, lines_of
+from cca_tools.data.prices import BY_WIN, Price, Prices, winners_of
 from cca_tools.pricing.nearest import Demand, Nearest
 from cca_tools.rules.book import Book
 from cca_tools.rules.stops import CRASH, MOST, Stop, limit
@@ -22,41 +21,6 @@ from cca_tools.rules.types import Amount, Bid, Package
 
 Reference: TypeAlias = Literal["zero", "reserve", "bids"]
 REFERENCES: tuple[Reference, ...] = get_args(Reference)
-
-
-@dataclass(frozen=True)
-class Won:
-    """What the program's winners win, by their numbers from 0, and the value of their choice, net."""
-
-    packages: dict[int, tuple[Package, Amount]]
-    net: Amount
-
-
-def winners_of(book: Book, path: str) -> Won:
-    """The winners of a book by `cca win`, which has no limit of winners."""
-    numbers = {name: k for k, name in enumerate(book.names)}
-    packages, net = dict[int, tuple[Package, Amount]](), 0
-    for line in lines_of([path, "win", "/dev/stdin"], book):
-        word, *fields = line.split(" ")
-        if word == "winner":
-            package = tuple(map(int, fields[1:-1]))
-            packages[numbers[fields[0]]] = package, int(fields[-1])
-        elif word == "net":
-            net = int(fields[0])
-    return Won(packages, net)
-
-
-def vickrey_prices(book: Book, path: str) -> Prices:
-    """The winners and their Vickrey prices, by `cca win` of the book and of the book without each winner: these have no
-    limit of winners or of rows. A price in the core isn't known here, so each winner's is its Vickrey price."""
-    won, rows = winners_of(book, path), [Price(name, None) for name in book.names]
-    for k, (package, bid) in won.packages.items():
-        reserve = book.reserve(package)
-        bids = [[] if j == k else of_one for j, of_one in enumerate(book.bids)]
-        others = winners_of(Book(book.supply, book.reserves, book.names, bids), path)
-        vickrey = others.net - (won.net - (bid - reserve)) + reserve
-        rows[k] = Price(book.names[k], package, reserve, bid, vickrey, Fraction(vickrey))
-    return Prices(tuple(rows), won.net, BY_WIN)
 
 
 # Other points of reference.

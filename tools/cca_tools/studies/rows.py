@@ -15,14 +15,14 @@ from fractions import Fraction
 from typing import TypeAlias
 
 from cca_tools.data.numbers import decimal, exact
-from cca_tools.data.prices import BY_WIN, Price, Prices, need_program, price
-from cca_tools.data.references import nearest_to, vickrey_prices
+from cca_tools.data.prices import BY_WIN, Price, Prices, need_program, price, vickrey_prices
+from cca_tools.data.references import nearest_to
 from cca_tools.rules.award import Award, dot
 from cca_tools.rules.book import Book
 from cca_tools.rules.stops import LIMIT, Stop
 from cca_tools.rules.types import Amount, Package
 from cca_tools.studies.awarding import Held, audited, awarded, hold, need_bounds
-from cca_tools.studies.best import best_value, has_tie
+from cca_tools.pricing.best import best_value, has_tie
 from cca_tools.studies.draws import draws_of
 from cca_tools.studies.origin import program_sum
 from cca_tools.studies.plan import FIELDS, Case, Plan, award_of

@@ -1,8 +1,8 @@
-"""The greatest value of an allocation, and whether several have it, for books of a study.
+"""The greatest value of a choice, and whether several choices have it.
 
 A line has a value for each remaining supply, by its place. With numpy all packages within all supplies are looked at
-in one step for each bidder, if they aren't too many; without numpy, or beyond that, bids are looked at one by one. All
-ways have equal results.
+in one step for each bidder, if they aren't too many; otherwise a filler looks at the bids one by one. Both ways have
+equal results.
 """
 
 from __future__ import annotations
@@ -11,8 +11,7 @@ import functools
 import math
 from typing import Any
 
-from cca_tools.page.core import best_plainly, best_without
-from cca_tools.pricing.tables import has_numpy
+from cca_tools.pricing.tables import filler_of, has_numpy
 from cca_tools.rules.book import Book
 from cca_tools.rules.ties import ties_of
 from cca_tools.rules.types import Amount, Package
@@ -76,7 +75,8 @@ def best_value(book: Book) -> Amount:
     """The greatest net value of a choice."""
     pairs = pairs_of(book.supply)
     if pairs is None:
-        return best_without(book, ()) if has_numpy() else best_plainly(book, ())
+        filler = filler_of(book)
+        return filler.top(filler.table(book.net))
     import numpy
 
     line = numpy.zeros(book.states, numpy.int64)
@@ -90,7 +90,8 @@ def has_tie(book: Book) -> bool:
     """Whether several choices have the greatest net value, so that the order of bidders and packages decides."""
     pairs = pairs_of(book.supply)
     if pairs is None:
-        return bool(ties_of(book, 1))
+        filler = filler_of(book)
+        return bool(ties_of(book, 1, [filler.numbers(line) for line in filler.table(book.net)]))
     import numpy
 
     line, count = numpy.zeros(book.states, numpy.int64), numpy.ones(book.states, numpy.int64)
