@@ -292,8 +292,19 @@ def dask_faults(folder: pathlib.Path, auctions: int) -> Iterator[str]:
     path, other = os.path.abspath(program() or ""), folder / "other"
     other.write_bytes(pathlib.Path(path).read_bytes() + b"\n")
     other.chmod(0o755)
-    out = folder / "dask"
-    first = Cluster(folder, "first", [path, path, path])
+    with study(folder, "alone") as alone:
+        yield from cluster_faults(folder, auctions, path, str(other))
+        alone.communicate()
+    for name in ("table.csv", "bidders.csv", "page.html"):
+        made = [folder / out / name for out in ("dask", "alone")]
+        if not all(it.exists() for it in made) or made[0].read_bytes() != made[1].read_bytes():
+            yield f"{name} differs"
+
+
+def cluster_faults(folder: pathlib.Path, auctions: int, path: str, other: str) -> Iterator[str]:
+    """What is wrong with a study on three workers, of which one and then their scheduler is killed, and that goes on
+    with three others, of which two can't hold it."""
+    out, first = folder / "dask", Cluster(folder, "first", [path, path, path])
     try:
         with study(folder, "dask", "--scheduler", first.address()) as running:
             wait_until(lambda: kept(out) > auctions // 4, running)
@@ -303,25 +314,21 @@ def dask_faults(folder: pathlib.Path, auctions: int) -> Iterator[str]:
             _, said = running.communicate()
             if running.returncode != 70 or "is gone" not in said:
                 yield f"without its scheduler the study ends with {running.returncode}: {said}"
-            print(f"{kept(out)} rows when the scheduler was killed: {said.splitlines()[-1] if said else ''}")
+            print(
+                f"{kept(out)} rows when the scheduler was killed: {said.splitlines()[-1] if said else ''}", flush=True
+            )
     finally:
         first.end()
-    second = Cluster(folder, "second", [path, str(other), "/nowhere/cca"])
+    second = Cluster(folder, "second", [path, other, "/nowhere/cca"])
     try:
         with study(folder, "dask", "--scheduler", second.address()) as running:
             _, said = running.communicate()
-            words = " ".join(said.split())
-            for why in ("can't be run", "its program has the SHA-256"):
-                print(f"a worker, {why}: {'named' if why in words else 'not asked'}")
             if running.returncode != 0:
                 yield f"the study ends with {running.returncode}: {said}"
+            left_out = [line for line in said.splitlines() if "is left out" in line]
+            print("\n".join(left_out or ["no worker was left out"]), flush=True)
     finally:
         second.end()
-    with study(folder, "alone") as running:
-        running.communicate()
-    for name in ("table.csv", "bidders.csv", "page.html"):
-        if (out / name).read_bytes() != (folder / "alone" / name).read_bytes():
-            yield f"{name} differs"
 
 
 def told(kind: str, found: Sequence[str]) -> int:

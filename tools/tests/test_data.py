@@ -19,8 +19,11 @@ from cca_tools.data.bids import csv_text, json_text, read_bids
 from cca_tools.data.numbers import amount_of, decimal, exact, fraction_of
 from cca_tools.data.prices import prices_of, stop_of
 from cca_tools.data.raw import Sold
+from cca_tools.rules.award import read_award
 from cca_tools.rules.book import book_text
 from cca_tools.rules.stops import Stop
+from cca_tools.studies.values import values_of_seed
+from test_rehearse import ONE
 
 TWO = Sold((2, 6), (Decimal(10), Decimal("2.5")))
 # The longest field of csv in a process of its own; tools/audit, which other tests load, allows longer ones.
@@ -172,6 +175,14 @@ class Bids(unittest.TestCase):
         printed, status, said = run("book", "-", "--supply", "2 6", input="a,9,0,5")
         self.assertEqual((printed, status), ("", 3))
         self.assertIn("Row 1 asks for 9 lots of category 1, and 2 are sold.", said)
+
+    def test_as_values(self) -> None:
+        """A table is what bidders value their packages at, once its names are those of an award."""
+        award = read_award(ONE)
+        printed, status, said = run("book", "-", "--supply", "2 2", "--as", "values", input="Wést,1,0,9\neast,0,2,5\n")
+        east, west = values_of_seed(award, printed.encode(), 1)
+        self.assertEqual((status, east, west), (0, {(0, 2): 5}, {(1, 0): 9}))
+        self.assertIn("`Wést` is called west", said)
 
 
 def bid(name, package, amount):

@@ -15,7 +15,8 @@ in the order of --supply. An amount such as 48.000 may be 48 or 48000: other amo
 JSON is {"supply": [4, 14], "reserve": [10, 2], "bids": [{"bidder": "north", "package": [1, 4], "amount": 48000.5}]},
 or a list of records with the keys of a table's heads, as pandas and R write frames. What is sold comes from --supply,
 from --award, or from the JSON. A file that is a book already is read as it is, and --as csv or --as json prints it in
-the other forms.
+the other forms. --as values prints a file of values for tools/rehearse and tools/study, in which each package is worth
+its amount.
 
 Statuses are as in docs/FORMATS.md; 3 if a row isn't a bid, and the message names the row. What it doesn't test: whether
 a bidder meant what it bid. The order of the bidders is the order of their first rows, and it decides ties.
@@ -28,7 +29,7 @@ from collections.abc import Sequence
 from decimal import Decimal
 
 from cca_tools.command_line import Parser, run_command, say
-from cca_tools.data.bids import Made, csv_text, json_text, read_bids
+from cca_tools.data.bids import Made, csv_text, json_text, read_bids, values_text
 from cca_tools.data.jsons import is_json
 from cca_tools.data.numbers import MARKS, PLAIN
 from cca_tools.data.raw import MOST_DIGITS, Sold
@@ -36,7 +37,12 @@ from cca_tools.rules.award import read_award
 from cca_tools.rules.book import book_text, read_book
 from cca_tools.rules.stops import load
 
-TEXTS = {"book": lambda book: book_text(book).decode().rstrip("\n"), "csv": csv_text, "json": json_text}
+TEXTS = {
+    "book": lambda book: book_text(book).decode().rstrip("\n"),
+    "csv": csv_text,
+    "json": json_text,
+    "values": values_text,
+}
 
 
 def parser() -> Parser:

@@ -9,6 +9,7 @@ import json
 import numbers
 import operator
 import re
+import unicodedata
 from collections.abc import Iterator, Mapping, Sequence
 from dataclasses import dataclass, field
 from fractions import Fraction
@@ -42,8 +43,9 @@ class Made:
 
 
 def plain_name(text: str) -> str:
-    """A name of the book's form that is like the given one."""
-    name = re.sub(r"[^a-z0-9]+", "_", text.lower()).strip("_")
+    """A name of the book's form that is like the given one; letters lose their accents."""
+    letters = (it for it in unicodedata.normalize("NFKD", text.lower()) if not unicodedata.combining(it))
+    name = re.sub(r"[^a-z0-9]+", "_", "".join(letters)).strip("_")
     return (name if name[:1].isalpha() else f"b_{name}" if name else "b")[:LONGEST]
 
 
@@ -235,3 +237,13 @@ def json_text(book: Book) -> str:
         for package, amount in of_one
     ]
     return json.dumps({"supply": list(book.supply), "reserve": list(book.reserves), "bids": bids})
+
+
+def values_text(book: Book) -> str:
+    """A file of values in which each package is worth to its bidder what the book has as its bid."""
+    lines = ["values = 1"]
+    for name, bids in zip(book.names, book.bids):
+        lines += ["", "[[bidder]]", f'names = "{name}"', 'model = "packages"', "package = ["]
+        lines += [f"  {{ lots = {list(package)}, value = {amount} }}," for package, amount in bids]
+        lines.append("]")
+    return "\n".join(lines)
