@@ -101,7 +101,7 @@ class Bids(unittest.TestCase):
     def test_names(self) -> None:
         names = ["A-1", "A 1", "1st", "Ümlaut", "x" * 30]
         _, made = self.made("".join(f"{name},1,0,50\n" for name in names))
-        self.assertEqual(made.book.names, ["a_1", "a_1_2", "b_1st", "mlaut", "x" * 20])
+        self.assertEqual(made.book.names, ["a_1", "a_1_2", "b_1st", "umlaut", "x" * 20])
 
     def test_faults_name_the_row(self) -> None:
         self.addCleanup(csv.field_size_limit, csv.field_size_limit(FIELD))

@@ -44,7 +44,7 @@ class Made:
 
 def plain_name(text: str) -> str:
     """A name of the book's form that is like the given one; letters lose their accents."""
-    letters = (it for it in unicodedata.normalize("NFKD", text.lower()) if not unicodedata.combining(it))
+    letters = (it for it in unicodedata.normalize("NFKD", text.casefold()) if not unicodedata.combining(it))
     name = re.sub(r"[^a-z0-9]+", "_", "".join(letters)).strip("_")
     return (name if name[:1].isalpha() else f"b_{name}" if name else "b")[:LONGEST]
 
