@@ -32,7 +32,7 @@ def can_hold() -> bool:
 
 
 def until(is_done: Callable[[], bool], what: str) -> None:
-    """Waits for something, but not for ever."""
+    """Waits for something, but not forever."""
     end = time.monotonic() + SECONDS
     while not is_done():
         if time.monotonic() > end:

@@ -137,6 +137,7 @@ def published(held: Auction) -> None:
     """The page of the set and the report say what each winner pays, who found the prices, and who judged them."""
     screen = held.screen
     screen.load(f"file://{held.set()}/index.html")
+    screen.evaluate("document.querySelectorAll('details').forEach(it => it.open = true)")
     page = " ".join(screen.ask("document.body.innerText").split())
     for words in (
         "Eight winners pay 680 for all 8 lots.",

@@ -167,7 +167,7 @@ class Line(DeskTest):
                 alone = ["Write only the 1 admitted line, keep the others in the form"] if texts == [one, above] else []
                 self.assertEqual(re.findall(r"<button[^>]*>(.*?)</button>", row), [button, *alone])
                 self.assertIn(warning, client.text())
-                self.assertEqual("stays in the log for ever" in client.text(), bool(warning))
+                self.assertEqual("stays in the log forever" in client.text(), bool(warning))
         client.load("")
         client.send("preview", raw=f"{one}\n{other}")
         form = client.form("write")

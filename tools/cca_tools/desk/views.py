@@ -717,7 +717,7 @@ def list_after(desk: Desk, moment: Moment, answered: Answered) -> list[Table]:
 
 def refused_words(many: int) -> str:
     """When lines of which some would be refused are written all the same."""
-    stays = "A refused line stays in the log for ever. Write"
+    stays = "A refused line stays in the log forever. Write"
     if many == 1:
         return f"{stays} it only if the bidder sent just this; correct a slip of your own."
     return f"{stays} these {many} lines only if the bidders sent just these; correct slips of your own."
