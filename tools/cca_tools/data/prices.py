@@ -10,11 +10,9 @@ import io
 import json
 import re
 import subprocess
-import tempfile
 from collections.abc import Iterable, Iterator, Mapping, Sequence
 from dataclasses import dataclass
 from fractions import Fraction
-from pathlib import Path
 from typing import Any
 
 from cca_tools.data.numbers import Mark, decimal, exact, fraction_of
@@ -23,6 +21,7 @@ from cca_tools.pricing.judges import Asked
 from cca_tools.pricing.making import make_certificate
 from cca_tools.rules.book import Book, book_text, read_book
 from cca_tools.rules.program import program
+from cca_tools.rules.scratch import scratch_folder
 from cca_tools.rules.stops import CRASH, DONE, LIMIT, Stop, refused
 from cca_tools.rules.types import Amount, Package
 from cca_tools.rules.weights import read_weights
@@ -137,10 +136,10 @@ def price_by_program(book: Book, weights: bytes | None, path: str) -> Prices:
     """The prices that the program at this path finds, by the bytes of a file of weights if there is one."""
     if weights is None:
         return prices_of(book.names, book.reserves, lines_of([path, "price", "/dev/stdin", "/dev/null"], book))
-    with tempfile.NamedTemporaryFile() as file:
-        file.write(weights)
-        file.flush()
-        words = [path, "weigh", "/dev/stdin", file.name, "/dev/null"]
+    with scratch_folder() as folder:
+        file = folder / "weights"
+        file.write_bytes(weights)
+        words = [path, "weigh", "/dev/stdin", str(file), "/dev/null"]
         return prices_of(book.names, book.reserves, lines_of(words, book))
 
 
@@ -170,13 +169,13 @@ def lines_of(words: Sequence[str], book: Book, last: str = "revenue") -> list[st
 
 def price_beyond(book: Book, weights: bytes | None, path: str) -> Prices:
     """The prices of a book with any number of winners, tested by the program at this path."""
-    with tempfile.TemporaryDirectory() as folder:
-        names = [Path(folder, "book")] if weights is None else [Path(folder, "book"), Path(folder, "weights")]
+    with scratch_folder() as folder:
+        names = [folder / "book"] if weights is None else [folder / "book", folder / "weights"]
         for name, data in zip(names, (book_text(book), weights or b"")):
             name.write_bytes(data)
         asked = Asked(list(map(str, names)), weights is not None, path)
         known = None if weights is None else read_weights(weights, book)
-        made = make_certificate(asked, book, str(Path(folder, "cert")), known)
+        made = make_certificate(asked, book, str(folder / "cert"), known)
     return prices_of(book.names, book.reserves, made.lines[1:], BY_TOOL)
 
 

@@ -10,7 +10,6 @@ import os
 import pathlib
 import re
 import subprocess
-import tempfile
 from collections.abc import Sequence
 from dataclasses import dataclass, field
 from fractions import Fraction
@@ -26,6 +25,7 @@ from cca_tools.rules.clock import cost
 from cca_tools.rules.log import read_log
 from cca_tools.rules.names import NO_NAMES, LongNames, read_names
 from cca_tools.rules.program import program
+from cca_tools.rules.scratch import need_written, scratch_folder
 from cca_tools.rules.stops import MOST, WORDS, Stop, load, unread, within
 from cca_tools.rules.types import Amount, Bid, BidderNumber, Choice
 from cca_tools.rules.view import read_log_or_view
@@ -200,8 +200,9 @@ def turns_of(text: str) -> list[Turn]:
 
 
 def run(path: str, *words: str) -> str:
-    """What the program prints."""
+    """What the program prints. Raises `Stop` if it can't write its certificate."""
     done = subprocess.run([path, *words], stdin=subprocess.DEVNULL, stdout=subprocess.PIPE, stderr=subprocess.DEVNULL)
+    need_written(done.returncode)
     return done.stdout.decode(errors="replace")
 
 
@@ -291,8 +292,8 @@ def ask_program(source: Source, book: Book, texts: dict[str, bytes]) -> None:
     taken."""
     if not source.program:
         return
-    with tempfile.TemporaryDirectory() as folder:
-        paths = {kind: os.path.join(folder, kind) for kind in ("award", "log", "book", "cert", "own")}
+    with scratch_folder() as folder:
+        paths = {kind: str(folder / kind) for kind in ("award", "log", "book", "cert", "own")}
         plain = dataclasses.replace(book, names=[f"b{j}" for j in range(1, book.bidders + 1)])
         for kind, data in {**texts, "book": book_text(plain)}.items():
             pathlib.Path(paths[kind]).write_bytes(data)

@@ -3,11 +3,10 @@
 from __future__ import annotations
 
 import os
-import pathlib
 import subprocess
-import tempfile
 
 from cca_tools.rules.book import Book, book_text
+from cca_tools.rules.scratch import need_written, scratch_folder
 from cca_tools.rules.stops import DONE
 from cca_tools.rules.types import BidderNumber, Package
 from cca_tools.rules.winners import winner_lines, winning_choice
@@ -28,14 +27,16 @@ def program() -> str | None:
 
 
 def said(path: str, book: Book, command: str, *flags: str) -> tuple[list[str], int]:
-    """What a command of the program at a path prints for a book, and its status."""
-    with tempfile.TemporaryDirectory() as folder:
-        name = pathlib.Path(folder, "book")
+    """What a command of the program at a path prints for a book, and its status. Raises `Stop` if temporary
+    files can't be written."""
+    with scratch_folder() as folder:
+        name = folder / "book"
         name.write_bytes(book_text(book))
-        cert = [os.path.join(folder, "cert")] if command == "price" else []
+        cert = [str(folder / "cert")] if command == "price" else []
         run = subprocess.run(
             [path, command, str(name), *cert, *flags], stdin=subprocess.DEVNULL, capture_output=True, text=True
         )
+        need_written(run.returncode)
         return run.stdout.splitlines(), run.returncode
 
 

@@ -8,7 +8,6 @@ from __future__ import annotations
 
 import pathlib
 import subprocess
-import tempfile
 from collections.abc import Sequence
 from dataclasses import dataclass
 
@@ -22,6 +21,7 @@ from cca_tools.rules.book import Book, book_text
 from cca_tools.rules.certificate import read_certificate
 from cca_tools.rules.certificate_tests import first_fault
 from cca_tools.rules.printing import price_lines
+from cca_tools.rules.scratch import need_written, scratch_folder
 from cca_tools.rules.stops import CRASH, DONE, Stop
 from cca_tools.rules.view import record_text
 from cca_tools.studies.bidding import sealed_book
@@ -80,8 +80,8 @@ def log_text(auction: Auction) -> bytes:
 def awarded(found: Held, is_audited: bool) -> Prices:
     """What the program awards, or what `pricing` finds and the program tests if more bidders win than it prices. If the
     auction is audited, this package tests the certificate too."""
-    with tempfile.TemporaryDirectory() as folder:
-        return awarded_in(found, pathlib.Path(folder), is_audited)
+    with scratch_folder() as folder:
+        return awarded_in(found, folder, is_audited)
 
 
 def awarded_in(found: Held, folder: pathlib.Path, is_audited: bool) -> Prices:
@@ -93,6 +93,7 @@ def awarded_in(found: Held, folder: pathlib.Path, is_audited: bool) -> Prices:
     words = [need_program(), found.command, *names, str(cert) if is_audited else "/dev/null"]
     run = subprocess.run(words, stdin=subprocess.DEVNULL, capture_output=True)
     lines, found_by = run.stdout.decode("utf-8", "replace").splitlines(), BY_PROGRAM
+    need_written(run.returncode)
     if run.returncode != DONE:
         stop = stop_of(lines, run.returncode, run.stderr.decode("utf-8", "replace"))
         if not is_beyond(stop):

@@ -6,7 +6,6 @@ import asyncio
 import os
 import pathlib
 import signal
-import tempfile
 import threading
 import time
 import zipfile
@@ -17,6 +16,7 @@ from typing import Any
 
 from cca_tools.command_line import say
 from cca_tools.rules.program import program
+from cca_tools.rules.scratch import scratch_folder
 from cca_tools.rules.stops import CRASH, Stop
 from cca_tools.studies.plan import Plan
 from cca_tools.studies.rows import Done, Job, rows_of
@@ -174,14 +174,14 @@ def on_dask(plan: Plan, jobs: Sequence[Job], address: str, total: str) -> Iterat
     later, and what a lost worker had is done by another one. All have to have the program with this checksum."""
     distributed = dask()
     gone = (CancelledError, asyncio.CancelledError, distributed.comm.CommClosedError)
-    with tempfile.TemporaryDirectory() as folder:
+    with scratch_folder() as folder:
         try:
             client = distributed.Client(address, timeout=30)
         except (OSError, ValueError) as fault:
             raise Stop("cca: no scheduler", CRASH, why=f"no scheduler answers at {address}: {fault}") from None
         end = threading.Event()
         try:
-            plugin = distributed.diagnostics.plugin.UploadFile(package_zip(folder))
+            plugin = distributed.diagnostics.plugin.UploadFile(package_zip(str(folder)))
             client.register_worker_plugin(plugin, "cca_tools")
             workers = Workers(client, plan, total)
             threading.Thread(target=watch_workers, args=(workers, address, end), daemon=True).start()
