@@ -25,7 +25,7 @@ from typing import cast
 
 from cca_tools.command_line import Parser, run_command
 from cca_tools.desk.disk import Missing, Refused, read_file
-from cca_tools.desk.journal import Entry, chained, line_sum, replayed
+from cca_tools.desk.journal import Entry, LogOfEntries, chained, line_sum, replayed
 from cca_tools.desk.record import Record, Tester, need_kept, posted_of
 from cca_tools.rules.printable import printable
 from cca_tools.rules.publication import KEPT
@@ -81,9 +81,9 @@ def facts(entry: Entry) -> Iterator[str]:
             yield f"{NAMES.get(name, printable(name))}: {printable(text)}"
 
 
-def rows(entry: Entry, log: bytes) -> Iterator[str]:
-    """The lines that an entry adds to the log, with their replies."""
-    first, replies = log[: entry.start].count(b"\n") + 1, entry.names("replies")
+def rows(entry: Entry, first: int) -> Iterator[str]:
+    """The lines that an entry adds to the log, with their replies, by the number of the first."""
+    replies = entry.names("replies")
     for place, line in enumerate(entry.text.decode("latin-1").splitlines()):
         reply = f"  -> {printable(replies[place])}" if place < len(replies) else "  (no reply was given)"
         yield f"{first + place:>6}  {printable(line)}{reply}"
@@ -98,11 +98,11 @@ def head_words(entry: Entry) -> str:
     return "" if entry.what == "line" else WORDS.get(entry.what, printable(entry.what))
 
 
-def block(entry: Entry, log: bytes) -> list[str]:
-    """What is printed of an entry, by the log before it."""
-    away = [f"    taken away: {printable(it)}" for it in log[entry.start :].decode("latin-1").splitlines()]
+def block(entry: Entry, log: LogOfEntries) -> list[str]:
+    """What is printed of an entry, by the log before it, which takes the entry."""
+    away = [f"    taken away: {printable(it)}" for it in log.take(entry).decode("latin-1").splitlines()]
     below = [*(f"    {it}" for it in facts(entry)), *away]
-    added, head = list(rows(entry, log)), head_words(entry)
+    added, head = list(rows(entry, log.first(entry))), head_words(entry)
     if not head and len(added) == 1:
         return [f"{time_of(entry.at)}  {added[0].strip()}", *below]
     return [f"{time_of(entry.at)}  {head}".rstrip(), *below, *(f"    {it}" for it in added)]
@@ -110,13 +110,12 @@ def block(entry: Entry, log: bytes) -> list[str]:
 
 def protocol(data: bytes) -> str:
     """The whole protocol of a journal. Raises `Refused`."""
-    entries, log, found = chained(data), b"", ["PROTOCOL OF THE AUCTION", ""]
+    entries, log, found = chained(data), LogOfEntries(), ["PROTOCOL OF THE AUCTION", ""]
     if not entries:
         raise Refused("The journal has no entry.")
     replayed(entries)
     for entry in entries:
         found += block(entry, log)
-        log = log[: entry.start] + entry.text
     return "\n".join([*found, "", *ending(entries, data)])
 
 

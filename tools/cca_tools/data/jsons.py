@@ -2,6 +2,7 @@
 
 from __future__ import annotations
 
+import collections
 import json
 from collections.abc import Iterable, Iterator, Mapping, Sequence
 from decimal import Decimal
@@ -25,8 +26,9 @@ def no_key_twice(pairs: Sequence[tuple[str, object]]) -> dict[str, object]:
     """The object of these members."""
     found = dict(pairs)
     if len(found) < len(pairs):
-        names = [name for name, _ in pairs]
-        fault(f"an object of the JSON has the key {listed([next(it for it in names if names.count(it) > 1)])} twice")
+        counts = collections.Counter(name for name, _ in pairs)
+        twice = next(name for name, count in counts.items() if count > 1)
+        fault(f"an object of the JSON has the key {listed([twice])} twice")
     return found
 
 

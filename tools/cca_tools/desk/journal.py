@@ -95,7 +95,7 @@ class Entry:
             if not all(type(field) is form for field, form in forms):
                 return None
             return Entry(at, what, epoch, start, text.encode("latin-1"), length, total, more, prev)
-        except (ValueError, KeyError, AttributeError, TypeError):
+        except (ValueError, KeyError, AttributeError, TypeError, RecursionError):
             return None
 
     def names(self, key: str) -> list[str]:
@@ -144,7 +144,7 @@ def is_older(line: bytes) -> bool:
     """Whether a line is an entry of a desk of before version 1, which had no chain."""
     try:
         found = json.loads(line)
-    except ValueError:
+    except (ValueError, RecursionError):
         return False
     return isinstance(found, dict) and "what" in found and "prev" not in found
 
@@ -251,6 +251,25 @@ def chained(data: bytes, before: bytes | None = None, lines: int = 0) -> list[En
 def changed_words(number: int, what: str) -> str:
     """What is said of a journal that somebody has changed."""
     return f"The journal was changed by hand: its line {number}, {what}. Put its copy back."
+
+
+class LogOfEntries:
+    """The log that the entries of a journal lead to, one after another, with the number of its lines."""
+
+    def __init__(self) -> None:
+        self.data, self.lines = bytearray(), 0
+
+    def take(self, entry: Entry) -> bytes:
+        """Takes an entry, and returns what it takes away from the end of the log."""
+        away = bytes(self.data[entry.start :])
+        del self.data[entry.start :]
+        self.data += entry.text
+        self.lines += entry.text.count(b"\n") - away.count(b"\n")
+        return away
+
+    def first(self, entry: Entry) -> int:
+        """The number of the line with which the entry that was taken last begins."""
+        return self.lines - entry.text.count(b"\n") + 1
 
 
 def replayed(entries: Sequence[Entry]) -> bytes:

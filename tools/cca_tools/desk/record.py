@@ -11,7 +11,7 @@ from collections.abc import Callable, Mapping, Sequence
 from dataclasses import dataclass
 
 from cca_tools.desk.disk import Refused, sum_of
-from cca_tools.desk.journal import KINDS, Damaged, Entry, chained, need_version, replayed, seconds_back
+from cca_tools.desk.journal import KINDS, Damaged, Entry, LogOfEntries, chained, need_version, replayed, seconds_back
 from cca_tools.rules.auction import replay
 from cca_tools.rules.award import Award, read_award
 from cca_tools.rules.log import read_log
@@ -133,7 +133,7 @@ class Tester:
     def __init__(self, award: bytes, key: bytes) -> None:
         self.award_data, self.key, self.award = award, key, read_award(award)
         self.sealer = Sealer(key, sum_of(award))
-        self.posted, self.public, self.log = self.sealer.head(), Public(), bytearray()
+        self.posted, self.public, self.log = self.sealer.head(), Public(), LogOfEntries()
 
     def record(self, journal: bytes) -> Record:
         """The record of a journal. Raises `Refused`."""
@@ -152,15 +152,13 @@ class Tester:
         self.need_all_posted(len(entries) + 1, now)
         if self.public.pending:
             raise Refused("The journal ends with a cut or a change that was never posted.")
-        return Record(entries, bytes(self.log), self.public, self.posted)
+        return Record(entries, bytes(self.log.data), self.public, self.posted)
 
     def step(self, number: int, entry: Entry, now: Replayed) -> None:
         """Tests the replies that an entry has, and what it posts."""
-        first = self.log[: entry.start].count(b"\n") + 1
-        del self.log[entry.start :]
-        self.log += entry.text
+        self.log.take(entry)
         if entry.what == "line":
-            self.need_replies(number, entry, first, now)
+            self.need_replies(number, entry, self.log.first(entry), now)
         if entry.what == "posted":
             self.need_row(number, entry, now)
         else:
@@ -238,14 +236,14 @@ class Tester:
         row, event = posted_of(entry)
         due = self.due(number, now)
         if row.kind == "publish" and now.is_over and not due:
-            due = [Event("publish", 0, len(self.log))]
+            due = [Event("publish", 0, len(self.log.data))]
         place = f"The line that the journal's entry {number} posts"
         wanted = (due[0].text(), reason_of(due[0].why), due[0].length) if due else None
-        if wanted != (row.event, row.why, event.length) or event.length > len(self.log):
+        if wanted != (row.event, row.why, event.length) or event.length > len(self.log.data):
             raise Refused(f"{place}, `{row.event}`, isn't the one that was due.")
         if row.number != len(self.public.rows) + 1 or row.time != seconds(entry.at):
             raise Refused(f"{place} has another number or time than its entry.")
-        seal = self.sealer.seal(row.unsealed(), bytes(self.log[: event.length]), entry.prev, self.posted)
+        seal = self.sealer.seal(row.unsealed(), bytes(self.log.data[: event.length]), entry.prev, self.posted)
         if not hmac.compare_digest(seal, row.seal):
             raise Refused(
                 f"{place} has a seal that isn't made of this award, key, log and journal and the lines before it."
