@@ -82,6 +82,17 @@ class Bench(unittest.TestCase):
                 self.assertRegex(done.stdout, re.compile(line, re.MULTILINE))
 
     @with_program
+    def test_growth_of_each_input(self) -> None:
+        """Small sizes, which take no time."""
+        done = ran("bench/inputs", "--one", "--largest", "2", "--doublings", "0")
+        rows = [line.split(" | ") for line in done.stdout.splitlines()[2:-1]]
+        inputs = "award log book weights slots edits cert placed names values plan noted posted journal bids arguments"
+        self.assertEqual((done.returncode, done.stderr), (0, ""))
+        self.assertEqual(sorted(row[1] for row in rows), sorted(inputs.split()))
+        self.assertEqual({len(row) for row in rows}, {6})
+        self.assertEqual(done.stdout.splitlines()[-1], "rows whose time grows faster than 3 times as a size doubles: 0")
+
+    @with_program
     def test_another_program_is_seen(self) -> None:
         """Each run of `win` differs if the earlier program answers it otherwise: 7 on each of 3 samples."""
         with tempfile.TemporaryDirectory() as folder:
@@ -143,6 +154,7 @@ class Bench(unittest.TestCase):
             ["checks/documents", "nothing"],
             ["checks/edge_runs", "-1"],
             ["checks/edge_runs", "1", "2", "3", "4"],
+            ["bench/inputs", "x"],
             ["bench/late"],
             ["bench/late", "nothing"],
             ["build/libraries", "nothing"],
