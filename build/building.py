@@ -11,6 +11,7 @@ import shutil
 import signal
 import subprocess
 import sys
+import tempfile
 import time
 from collections.abc import Callable, Iterator, Mapping, Sequence
 from typing import TextIO
@@ -20,7 +21,8 @@ OUT = ROOT / "crates" / "cca" / "out"
 FAILED = 70
 # The libraries that each crate uses.
 Uses = dict[str, list[str]]
-# The signals that came to end this call, in order.
+# The signals that would end this call, and those that came, in order.
+NOTED = (signal.SIGINT, signal.SIGTERM, signal.SIGHUP)
 signals: list[int] = []
 
 
@@ -30,6 +32,32 @@ class NotBuilt(Exception):
     def __init__(self, why: str, status: int = FAILED) -> None:
         super().__init__(why)
         self.status = status
+
+
+NO_ROOM = "No space left on device"
+
+
+def remedy() -> str:
+    """What to do if temporary files have no room."""
+    place = os.environ.get("TMPDIR") or "/tmp"
+    return f"Temporary files have no room in {place}: make room there, or set TMPDIR to a folder that has some."
+
+
+@contextlib.contextmanager
+def temporary_folder(prefix: str) -> Iterator[pathlib.Path]:
+    """A new folder for temporary files, which is removed with the block. A disk that is full is a `NotBuilt`."""
+    try:
+        made = tempfile.TemporaryDirectory(prefix=prefix)
+    except OSError:
+        raise NotBuilt(remedy()) from None
+    with made as folder:
+        try:
+            yield pathlib.Path(folder)
+        except OSError as error:
+            # (copying a tree collects its errors)
+            if NO_ROOM not in str(error):
+                raise
+            raise NotBuilt(remedy()) from None
 
 
 def below(uses: Uses, top: str) -> set[str]:
@@ -186,9 +214,18 @@ def say(text: str, end: str = "\n") -> None:
 
 def note_signals() -> None:
     """From here on a signal that would end this call is noted in `signals`, unless the caller has it ignored."""
-    for number in (signal.SIGINT, signal.SIGTERM, signal.SIGHUP):
+    for number in NOTED:
         if signal.getsignal(number) != signal.SIG_IGN:
             signal.signal(number, lambda number, _: signals.append(number))
+    # (Ctrl-C has waited since the first line of the script)
+    signal.pthread_sigmask(signal.SIG_UNBLOCK, {signal.SIGINT})
+
+
+def stop_noting_signals() -> None:
+    """From here on a signal ends this call at once, unless the caller has it ignored."""
+    for number in NOTED:
+        if signal.getsignal(number) != signal.SIG_IGN:
+            signal.signal(number, signal.SIG_DFL)
 
 
 def has_ended(process: subprocess.Popen[bytes], seconds: float) -> bool:

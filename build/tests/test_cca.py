@@ -497,6 +497,26 @@ class Doors(Case):
         self.assertIn(f"no program may run in {self.temporary} (noexec): set TMPDIR to a folder ", ran.stderr)
         self.assertEqual(self.noted("calls"), [])
 
+    def test_temporary_files_without_room(self) -> None:
+        """TMPDIR on a disk that is full as the crates are copied there."""
+        mount = (
+            'mount -t tmpfs -o size=64k none "$TMPDIR" && head -c 57344 /dev/zero > "$TMPDIR/full" && "$0" -E "$1" a'
+        )
+        words = ["unshare", "--mount", "--map-root-user", "sh", "-c", mount, sys.executable, str(self.root / "cca")]
+        if (
+            not shutil.which("unshare")
+            or subprocess.run(["unshare", "-m", "-r", "true"], capture_output=True).returncode
+        ):
+            self.skipTest("no file system can be mounted here")
+        variables = {"PATH": f"{self.kit / 'bin'}:/usr/bin:/bin:/usr/sbin:/sbin", "TMPDIR": str(self.temporary)}
+        ran = subprocess.run(words, env=variables, capture_output=True, text=True, timeout=40)
+        self.assertEqual((ran.returncode, ran.stdout), (70, ""), ran.stderr)
+        fault, last = ran.stderr.splitlines()[-2:]
+        self.assertRegex(
+            fault, rf"Temporary files have no room in {self.temporary}: make room there, or set TMPDIR to "
+        )
+        self.assertEqual(last, "cca was not built.")
+
 
 if __name__ == "__main__":
     unittest.main()

@@ -1,10 +1,14 @@
 """From the files to the verdict of Coq's kernel."""
 
 import argparse
+import contextlib
+import errno
+import os
 import pathlib
 import subprocess
 import sys
 import tempfile
+from collections.abc import Iterator
 
 from second_proof.coq_audit.plain import NotPlain, NotToml, plain_award, plain_log, without_comments
 from second_proof.coq_audit.theorems import AUDIT, Kind, in_words, kind_of, proof
@@ -24,6 +28,19 @@ class Stop(Exception):
     def __init__(self, status: int, line: str) -> None:
         super().__init__(line)
         self.status = status
+
+
+@contextlib.contextmanager
+def temporary_folder() -> Iterator[pathlib.Path]:
+    """A new folder for temporary files, which is removed with the block."""
+    try:
+        with tempfile.TemporaryDirectory() as folder:
+            yield pathlib.Path(folder)
+    except OSError as fault:
+        if fault.filename is not None and fault.errno != errno.ENOSPC:
+            raise
+        why = f"temporary files can't be written: {fault}; make room there, or set TMPDIR to a folder that has some"
+        raise Stop(70, f"second_proof/audit: {why}") from fault
 
 
 def words() -> argparse.Namespace:
@@ -119,9 +136,9 @@ def audited(paths: list[pathlib.Path], plain: pathlib.Path | None, keep: pathlib
             (plain / name).write_bytes(file)
     if kind is AUDIT and without_comments(files[0]) == spelled[0]:
         spelled = [files[0], *spelled[1:]]  # Coq takes the comments away itself
-    with tempfile.TemporaryDirectory() as folder:
-        said = checked(kind, spelled, pathlib.Path(folder))
-        path = pathlib.Path(folder) / "this_audit.v"
+    with temporary_folder() as folder:
+        said = checked(kind, spelled, folder)
+        path = folder / "this_audit.v"
         path.write_text(proof(kind, spelled, said))
         if keep is not None:
             keep.write_text(path.read_text())
@@ -138,9 +155,24 @@ def audited(paths: list[pathlib.Path], plain: pathlib.Path | None, keep: pathlib
     return lines, 0 if said[0] == "yes" else 1
 
 
+def need_output() -> None:
+    """Ends with 5 if what argparse has printed can't be written."""
+    try:
+        if sys.stdout is not None:
+            sys.stdout.flush()
+            return
+    except OSError:
+        pass
+    os._exit(5)
+
+
 def main() -> None:
     """Audits the files of the call. Any other end than by `sys.exit` is a fault of this program."""
-    args = words()
+    try:
+        args = words()
+    except SystemExit:
+        need_output()
+        raise
     try:
         lines, status = audited(args.files, args.plain, args.keep)
     except Stop as stop:

@@ -4,6 +4,7 @@ What a caller needs is here: the readers, the auction, the tests of a certificat
 raise.
 """
 
+import cca_tools.interrupts  # noqa: F401  (first, so that an import that fails after it ends with 70)
 from cca_tools.data.bids import make_book, read_bids, read_frame
 from cca_tools.data.prices import Price, Prices, price
 from cca_tools.data.raw import Sold

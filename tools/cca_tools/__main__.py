@@ -8,7 +8,8 @@ import pathlib
 import sys
 from collections.abc import Sequence
 
-from cca_tools.command_line import HELP, INTERRUPTED, VERSION, say, written
+from cca_tools.command_line import HELP, VERSION, say, written
+from cca_tools.interrupts import take_over
 from cca_tools.rules.stops import DONE, WORDS, WRITE_FAULT
 from cca_tools.version import version_line
 
@@ -36,10 +37,8 @@ def main(argv: Sequence[str]) -> int:
 
 def script() -> int:
     """The command `cca-tools` of an installed package."""
-    try:
-        return main(sys.argv[1:])
-    except KeyboardInterrupt:
-        return INTERRUPTED
+    take_over()
+    return main(sys.argv[1:])
 
 
 if __name__ == "__main__":

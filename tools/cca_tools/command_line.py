@@ -15,6 +15,7 @@ import traceback
 from collections.abc import Callable, Iterator, Sequence
 from typing import IO, NoReturn, TypeAlias
 
+from cca_tools.interrupts import INTERRUPTED, interruptible
 from cca_tools.rules.printable import printable
 from cca_tools.rules.stops import CRASH, DONE, MEMORY, NO, NO_TEXT, WORDS, WRITE_FAULT, Stop
 from cca_tools.rules.telling import meaning, told
@@ -25,7 +26,6 @@ Run: TypeAlias = Callable[[argparse.Namespace], str]
 ColourOf: TypeAlias = Callable[[str], Colour | None]
 HELP = (["-h"], ["--help"])
 VERSION = ["--version"]
-INTERRUPTED = 130  # the status of a run that Ctrl-C stops
 
 
 class Alone(argparse.Action):
@@ -115,7 +115,7 @@ def run_command(parser: Parser, run: Run, argv: Sequence[str]) -> int:
         return NO_TEXT
     complete(parser)
     try:
-        with progress.of(parser.prog):
+        with interruptible(), progress.of(parser.prog):
             text = text_of(parser, run, argv)
         return DONE if printed(parser, text) else WRITE_FAULT
     except Stop as stop:

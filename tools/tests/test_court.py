@@ -142,6 +142,11 @@ class Awards(unittest.TestCase):
                 self.assertEqual(self.answer(award), ((f"cca: refused award {numbers}", 3),) * 2)
 
 
+def take_interrupts():
+    """Lets a process be ended by Ctrl-C, also if the caller ignores that."""
+    signal.signal(signal.SIGINT, signal.SIG_DFL)
+
+
 class Files(unittest.TestCase):
     def test_one_file_of_the_standard_library(self) -> None:
         for name in ("audit", "check"):
@@ -340,7 +345,9 @@ class Files(unittest.TestCase):
                 pipe = os.path.join(folder, "pipe")
                 os.mkfifo(pipe)
                 words = [os.path.join(TOOLS, name), pipe, *(os.path.join(folder, str(n)) for n in range(1, count))]
-                with subprocess.Popen(words, stdout=subprocess.PIPE, stderr=subprocess.PIPE) as child:
+                pipes = {"stdout": subprocess.PIPE, "stderr": subprocess.PIPE}
+                # (a job in the background has Ctrl-C ignored)
+                with subprocess.Popen(words, preexec_fn=take_interrupts, **pipes) as child:
                     with open(pipe, "wb"):  # the tool has opened it too, and waits for its bytes
                         child.send_signal(signal.SIGINT)
                         self.assertEqual((*child.communicate(), child.returncode), (b"", b"", 130))

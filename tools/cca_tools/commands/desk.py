@@ -36,7 +36,7 @@ import sys
 from collections.abc import Sequence
 from pathlib import Path
 
-from cca_tools.command_line import Parser, run_command, say
+from cca_tools.command_line import Parser, run_command, say, written
 from cca_tools.rules.names import read_names
 from cca_tools.rules.pricing import winners_warning
 from cca_tools.rules.program import program
@@ -164,7 +164,10 @@ def served(options: argparse.Namespace, path: Path, port: int) -> str:
     guard = Guard(listener.getsockname()[1], second_key=new_key() if options.second else "")
     app = make_app(made, guard, Ending(made, path_of(options.names)), options.demand)
     second = f"second  {in_groups(guard.second_key)}\n" if options.second else ""
-    print(f"desk  {guard.origin}/\nkey   {in_groups(guard.key)}\n{second}room  {guard.origin}/posted", flush=True)
+    if not written(
+        sys.stdout, f"desk  {guard.origin}/\nkey   {in_groups(guard.key)}\n{second}room  {guard.origin}/posted"
+    ):
+        raise Stop("cca: stopped", WRITE_FAULT, why="the desk's address and key can't be printed")
     serve(app, listener)
     return "The desk is closed."
 

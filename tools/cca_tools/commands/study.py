@@ -65,8 +65,9 @@ from collections.abc import Iterator, Sequence
 
 from cca_tools.command_line import Parser, run_command, say
 from cca_tools.data.numbers import MARKS, Mark
+from cca_tools.interrupts import INTERRUPTED
 from cca_tools.page import html
-from cca_tools.rules.stops import CRASH, Stop
+from cca_tools.rules.stops import Stop
 from cca_tools.rules.words import NUMBER
 from cca_tools.studies.kept import keep_auction
 from cca_tools.studies.measures import results_of
@@ -167,7 +168,8 @@ def study(options: argparse.Namespace) -> str:
     try:
         fill(store, options.scheduler, processes)
     except KeyboardInterrupt:
-        raise Stop("cca: stopped", CRASH, why=f"{len(store.rows)} auctions are kept; run it again to go on") from None
+        why = f"{len(store.rows)} auctions are kept; run it again to go on"
+        raise Stop("cca: stopped", INTERRUPTED, why=why) from None
     return "\n".join(written_of(store, title, options.decimal))
 
 

@@ -1,0 +1,59 @@
+"""What a run does at Ctrl-C, and how it ends if an import of the package fails.
+
+A run that is interrupted ends with 130 and without a word, and one that crashes with 70: Python's own status of both
+is 1, that of a verdict `no ..`. The scripts of tools/ have their own `crashed` and `interrupted`, since they have to
+end so too if the package isn't there.
+"""
+
+from __future__ import annotations
+
+import contextlib
+import os
+import signal
+import sys
+import threading
+from collections.abc import Iterator
+from types import FrameType, TracebackType
+
+CRASH, INTERRUPTED = 70, 130
+
+
+def crashed(kind: type[BaseException], fault: BaseException, trace: TracebackType | None) -> None:
+    """Ends the process with 130 after Ctrl-C, else with 70 after a traceback."""
+    try:
+        if kind is not KeyboardInterrupt:
+            sys.__excepthook__(kind, fault, trace)
+            sys.stderr.flush()
+    finally:
+        os._exit(INTERRUPTED if kind is KeyboardInterrupt else CRASH)
+
+
+def interrupted(number: int, frame: FrameType | None) -> None:
+    """Ends the process at Ctrl-C, without a word."""
+    os._exit(INTERRUPTED)
+
+
+def take_over() -> None:
+    """Has this process end as a run of a tool does."""
+    sys.excepthook = crashed
+    if signal.getsignal(signal.SIGINT) != signal.SIG_IGN:
+        signal.signal(signal.SIGINT, interrupted)
+
+
+@contextlib.contextmanager
+def interruptible() -> Iterator[None]:
+    """A block that Ctrl-C leaves by KeyboardInterrupt, so that it can clear away what it has made."""
+    before = signal.getsignal(signal.SIGINT)
+    if not callable(before) or threading.current_thread() is not threading.main_thread():
+        yield
+        return
+    signal.signal(signal.SIGINT, signal.default_int_handler)
+    try:
+        yield
+    finally:
+        signal.signal(signal.SIGINT, before)
+
+
+# `python3 -m cca_tools` and the command `cca-tools` import the package before they run it.
+if sys.argv and os.path.basename(sys.argv[0]) in ("-m", "cca-tools"):
+    take_over()
