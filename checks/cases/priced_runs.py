@@ -235,9 +235,10 @@ def take_certificate(record: Record, book: Book, printed: Sequence[str], cert: b
 
 
 def read_records(path: pathlib.Path) -> Iterator[Record]:
-    """The records of a file, a later one of a number after an earlier one. A last line that a kill has cut is left
-    out."""
-    if path.exists():
-        for line in path.read_text().splitlines(keepends=True):
-            if line.endswith("\n"):
-                yield Record(**json.loads(line))
+    """The records of a file, a later one of a number after an earlier one. A last line that a kill has cut is removed
+    from the file."""
+    data = path.read_bytes() if path.exists() else b""
+    whole = data.rpartition(b"\n")[0].splitlines()
+    if data and not data.endswith(b"\n"):
+        path.write_bytes(b"".join(line + b"\n" for line in whole))
+    return (Record(**json.loads(line)) for line in whole)

@@ -130,7 +130,9 @@ class Counts(unittest.TestCase):
         self.assertIn("| tools/check | 2 | 2 |", said)
         self.assertIn("| cca | 0 | 0 |", said)
         self.assertEqual(f"| second proof | {2 * CHECKER.exists()} | {2 * CHECKER.exists()} |" in said, True)
-        # (it goes on)
+        # (it goes on, also after a kill that has cut a line)
+        with open(self.folder / "many.jsonl", "a") as file:
+            file.write('{"number": 99')
         said, status = self.count("many", "3")
         found = self.records("many")
         self.assertEqual((len(found), len({it["number"] for it in found})), (3, 3))
