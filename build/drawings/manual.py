@@ -17,7 +17,31 @@ cca \\- run a combinatorial clock auction, and price it by core-selecting prices
 """
 
 
-TAIL = """.SH SEE ALSO
+# What FORMATS says in sentences, as a reader of manual pages looks for it.
+OPTIONS = """.SH OPTIONS
+.TP
+.B \\-\\-rounds
+Prints first a line for each round of pricing: its point, and which winners have to pay more from then on.
+.TP
+.B \\-\\-json
+Prints winners and prices as one line of JSON.
+.PP
+Options come after the files, each once.
+"""
+TAKES = {"award": "rounds json", "price": "rounds json", "weigh": "rounds json", "place": "rounds"}
+TAIL = """.SH EXAMPLES
+.PP
+.nf
+.RS
+cca award sale.award sale.log sale.cert
+cca audit sale.award sale.log sale.cert
+cca price examples/day\\-cramton.book new.cert \\-\\-rounds
+.RE
+.fi
+.PP
+The first prices an auction that is over, and makes its certificate; the second tests it. Both print the winners with
+their prices.
+.SH SEE ALSO
 docs/README.md lists all pages. docs/AUCTIONEER.md has the day of an auction, docs/CERTIFICATES.md the certificate and
 its tests.
 """
@@ -50,7 +74,13 @@ def table(rows: Iterable[str]) -> Iterator[str]:
     head, *body = [cells(row) for row in rows if not re.fullmatch(r"[|\s-]+", row)]
     for tag, *others in body:
         said = [SAID.get(name, "{}").format(cell) for name, cell in zip(head[1:], others) if cell]
-        yield ".TP\n" + (f".B {tag}" if tag else "\\&") + "\n" + (" ".join(said) or "\\&")
+        yield ".TP\n" + (f".B {tag}{options(tag)}" if tag else "\\&") + "\n" + (" ".join(said) or "\\&")
+
+
+def options(tag):
+    """The options of a command, by the words that call it."""
+    name = tag.split(" ")[1] if tag.startswith("cca ") else ""
+    return "".join(f" [\\-\\-{it}]" for it in TAKES.get(name, "").split())
 
 
 def paragraph(lines: Iterable[str]) -> Iterator[str]:
@@ -89,6 +119,8 @@ def manual(text: str) -> str:
         lines = piece.strip("\n").split("\n")
         if lines[0].startswith("#"):
             head = plain(lines[0].lstrip("# ")).upper() if lines[0].startswith("## ") else "DESCRIPTION"
+            if head == "STATUSES":
+                made.append(OPTIONS.rstrip("\n"))
             made.append(".SH " + SECTIONS.get(head, head))
             lines = lines[1:]
         if not lines or not lines[0].strip():

@@ -10,6 +10,7 @@ import subprocess
 import tempfile
 import unittest
 import xml.etree.ElementTree as ElementTree
+from collections.abc import Callable
 
 from checks.cases import samples  # noqa: F401, finds cca_tools
 
@@ -28,7 +29,7 @@ RESULTS = {
     "book, weights, certificate": ("weigh-check", "weigh", ["day-cramton.book", "day-cramton.weights"]),
     "slots, certificate": ("place-check", "place", ["band.slots"]),
 }
-COURT = {
+COURT: dict[str, Callable[[list[str], str], list[str]]] = {
     "audit": lambda files, cert: ["audit", *files, cert],
     "check": lambda files, cert: ["check", *files, cert],
     "weigh-check": lambda files, cert: ["check", files[0], cert, files[1]],

@@ -149,6 +149,7 @@ class Writer:
 
     def __init__(self) -> None:
         self.numbers = count(1)
+        self.card_level = 3  # of the titles of cards: below the heading before them
 
     def block(self, block: Block) -> Iterator[str]:
         """A block of a section or of a card."""
@@ -161,6 +162,7 @@ class Writer:
         elif isinstance(block, Points):
             yield f"<ul>{''.join(f'<li>{marked(item)}</li>' for item in block.items)}</ul>\n"
         elif isinstance(block, Heading):
+            self.card_level = 4
             yield f"<h3>{escape(block.text)}</h3>\n"
         elif isinstance(block, Figures):
             pairs = (f"<div><dt>{escape(name)}</dt><dd>{escape(value)}</dd></div>" for name, value in block.pairs)
@@ -203,14 +205,14 @@ class Writer:
         yield f'<article class="card{" short" * card.is_short}">\n'
         if card.title:
             note = f" <small>{escape(card.note)}</small>" if card.note else ""
-            yield f"<h4>{escape(card.title)}{note}</h4>\n"
+            yield f"<h{self.card_level}>{escape(card.title)}{note}</h{self.card_level}>\n"
         for block in card.blocks:
             yield from self.block(block)
         yield "</article>\n"
 
     def section(self, section: Section) -> Iterator[str]:
         """A section with its title, and what its numbers say."""
-        title = escape(section.title)
+        title, self.card_level = escape(section.title), 3
         head = f"<small>{title}</small> {escape(section.finding)}" if section.finding else title
         yield f'<section id="{section.key}" aria-labelledby="{section.key}-head">\n'
         yield f'<h2 id="{section.key}-head">{head}</h2>\n'

@@ -103,7 +103,7 @@ def span(source: Source, c: int, run: Run) -> str:
     """Where a run is: its frequencies if they are known, or else the numbers of its lots."""
     found = edges(source, c, run)
     if found:
-        return f"{mhz(found[0])} to {mhz(found[1])} MHz"
+        return f"{mhz(found[0])} to {mhz(found[1])} MHz".replace(" ", "\N{NO-BREAK SPACE}")
     return f"lot {run.first}" if run.lots == 1 else f"lots {run.first} to {run.last}"
 
 

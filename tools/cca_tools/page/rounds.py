@@ -98,6 +98,11 @@ def category_about(name: str, rounds: Sequence[Round], supply: int, c: int) -> s
     return f"{price_about(name, rounds, c)} Asked for were {asked}; {number(supply)} are sold."
 
 
+def is_drawn(rounds: Sequence[Round]) -> bool:
+    """Whether there is something to draw: more than one round, and lots that are asked for."""
+    return len(rounds) > 1 and any(map(any, (it.demand for it in rounds)))
+
+
 def categories(source: Source, rounds: Sequence[Round]) -> Iterator[Card]:
     """A card for each category."""
     award, has_open = given(source.award), given(source.auction).open_round is not None
@@ -112,7 +117,7 @@ def categories(source: Source, rounds: Sequence[Round]) -> Iterator[Card]:
         picture = Picture(title, about, draw, table, findings.of_category(rounds, c, has_open, source.units))
         yield Card(
             name,
-            [picture if len(rounds) > 1 else table],
+            [picture if is_drawn(rounds) else table],
             f"{count(category.supply, 'lot')}, reserve {number(category.reserve)}{source.units}",
         )
 
@@ -209,7 +214,7 @@ def section(source: Source) -> Section:
     award, auction = given(source.award), given(source.auction)
     rounds, has_open = shown_rounds(auction), auction.open_round is not None
     blocks: list[Block] = [Words(how_it_went(source, rounds))]
-    if len(rounds) > 1:
+    if is_drawn(rounds):
         blocks += [Words(scale_words(award, rounds))]
         blocks += [Key([mark for mark in CATEGORY_KEY.marks if has_open or mark[1] != "dashed"])]
     blocks += [Cards(list(categories(source, rounds)), size=size(award))]

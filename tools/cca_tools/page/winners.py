@@ -330,7 +330,10 @@ def result(source: Source) -> list[Block]:
             Cards([Card("", [net_table(source)])], size="wide"),
         ]
     if source.has_prices:
-        return [Words("Nobody wins: there is no bid."), Cards([Card("", [lots_table(source)])])]
+        return [
+            Words("There is no bid, so the seller keeps all lots and gets nothing."),
+            Cards([Card("", [lots_table(source)])]),
+        ]
     return [Words(missing(source), "bad" if source.fault else "")]
 
 
