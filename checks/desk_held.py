@@ -284,7 +284,16 @@ class Auction:
         check("tools/audit", printed_by(TOOLS / "audit", self.award_path, self.log_path, cert), (0, "yes"))
         note = self.folder / "noted"
         note.write_text("".join(f"{line}\n" for line in self.noted))
-        words = [TOOLS / "seal", "check", "--journal", journal, key, self.award_path, self.log_path, note]
+        words: list[str | pathlib.Path] = [
+            TOOLS / "seal",
+            "check",
+            "--journal",
+            journal,
+            key,
+            self.award_path,
+            self.log_path,
+            note,
+        ]
         check("tools/seal check", printed_by(*words), (0, "yes"))
         words = [TOOLS / "journal", journal, "--check", self.award_path, self.log_path, key, posted]
         check("tools/journal --check", printed_by(*words), (0, "yes"))
