@@ -3,6 +3,7 @@
 from __future__ import annotations
 
 import itertools
+import re
 from collections.abc import Iterable, Mapping, Sequence
 from typing import Any, Protocol
 
@@ -68,6 +69,7 @@ def add_all(v: Cases) -> None:
         right,
         certificate_tests,
         alone,
+        packed_lines,
         ties,
         certificate_forms,
         numbers,
@@ -371,6 +373,20 @@ def day(**changes: Any) -> bytes:
         **changes,
     }
     return certificate_of((1, 1), DAY_BIDS, *(parts[key] for key in ("choice", "without", "den", "pay", "rows")))
+
+
+def packed_lines(v: Cases) -> None:
+    """Tables for a checker that keeps the entries of a line as one number, with some bits for each."""
+    both: Bids = [[((0, 1), 100), ((1, 1), 100)]] * 2
+    why = "an entry and a worth are of seven bits each, and their sum is of eight at a place where the package doesn't fit"
+    cert, answer = book_certificate((1, 1), (0, 0), both), "* winner b1 0 1 bid 100 vickrey 100 pays 100"
+    v.case("sum-of-eight-bits", why, "check", (book_of((1, 1), both), cert), answer)
+    v.case("sum-of-eight-bits-audited", why, "audit", (*auction_of((1, 1), both), cert), answer)
+    first, last = CERT.index(b"table\n") + len("table\n"), CERT.index(b"without")
+    raised = CERT[:first] + re.sub(rb"\d+", lambda entry: b"%d" % (int(entry[0]) + 1), CERT[first:last]) + CERT[last:]
+    why = "each entry is one too high, so that none is 0"
+    v.case("no-entry-of-0", why, "check", (BOOK, raised), "no C3 24")
+    v.case("no-entry-of-0-audited", why, "audit", (DAY_AWARD, DAY_LOG, raised), "no C3 24")
 
 
 def alone(v: Cases) -> None:
