@@ -23,18 +23,19 @@ PLACED = pathlib.Path(EXAMPLES, "..", "second_proof", "band.cert").read_bytes()
 
 
 # How the dimensions begin whose texts within the limits are of the form of their input, and not refused in reading.
-TAKEN = (
-    "bytes of a comment",
-    "bidders",
-    "records",
-    "quoted records",
-    "rounds",
-    "bids of",
-    "states",
+TAKEN: tuple[str, ...] = ("bytes of a comment", "bidders", "records", "quoted records", "rounds", "bids of", "states")
+TAKEN += (
     "places of",
     "edits",
+    "entries",
+    "lines of an entry",
+    "lines",
+    "torn lines",
+    "rows of",
+    "objects of",
+    "spaces",
 )
-TAKEN += ("entries", "lines of an entry", "lines", "torn lines", "rows of", "objects of", "spaces", "events")
+TAKEN += ("events",)
 
 
 class Grown(NamedTuple):
@@ -104,12 +105,13 @@ def toml(role: str, base: bytes) -> Iterator[Grown]:
         # (tables come after the keys of the top)
         is_last = it.dimension.startswith("tables")
         yield Grown(
-            role, it.dimension, room // it.size, lambda n, it=it, is_last=is_last: joined(base, it.text(n), is_last)
+            role, it.dimension, room // it.size, between(base, it.text, b"") if is_last else between(b"", it.text, base)
         )
 
 
-def joined(base: bytes, more: bytes, is_last: bool) -> bytes:
-    return base + more if is_last else more + base
+def between(head: bytes, text: Callable[[int], bytes], end: bytes) -> Callable[[int], bytes]:
+    """The texts that have another text before and after them."""
+    return lambda size: head + text(size) + end
 
 
 BIDDER = b'[[bidder]]\nname = "m%d"\neligibility = 1\n'
@@ -335,7 +337,7 @@ def journals(award: bytes) -> Iterator[Grown]:
         ("keys", 12, lambda n: b"{" + numbered(b'"k%d":1,', n)[:-1] + b"}"),
         ("blank lines", 1, lambda n: b"\n" * n),
     ):
-        yield Grown("journal", dimension, room // size, lambda n, text=text: begun + text(n) + b"\n")
+        yield Grown("journal", dimension, room // size, between(begun, text, b"\n"))
 
 
 def tables() -> Iterator[Grown]:

@@ -235,16 +235,18 @@ def line_sum(line: bytes | None) -> str:
 def chained(data: bytes, before: bytes | None = None, lines: int = 0) -> list[Entry]:
     """The entries of a journal, or of its rest after an entry's line and that many lines, oldest first. Raises
     `Damaged` for one without the checksum of the line before it, and for a line that no desk has written."""
-    found = list[Entry]()
+    found, parts = list[Entry](), [] if before is None else [before]
     for number, line in enumerate(data.split(b"\n")[:-1], lines + 1):
         new = Entry.of(line)
-        if new and not hmac.compare_digest(new.prev.encode(), line_sum(before).encode()):
+        if new and not hmac.compare_digest(new.prev.encode(), line_sum(b"\n".join(parts) if parts else None).encode()):
             raise Damaged(changed_words(number, f"of {new.at}, doesn't have the checksum of the line before it"))
         # (one text has one reading, so no line says one thing to this reader and another to a person)
         if new.line() != line if new else not line.endswith(TORN[:-1]):
             raise Damaged(changed_words(number, "isn't as a desk writes it"))
         found += [new] if new else []
-        before = line if new or before is None else before + b"\n" + line
+        if new:
+            parts.clear()
+        parts.append(line)
     return found
 
 
