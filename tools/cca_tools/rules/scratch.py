@@ -10,7 +10,7 @@ from pathlib import Path
 
 from cca_tools.rules.stops import CRASH, WRITE_FAULT, Stop
 
-NO_ROOM = (errno.ENOSPC, errno.EDQUOT, errno.EROFS)
+NO_ROOM = (errno.ENOSPC, errno.EDQUOT, errno.EROFS, errno.EFBIG)
 REMEDY = "make room there, or set TMPDIR to a folder with room"
 
 
