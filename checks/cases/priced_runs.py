@@ -79,13 +79,13 @@ class Files(NamedTuple):
 
 class Ended(NamedTuple):
     """What a run printed, what it said on standard error, its status, its processor time, and the most memory that it
-    or a process of its own had, in megabytes."""
+    or a process of its own had, in megabytes; 0 if it isn't measured."""
 
     printed: str
     errors: str
     status: int
     seconds: float
-    megabytes: float
+    megabytes: float = 0
 
 
 Pricer: TypeAlias = Callable[[Sequence[str]], Ended]
@@ -101,7 +101,7 @@ def ran(words: Sequence[str | pathlib.Path], **environment: str) -> Ended:
         out.seek(0)
         errors.seek(0)
         seconds = spent.ru_utime + spent.ru_stime
-        return Ended(out.read(), errors.read(), run.returncode, seconds, spent.ru_maxrss / 1024)
+        return Ended(out.read(), errors.read(), run.returncode, seconds)
 
 
 def here(without: Sequence[str] = ()) -> list[str]:
@@ -134,10 +134,10 @@ def price_words(files: Files, is_weighted: bool) -> list[str]:
 
 
 def priced(words: Sequence[str]) -> Ended:
-    """A run of tools/price in this process. Its memory isn't measured."""
+    """A run of tools/price in this process."""
     begun = time.process_time()
     printed, status, errors = called("price", *words)
-    return Ended(printed, errors, status, time.process_time() - begun, 0)
+    return Ended(printed, errors, status, time.process_time() - begun)
 
 
 def with_flags(*flags: str) -> Pricer:
@@ -146,8 +146,13 @@ def with_flags(*flags: str) -> Pricer:
 
 
 def priced_apart(words: Sequence[str]) -> Ended:
-    """A run of tools/price in a process of its own."""
-    return ran([sys.executable, os.path.join(TOOLS, "price"), *words])
+    """A run of tools/price in a process of its own, measured by /usr/bin/time: a process that this one starts counts
+    this one's memory as its own."""
+    with tempfile.NamedTemporaryFile("r") as file:
+        measured = ["/usr/bin/time", "--quiet", "-f", "%U %S %M", "-o", file.name]
+        ended = ran([*measured, sys.executable, os.path.join(TOOLS, "price"), *words])
+        user, system, kilobytes = file.read().split()
+        return ended._replace(seconds=float(user) + float(system), megabytes=int(kilobytes) / 1024)
 
 
 class Count:
