@@ -50,12 +50,15 @@ class Caps:
         self.eligibility = [closed.eligibility[j - 1] for closed in rounds]
         self.steps: dict[Package, list[tuple[Package, Amount]]] = {}
         self.in_clock: dict[Package, float] = {}
+        self.last_rounds: dict[int, int] = {}  # by the points of a package
 
     def constraining_round(self, package: Package) -> int:
         """The last round in which the bidder was eligible for the points of the package, and 0 if there is none."""
         points = self.award.points_of(package)
-        rounds = range(len(self.eligibility), 0, -1)
-        return next((r for r in rounds if self.eligibility[r - 1] >= points), 0)
+        if points not in self.last_rounds:
+            rounds = range(len(self.eligibility), 0, -1)
+            self.last_rounds[points] = next((r for r in rounds if self.eligibility[r - 1] >= points), 0)
+        return self.last_rounds[points]
 
     def highest(self, amounts: Mapping[Package, Amount], package: Package) -> Amount:
         """The highest amount for a package, in the clock and in the list: 0 for the empty package."""
