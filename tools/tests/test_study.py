@@ -295,7 +295,8 @@ class Runs(WithPlan):
         page = (self.folder / "whole" / "page.html").read_text()
         pictures = {path.name: path.read_text() for path in (self.folder / "whole").glob("*.svg")}
         self.assertEqual(sorted(pictures), ["pair1.svg", "pair2.svg", "pair3.svg", "pair4.svg", "rules.svg"])
-        self.assertEqual((page.count("<svg"), page.count("share 60 against 100")), (5, 6))
+        # (each of two pictures has it as the head of its card, twice in itself, and above its table)
+        self.assertEqual((page.count("<svg"), page.count("share 60 against 100")), (5, 8))
         self.assertIn("with the final cap (version 2) against without", pictures["pair2.svg"])
 
     def test_what_made_it(self) -> None:

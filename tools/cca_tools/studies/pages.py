@@ -269,7 +269,7 @@ ANSWERS = (
 def answer_table(answer: Answer) -> Table:
     """What a bidder tries, and what it gains."""
     rows: list[list[Content]] = [
-        [f"{it.label}, best" if it is answer.best else it.label, it.profit.words(), it.gain.words()]
+        [f"{it.label}, best" if it is answer.best else it.label, minus(it.profit.words()), minus(it.gain.words())]
         for it in answer.tried
     ]
     title = f"{answer.bidder}, with {answer.others}" if answer.others else answer.bidder
