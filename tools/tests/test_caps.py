@@ -137,7 +137,7 @@ class Fit(unittest.TestCase):
     def test_no_list_to_fit(self) -> None:
         for log, why in ((HEAD, "the clock is running"), ("close,,, / close,,, / ", "the auction is closed")):
             text, status = asked(SMALL.encode(), lines(log[:-3]), "east", "--fit")
-            self.assertEqual((text, status), (f"{why}: a list is fitted while lists are taken", 1))
+            self.assertEqual((text, status), (f"no list is fitted: {why}", 1))
         self.assertEqual(
             asked(SMALL.encode(), lines("close,,,"), "east", "--fit")[0].splitlines()[0], "east list 0 lowered 0"
         )

@@ -185,7 +185,7 @@ def fit(auction: Auction, j: BidderNumber) -> str:
     """The greatest list that is admitted, while lists are taken."""
     if auction.stage != "sealed":
         why = "the clock is running" if auction.stage == "clock" else "the auction is closed"
-        raise Stop(f"{why}: a list is fitted while lists are taken", NO)
+        raise Stop(f"no list is fitted: {why}", NO)
     return "\n".join(fit_lines(auction, j))
 
 

@@ -123,7 +123,7 @@ def program_rows(options: argparse.Namespace) -> list[tuple[str, str, bool]]:
     words = [path, "audit", options.award, options.log, options.cert]
     said = subprocess.run(words, stdin=subprocess.DEVNULL, capture_output=True, text=True).stdout
     if not said.startswith("yes\n"):
-        raise Stop(f"the program says {said.splitlines()[0] if said else 'nothing'}", NO, why="its audit isn't yes")
+        raise Stop(f"no set is made: the program says {said.splitlines()[0] if said else 'nothing'}", NO)
     data = pathlib.Path(path).read_bytes()
     mark = mark_of(data)
     return [

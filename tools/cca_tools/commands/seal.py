@@ -104,9 +104,9 @@ def add_due(options: argparse.Namespace, key: bytes, award: bytes, log: bytes) -
     events = hand.due(options.why, options.publish)
     if events and events[0].kind in ("back", "reopened") and not options.why:
         why = f"the log lacks close {events[0].close + 1} as it was posted; say with --why why it is void"
-        raise Stop("cca: refused posted", NO, why=why)
+        raise Stop("no line is posted", NO, why=why)
     if options.publish and not hand.ends[1]:
-        raise Stop("cca: refused log", NO, why="the auction isn't over, so no set can be published yet")
+        raise Stop("no line is posted", NO, why="the auction isn't over, so no set can be published yet")
     time = datetime.datetime.now().astimezone().isoformat(timespec="seconds")
     for event in events:
         hand.next_row(event, time)
@@ -145,7 +145,7 @@ def posted_by(
         try:
             read_posted(noted)
         except Stop:
-            raise Stop("cca: refused posted", NO, why=LACKS) from None
+            raise Stop("no line was tested", NO, why=LACKS) from None
     hand = ByHand(award, key, [log, *(load(file, "log") for file in options.cut)])
     hand.take(read_posted(noted if posted is None else posted))
     return hand.public, hand.foreign

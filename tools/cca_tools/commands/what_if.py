@@ -250,7 +250,7 @@ def least(award: Award, log: bytes, name: str, words: Sequence[str]) -> list[str
     j, package = bidder_of(name, award), package_of(words, award)
     auction = replay(award, read_log(log, award))
     if auction.final is None:
-        raise Stop("the clock is running: there are sealed amounts once it has ended", NO)
+        raise Stop("no amount wins yet: the clock is running, and sealed amounts come after it", NO)
     draft = Line(0, 0, "draft", name, j, package)
     if fault := auction.package_fault(draft, award.eligibility(j)):
         raise Stop(f"no amount wins, since the package can't be drafted. {reason(award, draft, fault)}", NO)
