@@ -88,7 +88,7 @@ def many_drafts(records: int) -> list[str]:
     """Drafts for more packages than a draft list holds, in turn."""
     clock = hostile_logs.Clock()
     supply = hostile_logs.SUPPLY
-    packages = [package for package in itertools.product(*(range(most + 1) for most in supply)) if any(package)]
+    packages = [(a, b) for a in range(supply[0] + 1) for b in range(supply[1] + 1) if a or b]
     drafts = (hostile_logs.line("draft", 1, package, str(10**9)) for package in itertools.cycle(packages))
     return (clock.lines + list(itertools.islice(drafts, records)))[: records - 1]
 

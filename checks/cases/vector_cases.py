@@ -203,14 +203,14 @@ def right(v: Cases) -> None:
         (0, 0, 1, 1, 0),
         (1, 0, 0, 0, 1),
     )
-    rows = [((1, 2), 1, 0, first), ((2, 3), 0, 8, last), ((3,), 1, -8, (1, 1, 0, 0, 0))]
+    parts: list[Row] = [((1, 2), 1, 0, first), ((2, 3), 0, 8, last), ((3,), 1, -8, (1, 1, 0, 0, 0))]
     v.case(
         "negative-second",
         "a second multiplier below 0 where the first is above 0",
         "check",
         (
             book_of((1, 1, 1), chain),
-            certificate_of((1, 1, 1), chain, (1, 1, 1, 0, 0), without, 1, (0, 8, 0, 0, 0), rows),
+            certificate_of((1, 1, 1), chain, (1, 1, 1, 0, 0), without, 1, (0, 8, 0, 0, 0), parts),
         ),
         "yes",
     )
@@ -362,17 +362,16 @@ def certificate_tests(v: Cases) -> None:
         both(v, f"test-{number}", why, edited(CERT, was, put), answer)
 
 
-def day(**changes: Any) -> bytes:
+def day(
+    choice: Sequence[int] | None = None,
+    without: Mapping[int, Sequence[int]] | None = None,
+    den: int = 1,
+    pay: Sequence[int] = (17, 15, 0, 0, 0),
+    rows: Sequence[Row] = (((1, 2), 1, 3, (0, 0, 1, 0, 0)),),
+) -> bytes:
     """The certificate of Day and Cramton with some parts otherwise, and tables that are exact for them."""
-    parts = {
-        "choice": DAY,
-        "without": DAY_WITHOUT,
-        "den": 1,
-        "pay": (17, 15, 0, 0, 0),
-        "rows": [((1, 2), 1, 3, (0, 0, 1, 0, 0))],
-        **changes,
-    }
-    return certificate_of((1, 1), DAY_BIDS, *(parts[key] for key in ("choice", "without", "den", "pay", "rows")))
+    other = DAY_WITHOUT if without is None else without
+    return certificate_of((1, 1), DAY_BIDS, DAY if choice is None else choice, other, den, pay, rows)
 
 
 def packed_lines(v: Cases) -> None:
@@ -961,9 +960,9 @@ def books(v: Cases) -> None:
         (BOOK[:-1], CERT),
         f"cca: refused book {len(BOOK) - 4}",
     )
-    text = BOOK[:-1] + b"s"
+    other = BOOK[:-1] + b"s"
     answer = f"cca: refused book {len(BOOK) - 4}"
-    v.case("book-no-feed-but-a-letter", "a letter in place of the last line feed", "check", (text, CERT), answer)
+    v.case("book-no-feed-but-a-letter", "a letter in place of the last line feed", "check", (other, CERT), answer)
     v.case("book-carriage", "a carriage return", "check", (BOOK.replace(b"\n", b"\r\n"), CERT), "cca: refused book 0")
     v.case("book-faulty-first", "the book is read before the certificate", "check", (b"x", b"x"), "cca: refused book 0")
     for name, text in (
@@ -1041,11 +1040,12 @@ def book_limits(v: Cases) -> None:
             (lines(f"book 1 / supply 20 11 9 / reserve 0 0 0 / bidder x / {''.join(bids[:count])}end"), b""),
             answer,
         )
-    for kind, count, command, before in (
+    limits: list[tuple[str, int, str, list[bytes]]] = [
         ("book", 1_048_576, "check", []),
         ("weights", 65_536, "weigh-check", [BOOK]),
         ("slots", 65_536, "place-check", []),
-    ):
+    ]
+    for kind, count, command, before in limits:
         for more in (0, 1):
             name = f"{kind}-{count + more}-bytes"
             v.case(
@@ -2023,8 +2023,9 @@ def full_lists(v: Cases) -> None:
     text = " / ".join(
         ["bid,east,19 19,", "close,,,", *drafts, "draft,east,18 18,860", "draft,east,0 1,11", "submit,east,,"]
     )
-    bids = [[(package, 10 * sum(package) + (500 if package == (19, 19) else 0)) for package in packages], []]
-    bids[0][0] = ((0, 1), 11)
+    of_east = [(package, 10 * sum(package) + (500 if package == (19, 19) else 0)) for package in packages]
+    of_east[0] = ((0, 1), 11)
+    bids: Bids = [of_east, []]
     cert = book_certificate((19, 19), (10, 10), bids)
     audits(
         v,
@@ -2035,13 +2036,14 @@ def full_lists(v: Cases) -> None:
         cert,
         "yes",
     )
-    lower = [[*bids[0][:-1], ((19, 19), bids[0][-1][1] - 100)], []]
+    least = of_east[-1][1] - 100
+    lower: Bids = [[*of_east[:-1], ((19, 19), least)], []]
     audits(
         v,
         "audit-replaced-in-a-full-list",
         "a draft of a package that a full list has replaces its amount",
         FULL,
-        text.replace("draft,east,0 1,11", f"draft,east,0 1,11 / draft,east,19 19,{lower[0][-1][1]}") + " / close,,,",
+        text.replace("draft,east,0 1,11", f"draft,east,0 1,11 / draft,east,19 19,{least}") + " / close,,,",
         book_certificate((19, 19), (10, 10), lower),
         "yes",
     )
@@ -2137,11 +2139,11 @@ def books_of_replies(v: Cases) -> None:
             v.case(f"{name}-audited", f"the book after these replies: {why}", "audit", (award, text, cert), "yes")
     two = (CAP + b"[[cap]]\nweight = [2]\nlimit = 3\n").replace(b"eligibility = 3", b"eligibility = 3\nholding = [0]")
     cert = book_certificate((3,), (10,), [[((1,), 10)], [((1,), 10)]])
-    log = "bid,east,1, / bid,east,2, / bid,west,1, / bid,west,2, / close,,, / close,,,"
-    audits(v, "audit-second-cap", "the second of two spectrum caps refuses two lots", two, log, cert, "yes")
+    records = "bid,east,1, / bid,east,2, / bid,west,1, / bid,west,2, / close,,, / close,,,"
+    audits(v, "audit-second-cap", "the second of two spectrum caps refuses two lots", two, records, cert, "yes")
     held = two.replace(b"holding = [0]", b"holding = [1]")
     cert = book_certificate((3,), (10,), [[], [((1,), 10)]])
-    audits(v, "audit-holding", "a holding counts in the second of two spectrum caps", held, log, cert, "yes")
+    audits(v, "audit-holding", "a holding counts in the second of two spectrum caps", held, records, cert, "yes")
 
 
 def filled(*tables: tuple[str, Mapping[str, object]], top: str = "version = 1\ntick = 1\n") -> bytes:
@@ -2193,13 +2195,14 @@ def last_allowed(v: Cases) -> None:
     log = OPEN + "draft,east,1,4398046511104 / draft,east,1,4398046511105 / submit,east,, / close,,,"
     bids = [[((1,), 2**42), ((3,), 30)], [((2,), 24)]]
     audits(v, "audit-amount-at-the-top", "an amount of 2^42", SALE, log, book_certificate((3,), (10,), bids), "yes")
-    for kind, count, before, answer in (
+    limits: list[tuple[str, int, list[bytes], str]] = [
         ("award", 65_536, [], "cca: refused award 1 0"),
         ("log", 8_388_608, [SALE], "cca: refused log 1"),
         ("cert", 67_108_864, [SALE, lines(ROW)], "cca: refused cert 0"),
-    ):
+    ]
+    for kind, count, before, answer in limits:
         name = f"{kind}-{count}-bytes"
-        words = [*before, name, *[b""] * (2 - len(before))]
+        words: list[bytes | str] = [*before, name, *[b""] * (2 - len(before))]
         v.case(
             f"{name}-audited",
             f"as many bytes as the limit of a {kind}",

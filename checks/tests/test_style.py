@@ -1,5 +1,5 @@
-"""All Python of the repository is formatted and linted, and what is shell is checked. The package, the scripts and the
-modules that TYPED names are typed.
+"""All Python of the repository is formatted and linted, and typed except for the files that UNTYPED names. What is
+shell is checked.
 
 A test is skipped if its program isn't installed.
 """
@@ -34,20 +34,69 @@ def head(path: pathlib.Path) -> bytes:
 
 PYTHON, SHELL = files(b"python", ".py"), files(b"/sh", ".sh")
 COURT = ["tools/audit", "tools/check"]
-# What is typed beside the package. Cases, comparisons and most tests aren't yet.
-TYPED = (
-    *("cca", "trial", "dev", "build/building.py", "build/usage.py", "build/kit.py", "build/libraries"),
-    *("build/release", "build/site", "build/draw", "build/tests/test_cca.py", "build/tests/test_trial.py"),
-    *("build/tests/test_release.py", "checks/tasks.py", "checks/compare", "checks/run_tests", "bench/times"),
-    *("checks/cases/samples.py", "checks/cases/program.py", "checks/tests/test_style.py"),
+# The files of tests that aren't typed yet, by their folders. All other Python is.
+UNTYPED = {
     *(
-        "checks/browser.py",
-        "checks/tests/test_desk_browser.py",
-        "tools/tests/test_doors.py",
-        "tools/tests/test_package.py",
+        f"checks/tests/{name}"
+        for name in (
+            "test_checks.py",
+            "test_edits.py",
+            "test_program_auctions.py",
+            "test_program_auctions_awards.py",
+            "test_program_auctions_logs.py",
+            "test_program_auctions_made.py",
+            "test_program_books.py",
+            "test_program_certs.py",
+            "test_program_runs.py",
+            "test_program_runs_certs.py",
+            "test_program_slots.py",
+        )
     ),
-    *("tools/tests/test_book_limits.py", "tools/why"),
-)
+    *(
+        f"tools/tests/{name}"
+        for name in (
+            "desk_client.py",
+            "test_auction.py",
+            "test_award.py",
+            "test_book.py",
+            "test_caps.py",
+            "test_check.py",
+            "test_court.py",
+            "test_data.py",
+            "test_desk_answers.py",
+            "test_desk_guard.py",
+            "test_desk_lists.py",
+            "test_desk_log.py",
+            "test_desk_pages.py",
+            "test_desk_people.py",
+            "test_findings.py",
+            "test_ink.py",
+            "test_log.py",
+            "test_log_tools.py",
+            "test_matching.py",
+            "test_pictures.py",
+            "test_places.py",
+            "test_price.py",
+            "test_publish.py",
+            "test_record.py",
+            "test_rehearse.py",
+            "test_report.py",
+            "test_state.py",
+            "test_strategies.py",
+            "test_study.py",
+            "test_tables.py",
+            "test_ties.py",
+            "test_toml.py",
+            "test_tools.py",
+            "test_values.py",
+            "test_what_if.py",
+            "test_why.py",
+        )
+    ),
+    *(f"vectors/{name}" for name in ("run",)),
+    *(f"vectors/tests/{name}" for name in ("test_vectors.py",)),
+}
+TYPED = [name for name in PYTHON if name not in UNTYPED and name not in COURT]
 
 
 class Style(unittest.TestCase):
@@ -64,7 +113,7 @@ class Style(unittest.TestCase):
         self.assertIn(".ci/run", SHELL)
 
     def test_types(self) -> None:
-        self.run_tool("mypy", "--no-error-summary", *TYPED, "tools/cca_tools")
+        self.run_tool("mypy", "--no-error-summary", *TYPED)
 
     def test_types_of_the_court_s_files(self) -> None:
         """Without the settings of the repository, as a court has them."""

@@ -207,7 +207,7 @@ class Answer(typing.NamedTuple):
     printed: str
 
 
-class Screen(browser.Browser):  # type: ignore[misc, unused-ignore]
+class Screen(browser.Browser):
     """A browser with the page."""
 
     def __init__(self) -> None:
@@ -435,7 +435,7 @@ class InChromium(unittest.TestCase):
         """By keys alone: from the input over each file to the button, and to the answer."""
         self.screen.choose(*SAMPLE)
         self.screen.evaluate("at('choose').focus(); null")
-        passed = []
+        passed: list[str] = []
         while (focus := self.screen.focus()) != "start" and len(passed) < 20:
             passed.append(focus)
             self.screen.key("Tab", 9)

@@ -247,8 +247,8 @@ class SecondProof(unittest.TestCase):
                 got, printed = ended(SECOND / "audit", *words)
                 self.assertEqual((got, printed[: len(line)]), (status, line))
         with open("/dev/full", "wb") as full:
-            words = [SECOND / "audit", AWARD, "/dev/null", CERT]
-            self.assertEqual(subprocess.run(words, stdout=full, check=False).returncode, 5)
+            files = [SECOND / "audit", AWARD, "/dev/null", CERT]
+            self.assertEqual(subprocess.run(list(map(str, files)), stdout=full, check=False).returncode, 5)
 
     def test_checker(self) -> None:
         """The checker prints the lines of the kernel's audit, and takes comments of an award, but no other spelling."""
