@@ -77,7 +77,7 @@ def table(rows: Iterable[str]) -> Iterator[str]:
         yield ".TP\n" + (f".B {tag}{options(tag)}" if tag else "\\&") + "\n" + (" ".join(said) or "\\&")
 
 
-def options(tag):
+def options(tag: str) -> str:
     """The options of a command, by the words that call it."""
     name = tag.split(" ")[1] if tag.startswith("cca ") else ""
     return "".join(f" [\\-\\-{it}]" for it in TAKES.get(name, "").split())

@@ -493,7 +493,6 @@ def alone(v: Cases) -> None:
         "no C4 2",
     )
     nil = [[((1,), 0), ((2,), 9)], [((1,), 4)], [((1,), 0)], [((2,), 3)]]
-    good = dict(choice=(2, 0, 0, 0), without={1: (0, 1, 1, 0)}, pay=(4, 0, 0, 0))
 
     def of_nil(
         without: Sequence[int] = (0, 1, 1, 0),
