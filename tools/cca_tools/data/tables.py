@@ -117,7 +117,8 @@ def columns_of(row: Row, sold: Sold, changes: list[str]) -> Columns:
     if unnamed:
         changes.append(f"left out column {', '.join(str(at + 1) for at in unnamed)}, which has no name")
     counts = [package] if package is not None else counted(heads, named, sold)
-    if left := [given[at] for at in named if at not in counts]:
+    taken_as_counts = set(counts)
+    if left := [given[at] for at in named if at not in taken_as_counts]:
         why = "there is a column for the package" if package is not None else "these aren't categories of the award"
         changes.append(f"left out the columns {', '.join(left)}, since {why}")
     columns = Columns(bidder, amount, tuple(counts), given, package is not None)
