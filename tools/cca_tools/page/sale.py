@@ -9,6 +9,8 @@ from cca_tools.page.source import Source, given
 from cca_tools.page.words import Names, count, listed, number
 from cca_tools.rules.award import Award, Step
 
+BESIDE = 8  # bidders whose table is beside the others; of more it has the whole width
+
 
 def categories(source: Source) -> Table:
     """What is sold."""
@@ -82,8 +84,12 @@ def section(source: Source, for_all: bool = True, more: Sequence[Block] = ()) ->
         sold = f"{bids} It has no log, so nothing is shown of rounds and lines."
         return Section("sale", "The sale", [Words(sold), Cards([Card("", [categories(source)])])])
     cards = [Card("", [categories(source)]), Card("", [steps(source.award, source.units)])]
+    wide: list[Block] = []
     if for_all:
-        cards.insert(1, Card("", [bidders(source.award, source.names)]))
-    return Section(
-        "sale", "The sale and its rules", [Cards(cards), Points(list(rules(source.award, source.names))), *more]
-    )
+        who = Card("", [bidders(source.award, source.names)])
+        if len(source.award.bidders) > BESIDE:
+            wide = [Cards([who], size="wide")]
+        else:
+            cards.insert(1, who)
+    told = Points(list(rules(source.award, source.names)))
+    return Section("sale", "The sale and its rules", [Cards(cards), *wide, told, *more])
