@@ -10,7 +10,7 @@ import functools
 import itertools
 import math
 import typing
-from collections.abc import Callable, Iterable, Iterator
+from collections.abc import Callable, Iterable, Iterator, Sequence
 
 from checks.cases.limit_pages import page_limits
 from checks.cases.samples import certificate_of
@@ -139,7 +139,7 @@ def price_before(price: int) -> int:
     return next(it for it in near if it + -(-it // 1000) == price)
 
 
-def drafted(drafts: list[tuple[tuple[int, ...], int]], listed: list[tuple[tuple[int, ...], int]]) -> Run:
+def drafted(drafts: Sequence[tuple[tuple[int, ...], int]], listed: Sequence[tuple[tuple[int, ...], int]]) -> Run:
     """An audit of an auction in which bidder x sends drafts, of which these are listed, and wins with the first of the
     greatest amounts at a price of 0."""
     lines = [f"draft,x,{a} {b},{amount}\n" for (a, b), amount in drafts]

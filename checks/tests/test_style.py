@@ -39,6 +39,8 @@ UNTYPED = {
     *(
         f"checks/tests/{name}"
         for name in (
+            "test_program_runs_auctions.py",
+            "test_program_edge.py",
             "test_checks.py",
             "test_edits.py",
             "test_program_auctions.py",
