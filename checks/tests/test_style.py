@@ -100,7 +100,13 @@ UNTYPED = {
 }
 # mypy takes a script for the module of its name, and this one would be the library's module `numbers`.
 SHADOWS = ["checks/numbers"]
-TYPED = [name for name in PYTHON if name not in (*UNTYPED, *SHADOWS, *COURT)]
+# What came without types of its own, and isn't typed yet either.
+LEFT = [
+    "checks/comparisons/economists.py",
+    "checks/record_kills",
+    "tools/tests/test_attacks.py",
+]
+TYPED = [name for name in PYTHON if name not in (*UNTYPED, *SHADOWS, *LEFT, *COURT)]
 
 
 class Style(unittest.TestCase):
