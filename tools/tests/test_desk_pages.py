@@ -620,7 +620,7 @@ class Auctions(DeskTest):
         self.assertEqual(done.returncode, 0)
         self.assertTrue((self.folder / "day.log.set" / "auction.key").exists())
         client.send("end/publish")
-        self.assertIn("already, and all its sums hold", client.text())
+        self.assertIn("already, next to the log, and all its checksums hold", client.text())
         client.send("end/report")
         self.assertTrue((self.folder / "day.log.html").read_bytes().startswith(b"<!DOCTYPE html>"))
 
