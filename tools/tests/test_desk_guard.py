@@ -374,6 +374,11 @@ class Room(DeskTest):
         return found[1] if found else "1"
 
 
+def take_interrupts() -> None:
+    """Has Ctrl-C end the program, also if the caller of the tests ignores it."""
+    signal.signal(signal.SIGINT, signal.SIG_DFL)
+
+
 @unittest.skipUnless(HAS_ALL, WHY)
 class AsProgram(unittest.TestCase):
     def setUp(self) -> None:
@@ -395,6 +400,7 @@ class AsProgram(unittest.TestCase):
             stdout=subprocess.PIPE,
             stderr=subprocess.PIPE,
             text=True,
+            preexec_fn=take_interrupts,
         )
         self.addCleanup(made.stderr.close)
         self.addCleanup(made.stdout.close)
