@@ -87,7 +87,8 @@ def table(made: Page, key: str, title: str) -> Rows:
 
 
 def plainly(text: str) -> str:
-    return text.replace(",", "")
+    """A number as the program prints it, of one as a page shows it."""
+    return text.replace(",", "").replace("\N{MINUS SIGN}", "-")
 
 
 def exactly(cell: Cell) -> str:
@@ -110,7 +111,8 @@ def figures(made: Page) -> dict[str, str]:
 def turns(made: Page) -> list[bool]:
     """How many turns a report has, and of each whether some coalition blocks in it."""
     blocks: list[Any] = [block for section in made.sections for block in section.blocks]
-    cards = [card for block in blocks for card in getattr(block, "cards", ())]
+    unfolded = [it for block in blocks for it in getattr(block, "blocks", (block,))]
+    cards = [card for block in unfolded for card in getattr(block, "cards", ())]
     return [card.blocks[1].text.startswith("No coalition blocks") for card in cards if card.title.startswith("Turn ")]
 
 
