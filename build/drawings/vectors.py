@@ -123,13 +123,11 @@ def auction_answer(paths: Sequence[str]) -> tuple[str, int]:
 
 def main(root: pathlib.Path) -> None:
     """Writes vectors/ below this folder."""
-    from checks.cases.vector_cases import add_all
-    from checks.cases.vector_winners import add_winners
+    from checks.cases.vectors_of.maker import add_all
 
     with tempfile.TemporaryDirectory() as folder:
         vectors = Vectors(folder)
         add_all(vectors)
-        add_winners(vectors)
         kept = root / "vectors"
         shutil.rmtree(kept / "files", ignore_errors=True)
         os.makedirs(kept / "files")

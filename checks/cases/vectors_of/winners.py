@@ -6,7 +6,7 @@ from collections.abc import Collection, Sequence
 from typing import TypeAlias
 
 from checks.cases.samples import Row, book_of, certificate_of, lines
-from checks.cases.vector_cases import Cases, auction_of, edited
+from checks.cases.vectors_of.cases import Cases, auction_of, edited
 
 # Of each loser how many lots it bids for, and its amount.
 Losers: TypeAlias = Sequence[tuple[int, int]]
@@ -37,6 +37,7 @@ def certificate(
     size = len(amounts)
 
     def choice(members: Collection[int], used: Collection[int]) -> tuple[int, ...]:
+        """All but the members win, and these losers."""
         return tuple(int(j not in members) for j in range(1, size + 1)) + tuple(
             int(n in used) for n in range(len(losers))
         )

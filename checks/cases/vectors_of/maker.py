@@ -1,0 +1,102 @@
+"""Collects the cases of vectors/ in their order, on which the names of files that several cases have depend."""
+
+from __future__ import annotations
+
+from collections.abc import Callable
+
+from checks.cases.vectors_of import (
+    auctions,
+    audits,
+    award_toml,
+    awards,
+    books,
+    certificate_alone,
+    certificate_forms,
+    certificate_tests,
+    certificates,
+    limits,
+    logs,
+    numbers,
+    placements,
+    slot_forms,
+    ties,
+    weights,
+    winners,
+    words,
+)
+from checks.cases.vectors_of.cases import Cases
+
+
+ADDERS: tuple[Callable[[Cases], None], ...] = (
+    certificates.same_prices,
+    certificates.few_winners,
+    certificates.thirds,
+    certificates.sixths_and_signs,
+    certificates.sizes,
+    certificates.reserves_and_rows,
+    certificate_tests.certificate_tests,
+    certificate_alone.denominators,
+    certificate_alone.choices,
+    certificate_alone.heads,
+    certificate_alone.parts,
+    certificate_alone.bids_of_nothing,
+    certificate_alone.choices_that_fit,
+    certificate_alone.signs,
+    certificate_alone.nearest,
+    certificate_alone.lowered_tables,
+    certificate_tests.packed_lines,
+    ties.ties_of_bids,
+    ties.ties_of_later_bidders,
+    ties.ties_in_tables,
+    certificate_forms.certificate_forms,
+    certificate_forms.certificate_versions,
+    numbers.denominators,
+    numbers.multipliers,
+    books.books,
+    books.limits_of_a_supply,
+    books.limits_of_bidders,
+    books.limits_of_bids_and_bytes,
+    weights.weighings,
+    weights.divisions,
+    weights.weight_forms,
+    placements.placements,
+    placements.placements_at_the_ends,
+    placements.placement_faults,
+    slot_forms.slot_forms,
+    awards.example_auctions,
+    awards.award_rules,
+    awards.award_limits,
+    award_toml.toml_spellings,
+    award_toml.toml_depths,
+    logs.log_forms,
+    logs.log_ends,
+    logs.log_limits,
+    logs.csv_texts,
+    auctions.clock_replies,
+    auctions.spectrum_caps,
+    auctions.sealed_replies,
+    auctions.reasons,
+    auctions.full_lists,
+    auctions.relative_caps,
+    auctions.raised_caps,
+    audits.last_submissions,
+    audits.other_books,
+    audits.limits_of_runs,
+    audits.other_payments,
+    audits.ticks_and_steps,
+    audits.full_lists,
+    ties.ties_audited,
+    award_toml.toml_least_number,
+    audits.books_of_replies,
+    limits.awards_at_their_limits,
+    limits.amounts_at_their_limits,
+    limits.orders_of_limits,
+    words.words,
+    winners.add_winners,
+)
+
+
+def add_all(v: Cases) -> None:
+    """Adds all cases."""
+    for add in ADDERS:
+        add(v)
