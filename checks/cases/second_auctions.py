@@ -44,7 +44,7 @@ def drawn(rng: random.Random) -> tuple[str, str, int]:
     return text, log_of(rng, Desk(read_award(text.encode())), supply, bidders), len(supply)
 
 
-def second_auction(award_name: str, log_name: str) -> tuple[str, str | bytes | None, int]:
+def second_auction(award_name: str, log_name: str) -> tuple[str, bytes | None, int]:
     """What `auction` has to print, the book that it has to write, and the status."""
     printed: list[str] = []
     try:

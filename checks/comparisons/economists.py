@@ -27,7 +27,7 @@ from fractions import Fraction
 
 from checks.cases.limit_books import build_cca
 from checks.cases.samples import EXAMPLES, TOOLS, called
-from checks.cases.searches import choices_of_book, core_point, prices_of, winning
+from checks.cases.searches import CoreRow, choices_of_book, core_point, prices_of, winning
 
 from cca_tools.data.bids import read_bids, read_frame
 from cca_tools.data.numbers import fraction_of
@@ -38,7 +38,7 @@ from cca_tools.rules.book import Book, book_text
 from cca_tools.rules.program import program
 from cca_tools.pricing.best import best_value, has_tie
 
-Package = tuple[int, ...]
+Package = tuple[int, int]
 Bids = dict[str, dict[Package, Decimal]]
 WAIT = 3600.0
 
@@ -73,28 +73,30 @@ class Enumerated:
 
     def prices(self) -> list[list[str | Fraction]]:
         """Each bidder with its package, its bid, its Vickrey price and its price, gross."""
-        found = {j: (vickrey, pays) for j, vickrey, pays in prices_of(self.choices, self.own, [1] * self.book.bidders)}
+        own = [self.own.get(j, 0) for j in range(self.book.bidders)]
+        priced = prices_of(self.choices, own, [1] * self.book.bidders)
+        found = {j: (Fraction(vickrey), pays) for j, vickrey, pays in priced}
         rows: list[list[str | Fraction]] = []
         for j, name in enumerate(self.book.names):
             if j not in found:
                 rows.append([name, "", Fraction(0), Fraction(0), Fraction(0)])
                 continue
             package, bid = self.book.bids[j][self.first[j] - 1]
-            gross = [Fraction(bid), *(Fraction(part + self.reserve[j]) for part in found[j])]
+            gross = [Fraction(bid), *(part + self.reserve[j] for part in found[j])]
             rows.append([name, " ".join(map(str, package)), *gross])
         return rows
 
     def nearest(self, reference: str) -> dict[int, Fraction]:
         """What the winners pay, net, at the core prices of least sum that are nearest to a point of reference."""
-        rows = []
+        rows: list[CoreRow] = []
         for members in (
             it for size in range(1, len(self.winners) + 1) for it in itertools.combinations(self.winners, size)
         ):
             most = max(value for choice, value in self.choices if not any(choice[j] for j in members))
             bound = most - self.most + sum(self.own[j] for j in members)
             rows.append(([int(j in members) for j in self.winners], bound))
-        of = {"zero": lambda j: -self.reserve[j], "reserve": lambda j: 0, "bids": lambda j: self.own[j]}[reference]
-        return dict(zip(self.winners, core_point(rows, [of(j) for j in self.winners], [1] * len(self.winners))))
+        point = [{"zero": -self.reserve[j], "reserve": 0, "bids": self.own[j]}[reference] for j in self.winners]
+        return dict(zip(self.winners, core_point(rows, point, [1] * len(self.winners))))
 
 
 def book_faults(book: Book, folder: str) -> Iterator[str]:
@@ -128,7 +130,7 @@ def drawn_bids(draw: random.Random) -> Bids:
     """Bids of two or three bidders for packages of two categories, of which some amounts decide the decimal mark."""
     packages = [it for it in itertools.product(range(4), range(3)) if any(it)]
     names = draw.sample(["North Tel", "Süd", "Öst AG", "b 7", "west", "Île"], draw.randint(2, 3))
-    bids = {}
+    bids: Bids = {}
     for name in names:
         some = draw.sample(packages, draw.randint(1, 5))
         bids[name] = {it: Decimal(draw.choice([100_000, 1_000, 48_000, 250, 7])) * draw.randint(1, 30) for it in some}
@@ -152,7 +154,7 @@ def csv_of(
 ) -> bytes:
     """Rows as CSV with these heads; lines end as on Windows."""
     out = io.StringIO()
-    writer = csv.writer(out, delimiter=delimiter, quoting=quoting)  # type: ignore[arg-type]
+    writer = csv.writer(out, delimiter=delimiter, quoting=quoting)
     writer.writerow(heads)
     writer.writerows(rows)
     return f"{mark}{out.getvalue()}".encode()

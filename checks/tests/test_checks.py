@@ -39,14 +39,14 @@ NOT_RUN = {
 }
 
 
-def ran(*words, earlier=PROGRAM or ""):
+def ran(*words: str, earlier: str = PROGRAM or "") -> subprocess.CompletedProcess[str]:
     """A program with these words."""
     how = {**os.environ, "CCA_PROGRAM": PROGRAM or "", "CCA_EARLIER": earlier, "PYTHONDONTWRITEBYTECODE": "1"}
-    words = [sys.executable, str(ROOT / words[0]), *words[1:]]
-    return subprocess.run(words, capture_output=True, text=True, env=how, stdin=subprocess.DEVNULL)
+    argv = [sys.executable, str(ROOT / words[0]), *words[1:]]
+    return subprocess.run(argv, capture_output=True, text=True, env=how, stdin=subprocess.DEVNULL)
 
 
-def words_of(name):
+def words_of(name: str) -> list[str]:
     """What a program can be asked for, by its help."""
     said = ran(name, "--help")
     return re.findall(r"^ {2,4}([a-z][a-z-]+) ", said.stdout, re.MULTILINE) + re.findall(
@@ -54,7 +54,7 @@ def words_of(name):
     )
 
 
-def programs():
+def programs() -> list[str]:
     """The programs of the folders."""
     files = [path for folder in FOLDERS for path in sorted((ROOT / folder).iterdir()) if path.is_file()]
     return [f"{path.parent.name}/{path.name}" for path in files if path.read_bytes()[:2] == b"#!"]

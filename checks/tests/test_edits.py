@@ -35,7 +35,7 @@ NAMED = {
 }
 
 
-def pairs(edit):
+def pairs(edit: pathlib.Path) -> tuple[str, list[str], list[str]]:
     """The file of an edit, and the lines that it takes out and puts in."""
     lines = edit.read_text().splitlines()
     name = lines[0].removeprefix("file: ")

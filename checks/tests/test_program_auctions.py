@@ -48,9 +48,9 @@ step = [{excess = 1, permille = 1}]
 """
 
 
-def second(award, log):
+def second(award: bytes, log: bytes) -> Ended:
     """How the second program wants a run of `auction` to end."""
-    files = {"award": award, "log": log}
+    files: dict[str, bytes] = {"award": award, "log": log}
     with tempfile.TemporaryDirectory() as folder:
         for name, text in files.items():
             with open(os.path.join(folder, name), "wb") as file:
@@ -59,7 +59,7 @@ def second(award, log):
     return Ended(printed, status, files if book is None else {**files, "book": book})
 
 
-def other_version(award):
+def other_version(award: bytes) -> bytes:
     """The award with the final cap where it has none, and without it where it has one."""
     first, rest = award.split(b"\n", 1)
     return {b"version = 1": b"version = 2\n", b"version = 2": b"version = 1\n"}[first] + rest
@@ -67,14 +67,15 @@ def other_version(award):
 
 @with_program
 class BesideTheSecondProgram(unittest.TestCase):
-    def agreed(self, award, log):
+    def agreed(self, award: bytes, log: bytes) -> Ended:
         """Runs both programs, and gives how both ended."""
         wanted = second(award, log)
         self.assertEqual(run("auction", "award", "log", "book", award=award, log=log), wanted)
         return wanted
 
     def test_drawn_auctions(self) -> None:
-        rng, texts, turned = random.Random(SEED), [], collections.Counter()
+        rng, turned = random.Random(SEED), collections.Counter[bytes]()
+        texts: list[str] = []
         for number in range(NUMBER):
             award, log = (text.encode() for text in drawn(rng)[:2])
             with self.subTest(number=number, award=award, log=log):

@@ -118,7 +118,7 @@ LIMITS = [
 
 @with_program
 class FaultyAwards(unittest.TestCase):
-    def stopped(self, award, line, status) -> None:
+    def stopped(self, award: str | bytes, line: str, status: int) -> None:
         """Nothing but this line is printed of the award, and no book is written."""
         award = award if isinstance(award, bytes) else award.encode()
         with self.subTest(award=award):
@@ -127,7 +127,7 @@ class FaultyAwards(unittest.TestCase):
                 Ended(f"cca: {line}\n", status, {"award": award, "log": LOG}),
             )
 
-    def refused(self, award, numbers) -> None:
+    def refused(self, award: str | bytes, numbers: str) -> None:
         self.stopped(award, f"refused award {numbers}", 3)
 
     def test_top(self) -> None:

@@ -75,17 +75,17 @@ DOUBLED = "bid,east,2 0, / bid,west,1 0, / close,,, / bid,east,0 1, / bid,west,1
 DOUBLED_REPLIES = "ok / ok / round 2 20 10 / ok / ok / sealed"
 
 
-def behind(count, text, rest):
+def behind(count: int, text: str, rest: str) -> str:
     """This many times a text, and the rest after it."""
     return " / ".join([text] * count + [rest])
 
 
-def in_clock(line, reply):
+def in_clock(line: str, reply: str) -> tuple[str, str]:
     """A line of the clock as record 12, with the replies."""
     return behind(11, "drop,east,1 0,", line), behind(11, "stage", reply)
 
 
-def in_sealed_round(line, reply):
+def in_sealed_round(line: str, reply: str) -> tuple[str, str]:
     """A line of the sealed round as record 12, with the replies."""
     return "close,,, / " + behind(10, "bid,east,1 0,", line), "sealed / " + behind(10, "stage", reply)
 
@@ -186,20 +186,20 @@ NO_BOOKS = {
 }
 
 
-def numbered(text):
+def numbered(text: str) -> str:
     """These replies, each in a line with its number."""
     return "".join(f"{number} {reply}\n" for number, reply in enumerate(text.split(" / "), 1)) if text else ""
 
 
 class Auctions(unittest.TestCase):
-    def ends(self, award, log, printed, status, book=None) -> None:
+    def ends(self, award: str, log: str | bytes, printed: str, status: int, book: str | None = None) -> None:
         """These lines are printed of an award and a log, and this book alone is written."""
         files = {"award": award.encode(), "log": log if isinstance(log, bytes) else lines(log)}
         ended = run("auction", "award", "log", "book", **files)
         with self.subTest(log=files["log"][:1000]):
             self.assertEqual(ended, Ended(printed, status, files if book is None else {**files, "book": lines(book)}))
 
-    def has_replies(self, award, log, text) -> None:
+    def has_replies(self, award: str, log: str | bytes, text: str) -> None:
         """The log is read, gets these replies and isn't complete."""
         printed = numbered(text)
         self.ends(award, log, f"{printed}cca: refused log {printed.count(chr(10)) + 1}\n", 3)

@@ -64,12 +64,12 @@ permille = 200
 """
 
 
-def weighed_sum(text):
+def weighed_sum(text: bytes) -> int:
     """The sum of the bytes, each times the rest of its place by 65,521 and one more, below 2^32."""
     return sum((place % 65_521 + 1) * byte for place, byte in enumerate(text)) % 2**32
 
 
-def made(number):
+def made(number: int) -> tuple[Ended, bytes, bytes]:
     """The award and the log of a number."""
     ended = run("make", str(number), "award", "log")
     return ended, ended.files["award"], ended.files["log"]

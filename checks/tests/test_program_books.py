@@ -113,7 +113,7 @@ PAIRS = (
 
 
 class Stopping(unittest.TestCase):
-    def stops(self, words, files, line, status) -> None:
+    def stops(self, words: str, files: dict[str, str], line: str, status: int) -> None:
         """Asserts that these words stop with this line and status over these files, and leave no others."""
         left = {name: text.encode() for name, text in files.items()}
         self.assertEqual(run(*words.split(" "), **files), (line + "\n", status, left))
@@ -204,7 +204,7 @@ class Reviews(Stopping):
                 self.stops("review book edits", {"book": NO_BIDDERS, "edits": edits}, f"cca: refused edits {place}", 3)
 
     def test_a_thousand_edits(self) -> None:
-        def edits(count):
+        def edits(count: int) -> str:
             return "edits 1\n" + "drop b1 1\n" * count + "end\n"
 
         printed = "0 net 0 choice\n" + "".join(f"{number} unknown\n" for number in range(1, 1001)) + "net 0\n"
@@ -234,7 +234,7 @@ class Reviews(Stopping):
         """A bidder has no room for a bid past 600, and has it again once one is dropped. Bid `n` is for the lots that
         its three digits say."""
 
-        def bid(number):
+        def bid(number: int) -> str:
             return f"{' '.join(format(number, '03'))} {number}\n"
 
         book = (
@@ -257,7 +257,7 @@ class Reviews(Stopping):
 
 @with_program
 class Prices(unittest.TestCase):
-    def prints(self, book, flags, printed) -> None:
+    def prints(self, book: str, flags: list[str], printed: str) -> None:
         self.assertEqual(run("price", "book", "cert", *flags, book=book)[:2], (printed, 0))
 
     def test_json_of_day_and_cramton(self) -> None:

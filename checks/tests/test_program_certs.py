@@ -1,5 +1,6 @@
 """The program over certificates of books: where it stops at their texts, and what it writes for a book."""
 import unittest
+from collections.abc import Iterable
 from checks.cases.program import run, with_program
 from checks.cases.samples import sample
 
@@ -86,13 +87,13 @@ VERSIONS = [
 ]
 
 
-def book_of(supply, names, bid=None):
+def book_of(supply: str, names: Iterable[str], bid: str | None = None) -> str:
     """A book without reserves, in which each bidder has this bid or none."""
     bidders = "".join(f"bidder {name}\n" + (f"bid {bid}\n" if bid else "") for name in names)
     return f"book 1\nsupply {supply}\nreserve {' '.join('0' for _ in supply.split())}\n{bidders}end\n"
 
 
-def weights_of(book, weights):
+def weights_of(book: str, weights: Iterable[int]) -> str:
     """The weights of the bidders of a book."""
     names = [line.removeprefix("bidder ") for line in book.splitlines() if line.startswith("bidder ")]
     return "weights 1\n" + "".join(f"weight {name} {weight}\n" for name, weight in zip(names, weights)) + "end\n"
@@ -100,10 +101,12 @@ def weights_of(book, weights):
 
 @with_program
 class Checks(unittest.TestCase):
-    def check(self, cert, book=BOOK):
-        return run("check", "book", "cert", book=book, cert=cert)[:2]
+    def check(self, cert: str, book: str = BOOK) -> tuple[str, int]:
+        """What `check` prints of a certificate, and its status."""
+        ended = run("check", "book", "cert", book=book, cert=cert)
+        return ended.printed, ended.status
 
-    def stops(self, cert, place, book=BOOK) -> None:
+    def stops(self, cert: str, place: int, book: str = BOOK) -> None:
         self.assertEqual(self.check(cert, book), (f"cca: refused cert {place}\n", 3))
 
     def test_right_certificate(self) -> None:
@@ -136,13 +139,13 @@ class Checks(unittest.TestCase):
 
 @with_program
 class Prices(unittest.TestCase):
-    def lines_of(self, words, starts, **files):
+    def lines_of(self, words: str, starts: tuple[str, ...], **files: str) -> list[str]:
         """The lines of the certificate that a command writes which begin with one of these words."""
         ended = run(*words.split(" "), **files)
         self.assertEqual(ended.status, 0, ended.printed)
         return [line for line in ended.files["cert"].decode().splitlines() if line.split(" ")[0] in starts]
 
-    def stops(self, words, line, status, **files) -> None:
+    def stops(self, words: str, line: str, status: int, **files: str) -> None:
         left = {name: text.encode() for name, text in files.items()}
         self.assertEqual(run(*words.split(" "), **files), (line + "\n", status, left))
 

@@ -121,7 +121,7 @@ class Output(Case):
             self.assertEqual(read(name), printed)
         self.assertEqual(
             self.ended("price", "b.book", "/dev/stdout")[1],
-            read("b.cert") + self.ended("price", "b.book", "new.cert")[1],
+            read("b.cert") + (self.ended("price", "b.book", "new.cert")[1] or b""),
         )
 
     @unittest.skipUnless(os.path.exists("/dev/full"), "there is no /dev/full")

@@ -25,7 +25,7 @@ EQUALS = book_of((1,), [[((1,), 9)]] * 4, ["n1", "n2", "n3", "n4"])
 
 
 class Case(unittest.TestCase):
-    def ends(self, words, given, told, status=0, **made) -> None:
+    def ends(self, words: str, given: dict[str, bytes], told: str, status: int = 0, **made: bytes) -> None:
         """A run over the given files alone prints these lines with this status, and changes only what it made or
         appended to."""
         ended = run(*words.split(), **given)
@@ -36,7 +36,7 @@ class Case(unittest.TestCase):
 @with_program
 class Words(Case):
     def test_others_are_refused(self) -> None:
-        for words in [
+        cases: list[list[str]] = [
             [],
             ["win"],
             ["win", ""],
@@ -60,7 +60,8 @@ class Words(Case):
             ["auction", "AWARD", "LOG", "LOG"],
             ["auction", "AWARD", "LOG", "-"],
             ["auction", "AWARD", "LOG", "BOOK", "CERT"],
-        ]:
+        ]
+        for words in cases:
             with self.subTest(words=words):
                 given = {word: NOBODY for word in words[1:2] if word}
                 self.assertEqual(run(*words, **given), ("cca: words\n", 2, given))
@@ -285,7 +286,8 @@ class Price(Case):
         self.ends("price BOOK CERT --rounds", {"BOOK": ELEVEN}, "cca: limit winners 11", 7)
 
 
-def weights_of(**weights):
+def weights_of(**weights: int) -> bytes:
+    """The text of the weights of bidders, by their names."""
     return lines(" / ".join(["weights 1", *(f"weight {name} {weight}" for name, weight in weights.items()), "end"]))
 
 
@@ -306,7 +308,7 @@ SIX_ALIKE = weights_of(a=1, b=1, c=1, d=1, e=1, f=1)
 
 @with_program
 class Weigh(Case):
-    def priced(self, given, told):
+    def priced(self, given: dict[str, bytes], told: str) -> bytes:
         """The certificate of a book that is priced so by its weights. It passes."""
         cert = run("weigh", "BOOK", "WEIGHTS", "CERT", **given).files["CERT"]
         self.ends("weigh BOOK WEIGHTS CERT", given, told, CERT=cert)

@@ -2,7 +2,7 @@
 import re
 import unittest
 from checks.cases.program import with_program
-from checks.cases.samples import certificate_of, lines, sample
+from checks.cases.samples import Row, certificate_of, lines, sample
 from test_check import EDITS, WRONG_SIGN
 from test_places import CERT as PLACE_CERT, EDITS as PLACE_EDITS
 from test_program_runs import (
@@ -37,7 +37,7 @@ LATER_OF_TWO = certificate_of(
 )
 
 
-def two_globals_cert(*rows):
+def two_globals_cert(*rows: Row) -> bytes:
     """A certificate for three winners of whom one pays."""
     without = {1: (0, 1, 1, 0, 0), 2: (1, 0, 1, 0, 0), 3: (1, 1, 0, 0, 0)}
     return certificate_of((1, 1, 1), TWO_GLOBALS_BIDS, (1, 1, 1, 0, 0), without, 1, (0, 8, 0, 0, 0), rows)
@@ -45,7 +45,7 @@ def two_globals_cert(*rows):
 
 @with_program
 class Books(Case):
-    def judges(self, book, cert, told, status=0) -> None:
+    def judges(self, book: bytes, cert: bytes, told: str, status: int = 0) -> None:
         self.ends("check BOOK CERT", {"BOOK": book, "CERT": cert}, told, status)
 
     def test_yes(self) -> None:

@@ -139,7 +139,7 @@ FAULTY = [
 ]
 
 
-def certificate_of(slots):
+def certificate_of(slots: str) -> tuple[str, list[str]]:
     """What `place` prints of these slots, and the lines of its certificate."""
     ended = run("place", "slots", "cert", slots=slots)
     if ended.status:
@@ -149,7 +149,7 @@ def certificate_of(slots):
 
 @with_program
 class Slots(unittest.TestCase):
-    def stops(self, slots, line, status) -> None:
+    def stops(self, slots: str, line: str, status: int) -> None:
         self.assertEqual(run("place", "slots", "cert", slots=slots), (line + "\n", status, {"slots": slots.encode()}))
 
     def test_faulty_lines(self) -> None:
@@ -241,10 +241,12 @@ class Slots(unittest.TestCase):
 
 @with_program
 class Certificates(unittest.TestCase):
-    def check(self, cert):
-        return run("place-check", "slots", "cert", slots=THREE, cert=cert)[:2]
+    def check(self, cert: str) -> tuple[str, int]:
+        """What `place-check` prints of a certificate for THREE, and its status."""
+        ended = run("place-check", "slots", "cert", slots=THREE, cert=cert)
+        return ended.printed, ended.status
 
-    def edited(self, was, put):
+    def edited(self, was: str, put: str) -> str:
         self.assertIn(was, CERT)
         return CERT.replace(was, put, 1)
 

@@ -36,24 +36,7 @@ PYTHON, SHELL = files(b"python", ".py"), files(b"/sh", ".sh")
 COURT = ["tools/audit", "tools/check"]
 # The files of tests that aren't typed yet, by their folders. All other Python is.
 UNTYPED = {
-    *(
-        f"checks/tests/{name}"
-        for name in (
-            "test_program_runs_auctions.py",
-            "test_program_edge.py",
-            "test_checks.py",
-            "test_edits.py",
-            "test_program_auctions.py",
-            "test_program_auctions_awards.py",
-            "test_program_auctions_logs.py",
-            "test_program_auctions_made.py",
-            "test_program_books.py",
-            "test_program_certs.py",
-            "test_program_runs.py",
-            "test_program_runs_certs.py",
-            "test_program_slots.py",
-        )
-    ),
+    *(f"checks/tests/{name}" for name in ("test_program_runs_auctions.py", "test_program_runs_certs.py")),
     *(
         f"tools/tests/{name}"
         for name in (
@@ -95,18 +78,12 @@ UNTYPED = {
             "test_why.py",
         )
     ),
-    *(f"vectors/{name}" for name in ("run",)),
-    *(f"vectors/tests/{name}" for name in ("test_vectors.py",)),
 }
-# mypy takes a script for the module of its name, and this one would be the library's module `numbers`.
-SHADOWS = ["checks/numbers"]
 # What came without types of its own, and isn't typed yet either.
 LEFT = [
-    "checks/comparisons/economists.py",
-    "checks/record_kills",
     "tools/tests/test_attacks.py",
 ]
-TYPED = [name for name in PYTHON if name not in (*UNTYPED, *SHADOWS, *LEFT, *COURT)]
+TYPED = [name for name in PYTHON if name not in (*UNTYPED, *LEFT, *COURT)]
 
 
 class Style(unittest.TestCase):

@@ -9,6 +9,7 @@ import shutil
 import subprocess
 import sys
 import tempfile
+import types
 import unittest
 from checks.cases.program import PROGRAM, with_program
 from checks.cases.samples import TOOLS
@@ -18,16 +19,18 @@ from checks.cases.voices import FILES, books, court_answer, is_alike, rules_answ
 VECTORS = pathlib.Path(TOOLS).resolve().parent / "vectors"
 
 
-def runner():
+def runner() -> types.ModuleType:
     """The runner of the folder as a module."""
     sys.dont_write_bytecode = True
     loader = importlib.machinery.SourceFileLoader("run", str(VECTORS / "run"))
-    module = importlib.util.module_from_spec(importlib.util.spec_from_loader(loader.name, loader))
+    spec = importlib.util.spec_from_loader(loader.name, loader)
+    assert spec, "the runner has no spec"
+    module = importlib.util.module_from_spec(spec)
     loader.exec_module(module)
     return module
 
 
-def said(command, words):
+def said(command: str, words: list[str]) -> set[object]:
     """What the voices of the tools print of a case, and the status."""
     if command not in FILES:
         printed, _, status = second_auction(*words[:2])
@@ -51,7 +54,7 @@ class Vectors(unittest.TestCase):
     def test_tools(self) -> None:
         for case in runner().cases():
             for name, count, text in case["made"]:
-                pathlib.Path(name).write_text(text.replace("\\n", "\n") * int(count))
+                pathlib.Path(name).write_text(text.replace("\\n", "\n") * count)
             command, *words = case["words"]
             with self.subTest(case=case["case"]):
                 self.assertEqual(said(command, words), {(case["printed"], case["status"])})
@@ -78,15 +81,17 @@ class Vectors(unittest.TestCase):
 
     @with_program
     def test_program(self) -> None:
-        words = [VECTORS / "run", "--seconds", "600", os.path.abspath(PROGRAM)]
+        words = [str(VECTORS / "run"), "--seconds", "600", os.path.abspath(PROGRAM or "")]
         ended = subprocess.run(words, capture_output=True, cwd=self.before)
         self.assertEqual((ended.stdout.decode().split(", ")[-1], ended.returncode), ("0 differ\n", 0), ended.stdout)
 
     @unittest.skipUnless(shutil.which("cc"), "there is no C compiler: apt-get install gcc")
     def test_a_checker_in_c(self) -> None:
         program = os.path.abspath("checker")
-        subprocess.run(["cc", "-O2", "-Wall", "-Wextra", "-Werror", "-o", program, VECTORS / "checker.c"], check=True)
-        words = [VECTORS / "run", "--only", "check,weigh-check,place-check", program]
+        subprocess.run(
+            ["cc", "-O2", "-Wall", "-Wextra", "-Werror", "-o", program, str(VECTORS / "checker.c")], check=True
+        )
+        words = [str(VECTORS / "run"), "--only", "check,weigh-check,place-check", program]
         ended = subprocess.run(words, capture_output=True, text=True)
         self.assertEqual((ended.stdout.split(", ")[-1], ended.returncode), ("0 differ\n", 0), ended.stdout)
 
@@ -105,7 +110,7 @@ class Vectors(unittest.TestCase):
         program = pathlib.Path("hangs")
         program.write_text("#!/bin/sh\nexec sleep 100\n")
         program.chmod(0o755)
-        words = [VECTORS / "run", "--only", "weigh-check", "--seconds", "0.2", "./hangs"]
+        words = [str(VECTORS / "run"), "--only", "weigh-check", "--seconds", "0.2", "./hangs"]
         ended = subprocess.run(words, capture_output=True, text=True)
         count = sum(case["words"][0] == "weigh-check" for case in runner().cases())
         self.assertEqual(ended.returncode, 1)
