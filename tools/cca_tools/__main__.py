@@ -8,7 +8,7 @@ import pathlib
 import sys
 from collections.abc import Sequence
 
-from cca_tools.command_line import HELP, VERSION, say, written
+from cca_tools.command_line import HELP, VERSION, package_command, say, written
 from cca_tools.interrupts import take_over
 from cca_tools.rules.stops import DONE, WORDS, WRITE_FAULT
 from cca_tools.version import version_line
@@ -16,7 +16,8 @@ from cca_tools.version import version_line
 FOLDER = pathlib.Path(__file__).parent / "commands"
 COMMANDS = sorted(path.stem.replace("_", "-") for path in FOLDER.glob("[a-z]*.py"))
 USAGE = (
-    f"usage: python3 -m cca_tools COMMAND ..\n\nA COMMAND is one of {', '.join(COMMANDS)}; COMMAND --help says more."
+    f"usage: {package_command() or 'python3 -m cca_tools'} COMMAND ..\n\n"
+    f"A COMMAND is one of {', '.join(COMMANDS)}; COMMAND --help says more."
 )
 
 

@@ -10,6 +10,7 @@ from __future__ import annotations
 import argparse
 import difflib
 import os
+import pathlib
 import sys
 import traceback
 from collections.abc import Callable, Iterator, Sequence
@@ -26,6 +27,21 @@ Run: TypeAlias = Callable[[argparse.Namespace], str]
 ColourOf: TypeAlias = Callable[[str], Colour | None]
 HELP = (["-h"], ["--help"])
 VERSION = ["--version"]
+
+
+def package_command() -> str:
+    """The command of the package by which this process was started, `cca-tools` or `python3 -m cca_tools`, or nothing
+    if it was started in another way, as by a script of `tools/`."""
+    started = pathlib.Path(sys.argv[0])
+    if started == pathlib.Path(__file__).with_name("__main__.py"):
+        return "python3 -m cca_tools"
+    return "cca-tools" if started.stem == "cca-tools" else ""
+
+
+def called_as(name: str) -> str:
+    """A command as its user called it: `cca-tools what-if`, or `tools/what-if` for the script."""
+    package = package_command()
+    return f"{package} {name}" if package else f"tools/{name}"
 
 
 class Alone(argparse.Action):
@@ -56,7 +72,7 @@ class Parser(argparse.ArgumentParser):
         has to agree with `cca`; `colour_of` gives the colour of a line that is printed on a terminal.
         """
         super().__init__(
-            prog=f"tools/{name}",
+            prog=called_as(name),
             usage="\n       ".join(f"%(prog)s {form}" for form in usage) or None,
             description=about.strip(),
             formatter_class=argparse.RawDescriptionHelpFormatter,

@@ -128,6 +128,23 @@ class Installed(unittest.TestCase):
         page = self.run_there("cca-tools", "report", book, cert).stdout
         self.assertIn("</html>", page)
 
+    def test_usage_names_the_command_as_it_was_called(self) -> None:
+        """In its help, and in the advice after wrong words, which is followed here."""
+        for called in (["cca-tools"], ["python3", "-m", "cca_tools"], [str(ROOT / "tools" / "what-if")]):
+            is_script = len(called) == 1 and called != ["cca-tools"]
+            words, name = (
+                (called, "tools/what-if") if is_script else ([*called, "what-if"], " ".join(called) + " what-if")
+            )
+            with self.subTest(name=name):
+                self.assertRegex(self.run_there(*words, "--help").stdout, rf"\Ausage: {re.escape(name)} ")
+                wrong = self.run_there(*words, "--no-such-option")
+                self.assertIn(f"\n`{name} --help` says what it takes.\n", wrong.stderr)
+                self.assertEqual(wrong.returncode, 2)
+        for called in (["cca-tools"], ["python3", "-m", "cca_tools"]):
+            self.assertRegex(
+                self.run_there(*called, "--help").stdout, rf"\Ausage: {re.escape(' '.join(called))} COMMAND "
+            )
+
     def test_types(self) -> None:
         """A caller's program is checked against the types of the package."""
         if not shutil.which("mypy"):
