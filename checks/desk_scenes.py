@@ -568,7 +568,8 @@ def stopped(screen: Screen, see: See) -> str:
 
 
 def changed(screen: Screen, see: See) -> str:
-    """Somebody changes the log after a close, and the auctioneer goes on with it: not without the words, and all are told."""
+    """Somebody changes the log after a close, and the auctioneer goes on with it: not without the words, and all are
+    told."""
     wrong = SLIPS.replace(b"bid,west,1 1,", b"bid,west,0 1,", 1)
     held = Auction(screen, SMALL, SLIPS, see=see)
     held.log_path.touch(0o600)
@@ -629,7 +630,8 @@ def early(screen: Screen, see: See) -> str:
 
 
 def witness(screen: Screen, see: See) -> str:
-    """A witness notes the room's screen with two gaps and one void line, and tests the notes with the published folder."""
+    """A witness notes the room's screen with two gaps and one void line, and tests the notes with the published
+    folder."""
     held = Auction(screen, SMALL, KEYS)
     held.start()
     notes = room_of(held)

@@ -198,8 +198,8 @@ def choose_file(held: Auction, data: bytes) -> None:
 
 
 def csv_file(screen: Screen, see: See) -> str:
-    """A list comes as a CSV file: what is no CSV is named, faults are shown by the lines of the file, rows without one are
-    entered while the others are kept, and the list is read back."""
+    """A list comes as a CSV file: what is no CSV is named, faults are shown by the lines of the file, rows without one
+    are entered while the others are kept, and the list is read back."""
     held = Auction(screen, AWARD, b"".join(LOG.splitlines(True)[:BEGUN]) + FILE_LINES, see=see)
     held.begin_with(BEGUN)
     held.start()

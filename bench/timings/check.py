@@ -1,4 +1,5 @@
-"""Times `cca win`, `cca price` and `cca check` on books at the limits, next to a plain Rust program and general solvers.
+"""Times `cca win`, `cca price` and `cca check` on books at the limits, next to a plain Rust program and general
+solvers.
 
 The books are those of `price`. Printed is the median of the CPU times of whole runs in milliseconds, and whether both
 programs print the same, and how much memory `cca win` and `cca check` keep: the book is the same, so what `check` keeps

@@ -1,9 +1,9 @@
 """Times `tools/audit` beside `cca audit` on files at the limits of an award, a log and a certificate, in one run.
 
-Printed is the least processor time of the runs in milliseconds, less a start's, how many times as long tools/audit takes,
-and the first line of the answer, which has to be the same. A time of `cca` below a millisecond isn't compared. Each file has
-its greatest length, or its greatest count of records, divided by PART, if the line doesn't name another length. Awards are
-read alone: a log and a certificate aren't asked for after a refusal.
+Printed is the least processor time of the runs in milliseconds, less a start's, how many times as long tools/audit
+takes, and the first line of the answer, which has to be the same. A time of `cca` below a millisecond isn't compared.
+Each file has its greatest length, or its greatest count of records, divided by PART, if the line doesn't name another
+length. Awards are read alone: a log and a certificate aren't asked for after a refusal.
 """
 
 from __future__ import annotations
@@ -97,7 +97,8 @@ def many_drafts(records: int) -> list[str]:
 
 
 def doubling_award(supply: tuple[int, ...], bidders: int) -> str:
-    """Prices that double in each round with an excess; no package has points, so each may be drafted at the last prices."""
+    """Prices that double in each round with an excess; no package has points, so each may be drafted at the last
+    prices."""
     lines = ["version = 1", "tick = 1"]
     for c, most in enumerate(supply):
         lines += ["[[category]]", f'name = "c{c}"', f"supply = {most}", "points = 0", "reserve = 1"]
@@ -107,8 +108,8 @@ def doubling_award(supply: tuple[int, ...], bidders: int) -> str:
 
 
 def doubling_log(supply: tuple[int, ...], bidders: int, drafts: int, rng: random.Random) -> str:
-    """All bidders ask for a lot of each category until prices are high, then for nothing, and draft at drawn amounts below
-    these prices. Each package has a lot of the first category, so at most as many win as it has lots."""
+    """All bidders ask for a lot of each category until prices are high, then for nothing, and draft at drawn amounts
+    below these prices. Each package has a lot of the first category, so at most as many win as it has lots."""
     ask = " ".join("1" for _ in supply)
     clock = [*(f"bid,b{j},{ask}," for j in range(bidders)), "close,,,"] * DOUBLINGS
     every = [package for package in itertools.product(*(range(most + 1) for most in supply)) if package[0]]

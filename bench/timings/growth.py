@@ -172,7 +172,8 @@ def main(runs: int) -> None:
             )
     keep(rows)
     print(
-        f"an edit on the largest book: {edit_time(write_book(**MOST), (MOST['bidders'] + 1) // 2, runs):.0f} microseconds"
+        f"an edit on the largest book: {edit_time(write_book(**MOST), (MOST['bidders'] + 1) // 2, runs):.0f} "
+        "microseconds"
     )
     book, cert = write_turns(), os.path.join(OUT, "turns.cert")
     turns = price(book, cert, "--rounds")[1].count("round ")

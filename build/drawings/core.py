@@ -1,5 +1,5 @@
-"""Draws docs/pictures/core.svg: which payments of the two winners of examples/day-cramton.book are blocked, and the ones
-that pricing finds."""
+"""Draws docs/pictures/core.svg: which payments of the two winners of examples/day-cramton.book are blocked, and the
+ones that pricing finds."""
 
 from __future__ import annotations
 
@@ -134,7 +134,8 @@ def draw(folder: pathlib.Path) -> None:
     drawing.dot(*paid, 5, "blue", f"paid: {one.pays} and {other.pays}")
     about = (
         f"The Vickrey prices are {one.vickrey} and {other.vickrey}. b3 offers {core.both} for both lots, so payments"
-        f" that come to less are blocked. Of the payments of the least sum, {core.both}, {one.pays} and {other.pays} are"
+        f" that come to less are blocked. Of the payments of the least sum, {core.both}, {one.pays} and {other.pays} "
+        "are"
         " the nearest to the Vickrey prices: they are paid."
     )
     keep(folder, drawing, HEIGHT, "What b1 and b2 could pay", about)

@@ -173,7 +173,8 @@ def faulty_auctions(rng: random.Random) -> Iterator[Case]:
 
 
 def wide_cases(rng: random.Random) -> Iterator[Case]:
-    """Right cases in each of whose texts a number is about the end of a range, or has more bits than a machine's word."""
+    """Right cases in each of whose texts a number is about the end of a range, or has more bits than a machine's
+    word."""
     for kind in (book_cases, auction_cases, slot_cases):
         command, texts = next(kind(rng), ("", ()))
         for at, text in enumerate(texts):
@@ -181,7 +182,8 @@ def wide_cases(rng: random.Random) -> Iterator[Case]:
 
 
 def wide(rng: random.Random, text: bytes) -> bytes:
-    """The text with another number in one place. A reader that drops the high bits of 2^64 and more takes the old one."""
+    """The text with another number in one place. A reader that drops the high bits of 2^64 and more takes the old
+    one."""
     numbers = list(re.finditer(rb"\d+", text))
     if not numbers:
         return text

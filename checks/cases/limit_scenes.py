@@ -153,8 +153,8 @@ def drafted(drafts: Sequence[tuple[tuple[int, ...], int]], listed: Sequence[tupl
 
 
 def drafts_of_a_list(n: int, is_over: bool) -> Run:
-    """That many drafts of one amount, each of a smaller package than the one before. The last that is listed wins, since
-    it comes first in the order of ties."""
+    """That many drafts of one amount, each of a smaller package than the one before. The last that is listed wins,
+    since it comes first in the order of ties."""
     packages = sorted(itertools.product(range(GRID[0] + 1), range(GRID[1] + 1)), reverse=True)[:n]
     drafts = [(package, 5) for package in packages]
     return drafted(drafts, drafts[: n - is_over])
@@ -540,8 +540,8 @@ SCENES: dict[str, tuple[str, list[Scene]]] = {
     "FIRST_VERSION_BIDDERS": ("first version bidders", [*first_version(many_bidders)]),
     "FIRST_VERSION_STATES": ("first version states", [*first_version(many_states)]),
 }
-# Constants that no file can exceed, since they follow from the limits of what they are made of, with what the pages make
-# of them, and the scene that reaches one.
+# Constants that no file can exceed, since they follow from the limits of what they are made of, with what the pages
+# make of them, and the scene that reaches one.
 BOUNDS: dict[str, tuple[int, list[Scene]]] = {
     "MOST_VALUE": (MOST["bidders"] * MOST["amount"], [value_of_a_choice]),
     "MOST_WEIGHTED_VALUE": (2 * MOST["weighted winners"] * MOST["amount"], []),

@@ -172,8 +172,8 @@ def checker_answer(command: str, texts: Sequence[bytes]) -> tuple[str, int]:
 
 
 def is_confirmed(checked: tuple[str, int], said: tuple[str, int]) -> bool:
-    """Whether an answer of the second proof's checker is the answer `said`. It numbers no part of an award or a log that
-    it refuses, and reads TOML 1.0 alone."""
+    """Whether an answer of the second proof's checker is the answer `said`. It numbers no part of an award or a log
+    that it refuses, and reads TOML 1.0 alone."""
     unnumbered = re.sub(r"^(cca: refused (?:award|log)) .*", r"\1", said[0]), said[1]
     return checked in (said, unnumbered) or checked[1] == NO_VERDICT
 

@@ -42,7 +42,8 @@ REFUSER = r"""
 #include <fcntl.h>
 #include <stdlib.h>
 #include <unistd.h>
-extern void *__libc_malloc(size_t), *__libc_calloc(size_t, size_t), *__libc_realloc(void *, size_t), *__libc_memalign(size_t, size_t);
+extern void *__libc_malloc(size_t), *__libc_calloc(size_t, size_t);
+extern void *__libc_realloc(void *, size_t), *__libc_memalign(size_t, size_t);
 static long refused = -1, seen;
 static const char *told;
 __attribute__((constructor)) static void begin(void) {

@@ -1,8 +1,10 @@
-"""Compares the page `audit.html` of the second proof, in a headless Chromium, with `cca`: what it answers, and under which heading.
+"""Compares the page `audit.html` of the second proof, in a headless Chromium, with `cca`: what it answers, and under
+which heading.
 
-The cases are those of `checks/compare second-proof`: certificates of drawn books, weights and slots, as made, altered and damaged, damaged
-subjects, and drawn logs with certificates of theirs. Each is given to the page as files, and the test is started as its button does. For a
-log alone the worker of the page is asked for the replies and the book. It needs `second_proof/build page` and a Chromium.
+The cases are those of `checks/compare second-proof`: certificates of drawn books, weights and slots, as made, altered
+and damaged, damaged subjects, and drawn logs with certificates of theirs. Each is given to the page as files, and the
+test is started as its button does. For a log alone the worker of the page is asked for the replies and the book. It
+needs `second_proof/build page` and a Chromium.
 """
 
 from __future__ import annotations

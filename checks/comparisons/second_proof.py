@@ -377,9 +377,15 @@ def drawn_award(rng: random.Random) -> tuple[str, list[int], int]:
     reserve = (2**36 - 40, 2**36) if rng.random() < 0.05 else (0, 20)
     text = f"version = {rng.randint(1, 2)}\ntick = {rng.choice([1, 1, 2, 7])}\n"
     for k in range(categories):
-        text += f'[[category]]\nname = "k{k}"\nsupply = {supply[k]}\npoints = {points[k]}\nreserve = {rng.randint(*reserve)}\n'
+        text += (
+            f'[[category]]\nname = "k{k}"\nsupply = {supply[k]}\npoints = {points[k]}\n'
+            f"reserve = {rng.randint(*reserve)}\n"
+        )
     for j in range(bidders):
-        text += f'[[bidder]]\nname = "b{j}"\neligibility = {rng.choice([30, rng.randint(3, 3 + sum(s * p for s, p in zip(supply, points)))])}\n'
+        text += (
+            f'[[bidder]]\nname = "b{j}"\n'
+            f"eligibility = {rng.choice([30, rng.randint(3, 3 + sum(s * p for s, p in zip(supply, points)))])}\n"
+        )
         text += f"holding = {[rng.randint(0, 1) for _ in supply]}\n" if rng.random() < 0.3 else ""
     for excess in sorted({1, rng.randint(2, 4)}):
         text += f"[[step]]\nexcess = {excess}\npermille = {rng.choice([1, 50, 200, 1000])}\n"

@@ -107,7 +107,8 @@ class Bench(unittest.TestCase):
 
     @with_program
     def test_times_of_the_court_s_files(self) -> None:
-        """On files of a hundredth of the limits `cca` and tools/audit answer alike, and the written certificate gets yes."""
+        """On files of a hundredth of the limits `cca` and tools/audit answer alike, and the written certificate gets
+        yes."""
         done = ran("bench/times", "court", "1", "100")
         self.assertEqual((done.returncode, done.stderr), (0, ""), done.stdout)
         rows = re.findall(r"^(award|log|certificate) .*  (yes|no|cca: \w+)", done.stdout, re.MULTILINE)
@@ -175,12 +176,14 @@ class Bench(unittest.TestCase):
         self.assertEqual((done.returncode, done.stdout, done.stderr), (0, "", ""))
 
     def test_an_uncalled_function_is_seen(self) -> None:
-        """A crate that exports a function that is called, and three that are not: one calls itself, one is named by a method, one by a text."""
+        """A crate that exports a function that is called, and three that are not: one calls itself, one is named by a
+        method, one by a text."""
         source = {
             "lib.rt": "mod a;\n\npub use a::{Kind, again, law, named, told, used};\n",
             "a.rt": "pub fn used(n: u8) -> u8\n    ensures { result ≡ used (told(n)) }\n{\n    n\n}\n\n"
             "pub fn again(n: u8) -> u8 {\n    again(used(n))\n}\n\npub fn named() -> u8 {\n    1.named()\n}\n\n"
-            'pub fn told(n: u8) -> u8\n{\n    // told(n)\n    n\n}\n\nconst TEXT: &str = "told(1)";\n\npub fn law()\n{}\n',
+            'pub fn told(n: u8) -> u8\n{\n    // told(n)\n    n\n}\n\nconst TEXT: &str = "told(1)";\n\npub fn law()\n'
+            "{}\n",
         }
         with tempfile.TemporaryDirectory() as folder:
             (top := pathlib.Path(folder, "crates", "box", "src")).mkdir(parents=True)

@@ -31,7 +31,8 @@ class InABrowser(unittest.TestCase):
         "the packages chromium, python3-flask and python3-waitress aren't all installed",
     )
     def test_people(self) -> None:
-        """Faults in view at 400 wide, the room's screen, two people, lists that are closed too early or come as files."""
+        """Faults in view at 400 wide, the room's screen, two people, lists that are closed too early or come as
+        files."""
         self.need_held(r"\n5 auctions, 0 differ; ", "narrow", "room", "two", "entered_again", "csv_file")
 
     def need_held(self, said: str, *names: str) -> None:

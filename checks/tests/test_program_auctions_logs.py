@@ -132,7 +132,8 @@ RAISES = [
 # Complete logs, their replies, and the bids in the book.
 BOOKS = {
     "a list above its cap, and then at it": (
-        f"{CLOCK} / draft,east,1,20 / draft,east,3,45 / submit,east,, / draft,east,3,44 / submit,east,, / close,,, / close,,,",
+        f"{CLOCK} / draft,east,1,20 / draft,east,3,45 / submit,east,, / draft,east,3,44 / submit,east,, / close,,, "
+        "/ close,,,",
         f"{CLOCK_REPLIES} / ok / ok / relative-cap 2 44 / ok / ok / closed / stage",
         "bidder east / bid 1 20 / bid 3 44 / bidder west / bid 2 24",
     ),
@@ -152,7 +153,8 @@ BOOKS = {
         "bidder east / bid 1 20 / bid 3 30 / bidder west / bid 2 30",
     ),
     "a bid that is replaced in its round": (
-        f"bid,east,2, / {CLOCK} / draft,east,1,20 / draft,east,3,45 / submit,east,, / draft,east,3,44 / submit,east,, / close,,,",
+        f"bid,east,2, / {CLOCK} / draft,east,1,20 / draft,east,3,45 / submit,east,, / draft,east,3,44 / submit,east,, "
+        "/ close,,,",
         f"ok / {CLOCK_REPLIES} / ok / ok / relative-cap 2 44 / ok / ok / closed",
         "bidder east / bid 1 20 / bid 3 44 / bidder west / bid 2 24",
     ),
@@ -168,9 +170,11 @@ NO_BOOKS = {
     "a bid above a spectrum cap": (CAPPED, "bid,east,3,", "spectrum-cap 1 2"),
     "lines that are refused in the sealed round": (
         SMALL,
-        f"{CLOCK} / bid,east,1, / draft,north,1,20 / drop,north,1, / submit,north,, / draft,east,4,20 / draft,west,3,20 / draft,east,0,5 / "
+        f"{CLOCK} / bid,east,1, / draft,north,1,20 / drop,north,1, / submit,north,, / draft,east,4,20 "
+        "/ draft,west,3,20 / draft,east,0,5 / "
         "draft,east,1,9 / draft,east,1,11 / drop,east,2, / draft,east,1,4398046511105 / draft,east,1,4398046511104",
-        f"{CLOCK_REPLIES} / stage / unknown / unknown / unknown / supply 1 / points 2 / empty / below-reserve 10 / below-clock 12 / "
+        f"{CLOCK_REPLIES} / stage / unknown / unknown / unknown / supply 1 / points 2 / empty / below-reserve 10 "
+        "/ below-clock 12 / "
         "no-draft / amount-top 4398046511104 / ok",
     ),
     "an entry below the cap of its constraining round and above the final cap, which doesn't hold": (

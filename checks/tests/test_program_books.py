@@ -188,7 +188,10 @@ class Weights(Stopping):
     def test_least_and_greatest_weight(self) -> None:
         """Both lots alone bring 21, the Vickrey prices are 0, and the two winners share the 21 by their weights of 1
         and 20."""
-        book = "book 1\nsupply 1 1\nreserve 0 0\nbidder east\nbid 1 0 30\nbidder west_2\nbid 0 1 30\nbidder both\nbid 1 1 21\nend\n"
+        book = (
+            "book 1\nsupply 1 1\nreserve 0 0\nbidder east\nbid 1 0 30\nbidder west_2\nbid 0 1 30\nbidder both\n"
+            "bid 1 1 21\nend\n"
+        )
         weights = "weights 1\nweight east 1\nweight west_2 20\nweight both 1\nend\n"
         prices = (
             "winner east 1 0 bid 30 vickrey 0 pays 1\nwinner west_2 0 1 bid 30 vickrey 0 pays 20\nnet 60\nrevenue 21\n"
@@ -216,7 +219,8 @@ class Reviews(Stopping):
         23."""
         edits = "edits 1\nraise b3 1 1 50\nadd b4 0 1 23\ndrop b1 1 0\nraise b3 1 1 50\nadd north 1 0 5\nend\n"
         printed = (
-            "0 net 48 choice 1 1 0 0 0\n1 net 50 choice 0 0 1 0 0\n2 net 51 choice 1 0 0 1 0\n3 net 50 choice 0 0 1 0 0\n"
+            "0 net 48 choice 1 1 0 0 0\n1 net 50 choice 0 0 1 0 0\n2 net 51 choice 1 0 0 1 0\n"
+            "3 net 50 choice 0 0 1 0 0\n"
             "4 not-higher 50\n5 unknown\nwinner b3 1 1 50\nnet 50\n"
         )
         self.assertEqual(run("review", "book", "edits", book=DAY_CRAMTON, edits=edits)[:2], (printed, 0))
@@ -225,7 +229,8 @@ class Reviews(Stopping):
         book = "book 1\nsupply 2\nreserve 3\nbidder b1\nbid 1 5\nend\n"
         edits = "edits 1\nadd b1 3 9\ndrop b1 0\nadd b1 1 9\ndrop b1 2\nadd b1 2 5\nraise b1 1 4398046511105\nend\n"
         printed = (
-            "0 net 2 choice 1\n1 supply 1\n2 empty\n3 present 5\n4 absent\n5 below-reserve 6\n6 amount-top 4398046511104\n"
+            "0 net 2 choice 1\n1 supply 1\n2 empty\n3 present 5\n4 absent\n5 below-reserve 6\n"
+            "6 amount-top 4398046511104\n"
             "winner b1 1 5\nnet 2\n"
         )
         self.assertEqual(run("review", "book", "edits", book=book, edits=edits)[:2], (printed, 0))
@@ -277,7 +282,10 @@ class Prices(unittest.TestCase):
         16 and 11.
         """
         turns = ["round 1 point 6 6 row 1 2 choice 0 0 1 excess 9", "round 2 point 10+1/2 10+1/2 end"]
-        prices = "winner a 1 0 bid 25 vickrey 16 pays 20+1/2\nwinner b 0 1 bid 20 vickrey 11 pays 15+1/2\nnet 30\nrevenue 36\n"
+        prices = (
+            "winner a 1 0 bid 25 vickrey 16 pays 20+1/2\nwinner b 0 1 bid 20 vickrey 11 pays 15+1/2\nnet 30\n"
+            "revenue 36\n"
+        )
         winners = (
             '"winners":[{"bid":25,"name":"a","package":[1,0],"pays":"20+1/2","vickrey":16},'
             '{"bid":20,"name":"b","package":[0,1],"pays":"15+1/2","vickrey":11}]}\n'
@@ -307,7 +315,8 @@ class Prices(unittest.TestCase):
         self.prints(
             PAIRS,
             ["--json"],
-            '{"net":30,"revenue":"20+1/2","winners":[{"bid":20,"name":"a","package":[1,0,0],"pays":"13+1/2","vickrey":10},'
+            '{"net":30,"revenue":"20+1/2","winners":['
+            '{"bid":20,"name":"a","package":[1,0,0],"pays":"13+1/2","vickrey":10},'
             '{"bid":10,"name":"b","package":[0,1,0],"pays":"3+1/2","vickrey":0},'
             '{"bid":10,"name":"c","package":[0,0,1],"pays":"3+1/2","vickrey":0}]}\n',
         )

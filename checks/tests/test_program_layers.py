@@ -1,6 +1,7 @@
 """The program on overlayfs, where a file gets another inode once it is opened for writing.
 
-Each run has a mount in a namespace of its own. If the machine allows no such mount, these tests are skipped, and a line says so.
+Each run has a mount in a namespace of its own. If the machine allows no such mount, these tests are skipped, and a line
+says so.
 """
 
 import contextlib

@@ -88,7 +88,8 @@ WINNERS = [
         "spectrum",
         sample("six-bidders.book"),
         "1 1 1 1 1 0",
-        "winner p1 2 0 0 0 550000 / winner p2 0 1 0 0 350000 / winner p3 2 0 4 5 710500 / winner p4 0 0 7 0 225000 / winner p5 0 0 3 4 105400 "
+        "winner p1 2 0 0 0 550000 / winner p2 0 1 0 0 350000 / winner p3 2 0 4 5 710500 / winner p4 0 0 7 0 225000 "
+        "/ winner p5 0 0 3 4 105400 "
         "/ net 680000",
     ),
     ("two choices of a value", TIE, "1 1", "winner east 1 5 / winner west 1 4 / net 9"),
@@ -175,7 +176,8 @@ PRICED = [
     (
         "Day and Cramton, losers between the winners",
         lines(
-            "book 1 / supply 1 1 / reserve 0 0 / bidder b3 / bid 1 1 32 / bidder b1 / bid 1 0 28 / bidder b4 / bid 1 0 14 "
+            "book 1 / supply 1 1 / reserve 0 0 / bidder b3 / bid 1 1 32 / bidder b1 / bid 1 0 28 / bidder b4 "
+            "/ bid 1 0 14 "
             "/ bidder b2 / bid 0 1 20 / bidder b5 / bid 0 1 12 / end"
         ),
         "round 1 point 14 12 row 2 4 choice 1 0 0 0 0 excess 6 / round 2 point 17 15 end",
@@ -207,9 +209,11 @@ PRICED = [
             "book 1 / supply 1 1 1 / reserve 0 0 0 / bidder a / bid 1 0 0 10 / bidder b / bid 0 1 0 9 "
             "/ bidder c / bid 0 0 1 9 / bidder d / bid 1 1 1 20 / bidder e / bid 1 0 0 8 / end"
         ),
-        "round 1 point 8 1 1 row 1 2 3 choice 0 0 0 1 0 excess 10 / round 2 point 11+1/3 4+1/3 4+1/3 row 2 3 choice 0 0 0 1 0 excess 1+1/3 "
+        "round 1 point 8 1 1 row 1 2 3 choice 0 0 0 1 0 excess 10 "
+        "/ round 2 point 11+1/3 4+1/3 4+1/3 row 2 3 choice 0 0 0 1 0 excess 1+1/3 "
         "/ round 3 point 10 5 5 end",
-        "winner a 1 0 0 bid 10 vickrey 8 pays 10 / winner b 0 1 0 bid 9 vickrey 1 pays 5 / winner c 0 0 1 bid 9 vickrey 1 pays 5 "
+        "winner a 1 0 0 bid 10 vickrey 8 pays 10 / winner b 0 1 0 bid 9 vickrey 1 pays 5 "
+        "/ winner c 0 0 1 bid 9 vickrey 1 pays 5 "
         "/ net 28 / revenue 20",
     ),
     (
@@ -218,8 +222,10 @@ PRICED = [
         "round 1 point 70000 0 170000 0 0 row 1 3 5 choice 0 1 0 1 0 1 excess 140000 "
         "/ round 2 point 116666+2/3 0 216666+2/3 0 46666+2/3 row 1 3 4 choice 0 1 0 0 1 1 excess 46666+2/3 "
         "/ round 3 point 140000 0 240000 0 0 end",
-        "winner p1 2 0 0 0 bid 550000 vickrey 470000 pays 540000 / winner p2 0 1 0 0 bid 350000 vickrey 250000 pays 250000 "
-        "/ winner p3 2 0 4 5 bid 710500 vickrey 630500 pays 700500 / winner p4 0 0 7 0 bid 225000 vickrey 105000 pays 105000 "
+        "winner p1 2 0 0 0 bid 550000 vickrey 470000 pays 540000 "
+        "/ winner p2 0 1 0 0 bid 350000 vickrey 250000 pays 250000 "
+        "/ winner p3 2 0 4 5 bid 710500 vickrey 630500 pays 700500 "
+        "/ winner p4 0 0 7 0 bid 225000 vickrey 105000 pays 105000 "
         "/ winner p5 0 0 3 4 bid 105400 vickrey 45400 pays 45400 / net 680000 / revenue 1640900",
     ),
     (
@@ -246,10 +252,14 @@ PRICED = [
         "the greatest amounts",
         book_of((6,), [*[[((1,), MOST)]] * 6, [((6,), MOST)]], ["u1", "u2", "u3", "u4", "u5", "u6", "g"]),
         "round 1 point 0 0 0 0 0 0 row 1 2 3 4 5 6 choice 0 0 0 0 0 0 1 excess 4398046511104 "
-        "/ round 2 point 733007751850+2/3 733007751850+2/3 733007751850+2/3 733007751850+2/3 733007751850+2/3 733007751850+2/3 end",
-        "winner u1 1 bid 4398046511104 vickrey 0 pays 733007751850+2/3 / winner u2 1 bid 4398046511104 vickrey 0 pays 733007751850+2/3 "
-        "/ winner u3 1 bid 4398046511104 vickrey 0 pays 733007751850+2/3 / winner u4 1 bid 4398046511104 vickrey 0 pays 733007751850+2/3 "
-        "/ winner u5 1 bid 4398046511104 vickrey 0 pays 733007751850+2/3 / winner u6 1 bid 4398046511104 vickrey 0 pays 733007751850+2/3 "
+        "/ round 2 point 733007751850+2/3 733007751850+2/3 733007751850+2/3 733007751850+2/3 733007751850+2/3 "
+        "733007751850+2/3 end",
+        "winner u1 1 bid 4398046511104 vickrey 0 pays 733007751850+2/3 "
+        "/ winner u2 1 bid 4398046511104 vickrey 0 pays 733007751850+2/3 "
+        "/ winner u3 1 bid 4398046511104 vickrey 0 pays 733007751850+2/3 "
+        "/ winner u4 1 bid 4398046511104 vickrey 0 pays 733007751850+2/3 "
+        "/ winner u5 1 bid 4398046511104 vickrey 0 pays 733007751850+2/3 "
+        "/ winner u6 1 bid 4398046511104 vickrey 0 pays 733007751850+2/3 "
         "/ net 26388279066624 / revenue 4398046511104",
     ),
 ]
@@ -362,7 +372,8 @@ class Review(Case):
                 "Day and Cramton",
                 DAY_CRAMTON,
                 sample("day-cramton.edits"),
-                "0 net 48 choice 1 1 0 0 0 / 1 net 50 choice 0 0 1 0 0 / 2 net 51 choice 1 0 0 1 0 / 3 net 50 choice 0 0 1 0 0 "
+                "0 net 48 choice 1 1 0 0 0 / 1 net 50 choice 0 0 1 0 0 / 2 net 51 choice 1 0 0 1 0 "
+                "/ 3 net 50 choice 0 0 1 0 0 "
                 "/ 4 not-higher 50 / 5 unknown / winner b3 1 1 50 / net 50",
             ),
             (
@@ -372,7 +383,8 @@ class Review(Case):
                     "edits 1 / add b1 2 0 5 / add b1 0 0 5 / add b1 1 0 5 / raise b1 0 1 5 / drop b2 1 0 "
                     "/ add b1 0 1 4398046511105 / end"
                 ),
-                "0 net 48 choice 1 1 0 0 0 / 1 supply 1 / 2 empty / 3 present 28 / 4 absent / 5 absent / 6 amount-top 4398046511104 "
+                "0 net 48 choice 1 1 0 0 0 / 1 supply 1 / 2 empty / 3 present 28 / 4 absent / 5 absent "
+                "/ 6 amount-top 4398046511104 "
                 "/ winner b1 1 0 28 / winner b2 0 1 20 / net 48",
             ),
             ("none", NOBODY, lines("edits 1 / end"), "0 net 0 choice / net 0"),
@@ -380,7 +392,8 @@ class Review(Case):
                 "below the reserve",
                 RESERVED,
                 lines("edits 1 / add west 1 9 / add west 1 12 / end"),
-                "0 net 5 choice 1 0 / 1 below-reserve 10 / 2 net 7 choice 1 1 / winner east 1 15 / winner west 1 12 / net 7",
+                "0 net 5 choice 1 0 / 1 below-reserve 10 / 2 net 7 choice 1 1 / winner east 1 15 / winner west 1 12 "
+                "/ net 7",
             ),
         ]:
             with self.subTest(name):

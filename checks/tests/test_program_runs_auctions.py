@@ -30,7 +30,8 @@ class Auction(Case):
             (
                 "bid replaced",
                 b"bid,east,2,\n" + LOWERED,
-                "1 ok / 2 ok / 3 ok / 4 round 2 12 / 5 ok / 6 ok / 7 sealed / 8 ok / 9 ok / 10 relative-cap 2 44 / 11 ok / 12 ok "
+                "1 ok / 2 ok / 3 ok / 4 round 2 12 / 5 ok / 6 ok / 7 sealed / 8 ok / 9 ok / 10 relative-cap 2 44 "
+                "/ 11 ok / 12 ok "
                 "/ 13 closed",
                 LOWERED_BOOK,
             ),
@@ -77,8 +78,10 @@ LOWERED_OBJECT = (
     '{"bid":24,"name":"west","package":[2],"pays":"24","vickrey":24}]}'
 )
 SAMPLE_PRICES = (
-    "winner everest 1 0 3 0 bid 420000 vickrey 292400 pays 292400 / winner harbour 0 1 2 4 bid 400000 vickrey 310400 pays 310400 / "
-    "winner meridian 1 0 4 5 bid 380000 vickrey 292500 pays 292500 / winner niche 0 0 5 0 bid 120000 vickrey 81000 pays 81200 / "
+    "winner everest 1 0 3 0 bid 420000 vickrey 292400 pays 292400 "
+    "/ winner harbour 0 1 2 4 bid 400000 vickrey 310400 pays 310400 / "
+    "winner meridian 1 0 4 5 bid 380000 vickrey 292500 pays 292500 "
+    "/ winner niche 0 0 5 0 bid 120000 vickrey 81000 pays 81200 / "
     "winner tarn 2 0 0 0 bid 500000 vickrey 460000 pays 460200 / net 559100 / revenue 1436700"
 )
 

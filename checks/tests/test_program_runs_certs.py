@@ -116,7 +116,8 @@ class Books(Case):
 SLOTS = sample("band.slots")
 ROUNDS = "round 1 point 4 2 row 1 2 choice 0 0 1 excess 6 / round 2 point 7 5 end"
 PLACEMENT = (
-    "placed x 1 2 / placed z 3 1 / placed y 4 1 / winner x 1 bid 10 vickrey 4 pays 7 / winner y 4 bid 8 vickrey 2 pays 5 "
+    "placed x 1 2 / placed z 3 1 / placed y 4 1 / winner x 1 bid 10 vickrey 4 pays 7 "
+    "/ winner y 4 bid 8 vickrey 2 pays 5 "
     "/ value 18 / revenue 12"
 )
 
@@ -137,7 +138,8 @@ class Placements(Case):
             ("slots 1 / band 4 / bidder x 5 / end", "cca: refused slots 15", 3),
             ("slots 1 / band 41 / end", "cca: limit lots 41", 7),
             (
-                "slots 1 / band 9 / bidder a 1 / bidder b 1 / bidder c 1 / bidder d 1 / bidder e 1 / bidder f 1 / bidder g 1 / end",
+                "slots 1 / band 9 / bidder a 1 / bidder b 1 / bidder c 1 / bidder d 1 / bidder e 1 / bidder f 1 "
+                "/ bidder g 1 / end",
                 "cca: limit bidders 7",
                 7,
             ),

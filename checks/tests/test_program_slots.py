@@ -8,12 +8,14 @@ from checks.cases.samples import sample
 THREE = sample("band.slots").decode()
 # Several choices are worth as much.
 TIES = (
-    "slots 1\nband 5\nbidder a 1\nplace 1 6\nplace 2 6\nplace 4 6\nbidder b 2\nplace 1 3\nplace 3 3\nbidder c 1\nplace 1 6\nplace 4 6\n"
+    "slots 1\nband 5\nbidder a 1\nplace 1 6\nplace 2 6\nplace 4 6\nbidder b 2\nplace 1 3\nplace 3 3\nbidder c 1\n"
+    "place 1 6\nplace 4 6\n"
     "end\n"
 )
 # A whole band, in which all bidders can win.
 FOUR = (
-    "slots 1\nband 7\nbidder p 2\nplace 2 9\nplace 4 9\nplace 6 4\nbidder q 1\nplace 1 5\nplace 3 7\nbidder r 3\nplace 1 8\nplace 2 8\n"
+    "slots 1\nband 7\nbidder p 2\nplace 2 9\nplace 4 9\nplace 6 4\nbidder q 1\nplace 1 5\nplace 3 7\nbidder r 3\n"
+    "place 1 8\nplace 2 8\n"
     "place 5 8\nbidder s 1\nplace 4 6\nplace 7 2\nend\n"
 )
 # A bid of the greatest amount for a start that no order gives.

@@ -148,7 +148,8 @@ def audited(paths: list[pathlib.Path], plain: pathlib.Path | None, keep: pathlib
     if other:
         lines += [
             "",
-            f"But these bytes are those of the plain spelling of the {' and the '.join(other)}, and your file is spelled otherwise.",
+            f"But these bytes are those of the plain spelling of the {' and the '.join(other)}, and your file is "
+            "spelled otherwise.",
             "Write the plain spelling with --plain FOLDER, and compare it with your file.",
         ]
         return lines, 9

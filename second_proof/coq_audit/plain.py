@@ -1,7 +1,7 @@
 """The plain spelling of an award and of a log: the one that Texts.v prints.
 
-Nothing here has to be believed: Coq reads the plain text, and its verdict is on the bytes of that text. Where the file isn't spelled
-so, both have to be compared by the person who relies on the verdict.
+Nothing here has to be believed: Coq reads the plain text, and its verdict is on the bytes of that text. Where the file
+isn't spelled so, both have to be compared by the person who relies on the verdict.
 """
 
 import csv
@@ -62,8 +62,8 @@ def table_lines(word: str, table: object) -> list[str]:
 def plain_award(file: bytes) -> bytes:
     """The plain spelling of an award, which is read by Python's own reader of TOML 1.0.
 
-    Raises NotPlain where the text isn't TOML 1.0, or has what no award has. An award that only TOML 1.1 can spell has to be
-    written as TOML 1.0 first.
+    Raises NotPlain where the text isn't TOML 1.0, or has what no award has. An award that only TOML 1.1 can spell has
+    to be written as TOML 1.0 first.
     """
     try:
         award = tomllib.loads(file.decode().removeprefix("\ufeff"))

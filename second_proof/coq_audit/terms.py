@@ -18,7 +18,8 @@ class Terms:
 
     def __init__(self) -> None:
         self.definitions = [
-            "Definition eight (a b c d e f g h : string) (l : list string) := a :: b :: c :: d :: e :: f :: g :: h :: l."
+            "Definition eight (a b c d e f g h : string) (l : list string) := a :: b :: c :: d :: e :: f :: g :: h :: "
+            "l."
         ]
         self.fields: dict[str, str] = {}
         self.lines: dict[tuple[str, ...], str] = {}
@@ -44,7 +45,8 @@ class Terms:
         return self.lines[key]
 
     def text(self, name: str, file: bytes, separator: str) -> None:
-        """Defines the lines of fields of a file. A last line without its line feed gets one as a part of a field: no text has that."""
+        """Defines the lines of fields of a file. A last line without its line feed gets one as a part of a field: no
+        text has that."""
         *lines, unended = file.decode().split("\n")
         lines += [unended + "\n"] if unended else []
         names = [self.line(line.split(separator)) for line in lines]

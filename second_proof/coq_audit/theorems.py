@@ -9,7 +9,8 @@ HEAD = "Require Import Definitions Tests Headline Texts Read Audit.\n"
 
 @dataclasses.dataclass(frozen=True)
 class Kind:
-    """A kind of audit: the command of the checker, the names of its files and their separators, what Coq answers, and what follows."""
+    """A kind of audit: the command of the checker, the names of its files and their separators, what Coq answers, and
+    what follows."""
 
     command: str
     files: tuple[str, ...]
@@ -101,7 +102,8 @@ def proof(kind: Kind, files: list[bytes], said: list[str]) -> str:
     return (
         f"{HEAD}{terms}\nLemma answer : {kind.answer} = {answer}.\n"
         f"Proof. vm_cast_no_check (eq_refl ({answer})). Qed.\n\n"
-        f"Definition this_audit_is_right := {follows}.\nCheck this_audit_is_right.\nPrint Assumptions this_audit_is_right.\n"
+        f"Definition this_audit_is_right := {follows}.\nCheck this_audit_is_right.\n"
+        "Print Assumptions this_audit_is_right.\n"
     )
 
 
@@ -111,4 +113,7 @@ def in_words(kind: Kind, said: list[str]) -> str:
         values = dict(line.split(" ", 1) for line in said[-2:])
         return kind.words.format(net=values.get("net") or values["value"], revenue=values["revenue"])
     _, test, place = said[0].split(" ")
-    return f"Test {test} of docs/CERTIFICATES.md is the first that fails, and {place} is the first of its places at which it does."
+    return (
+        f"Test {test} of docs/CERTIFICATES.md is the first that fails, and {place} is the first of its places at which "
+        "it does."
+    )
