@@ -12,7 +12,7 @@ import tempfile
 import typing
 import unittest
 
-PROGRAM = os.environ.get("CCA_PROGRAM")
+PROGRAM = os.environ.get("CCA_PROGRAM", "")
 with_program = unittest.skipUnless(PROGRAM, "CCA_PROGRAM names no program")
 
 

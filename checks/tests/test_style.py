@@ -41,13 +41,6 @@ UNTYPED = {
         f"tools/tests/{name}"
         for name in (
             "desk_client.py",
-            "test_auction.py",
-            "test_award.py",
-            "test_book.py",
-            "test_caps.py",
-            "test_check.py",
-            "test_court.py",
-            "test_data.py",
             "test_desk_answers.py",
             "test_desk_guard.py",
             "test_desk_lists.py",
@@ -55,35 +48,13 @@ UNTYPED = {
             "test_desk_pages.py",
             "test_desk_people.py",
             "test_findings.py",
-            "test_ink.py",
-            "test_log.py",
-            "test_log_tools.py",
-            "test_matching.py",
             "test_pictures.py",
-            "test_places.py",
-            "test_price.py",
-            "test_publish.py",
             "test_record.py",
-            "test_rehearse.py",
             "test_report.py",
-            "test_state.py",
-            "test_strategies.py",
-            "test_study.py",
-            "test_tables.py",
-            "test_ties.py",
-            "test_toml.py",
-            "test_tools.py",
-            "test_values.py",
-            "test_what_if.py",
-            "test_why.py",
         )
     ),
 }
-# What came without types of its own, and isn't typed yet either.
-LEFT = [
-    "tools/tests/test_attacks.py",
-]
-TYPED = [name for name in PYTHON if name not in (*UNTYPED, *LEFT, *COURT)]
+TYPED = [name for name in PYTHON if name not in (*UNTYPED, *COURT)]
 
 
 class Style(unittest.TestCase):

@@ -6,13 +6,15 @@ import tempfile
 import unittest
 
 from checks.cases import attacks
-from checks.cases.attacks import AWARD, KEY, LOG, Step, found, honest, note_of, told, with_bid
+from checks.cases.attacks import AWARD, KEY, LOG, Files, Step, found, honest, note_of, told, with_bid
 
 from cca_tools.desk.journal import chained
-from cca_tools.rules.seals import Event, Sealer, grouped, read_posted, sum_of
+from cca_tools.rules.seals import Event, Row, Sealer, grouped, read_posted, sum_of
 
 
 class Attacks(unittest.TestCase):
+    day: Files
+
     @classmethod
     def setUpClass(cls) -> None:
         cls.day = told(honest())
@@ -81,6 +83,9 @@ class Attacks(unittest.TestCase):
 
 class OfABidder(unittest.TestCase):
     """Lines that a bidder shows."""
+
+    day: Files
+    rows: list[Row]
 
     @classmethod
     def setUpClass(cls) -> None:

@@ -1,9 +1,12 @@
 """The replies to worked logs, the rounds, the caps and the book."""
 import unittest
 from checks.cases.samples import lines, sample
+from cca_tools.rules.auction import Auction
 from cca_tools.rules.auction import replay
+from cca_tools.rules.award import Award
 from cca_tools.rules.award import read_award
 from cca_tools.rules.book import book_text
+from cca_tools.rules.log import Line
 from cca_tools.rules.log import read_log
 from cca_tools.rules.reasons import cap_words, reason
 from cca_tools.rules.sealed import Cap
@@ -18,16 +21,16 @@ REPLIES = "ok / ok / round 2 12 / ok / ok / sealed / ok / ok / relative-cap 2 44
 HEAD = " / ".join(ROW.split(" / ")[:6]) + " / "
 
 
-def auction_of(text, award=SMALL):
-    award = read_award(award.encode())
-    return replay(award, read_log(lines(text), award))
+def auction_of(text: str, award: str = SMALL) -> Auction:
+    terms = read_award(award.encode())
+    return replay(terms, read_log(lines(text), terms))
 
 
-def replies(text, award=SMALL):
+def replies(text: str, award: str = SMALL) -> str:
     return " / ".join(reply.text() for reply in auction_of(text, award).replies)
 
 
-def book(text, award=SMALL):
+def book(text: str, award: str = SMALL) -> str:
     try:
         return book_text(auction_of(text, award).need_book()).decode().strip().replace("\n", " / ")
     except Stop as stop:
@@ -189,20 +192,24 @@ class Caps(unittest.TestCase):
             (2, (0, 1), None),
         ]:
             auction = auction_of(TWO_LOG, TWO.format(version))
-            self.assertEqual(auction.caps(1).cap(dict(auction.drafts(1)), package).amount, amount)
+            cap = auction.caps(1).cap(dict(auction.drafts(1)), package)
+            assert cap is not None
+            self.assertEqual(cap.amount, amount)
 
     def test_where_it_comes_from(self) -> None:
         auction = replay(*uk(33))
         cap = auction.caps(1).cap({(1, 0, 3, 0): 420000, (2, 0, 4, 0): 760000}, (2, 0, 4, 0))
+        assert cap is not None
         self.assertEqual(
             (cap.constraining_round, cap.held, cap.standing, cap.amount), (3, (1, 0, 4, 0), 303800, 534800)
         )
         self.assertEqual(cap.prices[0], 231000)
         cap = auction.caps(1).cap({(1, 0, 4, 0): 430000}, (2, 0, 4, 0))
+        assert cap is not None
         self.assertEqual((cap.standing, cap.amount, cap.final), (430000, 661000, None))
 
 
-def uk(count):
+def uk(count: int | None) -> tuple[Award, list[Line]]:
     award = read_award(sample("spectrum.award"))
     return award, read_log(sample("spectrum.log"), award)[:count]
 
@@ -252,6 +259,7 @@ class Sample(unittest.TestCase):
 
     def test_in_progress(self) -> None:
         auction = replay(*uk(11))
+        assert auction.open_round is not None
         self.assertEqual(
             (auction.stage, auction.open_round.number, auction.open_round.prices),
             ("clock", 2, (220000, 262500, 16500, 200)),

@@ -9,7 +9,7 @@ from cca_tools.rules.stops import Stop
 UK = sample("spectrum.award").decode()
 
 
-def answer(text):
+def answer(text: str | bytes) -> str:
     try:
         read_award(text if isinstance(text, bytes) else text.encode())
     except Stop as stop:
@@ -17,7 +17,7 @@ def answer(text):
     return "read"
 
 
-def edited(old, new, count=1):
+def edited(old: str, new: str, count: int = 1) -> str:
     """The sample with its first few places of a text replaced."""
     assert old in UK, old
     return UK.replace(old, new, count)
@@ -158,7 +158,7 @@ class Awards(unittest.TestCase):
         )
 
     def test_no_toml(self) -> None:
-        for text in (
+        texts: list[str | bytes] = [
             "version =",
             "version = 1\nversion = 1",
             b"version = 1 # \xff",
@@ -166,7 +166,8 @@ class Awards(unittest.TestCase):
             "a = [1, {b = -9223372036854775809}]",
             "\ufeff\ufeffversion = 1",
             "version = 01",
-        ):
+        ]
+        for text in texts:
             with self.subTest(text=text):
                 self.assertEqual(answer(text), "cca: refused award 0 0")
         self.assertEqual(answer("version = 9223372036854775807"), "cca: refused award 1 0")
@@ -202,7 +203,7 @@ HOLDER = '[[bidder]]\nname = "x"\neligibility = 0\nholding = [2]\n'
 
 
 class Edges(unittest.TestCase):
-    def stop(self, text):
+    def stop(self, text: str) -> Stop:
         with self.assertRaises(Stop) as caught:
             read_award(text.encode())
         return caught.exception
@@ -219,8 +220,10 @@ class Edges(unittest.TestCase):
             missing.why, "`tick` is missing at the top of the award; it has to be a whole number from 1 to 68719476736"
         )
         wrong = self.stop(f"{HEAD}{CATEGORY}{REST}".replace("permille = 50", "permille = 0"))
+        assert wrong.spot is not None
         self.assertEqual((wrong.line, wrong.spot.row), ("cca: refused award 14 1", 10))
         inline = self.stop(f"{HEAD}step = [{{excess = 1, permille = 0}}]\n{CATEGORY}")
+        assert inline.spot is not None
         self.assertEqual((inline.line, inline.spot.row), ("cca: refused award 14 1", 0))
         other = self.stop(f"{HEAD}{CATEGORY}{REST}cost = 1\n")
         self.assertEqual(

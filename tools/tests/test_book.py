@@ -9,12 +9,12 @@ from cca_tools.rules.stops import Stop
 HEAD = "book 1 / supply 1 1 / reserve 0 0 / bidder east / "
 
 
-def stopped(data):
+def stopped(data: bytes) -> tuple[str, int]:
     try:
         read_book(data)
     except Stop as stop:
         return stop.line, stop.status
-    return None
+    return "read", 0
 
 
 class Books(unittest.TestCase):

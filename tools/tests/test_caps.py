@@ -6,6 +6,7 @@ from checks.cases.samples import lines, said, sample, taking
 from cca_tools.rules.auction import replay
 from cca_tools.rules.log import Line, read_log
 from cca_tools.rules.sealed import caps_if_ended
+from cca_tools.rules.types import Package
 from cca_tools.rules.view import record_text, view_line_of, view_text
 
 caps = taking("caps")
@@ -13,12 +14,12 @@ SMALL = sample("sample.award").decode()
 HEAD = "bid,east,3, / bid,west,2, / close,,, / "
 
 
-def asked(award, log, *words):
+def asked(award: bytes, log: bytes, *words: str) -> tuple[str, int]:
     """What tools/caps prints of these bytes, and its status."""
     return said(lambda names: caps([*names, *words]), award, log)
 
 
-def spectrum(records, *words):
+def spectrum(records: int, *words: str) -> str:
     return asked(sample("spectrum.award"), b"".join(sample("spectrum.log").splitlines(True)[:records]), *words)[0]
 
 
@@ -107,7 +108,7 @@ class Fit(unittest.TestCase):
                 self.check(drawing, j, seen)
         self.assertTrue(all(count > 10 for count in seen.values()), seen)
 
-    def check(self, drawing, j, seen) -> None:
+    def check(self, drawing: Drawing, j: int, seen: dict[str, int]) -> None:
         """Follows the lines that are printed, then tries each entry that was lowered."""
         name, wanted = drawing.award.names[j - 1], dict(drawing.auction.drafts(j))
         text, status = asked(drawing.text.encode(), drawing.log(), name, "--fit")
@@ -126,7 +127,7 @@ class Fit(unittest.TestCase):
             if listed[package] < amount:
                 self.refused(drawing, log, j, package, listed[package] + 1)
 
-    def refused(self, drawing, log, j, package, amount) -> None:
+    def refused(self, drawing: Drawing, log: bytes, j: int, package: Package, amount: int) -> None:
         """The list with this entry is above a cap."""
         name = drawing.award.names[j - 1]
         tried = [Line(0, 0, "draft", name, j, package, amount), Line(0, 0, "submit", name, j)]

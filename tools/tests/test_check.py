@@ -3,7 +3,8 @@ import re
 import unittest
 from checks.cases.samples import book_of, certificate_of, lines, said, sample, six_bidders
 from checks.cases.voices import check
-from cca_tools.rules.stops import Stop
+from cca_tools.rules.stops import RecordSpot, Stop
+from collections.abc import Sequence
 
 BOOK, CERT, WEIGHTS = sample("day-cramton.book"), sample("day-cramton.cert"), sample("day-cramton.weights")
 YES = "yes\nwinner b1 1 0 bid 28 vickrey 14 pays 17\nwinner b2 0 1 bid 20 vickrey 12 pays 15\nnet 48\nrevenue 32"
@@ -262,7 +263,8 @@ class Faults(unittest.TestCase):
             self.assertEqual(said(check, BOOK, CERT[:count]), (f"cca: refused cert {start}", 3))
 
     def test_words_and_files(self) -> None:
-        for words in [], ["one"], ["same", "same"], ["", "two"], ["-x", "two"], list("four"):
+        cases: list[list[str]] = [[], ["one"], ["same", "same"], ["", "two"], ["-x", "two"], list("four")]
+        for words in cases:
             self.assertEqual(stopped(words), ("cca: words", 2))
         self.assertEqual(stopped(["/no such file", "two"]), ("cca: read fault book", 4))
         self.assertEqual(stopped(["/", "two"]), ("cca: read fault book", 4))
@@ -374,6 +376,7 @@ class Faults(unittest.TestCase):
 
     def test_rows_in_an_editor(self) -> None:
         book = stop_of(BOOK.replace(b"bid 1 1 32", b"bid 1 1 3.2"), CERT)
+        assert isinstance(book.spot, RecordSpot)
         self.assertEqual((book.spot.row, book.spot.read), (9, "bid 1 1 3.2"))
         self.assertIn("`3.2` is read as the amount", book.why)
         for put, hint in [
@@ -385,14 +388,15 @@ class Faults(unittest.TestCase):
             self.assertIn(hint, stop_of(BOOK.replace(b"bid 1 1 32", put.encode()), CERT).why)
         self.assertIn("another book", stop_of(sample("tie.book"), CERT).why)
         cert = stop_of(BOOK, CERT + CERT)
+        assert isinstance(cert.spot, RecordSpot)
         self.assertEqual((cert.spot.row, cert.spot.read), (CERT.count(b"\n") + 1, "cert 1"))
 
 
-def stop_of(*texts):
+def stop_of(*texts: bytes) -> Stop:
     """The stop."""
-    stops = []
+    stops: list[Stop] = []
 
-    def run(names):
+    def run(names: Sequence[str]) -> str:
         try:
             return check(names)
         except Stop as stop:
@@ -403,7 +407,7 @@ def stop_of(*texts):
     return stops[0]
 
 
-def stopped(words):
+def stopped(words: Sequence[str]) -> tuple[str, int]:
     try:
         return check(words), 0
     except Stop as stop:

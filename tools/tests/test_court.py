@@ -84,18 +84,18 @@ REFUSED = [
 ]
 
 
-def run(name, *words, **more):
+def run(name: str, *words: str | bytes, input: bytes | None = None) -> subprocess.CompletedProcess[bytes]:
     """How a tool ends as a program."""
-    return subprocess.run([sys.executable, os.path.join(TOOLS, name), *words], capture_output=True, **more)
+    return subprocess.run([sys.executable, os.path.join(TOOLS, name), *words], capture_output=True, input=input)
 
 
 class BesideTheOthers(unittest.TestCase):
     def test_drawn_cases(self) -> None:
         """The court's files, the rules and the program answer alike, and each kind of answer comes."""
-        said = collections.Counter()
+        said: collections.Counter[str] = collections.Counter()
         with tempfile.TemporaryDirectory() as folder:
             for command, texts in itertools.islice(cases(random.Random(SEED)), NUMBER):
-                found = answers(folder, command, texts, PROGRAM and os.path.abspath(PROGRAM))
+                found = answers(folder, command, texts, os.path.abspath(PROGRAM) if PROGRAM else None)
                 with self.subTest(command=command, texts=texts):
                     self.assertTrue(is_alike(*found), found)
                 said[found[1][0].split("\n")[0].rstrip("0123456789 ")] += 1
@@ -112,7 +112,8 @@ class BesideTheOthers(unittest.TestCase):
         with tempfile.TemporaryDirectory() as folder:
             names = [os.path.join(folder, kind) for kind in ("award", "log")]
             for _ in range(BOOKS):
-                for name, text in zip(names, drawn(rng)):
+                award, log, _ = drawn(rng)
+                for name, text in zip(names, (award, log)):
                     pathlib.Path(name).write_text(text)
                 court, rules = books(*names)
                 with self.subTest(award=names[0], log=names[1]):
@@ -122,7 +123,7 @@ class BesideTheOthers(unittest.TestCase):
 
 
 class Awards(unittest.TestCase):
-    def answer(self, award):
+    def answer(self, award: bytes) -> tuple[tuple[str, int], tuple[str, int]]:
         with tempfile.TemporaryDirectory() as folder:
             names = [os.path.join(folder, kind) for kind in ("award", "log", "cert")]
             for name, text in zip(names, (award, b"", b"")):
@@ -142,7 +143,7 @@ class Awards(unittest.TestCase):
                 self.assertEqual(self.answer(award), ((f"cca: refused award {numbers}", 3),) * 2)
 
 
-def take_interrupts():
+def take_interrupts() -> None:
     """Lets a process be ended by Ctrl-C, also if the caller ignores that."""
     signal.signal(signal.SIGINT, signal.SIG_DFL)
 
@@ -154,7 +155,7 @@ class Files(unittest.TestCase):
             self.assertLessEqual(text.count("\n"), 500)
             for node in ast.walk(ast.parse(text)):
                 modules = [one.name for one in node.names] if isinstance(node, ast.Import) else []
-                modules += [node.module] if isinstance(node, ast.ImportFrom) else []
+                modules += [node.module or ""] if isinstance(node, ast.ImportFrom) else []
                 self.assertLessEqual({module.split(".")[0] for module in modules}, set(sys.stdlib_module_names))
 
     def test_alone_in_a_folder(self) -> None:
@@ -302,26 +303,30 @@ class Files(unittest.TestCase):
                 names = [os.path.join(folder, kind) for kind in ("award", "log")]
                 pathlib.Path(names[0]).write_bytes(award)
                 pathlib.Path(names[1]).write_text("\n".join(text))
-                (bids, _), status = court_book(*names)
+                found, status = court_book(*names)
+            assert isinstance(found, list)
+            bids, _ = found
             self.assertEqual((status, len(bids)), (0, 39 if more != drafts else 0))
 
     def test_streams_that_fail(self) -> None:
         """Status 1 means `no`: closed or full streams, and a Python that is set up wrongly, end otherwise."""
         wrong = [*SPECTRUM[:2], os.path.join(EXAMPLES, "tie.book")]
         book = [os.path.join(EXAMPLES, f"day-cramton.{kind}") for kind in ("book", "weights")]
-        for name, words, status in (
+        cases: list[tuple[str, list[str], int]] = [
             ("audit", wrong, 3),
             ("check", book, 3),
             ("check-places", book, 3),
             ("audit", [], 2),
-        ):
-            for streams, wanted, how in (
+        ]
+        for name, words, status in cases:
+            ends: list[tuple[str, int, dict[str, str]]] = [
                 ("2>&-", status, {}),
                 ("2>/dev/full", status, {"PYTHONHOME": "/nothing"}),
                 ("<&- 2>&-", status, {"PYTHONPATH": "/nothing:"}),
                 (">&-", 5, {}),
                 (">/dev/full 2>/dev/full", 5, {}),
-            ):
+            ]
+            for streams, wanted, how in ends:
                 with self.subTest(name=name, streams=streams):
                     script = ["sh", "-c", f'"$0" "$@" {streams}', os.path.join(TOOLS, name), *words]
                     ended = subprocess.run(script, capture_output=True, env={**os.environ, **how})
@@ -335,7 +340,7 @@ class Files(unittest.TestCase):
                 text = pathlib.Path(TOOLS, name).read_text()
                 path.write_text(text.replace("    try:\n        return ", "    try:\n        return 1 // 0, "))
                 for streams in ("2>&-", "2>/dev/full", "2>/dev/null", ">&- 2>&-"):
-                    script = ["sh", "-c", f'"$0" "$@" {streams}', sys.executable, path, "a", "b", "c"]
+                    script = ["sh", "-c", f'"$0" "$@" {streams}', sys.executable, str(path), "a", "b", "c"]
                     self.assertEqual(subprocess.run(script, capture_output=True).returncode, 70, streams)
 
     def test_interrupted(self) -> None:
@@ -345,9 +350,10 @@ class Files(unittest.TestCase):
                 pipe = os.path.join(folder, "pipe")
                 os.mkfifo(pipe)
                 words = [os.path.join(TOOLS, name), pipe, *(os.path.join(folder, str(n)) for n in range(1, count))]
-                pipes = {"stdout": subprocess.PIPE, "stderr": subprocess.PIPE}
                 # (a job in the background has Ctrl-C ignored)
-                with subprocess.Popen(words, preexec_fn=take_interrupts, **pipes) as child:
+                with subprocess.Popen(
+                    words, preexec_fn=take_interrupts, stdout=subprocess.PIPE, stderr=subprocess.PIPE
+                ) as child:
                     with open(pipe, "wb"):  # the tool has opened it too, and waits for its bytes
                         child.send_signal(signal.SIGINT)
                         self.assertEqual((*child.communicate(), child.returncode), (b"", b"", 130))

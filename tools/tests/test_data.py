@@ -10,18 +10,22 @@ import unittest
 import unittest.mock
 from decimal import Decimal
 from fractions import Fraction
+from typing import Any
+from collections.abc import Callable, Sequence
 
 from checks.cases.program import PROGRAM, with_program
 from checks.cases.samples import TOOLS, sample
 
 import cca_tools
-from cca_tools.data.bids import csv_text, json_text, read_bids
+from cca_tools.data.bids import Made, csv_text, json_text, read_bids
+from cca_tools.data.numbers import Mark
 from cca_tools.data.numbers import amount_of, decimal, exact, fraction_of
 from cca_tools.data.prices import prices_of, stop_of
 from cca_tools.data.raw import Sold
 from cca_tools.rules.award import read_award
 from cca_tools.rules.book import book_text
 from cca_tools.rules.stops import Stop
+from cca_tools.rules.types import Package
 from cca_tools.studies.values import values_of_seed
 from test_rehearse import ONE
 
@@ -39,18 +43,18 @@ ELEVEN = SEVEN.replace("supply 7", "supply 11").replace(
 )
 
 
-def run(name, *words, **how):
+def run(name: str, *words: str, **how: Any) -> tuple[str, int, str]:
     """What a tool prints as a program, its status, and what it says on standard error."""
     made = subprocess.run([sys.executable, f"{TOOLS}/{name}", *words], capture_output=True, text=True, **how)
     return made.stdout, made.returncode, made.stderr
 
 
 class Bids(unittest.TestCase):
-    def made(self, text, sold=TWO, mark="."):
+    def made(self, text: str, sold: Sold | None = TWO, mark: Mark = ".") -> tuple[list[str], Made]:
         found = read_bids(text.encode(), sold, mark)
         return book_text(found.book).decode().splitlines()[3:-1], found
 
-    def fault(self, text, sold=TWO, mark="."):
+    def fault(self, text: str, sold: Sold = TWO, mark: Mark = ".") -> str:
         with self.assertRaises(Stop) as caught:
             read_bids(text.encode(), sold, mark)
         self.assertEqual(caught.exception.status, 3)
@@ -185,20 +189,21 @@ class Bids(unittest.TestCase):
         self.assertIn("`Wést` is called west", said)
 
 
-def bid(name, package, amount):
+def bid(name: object, package: object, amount: object) -> dict[str, object]:
     return {"bidder": name, "package": package, "amount": amount}
 
 
 class Numbers(unittest.TestCase):
     def test_amounts(self) -> None:
-        for text, amount in {
+        amounts: dict[str, int | str] = {
             "12": 12,
             "1,234.50": "1234.5",
             "1 234": 1234,
             "EUR 5": 5,
             "12'000": 12000,
             "1e+05": 100000,
-        }.items():
+        }
+        for text, amount in amounts.items():
             self.assertEqual(amount_of(text), Decimal(amount))
         for text in ("", "-3", "1,23", "1.2.3", "1 4", "1,00,000", "1e", "٣", "nan"):
             self.assertIsNone(amount_of(text), text)
@@ -250,11 +255,12 @@ class Prices(unittest.TestCase):
         book = cca_tools.read_book(sample("day-cramton.book"))
         weighed = cca_tools.price(book, weights={"b1": 1, "b2": 3}, program=os.path.abspath(PROGRAM))
         self.assertEqual([it.pays for it in weighed.winners], [Fraction(31, 2), Fraction(33, 2)])
-        for call, why in (
+        calls: list[tuple[Callable[[], object], str]] = [
             (lambda: cca_tools.price(book, weights={"b9": 2}), "`b9` is no bidder of the book"),
             (lambda: cca_tools.price(book, program="/nowhere/cca"), "`/nowhere/cca` can't be run"),
             (lambda: cca_tools.price(cca_tools.Book((2,), (0,), ["a"], [[((2,), 5), ((1,), 3)]])), "package"),
-        ):
+        ]
+        for call, why in calls:
             with self.assertRaises(Stop) as caught:
                 call()
             self.assertIn(why, caught.exception.why)
@@ -264,10 +270,16 @@ class Prices(unittest.TestCase):
         """By the program that is named, and by the default one."""
         day = cca_tools.read_book(sample("day-cramton.book"))
 
-        def book(package=(1,), amount=5, names=("a",), supply=(2,), reserves=(1,)):
+        def book(
+            package: Package = (1,),
+            amount: Any = 5,  # (also what is no amount)
+            names: Sequence[str] = ("a",),
+            supply: Package = (2,),
+            reserves: Package = (1,),
+        ) -> cca_tools.Book:
             return cca_tools.Book(supply, reserves, list(names), [[(package, amount)]])
 
-        faults = (
+        faults: list[tuple[cca_tools.Book, dict[str, Any], str]] = [
             (book((3,)), {}, "`3` is read as a count of category 1"),
             (book((0,)), {}, "a package isn't empty"),
             (book((-1,)), {}, "`-1` is read as a count of category 1"),
@@ -282,10 +294,11 @@ class Prices(unittest.TestCase):
             (day, {"weights": {"b1": 0}}, "`0` is read as a weight, which is a whole number from 1 to 20"),
             (day, {"weights": {"b1": 21}}, "`21` is read as a weight"),
             (day, {"weights": {"b1": 2.5}}, "`2.5` is read as a weight"),
-        )
+        ]
+        programs: list[dict[str, Any]] = [{}, {"program": os.path.abspath(PROGRAM)}]
         for asked, more, why in faults:
-            for named in ({}, {"program": os.path.abspath(PROGRAM)}):
-                with self.subTest(why, **named), self.assertRaises(Stop) as caught:
+            for named in programs:
+                with self.subTest(why, named=named), self.assertRaises(Stop) as caught:
                     cca_tools.price(asked, **more, **named)
                 self.assertIn(why, caught.exception.why)
         for path, why in (

@@ -4,7 +4,9 @@ What the colour-blind see is computed with the matrices of Machado, Oliveira and
 one kind of cone; how far two colours are apart, in CIE L*a*b* (1976).
 """
 import itertools
+import math
 import unittest
+from collections.abc import Sequence
 
 from checks.cases import samples  # noqa: F401, finds cca_tools
 
@@ -21,29 +23,29 @@ WHITE = 0.95047, 1, 1.08883
 NUMBERS = range(1, WINNERS + 1)
 
 
-def times(matrix, vector):
+def times(matrix: Sequence[Sequence[float]], vector: Sequence[float]) -> list[float]:
     return [sum(a * b for a, b in zip(row, vector)) for row in matrix]
 
 
-def light(colour):
+def light(colour: str) -> list[float]:
     """The linear parts of a colour."""
     parts = [int(colour[at : at + 2], 16) / 255 for at in (1, 3, 5)]
     return [part / 12.92 if part <= 0.04045 else ((part + 0.055) / 1.055) ** 2.4 for part in parts]
 
 
-def lab(parts):
+def lab(parts: Sequence[float]) -> tuple[float, float, float]:
     scaled = [value / white for value, white in zip(times(XYZ, parts), WHITE)]
     x, y, z = [value ** (1 / 3) if value > 0.008856 else 7.787 * value + 16 / 116 for value in scaled]
     return 116 * y - 16, 500 * (x - y), 200 * (y - z)
 
 
-def apart(one, other, sight):
+def apart(one: str, other: str, sight: Sequence[Sequence[float]]) -> float:
     """How far two colours are apart for somebody who sees so."""
     seen = [lab([min(1, max(0, part)) for part in times(sight, light(colour))]) for colour in (one, other)]
-    return sum((a - b) ** 2 for a, b in zip(*seen)) ** 0.5
+    return math.dist(*seen)
 
 
-def contrast(one, other):
+def contrast(one: str, other: str) -> float:
     low, high = sorted(times(XYZ, light(colour))[1] for colour in (one, other))
     return (high + 0.05) / (low + 0.05)
 
@@ -63,8 +65,8 @@ class Winners(unittest.TestCase):
         """What is paid has another colour than any winner."""
         for ground, number, role in itertools.product((0, 1), NUMBERS, ("blue", "bluish")):
             with self.subTest(ground=ground, number=number, role=role):
-                colours = (ROLES[name][ground] for name in (f"w{number}", role))
-                self.assertGreater(apart(*colours, SIGHT["all cones"]), 20)
+                winner, other = ROLES[f"w{number}"][ground], ROLES[role][ground]
+                self.assertGreater(apart(winner, other, SIGHT["all cones"]), 20)
 
     def test_lots_are_seen_on_their_ground(self) -> None:
         """A lot isn't taken for an empty place: its edges have the contrast that WCAG 2.1 asks of graphics (1.4.11)."""

@@ -2,6 +2,7 @@
 import unittest
 import unittest.mock
 from checks.cases.samples import sample
+from cca_tools.rules.award import Award
 from cca_tools.rules.award import read_award
 from cca_tools.rules.log import read_log, records
 from cca_tools.rules.stops import MOST, Stop
@@ -10,11 +11,11 @@ AWARD = read_award(sample("sample.award"))
 UK = read_award(sample("spectrum.award"))
 
 
-def fields(data):
+def fields(data: bytes) -> list[list[bytes]]:
     return [read for row, text, read in records(data)]
 
 
-def answer(text, award=AWARD):
+def answer(text: str, award: Award = AWARD) -> list[tuple[object, ...]] | str:
     try:
         return [
             (line.number, line.row, line.kind, line.name, line.bidder, line.package, line.amount)

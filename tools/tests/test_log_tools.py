@@ -15,6 +15,7 @@ from cca_tools.rules.book import read_book
 from cca_tools.rules.program import price_lines
 from cca_tools.rules.stops import MOST, Stop
 from cca_tools.rules.winners import winner_lines
+from collections.abc import Sequence
 
 caps, explain, what_if = map(taking, ("caps", "explain", "what-if"))
 SMALL = sample("sample.award")
@@ -22,13 +23,13 @@ BIDS = [[((1,), 20), ((3,), 44)], [((2,), 24)]]
 PRICES = "winner east 1 bid 20 vickrey 10 pays 10\nwinner west 2 bid 24 vickrey 24 pays 24\nnet 14\nrevenue 34"
 
 
-def small_cert(pay=(0, 4)):
+def small_cert(pay: Sequence[int] = (0, 4)) -> bytes:
     """The certificate of the worked log: without east west wins alone, without west east's three lots do."""
     rows = [([1], 1, 0, (0, 1)), ([2], 1, 0, (2, 0))]
     return certificate_of((3,), BIDS, (1, 1), {1: (0, 1), 2: (2, 0)}, 1, pay, rows, reserves=(10,))
 
 
-def run(name, *words, stdin=b""):
+def run(name: str, *words: str, stdin: bytes = b"") -> tuple[str, int, str]:
     """What a tool prints as a program, its status, and what it says on its standard error."""
     made = subprocess.run([sys.executable, os.path.join(TOOLS, name), *words], input=stdin, capture_output=True)
     return made.stdout.decode(), made.returncode, made.stderr.decode()
@@ -104,7 +105,7 @@ class Audit(unittest.TestCase):
 
 
 class Explain(unittest.TestCase):
-    def told(self, command, *texts):
+    def told(self, command: str, *texts: bytes) -> tuple[str, int]:
         return said(lambda names: explain([command, *names]), *texts)
 
     def test_log(self) -> None:
@@ -313,7 +314,7 @@ class Explain(unittest.TestCase):
         self.assertEqual(text, "east has sent 1 line, and none of them are refused.")
 
     def test_words(self) -> None:
-        for words in (
+        cases: list[list[str]] = [
             [],
             ["nothing"],
             ["check", "a"],
@@ -321,7 +322,8 @@ class Explain(unittest.TestCase):
             ["check", "a", "-x"],
             ["win", "a", "b"],
             ["audit", "a", "b", "c", "--json"],
-        ):
+        ]
+        for words in cases:
             self.assertEqual(called("explain", *words)[:2], ("cca: words\n", 2))
         text, status, _ = called("explain", "win", "nothing.book")
         self.assertEqual(
@@ -336,7 +338,7 @@ class Explain(unittest.TestCase):
 
 
 class CapsTool(unittest.TestCase):
-    def asked(self, award, log, *words):
+    def asked(self, award: bytes, log: bytes, *words: str) -> tuple[str, int]:
         return said(lambda names: caps([*names, *words]), award, log)
 
     def test_sample(self) -> None:

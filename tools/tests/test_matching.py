@@ -2,6 +2,7 @@
 import random
 import unittest
 import unittest.mock
+from collections.abc import Iterator, Sequence
 
 from checks.cases.samples import TOOLS  # noqa: F401 (finds the package)
 
@@ -9,7 +10,7 @@ from cca_tools.rules import matching
 from cca_tools.rules.matching import by_fewest_changes, longest_rise, matched
 
 
-def longest(old, new):
+def longest(old: Sequence[str], new: Sequence[str]) -> int:
     """How many lines two texts can have in common, by all ways to choose them."""
     reach = [[0] * (len(new) + 1) for _ in range(len(old) + 1)]
     for i in reversed(range(len(old))):
@@ -19,7 +20,7 @@ def longest(old, new):
     return reach[0][0]
 
 
-def texts(count):
+def texts(count: int) -> Iterator[list[list[str]]]:
     """Drawn texts with many lines that are there several times."""
     rng = random.Random(7)
     for _ in range(count):
@@ -28,7 +29,7 @@ def texts(count):
 
 
 class Matching(unittest.TestCase):
-    def assert_matches(self, old, new, pairs) -> None:
+    def assert_matches(self, old: Sequence[str], new: Sequence[str], pairs: Sequence[tuple[int, int]]) -> None:
         self.assertTrue(all(old[i] == new[j] for i, j in pairs), (old, new, pairs))
         self.assertTrue(all(a < c and b < d for (a, b), (c, d) in zip(pairs, pairs[1:])), (old, new, pairs))
 

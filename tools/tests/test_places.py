@@ -58,8 +58,10 @@ class Placements(unittest.TestCase):
 
         slots = read_slots(SLOTS)
 
-        def why(was, put):
-            return first_fault(slots, read_places(CERT.replace(was, put, 1), slots)).why
+        def why(was: bytes, put: bytes) -> str:
+            fault = first_fault(slots, read_places(CERT.replace(was, put, 1), slots))
+            assert fault is not None
+            return fault.why
 
         self.assertEqual(
             why(b"t 18 8", b"t 17 8"),

@@ -15,11 +15,14 @@ import tempfile
 import unittest
 import unittest.mock
 from fractions import Fraction
+from collections.abc import Iterator, Sequence
 
+from contextlib import AbstractContextManager
 from checks.cases.program import PROGRAM, with_program
 from checks.cases.samples import EXAMPLES, TOOLS, called
 from checks.cases.searches import core_point as plain_point
 
+from cca_tools.rules.types import Bid
 from cca_tools.pricing import certificates, files, search
 from cca_tools.pricing.certificates import certificate_of
 from cca_tools.pricing.fewer_rows import (
@@ -32,7 +35,7 @@ from cca_tools.pricing.fewer_rows import (
     tight_rows,
 )
 from cca_tools.pricing.nearest import Demand, Nearest, solved
-from cca_tools.pricing.search import core_point, market_of
+from cca_tools.pricing.search import Found, Market, core_point, market_of
 from cca_tools.pricing.tables import ArrayFiller, ListFiller, has_numpy, undominated
 from cca_tools.rules.book import Book, book_text
 from cca_tools.rules.certificate import read_certificate
@@ -43,7 +46,7 @@ from cca_tools.rules.winners import table_of, winning_choice
 NO_PROGRAM = {"CCA_PROGRAM": "/nowhere"}
 
 
-def drawn(seed):
+def drawn(seed: int) -> Book:
     """A book of two categories, or of one with so many lots that more than six may win."""
     rng, is_long = random.Random(seed), seed % 2
     supply = (rng.randint(10, 14),) if is_long else (rng.randint(3, 4), rng.randint(3, 4))
@@ -55,13 +58,14 @@ def drawn(seed):
     return Book(supply, (1,) * len(supply), [f"b{j}" for j in range(1, len(bids) + 1)], bids)
 
 
-def singles(amounts, supply, losers=()):
+def singles(amounts: Sequence[int], supply: int, losers: Sequence[tuple[int, int]] = ()) -> Book:
     """A book of one category in which each bidder bids for one lot, and the losers for packages of their own."""
-    bids = [[((1,), amount)] for amount in amounts] + [[((count,), amount)] for count, amount in losers]
+    bids: list[list[Bid]] = [[((1,), amount)] for amount in amounts]
+    bids += [[((count,), amount)] for count, amount in losers]
     return Book((supply,), (0,), [f"b{j}" for j, _ in enumerate(bids, 1)], bids)
 
 
-def rivals(winners, losers=(50, 40, 30, 20, 10)):
+def rivals(winners: int, losers: Sequence[int] = (50, 40, 30, 20, 10)) -> Book:
     """A book in which each winner needs a row of its own: all bid for one lot, and the losers offer less one after the
     other. So each winner alone has to pay the first loser's bid, and two together less than twice that.
     """
@@ -69,7 +73,7 @@ def rivals(winners, losers=(50, 40, 30, 20, 10)):
 
 
 class Tables(unittest.TestCase):
-    def fillers(self, book):
+    def fillers(self, book: Book) -> Iterator[ListFiller | ArrayFiller]:
         yield ListFiller(book)
         if has_numpy():
             yield ArrayFiller(book)
@@ -191,7 +195,7 @@ class Certificates(unittest.TestCase):
 
 
 class Rows(unittest.TestCase):
-    def found(self, book):
+    def found(self, book: Book) -> tuple[Market, Found]:
         market = market_of(book)
         return market, core_point(market, [1] * len(market.winners))
 
@@ -230,7 +234,7 @@ class Rows(unittest.TestCase):
         self.assertFalse(tight_rows(market, found, 100).are_all)
         self.assertEqual(len(tight_rows(market, found, 5_000).rows), 2**12 - 1)
 
-    def shown(self, sets):
+    def shown(self, sets: Sequence[int]) -> Shown:
         """Rows of these members, with first multipliers of 1 alone."""
         ones = [Fraction(1)] * len(sets)
         return Shown(
@@ -277,11 +281,11 @@ class Command(unittest.TestCase):
         self.addCleanup(folder.cleanup)
         self.folder = pathlib.Path(folder.name)
 
-    def write(self, name, data):
+    def write(self, name: str, data: bytes) -> str:
         (self.folder / name).write_bytes(data)
         return name
 
-    def checker(self, text):
+    def checker(self, text: str) -> str:
         """A program that takes the place of cca."""
         path = self.folder.parent / f"{self.folder.name}.checker"
         path.write_text("#!/bin/sh\n" + text)
@@ -289,7 +293,9 @@ class Command(unittest.TestCase):
         self.addCleanup(path.unlink)
         return str(path)
 
-    def run_it(self, *words, program=None, flags=()):
+    def run_it(
+        self, *words: str, program: str | None = None, flags: Sequence[str] = ()
+    ) -> subprocess.CompletedProcess[str]:
         """What the tool prints, its status, and what it says on standard error, by this program or the second one."""
         return subprocess.run(
             [sys.executable, *flags, os.path.join(TOOLS, "price"), *words],
@@ -300,7 +306,7 @@ class Command(unittest.TestCase):
             text=True,
         )
 
-    def names(self):
+    def names(self) -> list[str]:
         return sorted(os.listdir(self.folder))
 
     def test_prices_of_eight_winners_by_the_file_for_the_court(self) -> None:
@@ -338,7 +344,7 @@ class Command(unittest.TestCase):
     def test_prices_up_to_six_winners_are_those_of_the_program(self) -> None:
         for name in ("day-cramton", "six-bidders", "tie"):
             book = os.path.join(EXAMPLES, f"{name}.book")
-            for flags in ([], ["--json"]):
+            for flags in ((), ("--json",)):
                 made = self.run_it(book, f"{name}{len(flags)}.cert", *flags, program=PROGRAM)
                 words = [os.path.abspath(PROGRAM), "price", book, "/dev/null", *flags]
                 expected = subprocess.run(words, capture_output=True, text=True).stdout
@@ -412,7 +418,7 @@ class Command(unittest.TestCase):
 
     def test_more_rows_than_ten_are_refused_and_nothing_is_written(self) -> None:
         self.write("a.book", book_text(rivals(11)))
-        for flags in ([], ["--search", "1"]):
+        for flags in ((), ("--search", "1")):
             made = self.run_it("a.book", "a.cert", *flags)
             self.assertEqual((made.stdout, made.returncode), ("cca: limit rows 11\n", 7))
             self.assertIn(
@@ -504,16 +510,16 @@ class NewFiles(unittest.TestCase):
         self.addCleanup(folder.cleanup)
         self.path = os.path.join(folder.name, "a.cert")
 
-    def without_nameless(self):
+    def without_nameless(self) -> AbstractContextManager[object]:
         """A file system without nameless files."""
         real = os.open
 
-        def opened(path, flags, *rest, **named):
+        def opened(path: str, flags: int, mode: int = 0o777, *, dir_fd: int | None = None) -> int:
             if flags & os.O_TMPFILE == os.O_TMPFILE:
                 raise OSError(95, "not supported")
-            return real(path, flags, *rest, **named)
+            return real(path, flags, mode, dir_fd=dir_fd)
 
-        return unittest.mock.patch.object(files.os, "open", opened)
+        return unittest.mock.patch.object(os, "open", opened)
 
     def test_a_hidden_file_takes_the_place_of_a_nameless_one(self) -> None:
         with self.without_nameless(), files.new_file(self.path) as file:

@@ -12,8 +12,8 @@ import unittest
 import unittest.mock
 
 from checks.cases.samples import EXAMPLES, TOOLS, called, sample, taking
-from cca_tools.rules.award import read_award
 from cca_tools.rules import publication
+from cca_tools.rules.award import read_award
 from cca_tools.rules.names import LongNames, names_of
 from cca_tools.rules.stops import Stop
 
@@ -33,7 +33,7 @@ KEY = b"0123456789abcdef" * 4 + b"\n"
 report, seal, publish = map(taking, ("report", "seal", "publish"))
 
 
-def run(name, *words):
+def run(name: str, *words: str) -> tuple[str, int, str]:
     """What a tool prints, its status, and its standard error, where the program isn't there."""
     return called(name, *words, CCA_PROGRAM="/nowhere")
 
@@ -44,7 +44,7 @@ class Files(unittest.TestCase):
         self.addCleanup(shutil.rmtree, self.folder)
         self.files = [os.path.join(EXAMPLES, f"spectrum.{kind}") for kind in ("award", "log", "cert")]
 
-    def write(self, name, data):
+    def write(self, name: str, data: str | bytes) -> str:
         path = self.folder / name
         path.write_bytes(data.encode() if isinstance(data, str) else data)
         return str(path)
@@ -161,8 +161,8 @@ class Names(Files):
             " ".join(text.split()).replace("What Éverest Mobile <plc>", "What `Éverest Mobile <plc>`"),
         )
         bad = self.write("bad.toml", 'title = "a\\u202eb"')
-        for words in (("state", *self.files[:2]), ("report", "--text", *self.files)):
-            text, status, fault = run(*words, "--names", bad)
+        for command, *more in (["state", *self.files[:2]], ["report", "--text", *self.files]):
+            text, status, fault = run(command, *more, "--names", bad)
             self.assertEqual((text, status), ("", 3))
             self.assertIn(
                 "cca: refused names\n`title` has a character that no name may have: U+202E",
@@ -231,7 +231,7 @@ class Publish(Files):
         self.assertIn("auction.award", (folder / "report.txt").read_text())
         self.assertEqual(self.followed(page, folder), 3)
 
-    def followed(self, page, folder):
+    def followed(self, page: str, folder: pathlib.Path) -> int:
         """Runs the commands of the page that need no program and no bidder's own file."""
         count = 0
         for command in re.findall(r"<dd><code>(.*?)</code>", page):
@@ -267,7 +267,7 @@ class Publish(Files):
             0,
         )
 
-        def rows(name):
+        def rows(name: str) -> list[dict[str, str]]:
             with open(folder / "tables" / f"{name}.csv", newline="") as file:
                 return list(csv.DictReader(file))
 
@@ -306,7 +306,8 @@ class Publish(Files):
                 self.assertEqual(publication.audit_page(), {"audit.html": path.name.encode()})
             files = {"auction.award": b"", **publication.audit_page()}
         none = publication.Result("", "", "", [], [])
-        with_page, without = (publication.page("", none, it, publication.Made([])).decode() for it in (files, {}))
+        with_page = publication.page("", none, files, publication.Made([])).decode()
+        without = publication.page("", none, {}, publication.Made([])).decode()
         first = with_page.index("<h2>How to test it</h2>\n<dl>\n<dt>The whole auction, in any browser")
         self.assertLess(first, with_page.index("cca audit"))
         self.assertEqual(with_page.count('href="audit.html"'), 2)

@@ -14,9 +14,9 @@ from cca_tools.rules.auction import replay
 from cca_tools.rules.award import read_award
 from cca_tools.rules.book import book_text
 from cca_tools.rules.log import read_log
+from cca_tools.studies.awarding import log_text
 from cca_tools.studies.bidding import Straightforward, sealed_list
 from cca_tools.studies.rehearsal import Rehearsal, held
-from cca_tools.studies.awarding import log_text
 from cca_tools.studies.strategies import Strategy
 from cca_tools.studies.values import values_of_seed
 
@@ -98,10 +98,10 @@ class Command(unittest.TestCase):
         (self.folder / "a").write_bytes(ONE)
         (self.folder / "v").write_bytes(VALUES)
 
-    def path(self, name):
+    def path(self, name: str) -> str:
         return str(self.folder / name)
 
-    def rehearse(self, *words):
+    def rehearse(self, *words: str) -> tuple[str, int, str]:
         return called("rehearse", self.path("a"), self.path("v"), *words)
 
     def test_a_log(self) -> None:

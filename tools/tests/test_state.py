@@ -7,8 +7,10 @@ import re
 import subprocess
 import sys
 import tempfile
+import shutil
 import unittest
 import unittest.mock
+from collections.abc import Iterator, Sequence
 
 from checks.cases.drawn import Drawing
 from checks.cases.program import PROGRAM, with_program
@@ -32,7 +34,7 @@ FULL = "bid,east,3, / bid,west,2, / close,,, / " * 299 + "bid,east,3, / bid,west
 FATAL = "! A close must not be written now: a limit refuses it, and no later line mends the log"
 
 
-def shown(award, log, *words, **environment):
+def shown(award: str | bytes, log: str | bytes, *words: str, **environment: str) -> tuple[str, int, str]:
     """What tools/state prints of these bytes, its status, and its standard error, with these variables alone of those
     that say how wide a screen is and whether it has colours."""
     with tempfile.TemporaryDirectory() as folder:
@@ -46,7 +48,7 @@ def shown(award, log, *words, **environment):
             return called("state", *names, *words, **environment)
 
 
-def spectrum(records):
+def spectrum(records: int) -> list[str]:
     """The screen after this many records of the sample."""
     text, status, fault = shown(
         sample("spectrum.award"),
@@ -56,7 +58,7 @@ def spectrum(records):
     return text.splitlines()
 
 
-def cells(rows, name):
+def cells(rows: Sequence[str], name: str) -> list[str]:
     """The cells of the row that begins with this."""
     row = next(row for row in rows if row.startswith(name))
     return re.split(r"  +", row)[1:]
@@ -190,8 +192,11 @@ class Fatal(unittest.TestCase):
             auction = replay(drawing.award, [])
             for line in drawing.auction.lines:
                 if line.kind == "close":
-                    effect, stage = close_effect(auction), auction.stage
-                    states = clock_states(auction) if stage == "clock" else list_states(auction)
+                    effect = close_effect(auction)
+                    if auction.stage == "clock":
+                        states = clock_states(auction)
+                    else:
+                        list_states(auction)
                 auction.take(line)
                 if line.kind != "close":
                     continue
@@ -283,7 +288,7 @@ class ManyWinners(unittest.TestCase):
     log = [f"bid,b{j},2," for j in range(1, 9)] + ["close,,,"] + [f"bid,b{j},2," for j in range(1, 5)] + ["close,,,"]
     log += [line for j in range(1, 9) for line in (f"draft,b{j},1,11", f"submit,b{j},,")] + ["close,,,"]
 
-    def prefixes(self):
+    def prefixes(self) -> Iterator[tuple[str, int]]:
         """The log up to each line, with how many win by the bids that count by then."""
         for count in range(len(self.log) + 1):
             text = "".join(f"{line}\n" for line in self.log[:count])
@@ -338,7 +343,8 @@ class Words(unittest.TestCase):
     def test_a_narrow_screen(self) -> None:
         """Nothing is wider than the screen but the sentences, and nothing of the tables is lost."""
         log = b"".join(sample("spectrum.log").splitlines(True)[:9])
-        wide, narrow = (shown(sample("spectrum.award"), log, **how)[0] for how in ({}, {"COLUMNS": "50"}))
+        wide, _, _ = shown(sample("spectrum.award"), log)
+        narrow, _, _ = shown(sample("spectrum.award"), log, COLUMNS="50")
         tables = narrow.split("A close now")[0].splitlines()
         self.assertLessEqual(max(map(len, tables)), 50)
         for word in wide.split("A close now")[0].split():
@@ -347,8 +353,9 @@ class Words(unittest.TestCase):
 
     def test_a_terminal(self) -> None:
         """On a terminal of 60 columns no line is wider, and warnings are red."""
-        log = os.path.join(tempfile.mkdtemp(), "a.log")
-        self.addCleanup(lambda: (os.remove(log), os.rmdir(os.path.dirname(log))))
+        folder = tempfile.mkdtemp()
+        self.addCleanup(shutil.rmtree, folder)
+        log = os.path.join(folder, "a.log")
         with open(log, "wb") as file:
             file.write(b"".join(sample("spectrum.log").splitlines(True)[:5]))
         text = on_terminal(60, os.path.join(EXAMPLES, "spectrum.award"), log)
@@ -378,7 +385,7 @@ class Words(unittest.TestCase):
         self.assertEqual(drawing.auction.answer(CLOSE).word, "closed")
 
 
-def on_terminal(columns, *files):
+def on_terminal(columns: int, *files: str) -> str:
     """What tools/state prints on a terminal of this many columns."""
     import fcntl
     import struct

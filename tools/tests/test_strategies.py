@@ -8,21 +8,23 @@ import tempfile
 import unittest
 import unittest.mock
 from fractions import Fraction
+from collections.abc import Mapping, Sequence
 
 from checks.cases.program import PROGRAM, run, with_program
 from checks.cases.samples import EXAMPLES, called, sample
 from checks.cases.searches import choices_of_book, core_point, winning
 
 import cca_tools
+from cca_tools.rules.types import Bid, Package
 from cca_tools.data.prices import price, vickrey_prices
 from cca_tools.data.references import REFERENCES, nearest_to
 from cca_tools.page import plain
 from cca_tools.page.core import best_plainly
+from cca_tools.pricing import best
 from cca_tools.rules.award import read_award
 from cca_tools.rules.book import Book
 from cca_tools.rules.stops import Stop
 from cca_tools.rules.ties import ties_of
-from cca_tools.pricing import best
 from cca_tools.studies.answers import answers_of, equilibria_of
 from cca_tools.studies.bidding import FastStraightforward, Straightforward, sealed_book
 from cca_tools.studies.draws import draws_of
@@ -39,33 +41,33 @@ GRID = (0, 172, 430)
 
 
 class Bidders(unittest.TestCase):
-    def test_what_is_named(self):
+    def test_what_is_named(self) -> None:
         """90 percent of 205 is 184.5, rounded down, less 30."""
         self.assertEqual(Strategy(90, 30).named(205), 154)
         self.assertEqual((Strategy(90, 30, 100).named(205), Strategy(100, 300).named(205)), (100, 0))
 
-    def test_a_budget_in_the_clock(self):
+    def test_a_budget_in_the_clock(self) -> None:
         """At 10 and 5 the package 2 0 costs 20 and gives 40; with 19 to spend, 1 1 for 15 is what is left."""
         award = read_award(ONE)
         east = values_of_seed(award, VALUES, 1)[0]
         asked = [Straightforward(award, east, Strategy(budget=it)).ask((10, 5), 6) for it in (20, 19, 14)]
         self.assertEqual(asked, [(2, 0), (1, 1), None])
 
-    def test_many_packages(self):
+    def test_many_packages(self) -> None:
         """With arrays a bidder asks for the same packages in a whole clock, with a budget too, and with ties."""
         award = read_award(sample("final-cap.award"))
         for seed in range(1, 4):
             for values, budget in zip(
                 values_of_seed(award, sample("final-cap.values"), seed), (None, 300, 90, 0, None)
             ):
-                plain_one, fast = (
-                    it(award, values, Strategy(budget=budget)) for it in (Straightforward, FastStraightforward)
-                )
+                strategy = Strategy(budget=budget)
+                plain_one = Straightforward(award, values, strategy)
+                fast = FastStraightforward(award, values, strategy)
                 for number in range(40):
                     prices, points = (20 + 3 * number, 20 + 2 * number, 10 + number), 20 - number // 3
                     self.assertEqual(fast.ask(prices, points), plain_one.ask(prices, points), (seed, budget, number))
 
-    def test_sealed_bids_alone(self):
+    def test_sealed_bids_alone(self) -> None:
         """Values of 60, 30 and 4 less 20 are 40, 10 and 0; the last two are below the reserves of 15 and 5."""
         award = read_award(ONE)
         values = values_of_seed(award, VALUES, 1)
@@ -76,7 +78,7 @@ class Bidders(unittest.TestCase):
             [(it, min(12, worth)) for it, worth in values[1].items() if min(12, worth) >= award.reserve_of(it)],
         )
 
-    def test_of_a_file(self):
+    def test_of_a_file(self) -> None:
         """Draws of a strategy don't change the values, and what a plan sets wins over the file."""
         award = read_award(ONE)
         more = VALUES + b"share = [50, 90]\nbudget = 70\n"
@@ -96,21 +98,21 @@ class Bidders(unittest.TestCase):
 class Plans(WithPlan):
     OWN = PLAN.replace("share = [100, 60]", "shares = { east = [100, 60] }\nshades = { west = [0, 5, 9] }")
 
-    def test_cases(self):
+    def test_cases(self) -> None:
         plan = read_plan(self.plan(self.OWN))
         self.assertEqual((len(plan.cases), plan.varied), (12, ("version", "east_share", "west_shade")))
         self.assertEqual(plan.cases[1].strategies(), {"east": {"share": 100}, "west": {"shade": 5}})
         self.assertEqual(plan.label(plan.cases[1]), "version 1, east_share 100, west_shade 5")
         self.assertNotEqual(plan.sum(), read_plan(self.plan(self.OWN.replace("9]", "8]"))).sum())
 
-    def test_rules(self):
+    def test_rules(self) -> None:
         text = PLAN.replace("[vary]", 'rules = ["bids", "zero"]\nweights = { west = 3 }\n[vary]')
         plan = read_plan(self.plan(text))
         self.assertEqual(plan.rules, ("zero", "bids", "weighted"))
         self.assertIn("east_price_weighted", columns_of(plan))
         self.assertIn("price_zero", long_columns_of(plan))
 
-    def test_faults(self):
+    def test_faults(self) -> None:
         for old, new, why in (
             ("east = [100, 60]", "north = 3", "[vary], `shares`: the key `north` isn't known here"),
             (
@@ -136,7 +138,7 @@ class Answers(WithPlan):
 
     PROFITS = {(0, 0): (1, 5), (0, 9): (1, 4), (4, 0): (3, 5), (4, 9): (2, 1)}
 
-    def setUp(self):
+    def setUp(self) -> None:
         super().setUp()
         text = PLAN.replace("version = [1, 2]\nshare = [100, 60]", "shades = { east = [0, 4], west = [0, 9] }")
         plan = read_plan(self.plan(text))
@@ -147,7 +149,7 @@ class Answers(WithPlan):
         ]
         self.results = results_of(plan, table)
 
-    def test_best_answers(self):
+    def test_best_answers(self) -> None:
         found = [(it.bidder, it.others, it.best.label, it.best.profit.mean) for it in answers_of(self.results)]
         self.assertEqual(
             found,
@@ -161,11 +163,11 @@ class Answers(WithPlan):
         (other, _), *_ = (it.tried for it in answers_of(self.results))
         self.assertEqual((other.gain.mean, other.gain.error), (-2.0, 0.0))
 
-    def test_equilibria(self):
+    def test_equilibria(self) -> None:
         (case,) = equilibria_of(self.results, answers_of(self.results))
         self.assertEqual(self.results.plan.label(case), "east_shade 4, west_shade 0")
 
-    def test_the_page(self):
+    def test_the_page(self) -> None:
         for row in (row for rows in self.results.rows.values() for row in rows.values()):
             names = "best core vickrey bids efficiency rounds unsold profit".split()
             row.update(dict.fromkeys(names, "1"), raised="no")
@@ -178,7 +180,7 @@ class Answers(WithPlan):
         )
 
 
-def local_profit(value, bid, other, both):
+def local_profit(value: int, bid: int, other: int, both: int) -> Fraction:
     """The profit of a local bidder at the core prices nearest to Vickrey's, by the closed form for two locals and a
     global: each pays what the global offers beyond the other's bid, and half of what is missing."""
     if bid + other < both:
@@ -187,7 +189,7 @@ def local_profit(value, bid, other, both):
     return value - own - Fraction(max(0, both - own - others), 2)
 
 
-def one_value(values):
+def one_value(values: Mapping[Package, int]) -> int:
     """The one value of a bidder with one package; 0 if it was drawn."""
     return next(iter(values.values()), 0)
 
@@ -195,18 +197,18 @@ def one_value(values):
 class LocalGlobal(unittest.TestCase):
     """The example of Goeree and Lien: a local's best answer to shading by 3 - 2 sqrt(2) = 0.1716 is just that."""
 
-    def setUp(self):
+    def setUp(self) -> None:
         self.award, self.values = read_award(sample("local-global.award")), sample("local-global.values")
 
-    def drawn(self, count):
+    def drawn(self, count: int) -> list[list[int]]:
         models = read_values(self.values, self.award)
         every = (drawn_values(self.award, models, draws_of(seed)) for seed in range(1, count + 1))
         return [[*map(one_value, values)] for values in every]
 
-    def profits(self, drawn, shade):
+    def profits(self, drawn: Sequence[Sequence[int]], shade: int) -> list[Fraction]:
         return [local_profit(left, max(0, left - shade), max(0, right - 172), both) for left, right, both in drawn]
 
-    def test_the_closed_form_has_its_best_at_the_shade_of_the_equilibrium(self):
+    def test_the_closed_form_has_its_best_at_the_shade_of_the_equilibrium(self) -> None:
         plan = read_plan(os.path.join(EXAMPLES, "local-global.plan"))
         drawn = self.drawn(plan.auctions)
         grid = [dict(case.own)["left_shade"] for case in plan.cases]
@@ -216,7 +218,7 @@ class LocalGlobal(unittest.TestCase):
         self.assertEqual(max(grid, key=lambda shade: sum(self.profits(drawn, shade))), 172)
 
     @with_program
-    def test_a_coarser_grid_by_the_study(self):
+    def test_a_coarser_grid_by_the_study(self) -> None:
         """40 auctions and three amounts: each profit is that of the closed form, and so is the best answer."""
         with tempfile.TemporaryDirectory() as name:
             folder = pathlib.Path(name)
@@ -239,7 +241,7 @@ class LocalGlobal(unittest.TestCase):
         self.assertEqual((judged.printed[:4], kept.count("its row is the same")), ("yes\n", 3))
 
 
-def drawn_book(draw):
+def drawn_book(draw: random.Random) -> tuple[Package, Package, list[list[Bid]]]:
     """A small book: its supply, its reserves and its bids."""
     supply = tuple(draw.randint(1, 2) for _ in range(draw.randint(2, 3)))
     reserves = tuple(draw.randint(0, 2) for _ in supply)
@@ -251,7 +253,9 @@ def drawn_book(draw):
     return supply, reserves, bids
 
 
-def enumerated(supply, reserves, bids, reference):
+def enumerated(
+    supply: Package, reserves: Package, bids: Sequence[Sequence[Bid]], reference: str
+) -> dict[int, Fraction]:
     """The net payments of the winners by going through all choices, all coalitions and all tight rows."""
     choices = list(choices_of_book(supply, reserves, bids))
     first, most = winning(choices)
@@ -263,13 +267,13 @@ def enumerated(supply, reserves, bids, reference):
     for members in (it for size in range(1, len(winners) + 1) for it in itertools.combinations(winners, size)):
         top = max(value for choice, value in choices if not any(choice[j] for j in members))
         rows.append(([int(j in members) for j in winners], top - most + sum(net[j] for j in members)))
-    point = {"zero": lambda j: -reserve[j], "reserve": lambda j: 0, "bids": net.get}[reference]
-    return dict(zip(winners, core_point(rows, [point(j) for j in winners], [1] * len(winners))))
+    points = {"zero": [-reserve[j] for j in winners], "reserve": [0] * len(winners), "bids": [net[j] for j in winners]}
+    return dict(zip(winners, core_point(rows, points[reference], [1] * len(winners))))
 
 
 class References(unittest.TestCase):
     @with_program
-    def test_other_points_of_reference(self):
+    def test_other_points_of_reference(self) -> None:
         """Drawn books against an enumeration; in some the prices differ from those nearest to Vickrey's."""
         draw, differ = random.Random(86), 0
         for number in range(12):
@@ -284,7 +288,7 @@ class References(unittest.TestCase):
         self.assertGreater(differ, 0)
 
     @with_program
-    def test_a_known_case(self):
+    def test_a_known_case(self) -> None:
         """Two locals that bid 8 and 2 beside a global's 6: Vickrey prices are 4 and 0, the core asks for 6. From there
         both pay half of what is missing, from zero each pays 3 but no more than its bid of 2, and from the bids, 8 and
         2, each pays 2 less until the first pays 6."""
@@ -295,7 +299,7 @@ class References(unittest.TestCase):
         self.assertEqual(found, {"zero": [4, 2], "reserve": [4, 2], "bids": [6, 0]})
 
     @with_program
-    def test_vickrey_prices_have_no_limit(self):
+    def test_vickrey_prices_have_no_limit(self) -> None:
         for name in ("day-cramton.book", "six-bidders.book"):
             book = cca_tools.read_book(sample(name))
             whole, found = price(book), vickrey_prices(book, PROGRAM)
@@ -307,7 +311,7 @@ class References(unittest.TestCase):
 
 
 class Best(unittest.TestCase):
-    def test_the_greatest_value_and_ties(self):
+    def test_the_greatest_value_and_ties(self) -> None:
         """By all packages at once, and bid by bid, as by going through the bids; with and without ties."""
         draw, tied = random.Random(1), set()
         for number in range(150):

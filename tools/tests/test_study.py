@@ -16,6 +16,7 @@ import time
 import unittest
 import unittest.mock
 from fractions import Fraction
+from typing import Any
 
 from checks.cases.program import PROGRAM, with_program
 from checks.cases.samples import TOOLS
@@ -27,9 +28,10 @@ from cca_tools.rules.award import read_award
 from cca_tools.rules.stops import Stop
 from cca_tools.studies import awarding, pictures, rows
 from cca_tools.studies.measures import Spread, pairs_of, results_of, spread_of, student, wilson
-from cca_tools.studies.pages import drawings, page_of
 from cca_tools.studies.origin import Origin
+from cca_tools.studies.pages import drawings, page_of
 from cca_tools.studies.plan import award_of, award_text, read_plan
+from cca_tools.studies.rows import Row
 from cca_tools.studies.rows import Job
 from test_rehearse import ONE, VALUES
 
@@ -55,24 +57,24 @@ class WithPlan(unittest.TestCase):
         (self.folder / "a.award").write_bytes(ONE)
         (self.folder / "v.values").write_bytes(VALUES.replace(b"lot = [20, 9]", b"lot = [[12, 60], [6, 40]]"))
 
-    def plan(self, text=PLAN):
+    def plan(self, text: str = PLAN) -> str:
         path = self.folder / "p.toml"
         path.write_text(text)
         return str(path)
 
-    def words(self, out, *more, text=PLAN):
+    def words(self, out: str, *more: str, text: str = PLAN) -> list[str]:
         tool = os.path.join(TOOLS, "study")
         return [sys.executable, tool, self.plan(text), "--out", str(self.folder / out), *more]
 
-    def run_study(self, out, *more, text=PLAN, status=0):
+    def run_study(self, out: str, *more: str, text: str = PLAN, status: int = 0) -> tuple[str, str]:
         made = subprocess.run(self.words(out, *more, text=text), capture_output=True, text=True)
         self.assertEqual(made.returncode, status, made.stderr)
         return made.stdout, made.stderr
 
-    def table(self, out):
+    def table(self, out: str) -> str:
         return (self.folder / out / "table.csv").read_text()
 
-    def kept(self, out):
+    def kept(self, out: str) -> int:
         path = self.folder / out / "rows.jsonl"
         return path.read_bytes().count(b"\n") if path.exists() else 0
 
@@ -156,11 +158,10 @@ class Measures(WithPlan):
         self.assertEqual((first.mean, first.error, first.count), (3.0, 0.0, 3))
 
 
-def row_of(number, best, core, vickrey, bids, efficiency, raised, rounds, unsold, profit):
+def row_of(number: int, *values: object) -> Row:
     """A row of a table; all profit is that of east."""
     cells = "auction best core vickrey bids efficiency raised rounds unsold profit east_profit west_profit".split()
-    values = number, best, core, vickrey, bids, efficiency, raised, rounds, unsold, profit, profit, 0
-    return dict(zip(cells, map(str, values)))
+    return dict(zip(cells, map(str, (number, *values, values[-1], 0))))
 
 
 class Pages(WithPlan):
@@ -245,11 +246,12 @@ class Pages(WithPlan):
         self.assertEqual(list(drawings(results_of(self.results.plan, every))), [])
 
 
-def address_of(where, end):
+def address_of(where: pathlib.Path, end: float) -> str:
     """The address that a scheduler of Dask writes into this file, once it is whole."""
     while time.monotonic() < end:
         with contextlib.suppress(OSError, ValueError):
-            return json.loads(where.read_text())["address"]
+            address: str = json.loads(where.read_text())["address"]
+            return address
         time.sleep(0.1)
     raise AssertionError("the scheduler doesn't start")
 
@@ -285,8 +287,10 @@ class Runs(WithPlan):
         self.run_study("again", text=PLAN.replace("auctions = 3", "auctions = 2"))
         _, said = self.run_study("again", text=PLAN.replace("seed = 5", "seed = 6"), status=5)
         self.assertIn("has rows of another plan", said)
-        rows = whole.splitlines(keepends=True)
-        (self.folder / "again" / "rows.jsonl").write_bytes(b"".join([*rows[:3], b"\0\0" + rows[3][9:], *rows[4:]]))
+        kept_rows = whole.splitlines(keepends=True)
+        (self.folder / "again" / "rows.jsonl").write_bytes(
+            b"".join([*kept_rows[:3], b"\0\0" + kept_rows[3][9:], *kept_rows[4:]])
+        )
         _, said = self.run_study("again")
         self.assertIn(
             "1 of the lines of rows.jsonl can't be read; their auctions are held again", said.replace("\n", " ")
@@ -332,6 +336,7 @@ class Runs(WithPlan):
         awarding.audited.add(hashlib.sha256(other.read_bytes()).hexdigest())
         with unittest.mock.patch.dict(os.environ, CCA_PROGRAM=str(other)):
             (made,) = rows.rows_of(plan, [Job(0, 2)], None)
+        assert made.stop is not None
         self.assertEqual(made.stop[:2], ("cca: audit", 70))
         self.assertIn("which aren't in this order", made.stop[2])
 
@@ -380,7 +385,7 @@ class Runs(WithPlan):
         made = rows.rows_of(plan, [Job(0, number) for number in (1, 2, 100, 101, 201)], None)
         self.assertEqual([it.row.get("audit") for it in made], ["yes", "", "", "yes", "yes"])
 
-    def study_of_single_lots(self, name, lots):
+    def study_of_single_lots(self, name: str, lots: int) -> list[Row]:
         """The table of auctions in which as many bidders as lots win one each, and no further lot is worth as much."""
         many = b"".join(b'[[bidder]]\nname = "c%d"\neligibility = 9\n' % n for n in range(lots - 1))
         (self.folder / "a.award").write_bytes(
@@ -406,7 +411,7 @@ class Runs(WithPlan):
     def test_workers_of_dask_one_of_them_killed(self) -> None:
         text = PLAN.replace("auctions = 3", "auctions = 25")
         where = self.folder / "scheduler.json"
-        quiet = {"stdout": subprocess.DEVNULL, "stderr": subprocess.DEVNULL, "cwd": self.folder}
+        quiet: dict[str, Any] = {"stdout": subprocess.DEVNULL, "stderr": subprocess.DEVNULL, "cwd": self.folder}
         # (this package isn't on the path of the workers: they get it from the study)
         quiet["env"] = {**os.environ, "CCA_PROGRAM": os.path.abspath(PROGRAM)}
         run = [sys.executable, "-m"]

@@ -2,17 +2,20 @@
 import json
 import random
 import unittest
+from collections.abc import Callable
 
 from cca_tools.data.bids import make_book, read_bids
+from cca_tools.data.numbers import Mark
 from cca_tools.data.raw import Sold
 from cca_tools.rules.stops import Stop
+from cca_tools.rules.types import Package
 
 TWO = Sold((4, 9))
 NAMED = Sold((4, 9), (), ("low", "high"))
 NARROW = "\u202f"
 
 
-def bids_of(text, sold=TWO, mark=None):
+def bids_of(text: str, sold: Sold = TWO, mark: Mark | None = None) -> dict[tuple[str, Package], float]:
     """The bids of a table by bidder and package, in its own unit."""
     made = read_bids(text.encode(), sold, mark)
     pairs = zip(made.book.names, made.book.bids)
@@ -20,7 +23,7 @@ def bids_of(text, sold=TWO, mark=None):
 
 
 class Tables(unittest.TestCase):
-    def fault(self, text, sold=TWO, mark=None):
+    def fault(self, text: str, sold: Sold = TWO, mark: Mark | None = None) -> str:
         with self.assertRaises(Stop) as caught:
             bids_of(text, sold, mark)
         return caught.exception.why
@@ -110,17 +113,17 @@ class Tables(unittest.TestCase):
         self.assertEqual(caught.exception.why, "`amount of bid 1` is a list of numbers")
 
 
-def grouped(amount, between, mark, decimals):
+def grouped(amount: int, between: str, mark: str, decimals: int) -> str:
     """An amount in hundredths as a spreadsheet shows it."""
     return f"{amount // 100:,}".replace(",", between) + (f"{mark}{amount % 100:02d}" if decimals else "")
 
 
-def plain(amount):
+def plain(amount: int) -> str:
     """An amount in hundredths as pandas writes it."""
     return repr(amount / 100)
 
 
-def by_r(amount):
+def by_r(amount: int) -> str:
     """An amount in hundredths as R writes it: the shorter one of fixed and scientific, with 15 digits."""
     fixed = f"{amount / 100:.15g}"
     digits = f"{amount / 100:.14e}".split("e")[0].rstrip("0").rstrip(".")
@@ -131,7 +134,7 @@ def by_r(amount):
 class Spellings(unittest.TestCase):
     """300 tables of drawn bids, in the spellings of Excel in three countries, of R and of pandas."""
 
-    FORMS = {
+    FORMS: dict[str, tuple[str, Callable[[int], str], str]] = {
         "Excel, United States": (",", lambda it: '"' + grouped(it, ",", ".", True) + '"', ""),
         "Excel, Germany": (";", lambda it: grouped(it, ".", ",", True), ""),
         "Excel, France": (";", lambda it: grouped(it, NARROW, ",", True), ""),
@@ -155,7 +158,7 @@ class Spellings(unittest.TestCase):
             }
             swap = draws.randint(0, 1)
             heads = ["bidder", *(["high", "low"] if swap else ["low", "high"]), "amount"]
-            rows = [
+            rows: list[list[str]] = [
                 [name, *map(str, package[:: -1 if swap else 1]), spelt(it)] for (name, package), it in truth.items()
             ]
             table = [heads, *rows]

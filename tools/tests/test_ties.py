@@ -13,6 +13,7 @@ from cca_tools.rules.award import read_award
 from cca_tools.rules.book import Book, read_book
 from cca_tools.rules.log import read_log
 from cca_tools.rules.ties import tie_sentences, ties_of
+from cca_tools.rules.types import Choice
 from cca_tools.rules.winners import winning_choice
 
 report, what_if, why = map(taking, ("report", "what-if", "why"))
@@ -24,10 +25,10 @@ TIE_ROWS = [([1], 1, 0, (0, 1)), ([2], 1, 0, (2, 0))]
 TIE_CERT = certificate_of((2,), TIE_BIDS, (1, 1), {1: (0, 1), 2: (2, 0)}, 1, (0, 4), TIE_ROWS, reserves=(0,))
 
 
-def enumerated(book):
+def enumerated(book: Book) -> list[Choice]:
     """The choices of the greatest net value of all that fit, in the order of ties: a bid before none."""
     numbers = [[*range(1, len(bids) + 1), 0] for bids in book.bids]
-    worth = {}
+    worth: dict[Choice, int] = {}
     for choice in itertools.product(*numbers):
         taken = [0] * len(book.supply)
         for j, number in enumerate(choice):
@@ -38,7 +39,7 @@ def enumerated(book):
     return [choice for choice, net in worth.items() if net == max(worth.values())]
 
 
-def drawn_book(number):
+def drawn_book(number: int) -> Book:
     """A small book with few amounts, so that ties are frequent."""
     draw = random.Random(number)
     supply = tuple(draw.randint(1, 3) for _ in range(draw.randint(1, 2)))
@@ -51,13 +52,13 @@ def drawn_book(number):
     return Book(supply, reserves, [f"b{j}" for j, _ in enumerate(bids, 1)], bids)
 
 
-def closed_book(award, log):
-    award = read_award(award)
-    return replay(award, read_log(log, award)).need_book()
+def closed_book(award: bytes, log: bytes) -> Book:
+    terms = read_award(award)
+    return replay(terms, read_log(log, terms)).need_book()
 
 
 class Enumeration(unittest.TestCase):
-    def check(self, book):
+    def check(self, book: Book) -> int:
         """How many other choices there are."""
         best, ties = enumerated(book), ties_of(book)
         self.assertEqual(ties.winners, winning_choice(book)[0])

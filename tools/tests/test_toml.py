@@ -147,7 +147,7 @@ NEWER = [
 ]
 
 
-def plain(value):
+def plain(value: object) -> object:
     """A value in which all dates are alike, as the reader keeps them."""
     if isinstance(value, dict):
         return {key: plain(one) for key, one in value.items()}
@@ -157,11 +157,11 @@ def plain(value):
 
 
 class Toml(unittest.TestCase):
-    def same(self, text) -> None:
+    def same(self, text: str) -> None:
         with self.subTest(text=text):
             self.assertEqual(plain(read_toml(text.encode())), plain(tomllib.loads(text)))
 
-    def refused(self, text) -> None:
+    def refused(self, text: str) -> None:
         with self.subTest(text=text):
             self.assertRaises(NoToml, read_toml, text.encode())
 

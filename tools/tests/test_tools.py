@@ -11,8 +11,10 @@ import subprocess
 import sys
 import tempfile
 import time
+import argparse
 import unittest
 import unittest.mock
+from collections.abc import Mapping
 
 from checks.cases.samples import EXAMPLES, TOOLS, called, lines, sample
 
@@ -47,9 +49,11 @@ PLACE_CERT = lines(
 HOSTILE = b"\x1b[2J\x1b[31mred\x07\x9b\xc2\x9b\xe2\x80\xae\r\x00\x7f"
 
 
-def run(name, *words, stdin=b"", **how):
+def run(name: str, *words: str, stdin: bytes = b"", env: Mapping[str, str] | None = None) -> tuple[str, int, str]:
     """What a tool prints as a program, its status, and what it says on its standard error."""
-    made = subprocess.run([sys.executable, os.path.join(TOOLS, name), *words], input=stdin, capture_output=True, **how)
+    made = subprocess.run(
+        [sys.executable, os.path.join(TOOLS, name), *words], input=stdin, capture_output=True, env=env
+    )
     return made.stdout.decode(), made.returncode, made.stderr.decode()
 
 
@@ -66,20 +70,20 @@ class WithFiles(unittest.TestCase):
         environment.start()
         self.addCleanup(environment.stop)
 
-    def write(self, name, data):
+    def write(self, name: str, data: bytes) -> str:
         (self.folder / name).write_bytes(data)
         return str(self.folder / name)
 
-    def path(self, word):
+    def path(self, word: str) -> str:
         if "." not in word:
             return word
         kept = self.folder / word
         return str(kept if kept.exists() else os.path.join(EXAMPLES, word))
 
-    def right(self, name):
+    def right(self, name: str) -> list[str]:
         return [self.path(word) for word in {**RIGHT, **COURT}[name][0].split()]
 
-    def files(self, name):
+    def files(self, name: str) -> list[int]:
         """The places of files among the right words."""
         return [place for place, word in enumerate({**RIGHT, **COURT}[name][0].split()) if "." in word]
 
@@ -126,17 +130,18 @@ class AsPrograms(WithFiles):
         with subprocess.Popen(
             [sys.executable, os.path.join(TOOLS, "report"), "--text", *self.right("audit")], stdout=subprocess.PIPE
         ) as made:
+            assert made.stdout is not None
             made.stdout.read(1)
             made.stdout.close()
             self.assertIn(made.wait(), (0, 5))
         full = open("/dev/full", "wb") if os.path.exists("/dev/full") else None
         if full:
-            made = subprocess.run(
+            ended = subprocess.run(
                 [sys.executable, os.path.join(TOOLS, "why"), self.write("b.book", book), self.path("tie.book")],
                 stdout=full,
                 stderr=subprocess.PIPE,
             )
-            self.assertEqual(made.returncode, 3)
+            self.assertEqual(ended.returncode, 3)
             words = [sys.executable, os.path.join(TOOLS, "check"), *self.right("check")]
             self.assertEqual(subprocess.run(words, stdout=full, stderr=subprocess.PIPE).returncode, 5)
             full.close()
@@ -157,7 +162,7 @@ class AsPrograms(WithFiles):
 
 
 class Words(WithFiles):
-    def fault(self, name, *words):
+    def fault(self, name: str, *words: str) -> str:
         """What is said of wrong words, which have status 2."""
         text, status, said = called(name, *words)
         self.assertEqual((text, status), ("cca: words\n" if name in AGREE else "", 2), said)
@@ -247,7 +252,8 @@ class Words(WithFiles):
 
     def test_all(self) -> None:
         self.assertEqual(sorted(RIGHT), [name for name in COMMANDS if name in RIGHT])
-        for words, named in ((["cap"], "did you mean caps?"), ([], "usage: "), (["--help"], "usage: ")):
+        cases: list[tuple[list[str], str]] = [(["cap"], "did you mean caps?"), ([], "usage: "), (["--help"], "usage: ")]
+        for words, named in cases:
             with tempfile.TemporaryFile("w+") as file:
                 with contextlib.redirect_stderr(file), contextlib.redirect_stdout(file):
                     status = main_of_all(words)
@@ -257,7 +263,7 @@ class Words(WithFiles):
 
 
 class Files(WithFiles):
-    def answer(self, name, place, path):
+    def answer(self, name: str, place: int, path: str) -> tuple[str, int, list[str]]:
         """The line of a fault, the status and what is said, with another file at one place."""
         words = self.right(name)
         words[place] = path
@@ -370,7 +376,7 @@ class Crashes(WithFiles):
 
 
 class OnATerminal(WithFiles):
-    def shown(self, name, *words, columns=80, **how):
+    def shown(self, name: str, *words: str, columns: int = 80, **how: str) -> tuple[str, int]:
         """What a terminal of this many columns gets of a tool, its standard error too, and the status."""
         ours, its = pty.openpty()
         import fcntl
@@ -397,8 +403,8 @@ class OnATerminal(WithFiles):
         words = ("win", self.path("tie.cert"))
         text, status = self.shown("explain", *words)
         self.assertEqual((text.split("\n")[0], status), ("\x1b[31mcca: read fault book\x1b[0m", 4))
-        for how in ({"NO_COLOR": "1"}, {"TERM": "dumb"}):
-            self.assertEqual(self.shown("explain", *words, **how)[0].split("\n")[0], "cca: read fault book")
+        for text, _ in (self.shown("explain", *words, NO_COLOR="1"), self.shown("explain", *words, TERM="dumb")):
+            self.assertEqual(text.split("\n")[0], "cca: read fault book")
         edited = self.write("edited.log", sample("spectrum.log").replace(b"660000", b"660001"))
         text, _ = self.shown("what-if", *self.right("what-if")[:2], edited)
         self.assertIn("\x1b[31m- ", text)
@@ -445,7 +451,7 @@ class Stopped(unittest.TestCase):
     def test_a_no_goes_to_standard_output(self) -> None:
         """With what it means, but where the output has to agree with cca."""
 
-        def run(options):
+        def run(options: argparse.Namespace) -> str:
             raise Stop("no C8 2", NO, why="it fails")
 
         for agrees, text in ((True, "no C8 2\n"), (False, "no C8 2\nIt fails.\n")):

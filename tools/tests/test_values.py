@@ -1,11 +1,13 @@
 """Models of values, and how they are drawn and read."""
 import math
 import unittest
+from collections.abc import Mapping
 
 from checks.cases.samples import sample
 
 from cca_tools.rules.award import read_award
 from cca_tools.rules.stops import Stop
+from cca_tools.rules.types import Package
 from cca_tools.studies.draws import draws_of
 from cca_tools.studies.models import local_factor
 from cca_tools.studies.values import read_values, values_of_seed
@@ -34,7 +36,7 @@ permille = 50
 """
 
 
-def table(text):
+def table(text: str) -> bytes:
     return f"values = 1\n[[bidder]]\n{text}\n".encode()
 
 
@@ -50,7 +52,7 @@ class Draws(unittest.TestCase):
 
 
 class Values(unittest.TestCase):
-    def values(self, text, seed=7, award=AWARD):
+    def values(self, text: str, seed: int = 7, award: bytes = AWARD) -> list[Mapping[Package, int]]:
         return values_of_seed(read_award(award), table(text), seed)
 
     def test_additive(self) -> None:
@@ -63,7 +65,7 @@ class Values(unittest.TestCase):
             )
         )
         self.assertEqual((north[1, 0], north[2, 0], north[2, 3]), (lots[1], sum(lots), sum(lots) + 18))
-        self.assertEqual((len(north), len(south), max(map(sum, south))), (11, 8, 3))
+        self.assertEqual((len(north), len(south), max(sum(package) for package in south)), (11, 8, 3))
 
     def test_decrease_and_complement(self) -> None:
         text = 'model = "additive"\nlot = [100, 10]\ndecrease = 25\ncomplement = [{ lots = [1, 2], value = 1000 }]'
@@ -130,7 +132,7 @@ class Values(unittest.TestCase):
         text = 'model = "packages"\n[[bidder.package]]\nlots = [1, 0]\nvalue = -1'
         self.fault(text, f"table 1 of [[bidder]], table 1 of [[package]]: {below}")
 
-    def fault(self, text, why) -> None:
+    def fault(self, text: str, why: str) -> None:
         with self.subTest(text), self.assertRaises(Stop) as caught:
             read_values(table(text), read_award(AWARD))
         self.assertEqual((caught.exception.line, caught.exception.why), ("cca: refused values", why))

@@ -4,32 +4,37 @@ import os
 import re
 import unittest
 import unittest.mock
+from collections.abc import Mapping, Sequence
 
 from checks.cases.drawn import drawn
 from checks.cases.samples import said, sample, taking
 from cca_tools.commands.what_if import admission, least_amount, least_to_draft, with_bid
-from cca_tools.rules.auction import replay
+from cca_tools.rules.auction import Auction
+from cca_tools.rules.auction import Reply, replay
 from cca_tools.rules.award import read_award
+from cca_tools.rules.book import Book
 from cca_tools.rules.log import Line, read_log
+from cca_tools.rules.types import Kind, Package
 from cca_tools.rules.winners import winning_choice
 
 what_if = taking("what-if")
 ENTRY = re.compile(r"with ([\d ]+?) for (\d+)(?: instead of (\d+))?(?=, with|\. With)")
 
 
-def auction_of(award, log):
-    award = read_award(award)
-    return replay(award, read_log(log, award))
+def auction_of(award: bytes, log: bytes) -> Auction:
+    terms = read_award(award)
+    return replay(terms, read_log(log, terms))
 
 
-def submitted(award, log, j, listed):
+def submitted(award: bytes, log: bytes, j: int, listed: Mapping[Package, int]) -> tuple[Auction, Reply]:
     """The auction in which bidder j drafts and submits just this list before the sealed round is closed, and the reply
     to the submission."""
     terms = read_award(award)
     whole = replay(terms, read_log(log, terms))
     closed = [reply.word for reply in whole.replies].index("closed")
     auction = replay(terms, whole.lines[:closed])
-    name, sent = terms.names[j - 1], []
+    name = terms.names[j - 1]
+    sent: list[tuple[Kind, Package, int]] = []
     sent += [("drop", package, 0) for package, _ in auction.drafts(j) if package not in listed]
     sent += [("draft", package, amount) for package, amount in sorted(listed.items())]
     for kind, package, amount in sent:
@@ -41,12 +46,12 @@ def submitted(award, log, j, listed):
     return auction, reply
 
 
-def won(book, j):
+def won(book: Book, j: int) -> tuple[Package, int] | None:
     """The package and the amount with which bidder j wins, or None."""
     return book.won(winning_choice(book)[0], j)
 
 
-def counts(text):
+def counts(text: str) -> Package:
     return tuple(map(int, text.split()))
 
 
@@ -59,7 +64,7 @@ class Advice(unittest.TestCase):
         self.addCleanup(environment.stop)
         self.seen = dict.fromkeys(("admitted", "refused", "mended", "instead", "none", "note"), 0)
 
-    def check(self, award, log, j, package) -> None:
+    def check(self, award: bytes, log: bytes, j: int, package: Package) -> None:
         auction = auction_of(award, log)
         name, words = auction.award.names[j - 1], " ".join(map(str, package))
         text, status = said(lambda names: what_if([*names, "--least", name, words]), award, log)
@@ -89,19 +94,19 @@ class Advice(unittest.TestCase):
             return
         self.check_mended(award, log, j, package, rows, listed)
 
-    def all_packages(self, auction, j):
+    def all_packages(self, auction: Auction, j: int) -> dict[Package, int]:
         """Each package that bidder j may draft, at a great amount."""
         asked = {package for package, _ in auction.bids(j)}
         asked |= {closed.packages[j - 1] for closed in auction.rounds}
         return {package: 10**9 for package in asked if any(package)}
 
-    def check_none(self, auction, j, package, text) -> None:
+    def check_none(self, auction: Auction, j: int, package: Package, text: str) -> None:
         """No amount wins: the package can't be drafted."""
         draft = Line(0, 0, "draft", auction.award.names[j - 1], j, package, 10**6)
         fault = auction.package_fault(draft, auction.award.eligibility(j))
         self.assertTrue(fault or not any(package), text)
 
-    def check_least(self, auction, j, package, amount) -> None:
+    def check_least(self, auction: Auction, j: int, package: Package, amount: int) -> None:
         """With the amount the bidder wins the package, and with one less it doesn't, or may not bid that."""
         book, low = auction.book(), least_to_draft(auction, j, package)
         self.assertEqual(won(with_bid(book, j, package, amount), j), (package, amount))
@@ -110,7 +115,7 @@ class Advice(unittest.TestCase):
             less = won(with_bid(book, j, package, amount - 1), j)
             self.assertNotEqual(less and less[0], package)
 
-    def check_note(self, auction, j, package, amount, rows) -> None:
+    def check_note(self, auction: Auction, j: int, package: Package, amount: int, rows: Sequence[str]) -> None:
         """Where it is said that the amount may not be less, one less can't be drafted, and only there."""
         name, desk = auction.award.names[j - 1], auction.desks[j - 1]
         fault = auction.amount_fault(Line(0, 0, "draft", name, j, package, amount - 1), desk)
@@ -119,7 +124,7 @@ class Advice(unittest.TestCase):
         self.assertEqual(note in rows, is_least)
         self.seen["note"] += is_least
 
-    def check_refusal(self, rows, name, listed, reply) -> None:
+    def check_refusal(self, rows: Sequence[str], name: str, listed: Mapping[Package, int], reply: Reply) -> None:
         """The reply to the submission is the one that was reported."""
         self.seen["refused"] += 1
         entry = sorted(listed)[reply.numbers[0] - 1]
@@ -129,7 +134,9 @@ class Advice(unittest.TestCase):
         )
         self.assertTrue(any(row.startswith(f"{head} cap, {reply.numbers[1]}. ") for row in rows), rows)
 
-    def check_mended(self, award, log, j, package, rows, listed) -> None:
+    def check_mended(
+        self, award: bytes, log: bytes, j: int, package: Package, rows: Sequence[str], listed: Mapping[Package, int]
+    ) -> None:
         """The list that is advised is admitted, and wins what it is said to win."""
         row = next(row for row in rows if row.startswith("They would admit it on that list "))
         mended = dict(listed)
@@ -149,7 +156,7 @@ class Advice(unittest.TestCase):
             self.assertTrue(row.endswith(f" wins {told} instead."), (row, got))
         self.check_winners(rows, "with that list", after)
 
-    def check_winners(self, rows, head, after) -> None:
+    def check_winners(self, rows: Sequence[str], head: str, after: Auction) -> None:
         """The winners below the head are those of the auction that follows the advice."""
         book = after.need_book()
         choice, value = winning_choice(book)
@@ -161,7 +168,7 @@ class Advice(unittest.TestCase):
         at = rows.index(head) + 1
         self.assertEqual(rows[at : at + len(lines) + 1], [*lines, f"net {value}"])
 
-    def package(self, award, log, j, number):
+    def package(self, award: bytes, log: bytes, j: int, number: int) -> Package:
         """A package that bidder j may draft, by a number; of ten numbers one leads to any package."""
         auction = auction_of(award, log)
         every = list(itertools.product(*(range(count + 1) for count in auction.award.supply)))

@@ -5,16 +5,21 @@ from checks.cases.samples import book_of, certificate_of, lines, said, sample, s
 from cca_tools.rules.book import read_book
 from cca_tools.rules.certificate import read_certificate
 from cca_tools.rules.why import LEGEND, Reasons, offer_of, vickrey_offer, why_lines
+from collections.abc import Sequence
 
 why = taking("why")
 LOCALS = [[((1, 0, 0), 10)], [((0, 1, 0), 10)], [((0, 0, 1), 10)]]
 
 
-def reasons_of(book, cert, weights=None):
+def reasons_of(book: bytes, cert: bytes, weights: Sequence[int] | None = None) -> Reasons:
     return Reasons(read_certificate(cert, read_book(book)), weights)
 
 
 class Spectrum(unittest.TestCase):
+    book: bytes
+    cert: bytes
+    reasons: Reasons
+
     @classmethod
     def setUpClass(cls) -> None:
         cls.book, cls.cert = spectrum()
