@@ -47,10 +47,7 @@ UNTYPED = {
             "test_desk_log.py",
             "test_desk_pages.py",
             "test_desk_people.py",
-            "test_findings.py",
-            "test_pictures.py",
             "test_record.py",
-            "test_report.py",
         )
     ),
 }

@@ -3,7 +3,7 @@ import re
 import unittest
 from checks.cases.samples import book_of, certificate_of, lines, said, sample, six_bidders
 from checks.cases.voices import check
-from cca_tools.rules.stops import RecordSpot, Stop
+from cca_tools.rules.stops import LineSpot, Stop
 from collections.abc import Sequence
 
 BOOK, CERT, WEIGHTS = sample("day-cramton.book"), sample("day-cramton.cert"), sample("day-cramton.weights")
@@ -376,7 +376,7 @@ class Faults(unittest.TestCase):
 
     def test_rows_in_an_editor(self) -> None:
         book = stop_of(BOOK.replace(b"bid 1 1 32", b"bid 1 1 3.2"), CERT)
-        assert isinstance(book.spot, RecordSpot)
+        assert isinstance(book.spot, LineSpot)
         self.assertEqual((book.spot.row, book.spot.read), (9, "bid 1 1 3.2"))
         self.assertIn("`3.2` is read as the amount", book.why)
         for put, hint in [
@@ -388,7 +388,7 @@ class Faults(unittest.TestCase):
             self.assertIn(hint, stop_of(BOOK.replace(b"bid 1 1 32", put.encode()), CERT).why)
         self.assertIn("another book", stop_of(sample("tie.book"), CERT).why)
         cert = stop_of(BOOK, CERT + CERT)
-        assert isinstance(cert.spot, RecordSpot)
+        assert isinstance(cert.spot, LineSpot)
         self.assertEqual((cert.spot.row, cert.spot.read), (CERT.count(b"\n") + 1, "cert 1"))
 
 

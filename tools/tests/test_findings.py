@@ -6,14 +6,18 @@ and compared with numbers that are computed here.
 """
 import dataclasses
 import re
+import random
 import unittest
 from fractions import Fraction
+from collections.abc import Iterator, Mapping
 
 from checks.cases.drawn import Drawing
+from cca_tools.rules.types import Choice, Table
 from cca_tools.page import findings, rounds, winners
-from cca_tools.page.source import Source
+from cca_tools.page.source import Source, given
 from cca_tools.page.words import VULGAR, Names
-from cca_tools.rules.certificate import Certificate, Row, winners_of
+from cca_tools.rules.book import Book
+from cca_tools.rules.certificate import BookCertificate, Certificate, Row, winners_of
 from cca_tools.rules.clock import Round
 from cca_tools.rules.winners import winning_choice
 
@@ -24,12 +28,12 @@ COUNT = "|".join(WORDS) + r"|\d+"
 AMOUNT = r"[\d,]*(?:[^\W\d_a-z ]|\+\d+/\d+)?"
 
 
-def counted(word):
+def counted(word: str) -> int:
     """A number as a word or in digits."""
     return WORDS.index(word.lower()) if word.lower() in WORDS else int(word.replace(",", ""))
 
 
-def amount(text):
+def amount(text: str) -> Fraction:
     """An amount as people write it."""
     whole, _, rest = text.replace(",", "").partition("+")
     if whole[-1:] in LETTERS:
@@ -37,29 +41,30 @@ def amount(text):
     return int(whole) + Fraction(rest or 0)
 
 
-def bids_less(book, j):
+def bids_less(book: Book, j: int) -> Book:
     """The book without the bids of a bidder."""
     return dataclasses.replace(book, bids=[[] if k == j else bids for k, bids in enumerate(book.bids, 1)])
 
 
-def drawn_certificate(draw, book):
+def drawn_certificate(draw: random.Random, book: Book) -> BookCertificate:
     """The winners and what each pays: its Vickrey price, and shares of up to three rows of drawn winners."""
     choice, value = winning_choice(book)
     won = winners_of(choice)
-    without = {j: (winning_choice(bids_less(book, j))[0], []) for j in won}
+    without: dict[int, tuple[Choice, Table]] = {j: (winning_choice(bids_less(book, j))[0], []) for j in won}
     rows = [Row([j], 1, 0, without[j][0]) for j in won]
     for _ in range(draw.choice((0, 0, 1, 1, 2, 3))):
         if len(won) > 1:
             members = sorted(draw.sample(won, draw.randint(2, len(won))))
             row = Row(members, 1, draw.choice((0, 1, 2, 200)), without[members[0]][0])
             rows += [row] if all(members != other.members for other in rows) else []
-    den, made = draw.choice((1, 1, 2, 3, 7)), Certificate(book, 1, value, choice, [], without, [], rows, [])
+    den = draw.choice((1, 1, 2, 3, 7))
+    made: BookCertificate = Certificate(book, 1, value, choice, [], without, [], rows, [])
     above = [sum(row.second for row in rows if j in row.members) for j in range(1, book.bidders + 1)]
     pay = [den * made.vickrey(j) + above[j - 1] if choice[j - 1] else 0 for j in range(1, book.bidders + 1)]
     return dataclasses.replace(made, den=den, pay=pay)
 
 
-def drawn_source(number):
+def drawn_source(number: int) -> Source:
     """The facts of a drawn auction; some have few bids, and some none."""
     drawing = Drawing(number)
     drawing.clock()
@@ -73,22 +78,25 @@ def drawn_source(number):
 
 
 class Findings(unittest.TestCase):
+    sources: list[Source]
+    drawing: str | int  # what a fault names
+
     @classmethod
     def setUpClass(cls) -> None:
         cls.sources = [drawn_source(number) for number in range(MANY)]
 
-    def each(self):
+    def each(self) -> Iterator[Source]:
         """Each source; a fault names the auction that is drawn from its number."""
-        for self.number, source in enumerate(self.sources):
+        for self.drawing, source in enumerate(self.sources):
             yield source
 
-    def _formatMessage(self, msg, standard_message):
-        return f"auction {self.number}: {super()._formatMessage(msg, standard_message)}"
+    def _formatMessage(self, msg: str | None, standard_message: str) -> str:
+        return f"auction {self.drawing}: {super()._formatMessage(msg, standard_message)}"
 
-    def above(self, source):
+    def above(self, source: Source) -> dict[str, Fraction]:
         """How far each winner pays above its Vickrey price, by the numbers of the certificate."""
-        it = source.certificate
-        return {source.book.names[j - 1]: Fraction(it.pay[j - 1], it.den) - it.vickrey(j) for j in it.winners}
+        it = given(source.certificate)
+        return {given(source.book).names[j - 1]: Fraction(it.pay[j - 1], it.den) - it.vickrey(j) for j in it.winners}
 
     def test_prices(self) -> None:
         forms = set()
@@ -105,7 +113,7 @@ class Findings(unittest.TestCase):
                 self.check_raised(tail, raised, source)
         self.assertGreater(len(forms), 12)
 
-    def check_head(self, head, at, whole) -> None:
+    def check_head(self, head: str, at: int, whole: int) -> None:
         """What a title says of those that pay their Vickrey prices."""
         if not head:
             self.assertEqual(at, 0)
@@ -113,25 +121,23 @@ class Findings(unittest.TestCase):
             self.assertEqual((counted(found[1]), counted(found[2])), (at, whole))
         else:
             said = {"The only winner pays its": 1, "Both winners pay their": 2}
-            found = re.fullmatch(rf"(?:All ({COUNT}) winners pay their|(.*)) Vickrey prices?", head)
+            found = given(re.fullmatch(rf"(?:All ({COUNT}) winners pay their|(.*)) Vickrey prices?", head))
             many = counted(found[1]) if found[1] else said[found[2]]
             self.assertEqual((many, at), (whole, whole))
 
-    def check_raised(self, tail, raised, source) -> None:
+    def check_raised(self, tail: str, raised: Mapping[str, Fraction], source: Source) -> None:
         """What a title says of those that pay more."""
-        found = re.fullmatch(
-            rf"(?:(a) coalition raises|({COUNT}) coalitions raise) (.*?)(?:, above (?:its|their) Vickrey prices?)?",
-            tail,
-            re.I,
-        )
-        rows = [row for row in source.certificate.rows if len(row.members) > 1 and row.second]
+        form = rf"(?:(a) coalition raises|({COUNT}) coalitions raise) (.*?)(?:, above (?:its|their) Vickrey prices?)?"
+        found = given(re.fullmatch(form, tail, re.I))
+        rows = [row for row in given(source.certificate).rows if len(row.members) > 1 and row.second]
         self.assertEqual(1 if found[1] else counted(found[2]), len(rows))
         if every := re.fullmatch(rf"(?:all|the other) ({COUNT}) by ({AMOUNT})(?: (together|each))?", found[3]):
             whole = sum(raised.values())
             expected = whole if every[3] == "together" else whole / len(raised)
             self.assertEqual((counted(every[1]), amount(every[2])), (len(raised), expected))
             return
-        said, names = {}, []
+        said: dict[str, Fraction] = {}
+        names: list[str] = []
         for part in re.split(r", | and ", found[3]):
             name, _, by = part.partition(" by ")
             names.append(name)
@@ -145,9 +151,9 @@ class Findings(unittest.TestCase):
             if source.winners:
                 title = findings.of_payments(source)
                 form = rf"(?:The winner pays|Winners pay) (.*) % of what (?:it|they) bid: ({AMOUNT}) of (.*)"
-                found = re.fullmatch(form, title)
-                it = source.certificate
-                reserves = sum(source.book.reserve(source.book.winning(it.choice, j)[0]) for j in it.winners)
+                found = given(re.fullmatch(form, title))
+                it, book = given(source.certificate), given(source.book)
+                reserves = sum(book.reserve(book.winning(it.choice, j)[0]) for j in it.winners)
                 bid = it.value + reserves
                 pays = Fraction(sum(it.pay), it.den) + reserves
                 self.assertEqual((amount(found[2]), amount(found[3])), (pays, bid))
@@ -155,29 +161,30 @@ class Findings(unittest.TestCase):
 
     def test_lots(self) -> None:
         for source in self.each():
-            title, supply = findings.of_lots(source), source.book.supply
-            won = [source.book.winning(source.certificate.choice, j)[0] for j in source.winners]
+            title, book = findings.of_lots(source), given(source.book)
+            supply = book.supply
+            won = [book.winning(given(source.certificate).choice, j)[0] for j in source.winners]
             left = [have - sum(package[c] for package in won) for c, have in enumerate(supply)]
             if not any(map(sum, won)):
                 self.assertRegex(title, rf"^None of {sum(supply)} lots is sold$")
                 continue
-            found = re.fullmatch(
-                rf"(?:(\d+) of|All) (\d+) lots (?:is|are) sold, to (?:({COUNT}) winners|(\w+))"
-                r"(?:; (.*) stays? unsold)?",
-                title,
+            form = (
+                rf"(?:(\d+) of|All) (\d+) lots (?:is|are) sold, to (?:({COUNT}) winners|(\w+))(?:; (.*) stays? unsold)?"
             )
+            found = given(re.fullmatch(form, title))
             self.assertEqual(int(found[2]), sum(supply))
             self.assertEqual(int(found[1] or found[2]), sum(supply) - sum(left))
             if found[3]:
                 self.assertEqual(counted(found[3]), len(won))
             else:
-                self.assertEqual([source.book.names[j - 1] for j in source.winners], [found[4]])
-            said = dict(part.split(" of ")[::-1] for part in re.split(r", | and ", found[5] or "") if part)
+                self.assertEqual([book.names[j - 1] for j in source.winners], [found[4]])
+            parts = (part.partition(" of ") for part in re.split(r", | and ", found[5] or "") if part)
+            said = {category: lots for lots, _, category in parts}
             self.assertEqual(said, {f"c{c}": str(lots) for c, lots in enumerate(left, 1) if lots})
 
     def test_lots_of_many_categories(self) -> None:
         """A title names three categories, and of more it has their number."""
-        self.number, source = "of four categories", Source([], Names(["a"], ["c1", "c2", "c3", "c4"]))
+        self.drawing, source = "of four categories", Source([], Names(["a"], ["c1", "c2", "c3", "c4"]))
         for left, words in (
             ((0, 1, 0, 0), "1 of c2 stays unsold"),
             ((1, 2, 0, 1), "1 of c1, 2 of c2 and 1 of c4 stay unsold"),
@@ -187,22 +194,23 @@ class Findings(unittest.TestCase):
 
     def test_bands_have_a_cell_for_each_lot(self) -> None:
         for source in self.each():
-            won = [source.book.winning(source.certificate.choice, j)[0] for j in source.winners]
+            book = given(source.book)
+            won = [book.winning(given(source.certificate).choice, j)[0] for j in source.winners]
             for c, band in enumerate(winners.bands_of(source)):
-                self.assertEqual(band.supply, source.book.supply[c])
+                self.assertEqual(band.supply, book.supply[c])
                 for place, package in enumerate(won, 1):
                     self.assertEqual(dict(band.parts).get(place, 0), package[c])
 
     def test_categories(self) -> None:
         for source in self.each():
-            closed = source.auction.rounds
-            for c, supply in enumerate(source.book.supply):
+            closed = given(source.auction).rounds
+            for c, supply in enumerate(given(source.book).supply):
                 title, prices = findings.of_category(closed, c, False), [it.prices[c] for it in closed]
-                found = re.fullmatch(
+                form = (
                     rf"The price (?:stayed at|rose by ([\d.,]+) % to) ([\d,]+); demand was (?:(never) above the supply"
-                    rf"|above the supply in (?:the (only) round|({COUNT}) of ({COUNT}) rounds))",
-                    title,
+                    rf"|above the supply in (?:the (only) round|({COUNT}) of ({COUNT}) rounds))"
                 )
+                found = given(re.fullmatch(form, title))
                 above = sum(sum(package[c] for package in it.packages) > supply for it in closed)
                 self.assertEqual(amount(found[2]), prices[-1])
                 rose = Fraction((found[1] or "0").replace(",", ""))
@@ -220,19 +228,19 @@ class Findings(unittest.TestCase):
 
     def test_the_clock(self) -> None:
         for source in self.each():
-            closed = source.auction.rounds
-            found = re.fullmatch(
+            closed = given(source.auction).rounds
+            form = (
                 rf"The clock took ({COUNT}) rounds?, and"
-                rf" (no price rose|prices rose in (both|({COUNT}) of two) categories)",
-                findings.of_clock(closed, False),
+                rf" (no price rose|prices rose in (both|({COUNT}) of two) categories)"
             )
+            found = given(re.fullmatch(form, findings.of_clock(closed, False)))
             rose = sum(closed[0].prices[c] != closed[-1].prices[c] for c in range(2))
             self.assertEqual(counted(found[1]), len(closed))
             self.assertEqual(0 if found[2].startswith("no") else 2 if found[3] == "both" else counted(found[4]), rose)
 
     def test_activity(self) -> None:
         for source in self.each():
-            closed, award = source.auction.rounds, source.award
+            closed, award = given(source.auction).rounds, given(source.award)
             every = [rounds.activity_of(source, closed, j) for j in range(1, len(award.names) + 1)]
             title = findings.of_activity([it.points for it in every], [it.eligibility for it in every], False).lower()
             weights = [category.points for category in award.categories]
@@ -241,7 +249,7 @@ class Findings(unittest.TestCase):
             who = rf"(?:(no) bidder|all ({COUNT}) bidders|({COUNT}) of ({COUNT}) bidders)"
             found = re.search(f"{who} lost eligibility from round 1 to round {len(closed)}$", title)
             self.assertEqual(found is None, len(closed) == 1)
-            if len(closed) > 1:
+            if found:
                 said = 0 if found[1] else counted(found[2] or found[3])
                 self.assertEqual(said, losers)
                 went = "fell" if sums[-1] < sums[0] else "rose"

@@ -2,6 +2,8 @@
 import math
 import re
 import unittest
+from collections.abc import Callable, Mapping, Sequence
+from typing import TypeAlias
 import xml.etree.ElementTree as ElementTree
 from dataclasses import dataclass
 from fractions import Fraction
@@ -15,6 +17,8 @@ from cca_tools.studies import pictures
 from cca_tools.studies.measures import Spread
 
 NUMBER = re.compile(r"-?[\d.]+")
+Point: TypeAlias = tuple[float, float]
+Real: TypeAlias = float | Fraction
 
 
 @dataclass
@@ -22,39 +26,39 @@ class Mark:
     """A mark of a picture: its tag, its attributes, what it says under the mouse, and its letters."""
 
     tag: str
-    at: dict
+    at: Mapping[str, str]
     says: str
     letters: str
 
-    def place(self, name):
+    def place(self, name: str) -> float:
         """A place in units, or in percent of the width."""
         return float(self.at[name].removesuffix("%"))
 
     @property
-    def colours(self):
+    def colours(self) -> tuple[str | None, str | None]:
         """The roles of the colours inside and of the edge."""
         roles = dict(it.split("-") for it in self.at.get("class", "").split())
         return roles.get("f"), roles.get("s")
 
     @property
-    def points(self):
+    def points(self) -> list[Point]:
         """The points of a path."""
         numbers = list(map(float, NUMBER.findall(self.at["d"])))
         return list(zip(numbers[::2], numbers[1::2]))
 
     @property
-    def ends(self):
+    def ends(self) -> tuple[float, float, float, float]:
         """Both ends of a line."""
-        return tuple(map(self.place, ("x1", "y1", "x2", "y2")))
+        return self.place("x1"), self.place("y1"), self.place("x2"), self.place("y2")
 
     @property
-    def box(self):
+    def box(self) -> tuple[float, float, float, float]:
         """The left, top, right and bottom of a rectangle."""
         x, y, width, height = map(self.place, ("x", "y", "width", "height"))
         return x, y, x + width, y + height
 
 
-def marks_of(picture):
+def marks_of(picture: str) -> list[Mark]:
     """The marks of a picture, in the order in which they are drawn."""
     found = []
     for it in ElementTree.fromstring(picture):
@@ -64,51 +68,51 @@ def marks_of(picture):
     return found
 
 
-def number_of(letters):
+def numbers_of(letters: str) -> list[Fraction]:
     """The number that letters print."""
     letters = letters.replace(",", "")
-    return Fraction(letters) if re.fullmatch(r"-?[\d.]+", letters) else None
+    return [Fraction(letters)] if re.fullmatch(r"-?[\d.]+", letters) else []
 
 
-def scale_of(marks, is_across):
+def scale_of(marks: Sequence[Mark], is_across: bool) -> tuple[Callable[[Real], float], list[Fraction]]:
     """The scale that ticks print, each a short line with its number after it: where a number is, and the numbers."""
-    found = {}
+    found: dict[Fraction, float] = {}
     for line, text in zip(marks, marks[1:]):
-        if line.tag == "line" and text.tag == "text" and number_of(text.letters) is not None:
+        if line.tag == "line" and text.tag == "text" and (number := numbers_of(text.letters)):
             x, y, to_x, to_y = line.ends
             length = round(abs(y - to_y if is_across else x - to_x), 1)
             if (x == to_x if is_across else y == to_y) and length in (3, 4):
-                found[number_of(text.letters)] = x if is_across else y
+                found[number[0]] = x if is_across else y
     (first, at), *_, (last, to) = sorted(found.items())
     return lambda value: at + float((value - first) / (last - first)) * (to - at), list(found)
 
 
-def log_scale_of(marks):
+def log_scale_of(marks: Sequence[Mark]) -> tuple[Callable[[Real], float], list[int]]:
     """The logarithmic scale that ticks print at the left: where a number is, and the numbers."""
-    found = {}
+    found: dict[Fraction, float] = {}
     for line, text in zip(marks, marks[1:]):
-        if line.tag == "line" and text.tag == "text" and number_of(text.letters) is not None:
+        if line.tag == "line" and text.tag == "text" and (number := numbers_of(text.letters)):
             x, y, to_x, to_y = line.ends
             if y == to_y and round(abs(x - to_x), 1) == 3:
-                found[number_of(text.letters)] = y
+                found[number[0]] = y
     (first, at), *_, (last, to) = sorted(found.items())
     return lambda value: at + math.log(value / first) / math.log(last / first) * (to - at), sorted(map(int, found))
 
 
 class Pictures(unittest.TestCase):
-    def assert_places(self, found, expected, delta=0.02) -> None:
+    def assert_places(self, found: Sequence[float], expected: Sequence[float], delta: float = 0.02) -> None:
         """The places are these, except for rounding."""
         self.assertEqual(len(found), len(expected))
         for one, other in zip(found, expected):
             self.assertAlmostEqual(one, other, delta=delta)
 
-    def assert_corners(self, found, expected) -> None:
+    def assert_corners(self, found: Sequence[Point], expected: Sequence[Point]) -> None:
         """A polygon has these corners, in whatever order and however often."""
         near = [[abs(x - u) < 0.02 and abs(y - v) < 0.02 for u, v in expected] for x, y in found]
         self.assertTrue(all(map(any, near)), (found, expected))
         self.assertTrue(all(map(any, zip(*near))), (found, expected))
 
-    def one(self, marks, says):
+    def one(self, marks: Sequence[Mark], says: str) -> Mark:
         """The mark that says this, the first of equal ones."""
         found = [it for it in marks if it.says == says]
         self.assertTrue(found, says)
@@ -229,7 +233,7 @@ class OfACategory(Pictures):
 class OfActivity(Pictures):
     """harbour of the sample: 68, 48, 48 and 48 points, of 68, 68, 48 and 48; also a bidder of a third of the points."""
 
-    def rows(self, every, most):
+    def rows(self, every: Sequence[Activity], most: int) -> tuple[list[Mark], list[list[Mark]], list[list[Mark]]]:
         """For each bidder its bars by what they say, and its lines of eligibility by their rounds."""
         marks = marks_of(charts.activities("a", "", "", every, most, False))
         bars = [[it for it in marks if it.tag == "rect" and it.says.startswith(f"{one.name}, ")] for one in every]
@@ -253,7 +257,8 @@ class OfActivity(Pictures):
             for line in lines_of_one:
                 x, y, to_x, _ = line.ends
                 at, after = round(x / 25), round(to_x / 25)
-                self.assertEqual(set(one.eligibility[at:after]), {int(re.search(r"for (\d+) point", line.says)[1])})
+                said = re.findall(r"for (\d+) point", line.says)[0]
+                self.assertEqual(set(one.eligibility[at:after]), {int(said)})
                 self.assertAlmostEqual(bars_of_one[0].box[3] - y, full * one.eligibility[at] / 68, delta=0.02)
             self.assertEqual((lines_of_one[0].ends[0], lines_of_one[-1].ends[2]), (0, 100))
         self.assertEqual([it.letters for it in marks if it.letters.isdigit()][-3:], ["2", "3", "4"])
@@ -280,7 +285,7 @@ class OfPayments(Pictures):
             reserve = next(it for it in marks if it.says.startswith(f"the reserve of what {one.name} wins: "))
             vickrey = next(it for it in marks if it.says.startswith(f"the Vickrey price of {one.name}: "))
             found = [bid.box[2], pays.box[2], reserve.ends[0], vickrey.points[0][0]]
-            self.assert_places(found, list(map(place, (one.bid, one.pays, one.reserve, one.vickrey))))
+            self.assert_places(found, [place(one.bid), place(one.pays), place(one.reserve), place(one.vickrey)])
             self.assertEqual({bid.box[0], pays.box[0]}, {0.5})
         clock = self.one(marks, "what tarn wins cost 485,200 at the final prices of the clock")
         self.assert_places([clock.ends[0]], [place(485200)])
@@ -291,7 +296,9 @@ class OfLots(Pictures):
     NAMES = ["everest", "harbour", "meridian", "niche", "tarn", "upland", "vale"]
     LETTERS = list("EHMNTUV")
 
-    def cells(self, band, names, letters):
+    def cells(
+        self, band: Band, names: Sequence[str], letters: Sequence[str]
+    ) -> tuple[list[Mark], list[list[tuple[Mark, Mark]]]]:
         """Of a strip the rows of cells, each as its mark and its letter."""
         marks = marks_of(charts.bands("b", "", "", [band], names, letters))
         shapes = [it for it in marks if it.tag == "rect" and not it.at["fill"].startswith("url(")]
@@ -312,10 +319,10 @@ class OfLots(Pictures):
                 self.assert_places([cell.box[2] for cell, _ in row], [width * (at + 1) for at in range(len(row))])
             self.assertEqual(len({row[0][0].place("y") for row in rows}), len(rows))
 
-    def widths(self, *every):
+    def widths(self, *every: Band) -> list[float]:
         """The width of the first cell of each strip, in percent of the picture."""
         marks = marks_of(charts.bands("b", "", "", every, self.NAMES, self.LETTERS))
-        found = {}
+        found: dict[str, float] = {}
         for mark in marks:
             if mark.tag == "rect" and not mark.at["fill"].startswith("url("):
                 found.setdefault(mark.says.rpartition(" of ")[2], mark.place("width"))
@@ -350,12 +357,12 @@ class OfLots(Pictures):
 
 
 class OfTheCore(Pictures):
-    def places(self, marks):
+    def places(self, marks: Sequence[Mark]) -> tuple[Callable[[Real, Real], Point], set[Fraction], set[Fraction]]:
         """Where two payments are, by the numbers of both axes."""
         across, up = scale_of(marks, is_across=True), scale_of(marks, is_across=False)
         return (lambda x, y: (across[0](x), up[0](y))), set(across[1]), set(up[1])
 
-    def assert_way(self, marks, start, end) -> None:
+    def assert_way(self, marks: Sequence[Mark], start: Point, end: Point) -> None:
         """The arrow lies on the way from one mark to the other, and its head is symmetric."""
         shaft, head = [it for it in marks if it.tag == "path" and it.colours == (None, "ink")]
         (x, y), (u, v) = start, end
@@ -364,7 +371,7 @@ class OfTheCore(Pictures):
         one, tip, other = head.points
         self.assertEqual(tip, shaft.points[1])
         lengths = [(a - tip[0]) ** 2 + (b - tip[1]) ** 2 for a, b in (one, other)]
-        self.assertAlmostEqual(*lengths, delta=0.3)
+        self.assertAlmostEqual(lengths[0], lengths[1], delta=0.3)
         middle = (one[0] + other[0]) / 2 - tip[0], (one[1] + other[1]) / 2 - tip[1]
         self.assertLess(middle[0] * (u - x) + middle[1] * (v - y), 0)
 
@@ -407,7 +414,9 @@ class OfTheCore(Pictures):
         (dot,) = [it for it in marks if it.tag == "circle"]
         self.assertGreater(max(x for x, _ in triangle.points) - dot.place("cx"), dot.place("r") + 3)
 
-    def three(self, low, bid, demands, pays):
+    def three(
+        self, low: Sequence[int], bid: Sequence[int], demands: Sequence[int], pays: Sequence[Fraction]
+    ) -> tuple[list[Mark], Callable[..., Point]]:
         """The marks, and where payments are: the first winner's share is a height, and the others share the width."""
         marks = marks_of(core.three("k", "", "", ("b1", "b2", "b3"), low, bid, demands, pays))
         second, third, first = sorted(
@@ -418,11 +427,12 @@ class OfTheCore(Pictures):
         self.assertAlmostEqual(lengths[1], lengths[2], delta=20)
         above = sum(pays) - sum(low)
 
-        def at(*amounts):
+        def at(*amounts: Real) -> Point:
             shares = [(it - least) / above for it, least in zip(amounts, low)]
-            return tuple(
-                sum(float(share) * corner[axis] for share, corner in zip(shares, (first, second, third)))
-                for axis in (0, 1)
+            corners = first, second, third
+            return (
+                sum(float(share) * corner[0] for share, corner in zip(shares, corners)),
+                sum(float(share) * corner[1] for share, corner in zip(shares, corners)),
             )
 
         return marks, at
@@ -500,8 +510,8 @@ class OfAStudy(Pictures):
         self.assertTrue(0 < tops[0] and tops[-1] < axis, (tops, axis))
         for zero in (it for it in marks[: len(bars)] if it.tag == "line"):
             self.assert_places(zero.ends[::2], (place(0), place(0)))
-        written = [(it.letters, it.place("y")) for it in marks if it.letters in ("case 1", "core", "Vickrey")]
-        self.assertEqual([letters for letters, _ in written], ["case 1", "core", "Vickrey"])
+        names = [(it.letters, it.place("y")) for it in marks if it.letters in ("case 1", "core", "Vickrey")]
+        self.assertEqual([letters for letters, _ in names], ["case 1", "core", "Vickrey"])
 
 
 if __name__ == "__main__":

@@ -7,12 +7,16 @@ import sys
 import tempfile
 import unicodedata
 import unittest
+from typing import TypeAlias, TypeVar
 from fractions import Fraction
 from html.parser import HTMLParser
+from collections.abc import Callable, Sequence
 
 from checks.cases.samples import EXAMPLES, TOOLS, called, certificate_of, book_of, sample, spectrum
 from cca_tools.page import core, html, plain, source, words
+from cca_tools.page.document import Block, Cards, Cell, Fold, Page, Picture, Section, Table
 from cca_tools.page.report import page
+from cca_tools.page.source import given as present
 from cca_tools.rules.stops import Stop
 from cca_tools.rules.view import view_text
 
@@ -39,8 +43,11 @@ REFUSED = {
 TURNS = "round 1 point 14 12 row 1 2 choice 0 0 1 0 0 excess 6\nround 2 point 17 15 end\n"
 PROGRAM = f"#!/bin/sh\nif [ $1 = price ]; then cat <<TURNS\n{TURNS}TURNS\nelse echo yes; fi\n"
 
+Made = TypeVar("Made")
+Attributes: TypeAlias = list[tuple[str, str | None]]
 
-def facts_of(*texts, program="", bidder=""):
+
+def facts_of(*texts: bytes, program: str = "", bidder: str = "") -> source.Source:
     """The facts of files with these bytes, beside a program of these bytes or none."""
     with tempfile.TemporaryDirectory() as folder:
         names = [os.path.join(folder, f"file{at}") for at, _ in enumerate(texts)]
@@ -55,7 +62,7 @@ def facts_of(*texts, program="", bidder=""):
         return with_program(made if program else "/nowhere", lambda: source.of_files(names, bidder))
 
 
-def with_program(path, run):
+def with_program(path: str, run: Callable[[], Made]) -> Made:
     before = os.environ.get("CCA_PROGRAM")
     os.environ["CCA_PROGRAM"] = path
     try:
@@ -66,32 +73,31 @@ def with_program(path, run):
             os.environ["CCA_PROGRAM"] = before
 
 
-def text_of(*texts, name="", program=""):
+def text_of(*texts: bytes, name: str = "", program: str = "") -> str:
     return plain.text(page(facts_of(*texts, program=program, bidder=name), name))
 
 
-def flat(text):
+def flat(text: str) -> str:
     """A text with one space between words, so that its breaks don't matter."""
     return " ".join(text.split())
 
 
-def log_of(*lines):
+def log_of(*lines: str) -> bytes:
     return "".join(line + "\n" for line in lines).encode()
 
 
-def tables(made, title):
+def tables(made: Page, title: str) -> list[list[list[str]]]:
     """The rows of the tables of this title, in words."""
-    found = []
+    found: list[list[list[str]]] = []
 
-    def walk(blocks) -> None:
+    def walk(blocks: Sequence[Block]) -> None:
         for block in blocks:
-            kind = html.kind(block)
-            if kind == "cards":
+            if isinstance(block, Cards):
                 for card in block.cards:
                     walk(card.blocks)
-            if kind == "fold":
+            if isinstance(block, Fold):
                 walk(block.blocks)
-            table = block if kind == "table" else block.table if kind == "picture" else None
+            table = block if isinstance(block, Table) else block.table if isinstance(block, Picture) else None
             if table and table.title == title:
                 found.append([[html.parts(cell)[0] for cell in row] for row in table.rows])
 
@@ -100,16 +106,35 @@ def tables(made, title):
     return found
 
 
-def replies(made):
+def replies(made: Page) -> dict[int, Cell]:
     """Of each line its reply, in words and in the program's form."""
     (section,) = [it for it in made.sections if it.key == "lines"]
-    (cards,) = section.blocks[-1].blocks
-    rows = [row for card in cards.cards for table in card.blocks for row in table.rows]
-    return {int(html.parts(line)[0]): reply for line, _, reply in rows}
+    found = {}
+    for line, _, reply in (row for table in tables_of_lines(section) for row in table.rows):
+        assert isinstance(reply, Cell)
+        found[int(html.parts(line)[0])] = reply
+    return found
+
+
+def tables_of_lines(section: Section) -> list[Table]:
+    """The tables that the last block of a section folds away."""
+    fold = section.blocks[-1]
+    assert isinstance(fold, Fold)
+    (cards,) = fold.blocks
+    assert isinstance(cards, Cards)
+    found = [block for card in cards.cards for block in card.blocks]
+    tables = [block for block in found if isinstance(block, Table)]
+    assert len(tables) == len(found)
+    return tables
+
+
+def details_of(cell: Cell) -> dict[str, str]:
+    """What the words of a cell rest on, by its heads."""
+    return {head: text for head, text in cell.details}
 
 
 class Told(unittest.TestCase):
-    def assert_told(self, sentence, text) -> None:
+    def assert_told(self, sentence: str, text: str) -> None:
         """(without the whole report in the message)"""
         if sentence not in text:
             self.fail(f"{sentence!r} isn't told")
@@ -170,8 +195,8 @@ class Core(unittest.TestCase):
     def test_what_each_group_has_to_pay(self) -> None:
         facts = facts_of(sample("day-cramton.book"), sample("day-cramton.cert"))
         expected = {(1,): 14, (2,): 12, (1, 2): 32}
-        self.assertEqual(core.bounds(facts.book, facts.certificate.choice, [1, 2]), expected)
-        self.assertEqual(core.best_plainly(facts.book, (1, 2)), 32)
+        self.assertEqual(core.bounds(present(facts.book), present(facts.certificate).choice, [1, 2]), expected)
+        self.assertEqual(core.best_plainly(present(facts.book), (1, 2)), 32)
 
     def test_the_core_of_two_has_five_corners(self) -> None:
         corners = core.clipped(core.corner((14, 12), (28, 20)), 1, 1, 32)
@@ -221,7 +246,7 @@ class OfABook(Told):
         wrong = re.sub(rb"(?m)^pay .*", b"pay 16 16 0 0 0", self.files[1])
         facts = facts_of(self.files[0], wrong)
         told = flat(plain.text(page(facts)))
-        self.assertEqual(facts.fault.line, "no C8 2")
+        self.assertEqual(present(facts.fault).line, "no C8 2")
         self.assert_told("The certificate fails a test, so it shows no winners and no prices.", told)
         self.assertNotIn("pays 16", told)
 
@@ -281,6 +306,10 @@ class OfABook(Told):
 
 
 class OfALog(Told):
+    cert: bytes
+    made: Page
+    told: str
+
     @classmethod
     def setUpClass(cls) -> None:
         cls.cert = spectrum()[1]
@@ -310,7 +339,7 @@ class OfALog(Told):
     def test_heads_of_lines(self) -> None:
         """A line is one of the log, and its reply one that docs/FORMATS.md has."""
         (section,) = [it for it in self.made.sections if it.key == "lines"]
-        (table, *_) = [it for card in section.blocks[-1].blocks[0].cards for it in card.blocks]
+        (table, *_) = tables_of_lines(section)
         first = dict(zip([it.head for it in table.columns], [html.parts(cell)[0] for cell in table.rows[0]]))
         self.assertEqual((first["Line"], list(first)), ("1", ["Line", "What was sent", "Reply"]))
         self.assert_told("everest asks for", first["What was sent"])
@@ -332,17 +361,17 @@ class OfALog(Told):
         cell = replies(self.made)[33]
         self.assert_told("Refused. Entry 2 of the list, ", cell.words)
         self.assert_told("is above its cap of 534,800.", cell.words)
-        self.assertEqual(dict(cell.details)["cap"], "303,800 + 231,000 = 534,800")
-        self.assertEqual(dict(cell.details)["highest amount named for that"], "303,800")
-        self.assertEqual(dict(cell.details)["what the package costs more there"], "+231,000")
+        self.assertEqual(details_of(cell)["cap"], "303,800 + 231,000 = 534,800")
+        self.assertEqual(details_of(cell)["highest amount named for that"], "303,800")
+        self.assertEqual(details_of(cell)["what the package costs more there"], "+231,000")
 
     def test_the_table_of_a_package_that_costs_less(self) -> None:
         """By the rules: three lots were asked for at 10 each, and one of them costs 20 less."""
         log = log_of("bid,east,3,", "close,,,", "draft,east,1,50", "submit,east,,")
         cell = replies(page(facts_of(sample("sample.award"), log)))[4]
         self.assertEqual(cell.code, "relative-cap 1 10")
-        self.assertEqual(dict(cell.details)["cap"], "30 - 20 = 10")
-        self.assertEqual(dict(cell.details)["what the package costs more there"], "-20")
+        self.assertEqual(details_of(cell)["cap"], "30 - 20 = 10")
+        self.assertEqual(details_of(cell)["what the package costs more there"], "-20")
 
     def test_net_of_reserve(self) -> None:
         (net,) = tables(self.made, "The same net of reserve")
@@ -375,7 +404,10 @@ class OfALog(Told):
 
     def test_the_result_comes_first(self) -> None:
         """Who won what and pays what, by the lines of the award (README.md), before any other table."""
-        first = self.made.sections[0].blocks[0].cards[0].blocks[0]
+        cards = self.made.sections[0].blocks[0]
+        assert isinstance(cards, Cards)
+        first = cards.cards[0].blocks[0]
+        assert isinstance(first, Table)
         self.assertEqual([it.head for it in first.columns], ["Winner", "Won", "Pays"])
         self.assertEqual(
             [[html.parts(cell)[0].replace("\N{NO-BREAK SPACE}", " ") for cell in row] for row in first.rows],
@@ -473,7 +505,7 @@ class OfALog(Told):
 
 
 class OfABidder(Told):
-    def view(self, *texts, name="tarn"):
+    def view(self, *texts: bytes, name: str = "tarn") -> str:
         return text_of(*texts, name=name)
 
     def test_no_other_name_before_the_award(self) -> None:
@@ -495,7 +527,7 @@ class OfABidder(Told):
         lines = LOG.splitlines(True)
         for count in (0, 11, 15, 30, 47, 62):
             log = b"".join(lines[:count])
-            auction = facts_of(AWARD, log).auction
+            auction = present(facts_of(AWARD, log).auction)
             for j, name in enumerate(BIDDERS, 1):
                 with self.subTest(count=count, name=name):
                     self.assertEqual(
@@ -510,8 +542,8 @@ class OfABidder(Told):
         stopped = "bid,everest,0 1 0 0,", "bid,tarn,0 1 0 0,", "close,,,"
         later = "bid,everest,0 0 0 0,", "close,,,", "draft,tarn,0 1 1 0,68719500000", "submit,tarn,,", "close,,,"
         for log in (stopped, stopped + later):
-            auction = facts_of(award, log_of(*log)).auction
-            self.assertEqual(auction.limit_stop.line, "cca: limit price 72155450636")
+            auction = present(facts_of(award, log_of(*log)).auction)
+            self.assertEqual(present(auction.limit_stop).line, "cca: limit price 72155450636")
             self.assertEqual(self.view(award, log_of(*log)), self.view(award, view_text(auction, 5).encode()))
 
     def test_lists_that_are_empty(self) -> None:
@@ -524,7 +556,7 @@ class OfABidder(Told):
         self.assertNotIn("nothing.", flat(plain.text(made)).split("YOUR LISTS")[1].split("WHAT IS")[0])
 
     def test_a_view_takes_no_certificate(self) -> None:
-        auction = facts_of(AWARD, LOG).auction
+        auction = present(facts_of(AWARD, LOG).auction)
         with self.assertRaisesRegex(Stop, "a bidder's own view has no certificate"):
             facts_of(AWARD, view_text(auction, 1).encode(), spectrum()[1], bidder="everest")
 
@@ -568,12 +600,17 @@ class OfABidder(Told):
 class Form(HTMLParser):
     """What a page is made of: its tags in balance, the names of its parts and its texts."""
 
-    def __init__(self, text) -> None:
+    def __init__(self, text: str) -> None:
         super().__init__()
-        self.open, self.ids, self.tags, self.figures, self.texts, self.links = [], [], {}, [], [], []
+        self.open: list[str] = []
+        self.ids: list[str | None] = []
+        self.tags: dict[str, int] = {}
+        self.figures: list[str | None] = []
+        self.texts: list[str] = []
+        self.links: list[str] = []
         self.feed(text)
 
-    def handle_starttag(self, tag, attributes) -> None:
+    def handle_starttag(self, tag: str, attributes: Attributes) -> None:
         named = dict(attributes)
         self.tags[tag] = self.tags.get(tag, 0) + 1
         self.ids += [named["id"]] if "id" in named else []
@@ -587,19 +624,22 @@ class Form(HTMLParser):
         if tag not in ("meta", "br"):
             self.open.append(tag)
 
-    def handle_startendtag(self, tag, attributes) -> None:
+    def handle_startendtag(self, tag: str, attributes: Attributes) -> None:
         self.handle_starttag(tag, attributes)
         self.open.pop()
 
-    def handle_endtag(self, tag) -> None:
+    def handle_endtag(self, tag: str) -> None:
         if self.open.pop() != tag:
             raise AssertionError(f"</{tag}> closes another")
 
-    def handle_data(self, text) -> None:
+    def handle_data(self, text: str) -> None:
         self.texts.append(text)
 
 
 class OfAPage(Told):
+    text: str
+    form: Form
+
     @classmethod
     def setUpClass(cls) -> None:
         cls.text = html.page(page(facts_of(AWARD, LOG, spectrum()[1])))
@@ -676,11 +716,11 @@ class OfAPage(Told):
 
 
 class OfTheTool(Told):
-    def run_tool(self, *words, program="/nowhere"):
+    def run_tool(self, *words: str, program: str = "/nowhere") -> tuple[str, int]:
         told, status, self.said = called("report", *words, CCA_PROGRAM=program)
         return told, status
 
-    def path(self, name):
+    def path(self, name: str) -> str:
         return os.path.join(EXAMPLES, name)
 
     def test_statuses(self) -> None:
