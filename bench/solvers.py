@@ -50,7 +50,7 @@ def write_program(terms: Sequence[Term]) -> str:
 
 
 def optimum(solver: str, program: str, seconds: int) -> tuple[float, float | None]:
-    """The CPU time in milliseconds, and the optimum, or None where the solver was cut off after this many seconds."""
+    """The CPU time in milliseconds, and the optimum, or None if the solver was cut off after this many seconds."""
     answer = os.path.join(OUT, "solver.answer")
     if os.path.exists(answer):
         os.remove(answer)

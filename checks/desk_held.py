@@ -23,7 +23,7 @@ STEPS = {"award": "Award and audit", "report": "Make the report", "publish": "Ma
 
 
 def check(what: str, found: object, wanted: object) -> None:
-    """Stops where something isn't as it has to be."""
+    """Stops if something isn't as it has to be."""
     if found != wanted:
         raise AssertionError(f"{what}: {found!r}, where {wanted!r} is expected")
 
@@ -117,7 +117,7 @@ class Auction:
         return self.log_path.read_bytes()
 
     def need_log(self, count: int) -> None:
-        """Stops where the log hasn't just this many of the lines that it has to come to."""
+        """Stops if the log hasn't just this many of the lines that it has to come to."""
         check(f"the log after {count} lines", self.log(), self.prefix(count))
 
     def prefix(self, count: int) -> bytes:
@@ -180,7 +180,7 @@ class Auction:
         return f"Write {len(replies)} lines" if many else "Write it"
 
     def need_written(self, first: int, last: int) -> None:
-        """Stops where the page doesn't say that these lines are written, or the disk hasn't them."""
+        """Stops if the page doesn't say that these lines are written, or the disk hasn't them."""
         check(f"the page of {first} to {last}", self.screen.heading(), WRITTEN)
         check(f"the focus after {first} to {last}", self.screen.focus(), WRITTEN)
         check(f"replies as written {first} to {last}", self.replied(), self.replies[first - 1 : last])
@@ -222,7 +222,7 @@ class Auction:
         self.need_closed(number)
 
     def need_closed(self, number: int, heading: str = WRITTEN) -> None:
-        """Stops where the page doesn't say that this close is written, or the disk hasn't it. Notes its line."""
+        """Stops if the page doesn't say that this close is written, or the disk hasn't it. Notes its line."""
         check(f"the page of close {number}", self.screen.heading(), heading)
         check(f"the reply to close {number}", self.replied(), [self.replies[number - 1]])
         self.need_log(number)
@@ -277,7 +277,7 @@ class Auction:
         self.need_right()
 
     def need_right(self) -> None:
-        """Stops where log, certificate, record or set aren't as they have to be."""
+        """Stops if log, certificate, record or set aren't as they have to be."""
         self.need_log(len(self.records))
         kinds = "cert", "key", "desk", "posted"
         cert, key, journal, posted = (self.log_path.with_name(f"day.log.{kind}") for kind in kinds)

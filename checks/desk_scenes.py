@@ -348,7 +348,7 @@ def back(held: Auction, number: int) -> None:
         held.screen.push(button)
         held.need_closed(number, "It is in the log already")
         held.see("written-before")
-    else:  # (asked for anew, and so of what a close does then)
+    else:  # (asked for again, and so of what a close does then)
         held.need_log(number)
 
 
@@ -707,7 +707,7 @@ def tested_by_page(held: Auction, notes: list[str]) -> list[str]:
 
 
 def need_stop(held: Auction, name: str) -> None:
-    """Stops where the page isn't that of a desk that has stopped."""
+    """Stops if the page isn't that of a desk that has stopped."""
     check(name, held.screen.heading(), "The desk has stopped")
     held.see(name)
 

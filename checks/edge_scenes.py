@@ -153,7 +153,7 @@ class Scene(NamedTuple):
         return any(file.kind == "in a folder that can't be read" for file in self.files)
 
     def lines(self) -> list[str | None]:
-        """For each file the last line of a run that meets it: nothing where it goes on, and None where nobody knows."""
+        """For each file the last line of a run that meets it: nothing if it goes on, and None if nobody knows."""
         found = []
         for file in self.files:
             line = (INPUTS if file.is_read else OUTPUTS)[file.kind][1]
@@ -162,7 +162,7 @@ class Scene(NamedTuple):
         return found
 
     def last_line(self) -> str | None:
-        """The line with which a run without a fault has to end: nothing where it is done, and None where nobody
+        """The line with which a run without a fault has to end: nothing if it is done, and None if nobody
         knows."""
         return next((line for line in self.lines() if line != ""), "")
 

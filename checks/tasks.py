@@ -77,6 +77,6 @@ def main_of(folder: str, module: str) -> Callable[..., int | None]:
 
 
 def run(name: str, what: str, folder: str, tasks: Sequence[Task]) -> int:
-    """Does the task that the words name, and gives its status."""
+    """Does the task that the words name, and returns its status."""
     asked = parser(name, what, folder, tasks).parse_args()
     return main_of(folder, asked.module)(*(getattr(asked, one) for one in asked.names)) or 0

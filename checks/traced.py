@@ -77,7 +77,7 @@ class Fault(NamedTuple):
 class Call(NamedTuple):
     """A call that met a fault, or is a `write`, an `fsync` or the end: its number among those of the name.
 
-    `file` is its first argument, `how` the fault that it met, and `answer` is None where it isn't noted, and where the
+    `file` is its first argument, `how` the fault that it met, and `answer` is None if it isn't noted, and where the
     process ended in the call.
     """
 

@@ -1,6 +1,6 @@
 """Times `tools/audit` beside `cca audit` on files at the limits of an award, a log and a certificate, in one run.
 
-Printed is the least processor time of the runs in milliseconds, less a start's, how many times as long tools/audit
+It prints the least processor time of the runs in milliseconds, less a start's, how many times as long tools/audit
 takes, and the first line of the answer, which has to be the same. A time of `cca` below a millisecond isn't compared.
 Each file has its greatest length, or its greatest count of records, divided by PART, if the line doesn't name another
 length. Awards are read alone: a log and a certificate aren't asked for after a refusal.

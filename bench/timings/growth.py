@@ -1,7 +1,7 @@
 """Times `cca win`, `price` and `check` as a book grows to the limits, and keeps the times in bench/growth.csv.
 
 Bidders, bids of each bidder and states double one after the other, up to 16, 600 and 16,384, while the other two are at
-their limit. At most five bidders win. Printed is the CPU time in milliseconds, the least of the runs, with the bytes of
+their limit. At most five bidders win. It prints the CPU time in milliseconds, the least of the runs, with the bytes of
 the certificate; `build/draw pictures` draws docs/pictures/growth.svg from what is kept. Then an edit of `cca review`
 that raises a bid of a middle bidder by 1, in microseconds, and `price` on a book with six winners and as many turns as
 were found, whose points take the most work; more than a second is an error. And `place` and `place-check` on slots at

@@ -2,7 +2,7 @@
 
 Beside each log is the time of reading alone, as that of the same log whose last record is faulty, and how many times as
 long
-the whole run takes. A hostile log is to take at most about ten times as long as it takes to read. Printed is the median
+the whole run takes. A hostile log is to take at most about ten times as long as it takes to read. It prints the median
 of the CPU
 times in milliseconds, less that of a start.
 """

@@ -102,7 +102,7 @@ class Vectors:
         return said[0]
 
     def book(self, award: bytes, log: bytes) -> Book | None:
-        """The book of an award and a log, on which the voices agree, or None where there is none."""
+        """The book of an award and a log, on which the voices agree, or None if there is none."""
         paths = [os.path.join(self.folder, f"a-book.{kind}") for kind in ("award", "log")]
         for path, text in zip(paths, (award, log)):
             pathlib.Path(path).write_bytes(text)

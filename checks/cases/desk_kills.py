@@ -44,7 +44,7 @@ def ok(wanted: bytes) -> list[str]:
 
 @dataclasses.dataclass(frozen=True)
 class Ended:
-    """What a traced child said (nothing where it was killed), whether it was killed, and its calls in order."""
+    """What a traced child said (nothing if it was killed), whether it was killed, and its calls in order."""
 
     said: str
     is_killed: bool

@@ -25,7 +25,7 @@ def best(supply: Sequence[int], reserves: Sequence[int], bids: Values, members: 
 
 
 def solved(rows: Sequence[Sequence[int]]) -> list[Fraction] | None:
-    """The point at which each of these equations holds, as many as unknowns; None where there isn't just one."""
+    """The point at which each of these equations holds, as many as unknowns; None if there isn't just one."""
     lines, size = [list(map(Fraction, row)) for row in rows], len(rows)
     for at in range(size):
         found = next((n for n in range(at, size) if lines[n][at]), None)

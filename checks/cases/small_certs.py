@@ -81,7 +81,7 @@ class Prices:
                     yield {r: x for r, x in found.items() if x}
 
     def combination(self, rows: Sequence[int], wanted: Sequence[Fraction]) -> dict[int, Fraction] | None:
-        """How often each of these rows is added to come to what is wanted, None where that can't be."""
+        """How often each of these rows is added to come to what is wanted, None if that can't be."""
         lines = [self.coefficients(self.rows[r][0]) for r in rows]
         gram = [[dot(a, b) for b in lines] for a in lines]
         found = solution(gram, [dot(a, wanted) for a in lines]) if rows else []
@@ -105,7 +105,7 @@ class Prices:
 def book_certificate(
     supply: Sequence[int], reserves: Sequence[int], bids: Bids, weights: Sequence[int] | None = None
 ) -> bytes | None:
-    """The text of a certificate of a small book, or None where too many bidders win for a plain search."""
+    """The text of a certificate of a small book, or None if too many bidders win for a plain search."""
     choices = list(choices_of_book(supply, reserves, bids))
     if sum(map(bool, winning(choices)[0])) > MOST_WINNERS:
         return None
@@ -118,7 +118,7 @@ def book_certificate(
 
 
 def place_certificate(bidders: Bidders) -> bytes | None:
-    """The text of a certificate of slots, of bidders as (width, bids), or None where too many win."""
+    """The text of a certificate of slots, of bidders as (width, bids), or None if too many win."""
     choices = list(choices_of_slots(bidders))
     if sum(map(bool, winning(choices)[0])) > MOST_WINNERS:
         return None

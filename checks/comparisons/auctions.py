@@ -7,7 +7,7 @@ awards of any TOML and of none; logs with a record that states no line; logs of 
 were written and
 altered, and a few runs with other words, the samples, made auctions and logs of 100,000 records. Compared are the
 printed lines, the
-exit status and the appended book. Printed is how many differ of each kind, and how often each answer came. What differs
+exit status and the appended book. It prints how many differ of each kind, and how often each answer came. What differs
 is kept in
 checks/out.
 """

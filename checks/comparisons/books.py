@@ -7,9 +7,9 @@ written otherwise, and books, weights, slots and certificates that are changed i
 have to get the same
 line and the same status from `check`, `weigh-check` and `place-check` and from tools/check and tools/check-places. What
 tools/why says of
-a certificate has to come to what is paid. Printed is how often each kind of text was compared and how often each answer
+a certificate has to come to what is paid. It prints how often each kind of text was compared and how often each answer
 came; the last
-line says how much differs, and the status is 1 where anything does.
+line says how much differs, and the status is 1 if anything does.
 """
 
 from __future__ import annotations

@@ -2,8 +2,8 @@
 the checker of the second proof where `second_proof/build` has made it.
 
 The court's files are tools/audit and tools/check, the cases are drawn and altered, and some have numbers that no
-machine's word holds. Printed is how often each command was answered how, what differs, and last how much differs; the
-status is 1 where something differs.
+machine's word holds. It prints how often each command was answered how, what differs, and last how much differs; the
+status is 1 if something differs.
 """
 
 from __future__ import annotations

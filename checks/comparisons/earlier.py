@@ -3,9 +3,9 @@ the files that they leave.
 
 Each command runs on each sample: with all of its options, without a file, with an argument more or less, and on an
 output that holds something. Then come NUMBER runs on drawn files: samples with changed bytes, lines and numbers, as
-`files` draws them, and books, slots and auctions with right and altered certificates, as `court` draws them. Printed is
+`files` draws them, and books, slots and auctions with right and altered certificates, as `court` draws them. It prints
 how many runs of each command ended with each status, and each run that differs, whose files are kept in checks/out. The
-status is 1 where something differs.
+status is 1 if something differs.
 """
 
 from __future__ import annotations

@@ -1,7 +1,7 @@
 """Compares the first line of tools/explain, and its status, with the program's, on damaged files of each
 command.
 
-NUMBER runs are made on the samples, each with some of its files damaged. Printed is how many differ, and how often each
+NUMBER runs are made on the samples, each with some of its files damaged. It prints how many differ, and how often each
 status of each
 command came.
 """

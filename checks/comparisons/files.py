@@ -7,7 +7,7 @@ limit of memory, one of file size, or an output that takes nothing. It has to en
 its line; the
 files that it reads stay as they are, and the file that it appends to holds what it held: all of the new text after a
 run that is done, a
-prefix of it after a fault of writing, and nothing new otherwise. Printed is how often each command ended with each
+prefix of it after a fault of writing, and nothing new otherwise. It prints how often each command ended with each
 status. Then come the
 cases of `edge_cases.py`. It needs python3, and strace for what is said of syncs.
 """

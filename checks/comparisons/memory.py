@@ -10,7 +10,7 @@ program can do without the memory. A request that comes before `main` has its wo
 is for the
 desk, by its replays of logs with each kind of line: a line that is answered with out of memory is handed in again, and
 all
-replies have to be those of a desk that never saw it refused. Printed is, for each command and for the desk, how many
+replies have to be those of a desk that never saw it refused. It prints, for each command and for the desk, how many
 requests it makes
 and how the runs ended. It needs a C compiler, python3 and a program that is linked to the system's library.
 """
@@ -105,7 +105,7 @@ def run(library: str, words: Sequence[str], files: Mapping[str, bytes], refused:
 
 
 def kind_of(ended: Ended, whole: Ended, files: Mapping[str, bytes]) -> str | None:
-    """How a run ended beside one without a refusal, or None where it must not end so."""
+    """How a run ended beside one without a refusal, or None if it must not end so."""
     status, printed, errors, behind = ended
     if ended == whole:
         return "done all the same"
@@ -151,7 +151,7 @@ def replays(library: str, program: str, refused: int) -> tuple[int, str, bool]:
 
 
 def kind_of_replays(status: int, errors: str) -> str | None:
-    """How the replays ended, or None where they must not end so: before the desk, in the test's own texts, in a book,
+    """How the replays ended, or None if they must not end so: before the desk, in the test's own texts, in a book,
     or not at all."""
     if status == 0:
         return "all replies the same"

@@ -8,7 +8,7 @@ revenue and the net value; as many turns as the program has. And for each bidder
 view alone, the
 same report. It has to agree on NUMBER drawn books too, and there no group of winners may pay less than it has to. Every
 tenth is made as a
-page too. It needs the program; the status is 1 where something differs.
+page too. It needs the program; the status is 1 if something differs.
 """
 
 from __future__ import annotations

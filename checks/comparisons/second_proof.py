@@ -9,7 +9,7 @@ and slots, about the limits, on the sample of the spectrum, on files that are mi
 logs what `cca auction`
 prints and writes has to be what `auction` of the second proof prints, and both audit certificates of them, as made,
 altered and damaged.
-Printed is how many runs of each kind there were, how many differ, and how often each answer and reply came; Ctrl-C
+It prints how many runs of each kind there were, how many differ, and how often each answer and reply came; Ctrl-C
 prints what there is so far.
 
 It builds second_proof with `second_proof/build` where that isn't built yet. CCA_PROGRAM=path runs that program of cca.
@@ -124,7 +124,7 @@ def scaled(rng: random.Random, text: str) -> str:
 
 
 def one_line(rng: random.Random, text: str, words: Collection[str]) -> tuple[list[str], int | None]:
-    """The number of some line that begins with one of these words, where there is one."""
+    """The number of some line that begins with one of these words, if there is one."""
     lines = text.splitlines()
     found = [n for n, line in enumerate(lines) if line.split(" ")[0] in words]
     return lines, rng.choice(found) if found else None
@@ -228,7 +228,7 @@ def less_lowered(rng: random.Random, text: str) -> str:
 
 
 def copied_choice(rng: random.Random, text: str) -> str:
-    """A choice, with the order before it where there is one, in the place of another."""
+    """A choice, with the order before it if there is one, in the place of another."""
     lines, n = one_line(rng, text, ["choice"])
     _, m = one_line(rng, text, ["choice"])
     if n is None or m is None:

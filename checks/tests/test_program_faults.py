@@ -1,4 +1,4 @@
-"""The program where the system fails: each call of `award`, `price`, `auction` and `make`, once, for ever, two at once,
+"""The program where the system fails: each call of `award`, `price`, `auction` and `make`, once, forever, two at once,
 and killed at it.
 
 strace makes the calls fail. Where it isn't installed, or may not trace, these tests are left out, and a line says so.
@@ -97,7 +97,7 @@ class Ended(typing.NamedTuple):
 
 
 class Folder:
-    """A folder with the files of a command, which is made anew for each run."""
+    """A folder with the files of a command, which is made again for each run."""
 
     def __init__(self, path: str, command: str, held: bool) -> None:
         self.path, self.command, self.held = path, command, held

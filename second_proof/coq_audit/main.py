@@ -103,7 +103,7 @@ def checked(kind: Kind, files: list[bytes], folder: pathlib.Path) -> list[str]:
 
 
 def accepted(path: pathlib.Path) -> None:
-    """Has the kernel accept a proof, and stops where it doesn't."""
+    """Has the kernel accept a proof, and stops if it doesn't."""
     try:
         done = subprocess.run(["coqc", "-Q", PROOFS, "", path], capture_output=True, text=True, check=False)
     except FileNotFoundError as fault:

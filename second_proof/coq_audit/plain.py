@@ -62,7 +62,7 @@ def table_lines(word: str, table: object) -> list[str]:
 def plain_award(file: bytes) -> bytes:
     """The plain spelling of an award, which is read by Python's own reader of TOML 1.0.
 
-    Raises NotPlain where the text isn't TOML 1.0, or has what no award has. An award that only TOML 1.1 can spell has
+    Raises NotPlain if the text isn't TOML 1.0, or has what no award has. An award that only TOML 1.1 can spell has
     to be written as TOML 1.0 first.
     """
     try:

@@ -225,7 +225,7 @@ class Screen(browser.Browser):
             time.sleep(0.02)
 
     def choose(self, *paths: str | pathlib.Path) -> None:
-        """Chooses files in the one input that the page has, in place of all others."""
+        """Chooses files in the one input that the page has, instead of all others."""
         self.evaluate("files.length = 0; show_files(); at('choose').value = ''; null")
         node = self.call("DOM.getDocument")["root"]["nodeId"]
         found = self.call("DOM.querySelector", nodeId=node, selector="#choose")["nodeId"]

@@ -68,7 +68,7 @@ class Parser(argparse.ArgumentParser):
     ) -> None:
         """`name` is that of the script in `tools/`, `about` the docstring of the command's module.
 
-        `usage` has the forms of the words where there are several, without the name; `agrees` is whether what it prints
+        `usage` has the forms of the words if there are several, without the name; `agrees` is whether what it prints
         has to agree with `cca`; `colour_of` gives the colour of a line that is printed on a terminal.
         """
         super().__init__(
@@ -108,7 +108,7 @@ class Parser(argparse.ArgumentParser):
         return options
 
     def need_options(self, argv: Sequence[str]) -> None:
-        """Stops at the first word that looks like an option and is none."""
+        """Stops at the first argument that looks like an option and is none."""
         known = [name for action in self._actions for name in action.option_strings]
         for word in argv:
             if word.startswith("-") and word != "-" and word.partition("=")[0] not in known:
@@ -126,7 +126,7 @@ class Parser(argparse.ArgumentParser):
 
 
 def run_command(parser: Parser, run: Run, argv: Sequence[str]) -> int:
-    """Runs a command with these words: prints what `run` gives for them, or the line of its stop. Gives the status."""
+    """Runs a command with these arguments: prints what `run` returns, or the line of its stop. Returns the status."""
     if not all(map(is_text, argv)):
         return NO_TEXT
     complete(parser)
@@ -162,7 +162,7 @@ def complete(parser: Parser) -> None:
 
 
 def stopped(parser: Parser, stop: Stop) -> int:
-    """Prints a stop, and gives its status."""
+    """Prints a stop, and returns its status."""
     if stop.status == NO:
         text = stop.line if parser.agrees else told(stop)
         return NO if printed(parser, text) else WRITE_FAULT
@@ -187,7 +187,7 @@ def fault_lines(parser: Parser, stop: Stop) -> Iterator[str]:
 
 
 def crashed(parser: Parser) -> int:
-    """Says that the command failed where it shouldn't, which is no answer about its files, and gives the status of
+    """Says that the command failed where it shouldn't, which is no answer about its files, and returns the status of
     that."""
     say(traceback.format_exc().rstrip())
     say(f"{parser.prog}: this is a fault of the tool, and no answer. Please report it with the lines above.")

@@ -36,7 +36,7 @@ def given_width() -> int | None:
 
 def screen(stream: IO[str] | None) -> int | None:
     """How many columns the screen has that a stream goes to: a terminal, or that of `watch --color`, which gives its
-    width in COLUMNS; None where it goes to none."""
+    width in COLUMNS; None if it goes to none."""
     if is_terminal(stream):
         return width(stream)
     return given_width() if os.environ.get("FORCE_COLOR") else None

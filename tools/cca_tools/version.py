@@ -34,13 +34,13 @@ def released_facts() -> dict[str, str]:
 
 
 def released() -> str | None:
-    """The commit that this release was made of; None where this is no release."""
+    """The commit that this release was made of; None if this is no release."""
     return released_facts().get("commit")
 
 
 def commit() -> str | None:
     """The commit of this release, or the short name of the one that is checked out, with `-changed` where files differ
-    from it; None where none is known."""
+    from it; None if none is known."""
     if is_of := released():
         return is_of
     if not (ROOT / ".git").exists():

@@ -159,7 +159,7 @@ class Files(unittest.TestCase):
                 self.assertLessEqual({module.split(".")[0] for module in modules}, set(sys.stdlib_module_names))
 
     def test_alone_in_a_folder(self) -> None:
-        """Each answers where there is nothing of the repository but itself."""
+        """Each answers if there is nothing of the repository but itself."""
         with tempfile.TemporaryDirectory() as folder:
             for name in ("audit", "check", "check-places"):
                 shutil.copy(os.path.join(TOOLS, name), folder)

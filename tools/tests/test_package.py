@@ -129,7 +129,7 @@ class Installed(unittest.TestCase):
         self.assertIn("</html>", page)
 
     def test_usage_names_the_command_as_it_was_called(self) -> None:
-        """In its help, and in the advice after wrong words, which is followed here."""
+        """In its help, and in the advice after wrong arguments, which is followed here."""
         for called in (["cca-tools"], ["python3", "-m", "cca_tools"], [str(ROOT / "tools" / "what-if")]):
             is_script = len(called) == 1 and called != ["cca-tools"]
             words, name = (

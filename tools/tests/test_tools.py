@@ -163,7 +163,7 @@ class AsPrograms(WithFiles):
 
 class Words(WithFiles):
     def fault(self, name: str, *words: str) -> str:
-        """What is said of wrong words, which have status 2."""
+        """What is said of wrong arguments, which have status 2."""
         text, status, said = called(name, *words)
         self.assertEqual((text, status), ("cca: words\n" if name in AGREE else "", 2), said)
         self.assertEqual(said.splitlines()[-1], f"`tools/{name} --help` says what it takes.")

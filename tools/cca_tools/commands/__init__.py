@@ -1,1 +1,1 @@
-"""The commands, a module each. Each has `main(argv)`, which gives the status."""
+"""The commands, a module each. Each has `main(argv)`, which returns the status."""

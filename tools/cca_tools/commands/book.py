@@ -46,7 +46,7 @@ TEXTS = {
 
 
 def parser() -> Parser:
-    """The words of the command."""
+    """The arguments of the command."""
     words = Parser("book", __doc__)
     words.add_file("FILE", "the bids, as CSV, as JSON or as a book")
     words.add_argument("--supply", metavar="COUNTS", help='the lots of each category, as "4 1 14 9"')
@@ -106,5 +106,5 @@ def book(options: argparse.Namespace) -> str:
 
 
 def main(argv: Sequence[str]) -> int:
-    """Runs the command with these words, and gives its status."""
+    """Runs the command with these arguments, and returns its status."""
     return run_command(parser(), book, argv)

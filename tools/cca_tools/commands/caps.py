@@ -52,7 +52,7 @@ from cca_tools.rules.words import bidder_of, package_of
 
 
 def parser() -> Parser:
-    """The words of the command."""
+    """The arguments of the command."""
     forms = "AWARD LOG BIDDER [PACKAGE]", "AWARD LOG BIDDER --fit", "AWARD LOG BIDDER --view"
     words = Parser("caps", __doc__, *forms)
     words.add_file("AWARD", "the terms of the auction")
@@ -214,5 +214,5 @@ def caps(options: argparse.Namespace) -> str:
 
 
 def main(argv: Sequence[str]) -> int:
-    """Runs the command with these words, and gives its status."""
+    """Runs the command with these arguments, and returns its status."""
     return run_command(parser(), caps, argv)

@@ -54,7 +54,7 @@ NO_PROGRAM = (
 
 
 def parser() -> Parser:
-    """The words of the command."""
+    """The arguments of the command."""
     words = Parser("desk", __doc__)
     words.add_file("AWARD", "the terms of the auction")
     words.add_file("LOG", "its log; it is made where it isn't there")
@@ -72,7 +72,7 @@ def parser() -> Parser:
 
 
 def need_packages() -> None:
-    """Stops where a package of Debian isn't there for this Python."""
+    """Stops if a package of Debian isn't there for this Python."""
     lacking = [package for module, package in PACKAGES.items() if importlib.util.find_spec(module) is None]
     if lacking:
         why = f"this Python lacks a library: apt-get install {' '.join(lacking)}, then /usr/bin/python3 tools/desk .."
@@ -95,7 +95,7 @@ def port_of(text: str) -> int:
 
 
 def listener_on(port: int) -> socket.socket:
-    """A socket of this machine alone."""
+    """A socket only of this machine."""
     made = socket.socket(socket.AF_INET, socket.SOCK_STREAM)
     try:
         made.setsockopt(socket.SOL_SOCKET, socket.SO_REUSEADDR, 1)
@@ -199,7 +199,7 @@ def serve(app: object, listener: socket.socket) -> None:
 
 
 def main(argv: Sequence[str]) -> int:
-    """Runs the command with these words, and gives its status."""
+    """Runs the command with these arguments, and returns its status."""
     return run_command(parser(), desk, argv)
 
 

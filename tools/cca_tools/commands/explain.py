@@ -68,7 +68,7 @@ def colour_of(line: str) -> Colour | None:
 
 
 def parser() -> Parser:
-    """The words of the command."""
+    """The arguments of the command."""
     forms = "COMMAND FILES..", "auction AWARD LOG --bidder NAME"
     words = Parser("explain", __doc__, *forms, agrees=True, colour_of=colour_of)
     words.add_argument("command", metavar="COMMAND", help=f"a command of cca: {', '.join(READ)}")
@@ -193,13 +193,13 @@ def refused_lines(award: Award, line: Line, reply: Reply) -> Iterator[str]:
 
 
 def need_passed(fault: Fault | None) -> None:
-    """Stops where a certificate fails."""
+    """Stops if a certificate fails."""
     if fault:
         raise Stop(fault.line, NO, why=fault.text())
 
 
 def need_winners(book: Book, weights: Sequence[int]) -> None:
-    """Stops where more bidders win than can be priced."""
+    """Stops if more bidders win than can be priced."""
     choice, _ = winning_choice(book)
     winners = [j for j, number in enumerate(choice, 1) if number]
     even = all(weights[j - 1] == 1 for j in winners)
@@ -243,5 +243,5 @@ def explain(options: argparse.Namespace) -> str:
 
 
 def main(argv: Sequence[str]) -> int:
-    """Runs the command with these words, and gives its status."""
+    """Runs the command with these arguments, and returns its status."""
     return run_command(parser(), explain, argv)

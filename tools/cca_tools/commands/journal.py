@@ -52,7 +52,7 @@ SIGNATURES = "Auctioneer", "Second person", "Witness"
 
 
 def parser() -> Parser:
-    """The words of the command."""
+    """The arguments of the command."""
     words = Parser("journal", __doc__, "JOURNAL [--check AWARD LOG KEY POSTED]")
     words.add_file("JOURNAL", "the journal of the desk")
     words.add_argument("--check", nargs=4, metavar=("AWARD", "LOG", "KEY", "POSTED"), help="test it by these files")
@@ -170,5 +170,5 @@ def journal(options: argparse.Namespace) -> str:
 
 
 def main(argv: Sequence[str]) -> int:
-    """Runs the command with these words, and gives its status."""
+    """Runs the command with these arguments, and returns its status."""
     return run_command(parser(), journal, argv)

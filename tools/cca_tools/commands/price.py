@@ -37,7 +37,7 @@ MOST_SECONDS = 86_400
 
 
 def parser() -> Parser:
-    """The words of the command."""
+    """The arguments of the command."""
     options = "[--search SECONDS] [--rounds] [--json]"
     words = Parser(
         "price", __doc__, f"BOOK CERT [--weights WEIGHTS] {options}", f"AWARD LOG CERT {options}", agrees=True
@@ -110,5 +110,5 @@ def text_of(options: argparse.Namespace, made: Made, book: Book) -> str:
 
 
 def main(argv: Sequence[str]) -> int:
-    """Runs the command with these words, and gives its status."""
+    """Runs the command with these arguments, and returns its status."""
     return run_command(parser(), price, argv)

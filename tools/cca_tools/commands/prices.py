@@ -28,7 +28,7 @@ from cca_tools.rules.stops import load
 
 
 def parser() -> Parser:
-    """The words of the command."""
+    """The arguments of the command."""
     words = Parser("prices", __doc__)
     words.add_file("BOOK", "a book of bids", nargs="+")
     words.add_argument("--json", action="store_true", help="print an object of JSON for each bidder, one a line")
@@ -61,5 +61,5 @@ def prices(options: argparse.Namespace) -> str:
 
 
 def main(argv: Sequence[str]) -> int:
-    """Runs the command with these words, and gives its status."""
+    """Runs the command with these arguments, and returns its status."""
     return run_command(parser(), prices, argv)

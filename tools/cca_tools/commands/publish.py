@@ -77,7 +77,7 @@ from cca_tools.version import commit, version
 
 
 def parser() -> Parser:
-    """The words of the command."""
+    """The arguments of the command."""
     words = Parser(
         "publish",
         __doc__,
@@ -301,5 +301,5 @@ def publish(options: argparse.Namespace) -> str:
 
 
 def main(argv: Sequence[str]) -> int:
-    """Runs the command with these words, and gives its status."""
+    """Runs the command with these arguments, and returns its status."""
     return run_command(parser(), publish, argv)

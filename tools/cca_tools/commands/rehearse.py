@@ -53,7 +53,7 @@ POLL = 0.2  # seconds
 
 
 def parser() -> Parser:
-    """The words of the command."""
+    """The arguments of the command."""
     words = Parser("rehearse", __doc__)
     words.add_file("AWARD", "the terms of the auction")
     words.add_file("VALUES", "the values of its bidders")
@@ -101,14 +101,14 @@ class LogFile:
             raise Stop("cca: write fault log", WRITE_FAULT, why=why) from None
 
     def lines(self, award: Award) -> list[Line]:
-        """The lines that it has up to its last line feed; none where it isn't there."""
+        """The lines that it has up to its last line feed; none if it isn't there."""
         if not os.path.exists(self.name):
             return []
         data = load(self.name, "log")
         return read_log(data[: data.rfind(b"\n") + 1], award)
 
     def need_empty(self) -> None:
-        """Stops where it has lines already."""
+        """Stops if it has lines already."""
         if os.path.exists(self.name) and load(self.name, "log"):
             why = f"`{printable(self.name)}` isn't empty, and a rehearsal begins an auction; name a new file"
             raise Stop("cca: write fault log", WRITE_FAULT, why=why)
@@ -199,5 +199,5 @@ def rehearse(options: argparse.Namespace) -> str:
 
 
 def main(argv: Sequence[str]) -> int:
-    """Runs the command with these words, and gives its status."""
+    """Runs the command with these arguments, and returns its status."""
     return run_command(parser(), rehearse, argv)

@@ -25,7 +25,7 @@ from cca_tools.terminal import is_terminal, progress
 
 
 def parser() -> Parser:
-    """The words of the command."""
+    """The arguments of the command."""
     forms = (
         "[--text] [--program-sum] [--bidder NAME] [--names FILE] [--placed CATEGORY SLOTS CERT].. AWARD LOG [CERT]",
         "[--text] [--program-sum] BOOK [CERT]",
@@ -92,5 +92,5 @@ def html_page(made: Page) -> str:
 
 
 def main(argv: Sequence[str]) -> int:
-    """Runs the command with these words, and gives its status."""
+    """Runs the command with these arguments, and returns its status."""
     return run_command(parser(), report, argv)

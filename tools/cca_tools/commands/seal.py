@@ -53,7 +53,7 @@ LACKS = "without a journal all posted lines are needed: name the file that was p
 
 
 def parser() -> Parser:
-    """The words of the command."""
+    """The arguments of the command."""
     forms = (
         "new KEY AWARD",
         "sum [--why REASON] [--publish] KEY AWARD LOG POSTED",
@@ -196,5 +196,5 @@ def seal(options: argparse.Namespace) -> str:
 
 
 def main(argv: Sequence[str]) -> int:
-    """Runs the command with these words, and gives its status."""
+    """Runs the command with these arguments, and returns its status."""
     return run_command(parser(), seal, argv)

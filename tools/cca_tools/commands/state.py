@@ -58,7 +58,7 @@ def colour_of(line: str) -> Colour | None:
 
 
 def parser() -> Parser:
-    """The words of the command."""
+    """The arguments of the command."""
     words = Parser("state", __doc__, colour_of=colour_of)
     words.add_file("AWARD", "the terms of the auction")
     words.add_file("LOG", "its lines so far")
@@ -249,5 +249,5 @@ def state(options: argparse.Namespace) -> str:
 
 
 def main(argv: Sequence[str]) -> int:
-    """Runs the command with these words, and gives its status."""
+    """Runs the command with these arguments, and returns its status."""
     return run_command(parser(), state, argv)

@@ -83,7 +83,7 @@ STEPS = 10  # so often it is said how far a study is where standard error is no 
 
 
 def parser() -> Parser:
-    """The words of the command."""
+    """The arguments of the command."""
     words = Parser("study", __doc__)
     words.add_file("PLAN", "what is tried")
     words.add_argument("--out", metavar="FOLDER", help="where the results are written")
@@ -185,5 +185,5 @@ def written_of(store: Store, title: str, mark: Mark) -> Iterator[str]:
 
 
 def main(argv: Sequence[str]) -> int:
-    """Runs the command with these words, and gives its status."""
+    """Runs the command with these arguments, and returns its status."""
     return run_command(parser(), study, argv)

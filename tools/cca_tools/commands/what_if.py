@@ -42,7 +42,7 @@ def colour_of(line: str) -> Colour | None:
 
 
 def parser() -> Parser:
-    """The words of the command."""
+    """The arguments of the command."""
     forms = "AWARD LOG EDITED-LOG", "AWARD LOG --least BIDDER PACKAGE"
     words = Parser("what-if", __doc__, *forms, colour_of=colour_of)
     words.add_file("AWARD", "the terms of the auction")
@@ -140,7 +140,7 @@ def with_bid(book: Book, j: BidderNumber, package: Package, amount: Amount) -> B
 
 
 def least_amount(book: Book, j: BidderNumber, package: Package, low: Amount) -> Amount | None:
-    """The least amount from `low` on with which bidder j wins the package; None where none that may be bid does.
+    """The least amount from `low` on with which bidder j wins the package; None if none that may be bid does.
 
     With the amount the package has to bring as much as what would win without it; the order of ties decides whether
     that is enough, or one more is needed.
@@ -282,5 +282,5 @@ def what_if(options: argparse.Namespace) -> str:
 
 
 def main(argv: Sequence[str]) -> int:
-    """Runs the command with these words, and gives its status."""
+    """Runs the command with these arguments, and returns its status."""
     return run_command(parser(), what_if, argv)

@@ -32,7 +32,7 @@ COLUMNS = 110
 
 
 def parser() -> Parser:
-    """The words of the command."""
+    """The arguments of the command."""
     words = Parser("why", __doc__, "BOOK CERT [WEIGHTS]", "AWARD LOG CERT")
     words.add_file("FIRST", "the book, or the award")
     words.add_file("SECOND", "the certificate, or the log")
@@ -41,7 +41,7 @@ def parser() -> Parser:
 
 
 class Files(NamedTuple):
-    """What is read before the certificate, the name of its file, and the names of the categories where there is an
+    """What is read before the certificate, the name of its file, and the names of the categories if there is an
     award."""
 
     book: Book
@@ -89,5 +89,5 @@ def wrapped(line: str) -> str:
 
 
 def main(argv: Sequence[str]) -> int:
-    """Runs the command with these words, and gives its status."""
+    """Runs the command with these arguments, and returns its status."""
     return run_command(parser(), why, argv)

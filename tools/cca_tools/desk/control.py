@@ -109,7 +109,7 @@ class Pin:
 
 
 def state_of(path: Path) -> tuple[int, ...]:
-    """What changes when a file is written or replaced; nothing where it isn't there."""
+    """What changes when a file is written or replaced; nothing if it isn't there."""
     try:
         stat = path.stat()
     except OSError:
@@ -244,7 +244,7 @@ class Desk:
         return moment
 
     def need_running(self) -> None:
-        """Stops where the log or what was pinned isn't as it was answered."""
+        """Stops if the log or what was pinned isn't as it was answered."""
         stop = self._halt or self.log.stop() or self.pin_fault()
         if stop:
             raise Stopped(stop)

@@ -30,7 +30,7 @@ SECONDS = 1800
 
 @dataclass(frozen=True)
 class Run:
-    """One run: what it was for, its status (None where it didn't end in its time), and what it printed."""
+    """One run: what it was for, its status (None if it didn't end in its time), and what it printed."""
 
     name: str
     status: int | None
@@ -202,7 +202,7 @@ class Ending:
             Path(name).unlink(missing_ok=True)
 
     def report(self) -> Outcome:
-        """Makes the report anew, as a page and as a text."""
+        """Makes the report again, as a page and as a text."""
         words: list[str | Path] = [sys.executable, TOOLS / "report", *self.names]
         made = [
             self.written(run("tools/report", [*words, *self.files], self.desk.program), self.page),

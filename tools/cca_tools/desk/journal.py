@@ -200,7 +200,7 @@ class Journal:
             append_once(handle, (TORN if is_torn else b"") + line + b"\n", self.path.name)
 
     def _last_lines(self, handle: int) -> bytes | None:
-        """The last entry's line and the torn ones after it, without their last line feed; None where there is none."""
+        """The last entry's line and the torn ones after it, without their last line feed; None if there is none."""
         size, taken = os.fstat(handle).st_size, BLOCK
         while size:
             data = os.pread(handle, taken, max(0, size - taken))

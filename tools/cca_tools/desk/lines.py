@@ -128,7 +128,7 @@ def need_alone(text: bytes) -> None:
 
 def close_words(auction: Auction, reply: Reply) -> str | None:
     """What is typed for a close that would get this reply: the number of the open round, or that it ends the clock or
-    the auction; None where it isn't written."""
+    the auction; None if it isn't written."""
     if reply.word == "round":
         return str(auction.running_round.number)
     return {"sealed": "end the clock", "closed": "end the auction"}.get(reply.word)

@@ -58,7 +58,7 @@ Closes = Callable[[bytes], tuple[Sequence[int], bool]]
 
 
 class Grown(Refused):
-    """The log has lines after those that the page was made of: answer anew."""
+    """The log has lines after those that the page was made of: answer again."""
 
 
 @dataclass(frozen=True)
@@ -311,7 +311,7 @@ class LogFile:
             return False
 
     def _restored(self) -> bool:
-        """Writes the log as it was answered where it isn't there; whether it wasn't."""
+        """Writes the log as it was answered if it isn't there; whether it wasn't."""
         try:
             self.read()
             return False

@@ -62,7 +62,7 @@ LIST_BASIS = (
 
 @dataclass(frozen=True)
 class LineView:
-    """A line and its reply; `number` is empty where it has none here, `time` where the journal doesn't have it."""
+    """A line and its reply; `number` is empty if it has none here, `time` where the journal doesn't have it."""
 
     number: str
     record: str
@@ -173,7 +173,7 @@ class ClosePage:
 
 @dataclass(frozen=True)
 class Preview:
-    """What lines would be answered. `warning` is empty where none is refused; `admitted` has the admitted lines and
+    """What lines would be answered. `warning` is empty if none is refused; `admitted` has the admitted lines and
     `refused` the others where some are of both; the last four are what can be done."""
 
     title: str
@@ -414,7 +414,7 @@ class Times:
         self.entries = entries
 
     def of(self, end: int) -> tuple[str, str]:
-        """The time of the line that ends at this byte, and what the entry is of; empty where none has it."""
+        """The time of the line that ends at this byte, and what the entry is of; empty if none has it."""
         for place in range(len(self.entries) - 1, -1, -1):
             before = self.entries[place - 1][2] if place else 0
             if before < end <= self.entries[place][2]:
@@ -958,7 +958,7 @@ def price_words(prices: Sequence[int] | None) -> str:
 
 
 def eligibility_changes(before: Auction, after: Auction) -> list[str]:
-    """Whose eligibility differs, where both are in the clock."""
+    """Whose eligibility differs, if both are in the clock."""
     if "clock" not in (before.stage, after.stage) or before.stage != after.stage:
         return []
     pairs = zip(clock_states(before), clock_states(after))

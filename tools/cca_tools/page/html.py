@@ -73,7 +73,7 @@ def least_width(table: Table, i: int, column: Column) -> int:
 
 
 def stack(table: Table) -> str:
-    """The class of a table whose cells are one below the other where there is too little room; none where it always has
+    """The class of a table whose cells are one below the other where there is too little room; none if it always has
     room."""
     if table.is_full or table.is_result:
         return "lines" if table.is_full else "result"

@@ -350,7 +350,7 @@ def missing(source: Source) -> str:
 
 
 def book(source: Source) -> Section | None:
-    """The book of bids, where there is one."""
+    """The book of bids, if there is one."""
     if source.book is None:
         return None
     told = (

@@ -289,7 +289,7 @@ def award_of(top: Fields) -> Award:
 
 
 def test_limits(award: Award) -> None:
-    """Stops where the award is beyond a limit."""
+    """Stops if the award is beyond a limit."""
     within("categories", len(award.categories), MOST["categories"])
     within("lots", sum(award.supply), MOST["lots"])
     within("states", math.prod(count + 1 for count in award.supply), MOST["states"])

@@ -56,7 +56,7 @@ class Fault:
 
 
 def first_fault(book: Book, certificate: BookCertificate, weights: Sequence[int] | None = None) -> Fault | None:
-    """The first fault of a certificate, or None where it passes. Without weights each bidder weighs 1."""
+    """The first fault of a certificate, or None if it passes. Without weights each bidder weighs 1."""
     return BookTests(book, certificate, weights).first_fault()
 
 
@@ -74,7 +74,7 @@ class Tests(ABC, Generic[MenuT, ChoiceT, TableT]):
         self.winners, self.won = certificate.winners, certificate.won
 
     def first_fault(self) -> Fault | None:
-        """The first fault, or None where all tests hold."""
+        """The first fault, or None if all tests hold."""
         tests = (
             self.numbers,
             self.head,

@@ -65,7 +65,7 @@ class Text:
         return int(field)
 
     def need_count(self, word: bytes, fields: list[bytes], count: int) -> None:
-        """Stops where a line hasn't this many numbers."""
+        """Stops if a line hasn't this many numbers."""
         other = " (is this the certificate of another book?)" if self.kind == "cert" else ""
         why = f"`{shown(word)}` has to be followed by {count} numbers, and not by {len(fields)}{other}"
         self.need(len(fields) == count, why)
@@ -101,7 +101,7 @@ class Text:
         self.need(self.line() == text.encode(), f"here the line `{text}` has to be")
 
     def no_more(self) -> None:
-        """Stops where the text goes on."""
+        """Stops if the text goes on."""
         self.start, self.row = self.end, self.row + 1
         self.need(self.end == len(self.data), "the text is over with the line before, and nothing may come after it")
 

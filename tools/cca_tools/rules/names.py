@@ -106,7 +106,7 @@ class LongNames:
         return " ".join(filter(None, parts))
 
     def amounts(self) -> str:
-        """In what amounts are, in words: `thousand EUR`. Nothing where no currency is named."""
+        """In what amounts are, in words: `thousand EUR`. Nothing if no currency is named."""
         if not self.currency:
             return ""
         return f"{UNITS[self.unit]}{self.currency}" if self.unit in UNITS else f"{self.unit:,} {self.currency}"
@@ -214,5 +214,5 @@ def names_of(data: bytes, award: Award) -> LongNames:
 
 
 def read_names(file: str | None, award: Award) -> LongNames:
-    """The names of a file, or none where no file is named."""
+    """The names of a file, or none if no file is named."""
     return names_of(load(file, "names"), award) if file else NO_NAMES

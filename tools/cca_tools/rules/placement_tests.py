@@ -12,7 +12,7 @@ from cca_tools.rules.types import Amount, BidderNumber, TableLine
 
 
 def first_fault(slots: Slots, certificate: PlaceCertificate) -> Fault | None:
-    """The first fault of a placement's certificate, or None where it passes."""
+    """The first fault of a placement's certificate, or None if it passes."""
     return PlaceTests(slots, certificate).first_fault()
 
 

@@ -1,4 +1,4 @@
-"""The program, where it is there: prices come from it, since the second program tests prices and doesn't find them."""
+"""The program, if it is there: prices come from it, since the second program tests prices and doesn't find them."""
 
 from __future__ import annotations
 
@@ -41,7 +41,7 @@ def said(path: str, book: Book, command: str, *flags: str) -> tuple[list[str], i
 
 
 def price_lines(book: Book) -> list[str]:
-    """The winners with their prices as the program finds them; where it isn't there, or finds none, the winners and
+    """The winners with their prices as the program finds them; if it isn't there, or finds none, the winners and
     why."""
     path = program()
     if not path:

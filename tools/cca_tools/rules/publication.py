@@ -112,12 +112,12 @@ def about(name: str) -> str:
 
 
 def sum_of(data: bytes) -> str:
-    """The sum (SHA-256) of bytes."""
+    """The SHA-256 checksum of bytes."""
     return hashlib.sha256(data).hexdigest()
 
 
 def sums_text(files: Mapping[str, bytes]) -> bytes:
-    """The sums of files, as `sha256sum -c` takes them."""
+    """The checksums of files, as `sha256sum -c` takes them."""
     return "".join(f"{sum_of(data)}  {name}\n" for name, data in sorted(files.items())).encode()
 
 
@@ -294,7 +294,7 @@ def unwritten(folder: str, why: str | None) -> Stop:
 
 
 def need_new(folder: str) -> None:
-    """Stops where a file or a folder of this name is there."""
+    """Stops if a file or a folder of this name is there."""
     if os.path.lexists(folder):
         raise unwritten(folder, "it is there already, and nothing is overwritten")
 

@@ -80,7 +80,7 @@ class Caps:
         return self.steps[package]
 
     def amount(self, amounts: Mapping[Package, Amount], package: Package) -> Amount | None:
-        """The cap of a package where these amounts are listed, and None where it has none."""
+        """The cap of a package where these amounts are listed, and None if it has none."""
         return min((self.highest(amounts, held) + more for held, more in self.steps_of(package)), default=None)
 
     def by(
@@ -97,7 +97,7 @@ class Caps:
         return Cap(package, number, held, standing, self.prices[number - 1], standing + more, amount, final)
 
     def cap(self, amounts: Mapping[Package, Amount], package: Package) -> Cap | None:
-        """The cap with all that it comes from; None where the bidder never had the points of the package."""
+        """The cap with all that it comes from; None if the bidder never had the points of the package."""
         number, last = self.constraining_round(package), len(self.prices)
         if not number:
             return None
@@ -142,7 +142,7 @@ class Caps:
         self, listed: Mapping[Package, Amount], package: Package, amount: Amount
     ) -> dict[Package, Amount] | None:
         """An admitted list with this amount for a package, where `listed` is admitted: the entries on which its cap
-        rests are raised by no more than it needs. None where its cap rests on a round in which nothing was held.
+        rests are raised by no more than it needs. None if its cap rests on a round in which nothing was held.
 
         Each step leads to a later round, since a bidder keeps the eligibility of what it held, or to the package of the
         final round, which has no cap: so it ends.

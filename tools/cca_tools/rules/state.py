@@ -25,7 +25,7 @@ CLOSE = Line(0, 0, "close", "", 0)
 
 @dataclasses.dataclass(frozen=True)
 class CategoryState:
-    """A category in the open round. `after` is the price that a close would post, None where it would post none."""
+    """A category in the open round. `after` is the price that a close would post, None if it would post none."""
 
     name: str
     supply: int

@@ -105,7 +105,7 @@ class Stop(Exception):
     file."""
 
     def __init__(self, line: str, status: int, *, why: str = "", usage: str = "", spot: Spot | None = None) -> None:
-        """`usage` has what a command takes, for wrong words."""
+        """`usage` has what a command takes, for wrong arguments."""
         super().__init__(f"{line}: {why}" if why else line)
         self.line, self.status, self.why, self.usage, self.spot = line, status, why, usage, spot
 
@@ -121,7 +121,7 @@ def limit(word: str, count: int, why: str = "") -> Stop:
 
 
 def within(word: str, count: int, most: int) -> None:
-    """Stops where there is more of something than its limit."""
+    """Stops if there is more of something than its limit."""
     if count > most:
         raise limit(word, count, why=f"{count} {word} are more than the limit of {most}")
 

@@ -143,7 +143,7 @@ def next_step(stop: Stop) -> str:
 
 
 def meaning(stop: Stop) -> list[str]:
-    """What a stop means and what to do next, in sentences; nothing where it says that itself."""
+    """What a stop means and what to do next, in sentences; nothing if it says that itself."""
     if not stop.why:
         return []
     lines = tell_refused(stop) if stop.status == REFUSED else [stop.why + "."]

@@ -1,7 +1,7 @@
 """Ties: the other choices of the same net value as the winning one.
 
 The winning choice is the first of those of greatest net value: of two such choices the one that gives a bid to the
-first bidder in which they differ, and of two bids the one whose package comes first. So where there is a tie the order
+first bidder in which they differ, and of two bids the one whose package comes first. So if there is a tie the order
 decides, and nothing that the program prints of the winners shows it.
 """
 

@@ -262,7 +262,7 @@ def scalar(word: str) -> Value:
 
 
 def whole(word: str) -> int | None:
-    """A whole number, or None where 64 bits don't hold it."""
+    """A whole number, or None if 64 bits don't hold it."""
     # A number of 64 bits has fewer digits than those that Python refuses to read.
     number = int(word, 0) if len(word) < 80 else GREATEST
     return number if -GREATEST <= number < GREATEST else None

@@ -31,7 +31,7 @@ class Fields:
         raise refused(self.kind, why=f"{self.where}: {why}" if self.where else why)
 
     def need(self, right: bool, name: str, rule: str) -> None:
-        """Stops where a field doesn't keep its rule."""
+        """Stops if a field doesn't keep its rule."""
         if not right:
             read = self.members.get(name, MISSING)
             what = "is missing" if read is MISSING else f"is {clipped(repr(read), 60)}"

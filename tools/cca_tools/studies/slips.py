@@ -14,7 +14,7 @@ from cca_tools.rules.sealed import caps_of
 from cca_tools.rules.stops import MOST
 from cca_tools.studies.draws import Draws
 
-# What a bidder sends by mistake instead of a line: one line or several, or none where the slip can't be made here.
+# What a bidder sends by mistake instead of a line: one line or several, or none if the slip can't be made here.
 Slip = Callable[[Auction, Line, Draws], Sequence[Line]]
 
 
