@@ -20,6 +20,7 @@ from cca_tools.pricing.best import has_tie
 from cca_tools.pricing.judges import Asked
 from cca_tools.pricing.making import make_certificate
 from cca_tools.rules.book import Book, book_text, read_book
+from cca_tools.rules.money import Gross, GrossPrice, Net, NetPrice, gross_of, net_of, net_price_of
 from cca_tools.rules.program import program
 from cca_tools.rules.scratch import scratch_folder
 from cca_tools.rules.stops import CRASH, DONE, LIMIT, Stop, refused
@@ -37,9 +38,9 @@ class Price:
     bidder: str
     package: Package | None
     reserve: Amount = 0
-    bid: Amount = 0
-    vickrey: Amount = 0
-    pays: Fraction = Fraction(0)
+    bid: Gross = Gross(0)
+    vickrey: Gross = Gross(0)
+    pays: GrossPrice = GrossPrice(Fraction(0))
 
     @property
     def regret(self) -> Fraction:
@@ -48,19 +49,19 @@ class Price:
         return self.pays - self.vickrey
 
     @property
-    def bid_net(self) -> Amount:
+    def bid_net(self) -> Net:
         """The bid less the reserve of its package."""
-        return self.bid - self.reserve
+        return net_of(self.bid, self.reserve)
 
     @property
-    def vickrey_net(self) -> Amount:
+    def vickrey_net(self) -> Net:
         """The Vickrey price less the reserve of the package."""
-        return self.vickrey - self.reserve
+        return net_of(self.vickrey, self.reserve)
 
     @property
-    def pays_net(self) -> Fraction:
+    def pays_net(self) -> NetPrice:
         """The price less the reserve of the package."""
-        return self.pays - self.reserve
+        return net_price_of(self.pays, self.reserve)
 
 
 @dataclass(frozen=True)
@@ -68,7 +69,7 @@ class Prices:
     """The prices of a book: one for each of its bidders, in their order."""
 
     rows: tuple[Price, ...]
-    net: Amount  # the value of the winning choice, net of reserves
+    net: Net  # the value of the winning choice
     found_by: str = BY_PROGRAM
 
     @property
@@ -183,21 +184,21 @@ def price_beyond(book: Book, weights: bytes | None, path: str) -> Prices:
 class Won:
     """What the program's winners win, by their numbers from 0, and the value of their choice, net."""
 
-    packages: dict[int, tuple[Package, Amount]]
-    net: Amount
+    packages: dict[int, tuple[Package, Gross]]
+    net: Net
 
 
 def winners_of(book: Book, path: str) -> Won:
     """The winners of a book by `cca win`, which has no limit of winners."""
     numbers = {name: k for k, name in enumerate(book.names)}
-    packages, net = dict[int, tuple[Package, Amount]](), 0
+    packages, net = dict[int, tuple[Package, Gross]](), Net(0)
     for line in lines_of([path, "win", "/dev/stdin"], book, "net"):
         word, *fields = line.split(" ")
         if word == "winner":
             package = tuple(map(int, fields[1:-1]))
-            packages[numbers[fields[0]]] = package, int(fields[-1])
+            packages[numbers[fields[0]]] = package, Gross(int(fields[-1]))
         elif word == "net":
-            net = int(fields[0])
+            net = Net(int(fields[0]))
     return Won(packages, net)
 
 
@@ -209,8 +210,8 @@ def vickrey_prices(book: Book, path: str) -> Prices:
         reserve = book.reserve(package)
         bids = [[] if j == k else of_one for j, of_one in enumerate(book.bids)]
         others = winners_of(Book(book.supply, book.reserves, book.names, bids), path)
-        vickrey = others.net - (won.net - (bid - reserve)) + reserve
-        rows[k] = Price(book.names[k], package, reserve, bid, vickrey, Fraction(vickrey))
+        vickrey = gross_of(Net(others.net - (won.net - net_of(bid, reserve))), reserve)
+        rows[k] = Price(book.names[k], package, reserve, bid, vickrey, GrossPrice(Fraction(vickrey)))
     return Prices(tuple(rows), won.net, BY_WIN)
 
 
@@ -223,16 +224,18 @@ def prices_of(
     names: Sequence[str], reserves: Sequence[Amount], lines: Iterable[str], found_by: str = BY_PROGRAM
 ) -> Prices:
     """The prices of what the program prints of these bidders."""
-    won, net = dict[str, Price](), 0
+    won, net = dict[str, Price](), Net(0)
     for line in lines:
         word, *fields = line.split(" ")
         if word == "winner":
             name, package = fields[0], tuple(map(int, fields[1 : 1 + len(reserves)]))
             bid, vickrey, pays = fields[len(reserves) + 2 :: 2]
             reserve = sum(count * price for count, price in zip(package, reserves))
-            won[name] = Price(name, package, reserve, int(bid), int(vickrey), fraction_of(pays))
+            won[name] = Price(
+                name, package, reserve, Gross(int(bid)), Gross(int(vickrey)), GrossPrice(fraction_of(pays))
+            )
         elif word == "net":
-            net = int(fields[0])
+            net = Net(int(fields[0]))
     return Prices(tuple(won.get(name) or Price(name, None) for name in names), net, found_by)
 
 

@@ -16,6 +16,7 @@ from typing import Literal, TypeAlias, get_args
 from cca_tools.data.prices import BY_WIN, Price, Prices, winners_of
 from cca_tools.pricing.nearest import Demand, Nearest
 from cca_tools.rules.book import Book
+from cca_tools.rules.money import NetPrice, gross_price_of
 from cca_tools.rules.stops import CRASH, MOST, Stop, limit
 from cca_tools.rules.types import Amount, Bid, Package
 
@@ -46,7 +47,7 @@ def nearest_to(book: Book, prices: Prices, reference: Reference, path: str) -> P
             break
         nearest.rows.append(demand)
     paid = {
-        k: Price(row.bidder, row.package, row.reserve, row.bid, row.vickrey, row.reserve + pay)
+        k: Price(row.bidder, row.package, row.reserve, row.bid, row.vickrey, gross_price_of(NetPrice(pay), row.reserve))
         for k, row, pay in zip(winners, rows, pays)
     }
     found = Prices(tuple(paid.get(k, row) for k, row in enumerate(prices.rows)), prices.net, BY_WIN)

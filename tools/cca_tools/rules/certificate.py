@@ -12,6 +12,7 @@ from typing import Any, Generic, TypeVar
 
 from cca_tools.rules.book import Book, Menu
 from cca_tools.rules.lines import Text
+from cca_tools.rules.money import Net
 from cca_tools.rules.stops import MOST
 from cca_tools.rules.types import Amount, BidderNumber, Choice, Table
 
@@ -49,13 +50,13 @@ class Certificate(Generic[MenuT, ChoiceT, TableT]):
         """The winners, in order."""
         return winners_of(self.choice)
 
-    def won(self, j: BidderNumber) -> Amount:
+    def won(self, j: BidderNumber) -> Net:
         """b_j: the net amount with which a bidder wins, 0 for a loser."""
-        return self.book.won_net(self.choice, j)
+        return Net(self.book.won_net(self.choice, j))
 
-    def vickrey(self, j: BidderNumber) -> Amount:
+    def vickrey(self, j: BidderNumber) -> Net:
         """v_j: what would win without the winner, less what the others win with beside it."""
-        return self.book.value(self.without[j][0]) - (self.value - self.won(j))
+        return Net(self.book.value(self.without[j][0]) - (self.value - self.won(j)))
 
     def lost(self, j: BidderNumber) -> Amount:
         """What a bidder would lose if it didn't win, times `den`: 0 for a loser."""

@@ -13,6 +13,7 @@ from fractions import Fraction
 
 from cca_tools.rules.book import Book
 from cca_tools.rules.certificate import BookCertificate
+from cca_tools.rules.money import Gross, GrossPrice, Net, NetPrice, gross_of, gross_price_of
 from cca_tools.rules.printing import fraction
 from cca_tools.rules.ties import tie_sentences, ties_of
 from cca_tools.rules.types import Amount, Bid, BidderNumber, Choice, Package
@@ -38,8 +39,8 @@ class Offer:
     unsold: Package  # what stays unsold now
     unsold_then: Package
     kept: Amount  # how much more the lots that stay unsold then are worth at their reserves
-    gross: Amount
-    net: Amount
+    gross: Gross
+    net: Net
 
     @property
     def names(self) -> list[BidderNumber]:
@@ -66,7 +67,8 @@ def offer_of(certificate: BookCertificate, members: Sequence[BidderNumber], choi
     unsold, then = book.left(now), book.left(choice)
     kept = book.reserve(then) - book.reserve(unsold)
     net = book.value(choice) - sum(certificate.won(j) for j in certificate.winners if j not in members)
-    return Offer(members, changes, same, unsold, then, kept, sum(change.more for change in changes) + kept, net)
+    gross = sum(change.more for change in changes) + kept
+    return Offer(members, changes, same, unsold, then, kept, Gross(gross), Net(net))
 
 
 def change_of(book: Book, now: Choice, choice: Choice, j: BidderNumber) -> Change:
@@ -93,13 +95,14 @@ class Reasons:
         """The reserve of what a winner wins."""
         return self.book.reserve(self.book.winning(self.certificate.choice, j)[0])
 
-    def vickrey(self, j: BidderNumber) -> Amount:
+    def vickrey(self, j: BidderNumber) -> Gross:
         """The Vickrey price of a winner, gross."""
-        return self.certificate.vickrey(j) + self.reserve(j)
+        return gross_of(self.certificate.vickrey(j), self.reserve(j))
 
-    def pays(self, j: BidderNumber) -> Fraction:
+    def pays(self, j: BidderNumber) -> GrossPrice:
         """What a winner pays, gross."""
-        return Fraction(self.certificate.pay[j - 1], self.certificate.den) + self.reserve(j)
+        net = NetPrice(Fraction(self.certificate.pay[j - 1], self.certificate.den))
+        return gross_price_of(net, self.reserve(j))
 
     def shares(self, j: BidderNumber) -> list[Share]:
         """What a winner pays above its Vickrey price, row by row."""
@@ -301,7 +304,7 @@ def more(amount: Amount) -> str:
 
 def net_of(offer: Offer) -> str:
     """What an offer is net of reserve, where that differs."""
-    return f" ({offer.net} net of reserve)" if offer.gross != offer.net else ""
+    return f" ({offer.net} net of reserve)" if offer.gross - offer.net else ""
 
 
 def sum_of(offer: Offer) -> str:
