@@ -1,6 +1,7 @@
 // Reads and appends of files as calls of the system.
 ghost use Rattle.std.specs.Fd.{file_raw_fd};
-ghost use Rattle.std.specs.Prelude.{◌≡◌, ◌≤◌, ◌<◌, ◌∷◌, ◌++◌, [], List, length, take, false, None, IfOk, IfSome, IsSomeAnd, IsTrue, OnErr, OnOk};
+ghost use Rattle.std.specs.List.{Any};
+ghost use Rattle.std.specs.Prelude.{◌≡◌, ◌≢◌, ◌⊎◌, ◌≤◌, ◌<◌, ◌∷◌, ◌++◌, [], List, length, take, false, Some, None, IfOk, IfSome, IsSomeAnd, IsTrue, OnErr, OnOk};
 ghost use Rattle.cca_base.specs.Barred.{IsOutput};
 ghost use Rattle.cca_base.specs.Given.{Given};
 ghost use Rattle.cca_base.specs.Made.{Made};
@@ -95,7 +96,10 @@ pub(crate) fn output_file<S: SystemCalls>(system: &mut S) -> Option<FileIdentity
 
 impl<S: SystemCalls> SystemFiles<S> {
     /// The files of this system, with memory for what that many names show to be, each before its file is opened and after it.
-    pub(crate) fn new(alloc: Global, mut system: S, names: usize) -> Result<Self, AllocError> {
+    pub(crate) fn new(alloc: Global, mut system: S, names: usize) -> Result<Self, AllocError>
+        ensures output { IfOk result (λ files. IsOutput files.output (S.made system) (S.made files.system)) }
+        ensures met { IfOk result (λ files. files.met.items ≡ []) }
+    {
         let met = Vec::with_capacity(alloc, names.saturating_mul(2))?;
         let output = output_file(&mut system);
         Ok(SystemFiles {
@@ -115,6 +119,10 @@ impl<S: SystemCalls> SystemFiles<S> {
         ensures place { IfOk result (λ opened. opened.place ≡ place) }
         ensures ready { IfOk result (λ opened. IsReadyToRead name.now (file_raw_fd opened.file)
             (S.made self.old.system) (S.made self.new.system)) }
+        ensures noted { IfOk result (λ opened. IsSomeAnd self.old.reading (λ file. file.place ≡ place)
+            ⊎ Any (λ m. m.place ≡ place) self.new.met.items) }
+        ensures kept { (m : Met) → Any (λ old. old ≡ m) self.old.met.items → Any (λ new. new ≡ m) self.new.met.items }
+        ensures output { self.new.output ≡ self.old.output }
         ensures gave { self.new.gave ≡ self.old.gave }
         ensures took { self.new.took ≡ self.old.took }
     {
@@ -133,6 +141,11 @@ impl<S: SystemCalls> SystemFiles<S> {
         ensures closed { self.new.appending ≡ None }
         ensures again { IfOk result (λ opened. IfSome self.old.appending (λ file. file.seen.place ≡ place
             → (opened ≡ file) × (S.made self.new.system ≡ S.made self.old.system))) }
+        ensures apart { IfOk result (λ opened. IsSomeAnd self.old.appending (λ file. file.seen.place ≡ place)
+            ⊎ ((self.old.output ≢ Some opened.seen.file)
+            × (Any (λ m. (m.place ≢ place) × (m.file ≡ opened.seen.file)) self.old.met.items → ⊥))) }
+        ensures kept { (m : Met) → Any (λ old. old ≡ m) self.old.met.items → Any (λ new. new ≡ m) self.new.met.items }
+        ensures output { self.new.output ≡ self.old.output }
         ensures opened { IfOk result (λ opened. IsOpenOrOpened name.now (file_raw_fd opened.file) opened.before opened.seen.file
             opened.is_regular opened.is_new (S.made self.old.system) (S.made self.new.system)) }
     {
