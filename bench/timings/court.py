@@ -68,7 +68,11 @@ def logs(records: int, size: int) -> Iterator[tuple[str, Sale]]:
     award = hostile_logs.award()
     for kind in hostile_logs.LOGS:
         yield kind, Sale(award, "\n".join([*hostile_logs.LOGS[kind]()[: records - 1], "close,,,"]) + "\n")
-    for what, more in (("refused submissions", refused_submissions), ("drafts beyond the most", many_drafts)):
+    for what, more in (
+        ("refused submissions", refused_submissions),
+        ("drafts beyond the most", many_drafts),
+        ("drafts of what was held last", drafts_of_the_last),
+    ):
         yield what, Sale(award, "\n".join([*more(records), "close,,,"]) + "\n")
     for what, text in (("one field", "bid," + "b" * size), ("one quoted field", 'bid,"' + '""' * (size // 2))):
         yield what, Sale(award, text[:size])
@@ -91,6 +95,16 @@ def many_drafts(records: int) -> list[str]:
     packages = [(a, b) for a in range(supply[0] + 1) for b in range(supply[1] + 1) if a or b]
     drafts = (hostile_logs.line("draft", 1, package, str(10**9)) for package in itertools.cycle(packages))
     return (clock.lines + list(itertools.islice(drafts, records)))[: records - 1]
+
+
+def drafts_of_the_last(records: int) -> list[str]:
+    """A full draft list, and then, in turn, another amount for what was held last, which caps all drafts, and a
+    submission."""
+    clock = hostile_logs.Clock()
+    lines = clock.lines + [hostile_logs.line("draft", 1, package, str(amount)) for package, amount in clock.amounts()]
+    last = hostile_logs.package_of(hostile_logs.MOST - hostile_logs.ROUNDS)
+    pairs = ((hostile_logs.line("draft", 1, last, str(10**9 + n % 2)), "submit,b1,,") for n in range(records))
+    return (lines + list(itertools.chain.from_iterable(pairs)))[: records - 1]
 
 
 # ---- certificates ----

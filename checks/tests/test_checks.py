@@ -112,7 +112,7 @@ class Bench(unittest.TestCase):
         done = ran("bench/times", "court", "1", "100")
         self.assertEqual((done.returncode, done.stderr), (0, ""), done.stdout)
         rows = re.findall(r"^(award|log|certificate) .*  (yes|no|cca: \w+)", done.stdout, re.MULTILINE)
-        self.assertEqual(collections.Counter(kind for kind, _ in rows), {"award": 13, "log": 11, "certificate": 5})
+        self.assertEqual(collections.Counter(kind for kind, _ in rows), {"award": 13, "log": 12, "certificate": 5})
         self.assertEqual([row for row in rows if row[1] == "yes"], [("certificate", "yes")])
 
     @with_program
