@@ -4,7 +4,7 @@ from fractions import Fraction
 from checks.cases.samples import book_of, certificate_of, lines, said, sample, six_bidders, spectrum, taking
 from cca_tools.rules.book import read_book
 from cca_tools.rules.certificate import read_certificate
-from cca_tools.rules.why import LEGEND, Reasons, offer_of, vickrey_offer, why_lines
+from cca_tools.rules.why import LEGEND, Reasons, asked_before, offer_of, vickrey_offer, why_lines
 from collections.abc import Sequence
 
 why = taking("why")
@@ -30,21 +30,15 @@ class Spectrum(unittest.TestCase):
 
     def test_sentences(self) -> None:
         self.assertEqual(
-            self.reasons.sentence(2),
-            (
-                "harbour pays 310400: its Vickrey price, which is what its winning costs the others, and no "
-                "coalition makes it pay more."
-            ),
+            list(self.reasons.sentences()),
+            [
+                "everest (292400), harbour (310400) and meridian (292500) pay their Vickrey prices, which is what their"
+                " winning costs the others, and no coalition makes them pay more.",
+                "niche pays 81200 and tarn 460200: their Vickrey prices of 81000 and 460000, and 200 more each, since"
+                " everest, meridian and the seller with its reserve offer 541400 for what niche and tarn win, and that"
+                " is 400 more than their Vickrey prices.",
+            ],
         )
-        for j, start in (4, "niche pays 81200: its Vickrey price of 81000"), (
-            5,
-            "tarn pays 460200: its Vickrey price of 460000",
-        ):
-            self.assertEqual(
-                self.reasons.sentence(j),
-                start + ", and 200 more, since everest, meridian and the seller with its reserve offer 541400 "
-                "for what niche and tarn win, and that is 400 more than their Vickrey prices.",
-            )
 
     def test_vickrey_of_tarn(self) -> None:
         offer = vickrey_offer(self.reasons.certificate, 5)
@@ -75,16 +69,21 @@ class Spectrum(unittest.TestCase):
 
     def test_of_the_three_files(self) -> None:
         text, status = said(why, sample("spectrum.award"), sample("spectrum.log"), self.cert)
+        text = " ".join(text.split())
         self.assertEqual(status, 0)
         self.assertIn("A package is written as its counts of a800, b800, c2600 and e2600.", text)
         self.assertIn("Their Vickrey prices come to 81000 + 460000 = 541000 (66000 net of reserve): 400 less.", text)
         self.assertEqual(said(why, self.book, self.cert)[1], 0)
 
+    def test_a_file_has_lines_of_80_columns(self) -> None:
+        text, _ = said(why, sample("spectrum.award"), sample("spectrum.log"), self.cert)
+        self.assertEqual([line for line in text.splitlines() if len(line) > 80], [])
+        self.assertTrue(any(line.startswith("  200 more each, since everest, meridian") for line in text.splitlines()))
+
 
 MORE = "c offers 40 for what a and b win, and that is 15 more than their Vickrey prices"
 RESERVED = f"""\
-a pays 22+1/2: its Vickrey price of 15, and 7+1/2 more, since {MORE}.
-b pays 17+1/2: its Vickrey price of 10, and 7+1/2 more, since {MORE}.
+a pays 22+1/2 and b 17+1/2: their Vickrey prices of 15 and 10, and 7+1/2 more each, since {MORE}.
 
 a wins `1` with a bid of 30 (20 net of reserve), and pays 22+1/2 (12+1/2 net of reserve).
   Without a:
@@ -112,19 +111,17 @@ Coalition 1: c, for what a and b win.
 class SixBidders(unittest.TestCase):
     def test_sentences(self) -> None:
         reasons = reasons_of(sample("six-bidders.book"), six_bidders())
-        asked = (
-            "p6 and the seller with its reserve offer 1345500 for what p1, p3 and p4 win, and that is 140000 more than"
-            " their Vickrey prices"
-        )
         self.assertEqual(
-            reasons.sentence(1), f"p1 pays 540000: its Vickrey price of 470000, and 70000 more, since {asked}."
-        )
-        self.assertEqual(
-            reasons.sentence(4),
-            (
-                f"p4 pays 105000: its Vickrey price. It pays no more although {asked}: the sum of all payments is least"
-                " where others bear that."
-            ),
+            list(reasons.sentences()),
+            [
+                "p1 pays 540000 and p3 700500: their Vickrey prices of 470000 and 630500, and 70000 more each, since p6"
+                " and the seller with its reserve (coalition 1) offer 1345500 for what p1, p3 and p4 win, and that is"
+                " 140000 more than their Vickrey prices.",
+                "p2 (250000) and p5 (45400) pay their Vickrey prices, which is what their winning costs the others, and"
+                " no coalition makes them pay more.",
+                "p4 pays 105000: its Vickrey price. It pays no more although coalition 1 asks for it: the sum of all"
+                " payments is least where others bear that.",
+            ],
         )
         for number, names in (1, "p1, p3 and p4"), (2, "p1, p3 and p5"):
             self.assertEqual(
@@ -203,15 +200,16 @@ class Small(unittest.TestCase):
             certificate_of((1, 1, 1), bids, (1, 1, 1, 0, 0), without, 1, (0, 8, 0, 0, 0), rows),
         )
         self.assertEqual([(share.amount, share.coalition) for share in reasons.shares(3)], [(8, 2), (-8, 0)])
-        self.assertTrue(
-            reasons.sentence(3).startswith(
-                "b3 pays 0: its Vickrey price. It pays no more although b5 offers 8 for what b2 and b3 win"
-            )
+        asked = "b5 (coalition 2) offers 8 for what b2 and b3 win, and that is 8 more than their Vickrey prices"
+        self.assertEqual(
+            list(reasons.sentences())[1:],
+            [
+                f"b2 pays 8: its Vickrey price of 0, and 8 more, since {asked}.",
+                "b3 pays 0: its Vickrey price. It pays no more although coalition 2 asks for it: the sum of all"
+                " payments is least where others bear that.",
+            ],
         )
         self.assertEqual(reasons.sharing(1), "They pay just that, since other coalitions ask it of them already.")
-        self.assertTrue(
-            reasons.sentence(2).startswith("b2 pays 8: its Vickrey price of 0, and 8 more, since b5 offers 8")
-        )
 
     def test_shares_come_to_what_is_paid_above(self) -> None:
         bids = [*LOCALS, [((1, 1, 1), 11)]]
@@ -237,6 +235,11 @@ class Small(unittest.TestCase):
         self.assertEqual(
             reasons.sharing(1), "Because of it b1 pays 1+1/2 more and b2 pays 4+1/2 more, by their weights of 1 and 3."
         )
+
+    def test_coalitions_that_an_earlier_sentence_has(self) -> None:
+        self.assertEqual(asked_before([]), [])
+        self.assertEqual(asked_before([3]), ["coalition 3 asks for it"])
+        self.assertEqual(asked_before([1, 2, 4]), ["coalitions 1, 2 and 4 ask for it"])
 
     def test_nobody(self) -> None:
         cert = lines("cert 1 / den 1 / value 0 / choice / table / t 0 0 / pay / rows 0 / lowered / t 0 0 / end")

@@ -1,7 +1,7 @@
-"""Says why the winners pay what they pay: for each winner one sentence, then who would win without it and the sum that
-is its Vickrey price, then each coalition that asks winners for more, and how that is shared between them. Amounts are
-gross, as they are bid and paid, and the amounts net of reserve follow them. The certificate is tested first; for one
-that fails the output is what tools/check prints. One file may be `-`, which is standard input.
+"""Says why the winners pay what they pay: one sentence for winners of one reason, then for each winner who would win
+without it and the sum that is its Vickrey price, then each coalition that asks winners for more, and how that is shared
+between them. Amounts are gross, as they are bid and paid, and the amounts net of reserve follow them. The certificate
+is tested first; for one that fails the output is what tools/check prints. One file may be `-`, which is standard input.
 
 What it doesn't show: coalitions that ask for no more than others do. What it rests on: what the certificate shows, by
 docs/CERTIFICATES.md.
@@ -11,7 +11,6 @@ from __future__ import annotations
 
 import argparse
 import sys
-import textwrap
 from collections.abc import Sequence
 from typing import NamedTuple
 
@@ -25,10 +24,10 @@ from cca_tools.rules.log import read_log
 from cca_tools.rules.stops import MOST, NO, Stop, load, within
 from cca_tools.rules.weights import read_weights
 from cca_tools.rules.why import why_lines
-from cca_tools.terminal import width
+from cca_tools.terminal import broken, width
 
-# How wide the text is where it goes to a file.
-COLUMNS = 110
+# How wide the text is at most, on a terminal and in a file.
+COLUMNS = 80
 
 
 def parser() -> Parser:
@@ -78,14 +77,8 @@ def why(options: argparse.Namespace) -> str:
     certificate = read_certificate(load(files.cert_file, "cert"), files.book)
     if fault := first_fault(files.book, certificate, files.weights):
         raise Stop(fault.line, NO, why=fault.text())
-    return "\n".join(map(wrapped, why_lines(certificate, files.weights, files.categories)))
-
-
-def wrapped(line: str) -> str:
-    """The line with its parts below one another, as far as there is room."""
-    indent = " " * (len(line) - len(line.lstrip()))
-    columns = width(sys.stdout, COLUMNS)
-    return textwrap.fill(line, columns, subsequent_indent=indent + "  ", break_on_hyphens=False)
+    columns, lines = width(sys.stdout, COLUMNS), why_lines(certificate, files.weights, files.categories)
+    return "\n".join(part for line in lines for part in broken(line, columns))
 
 
 def main(argv: Sequence[str]) -> int:

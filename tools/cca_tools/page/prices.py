@@ -1,9 +1,9 @@
-"""Why these prices: a sentence for each winner, the turns of pricing, the coalitions that raise prices, and each
-winner's Vickrey price."""
+"""Why these prices: a sentence for winners of one reason, the turns of pricing, the coalitions that raise prices, and
+each winner's Vickrey price."""
 
 from __future__ import annotations
 
-from collections.abc import Iterable, Iterator, Mapping, Sequence
+from collections.abc import Iterable, Iterator, Mapping
 from fractions import Fraction
 
 from cca_tools.page import core, findings
@@ -197,54 +197,12 @@ def core_blocks(source: Source) -> list[Block]:
     return [Heading("The core"), Words(told), Key(key), Cards([Card("", [core_picture(source)])], size="wide")]
 
 
-def raised_by(source: Source, j: BidderNumber) -> int:
-    """The number of the one coalition that raises a winner's price; 0 if there is none, or more than one."""
-    shares = source.reasons.shares(j)
-    return shares[0].coalition if len(shares) == 1 and shares[0].coalition and shares[0].amount > 0 else 0
-
-
-def raised_words(source: Source, members: Sequence[BidderNumber], coalition: int) -> str:
-    """Why several winners pay what they pay, all because of one coalition."""
-    verb = ["pays", *[""] * (len(members) - 1)]
-    each = listed(
-        " ".join(filter(None, [source.names.bidder(j), word, price(source.pays(j))])) for j, word in zip(members, verb)
-    )
-    vickrey, more = [number(source.vickrey(j)) for j in members], [source.pays(j) - source.vickrey(j) for j in members]
-    above = f"{price(more[0])} more each" if len(set(more)) == 1 else f"{listed(map(price, more))} more"
-    since = source.told(source.reasons.asked(source.reasons.coalitions[coalition - 1]))
-    return f"{each}: their Vickrey prices of {listed(vickrey)}, and {above}, since {since}."
-
-
-def sentences(source: Source) -> list[str]:
-    """Why each winner pays what it pays. Those that nothing raises above their Vickrey prices have one sentence, and so
-    have those that the same coalition raises."""
-    plain = [j for j in source.winners if source.pays(j) == source.vickrey(j) and not source.reasons.is_asked(j)]
-    others = [j for j in source.winners if j not in plain or len(plain) == 1]
-    groups = dict[int, list[BidderNumber]]()
-    for j in others:
-        groups.setdefault(raised_by(source, j) or -j, []).append(j)
-    told = [
-        raised_words(source, members, coalition)
-        if len(members) > 1
-        else source.told(source.reasons.sentence(members[0]))
-        for coalition, members in groups.items()
-    ]
-    if len(plain) == 1 or not plain:
-        return told
-    each = listed(f"{source.names.bidder(j)} ({price(source.pays(j))})" for j in plain)
-    return [
-        f"{each} pay their Vickrey prices, which is what their winning costs the others, and no coalition makes them"
-        " pay more.",
-        *told,
-    ]
-
-
 def section(source: Source) -> Section | None:
     """Why these prices, where there are any."""
     if not source.has_prices or not source.winners:
         return None
     blocks: list[Block] = [
-        Points(sentences(source)),
+        Points([source.told(sentence) for sentence in source.reasons.sentences()]),
         Words(f"{LEGEND} All amounts here include reserves{source.in_unit}."),
         *turns(source),
         *coalitions(source),

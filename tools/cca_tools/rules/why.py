@@ -7,6 +7,8 @@ multipliers of the rows.
 
 from __future__ import annotations
 
+import itertools
+from collections import Counter
 from collections.abc import Iterable, Iterator, Sequence
 from dataclasses import dataclass
 from fractions import Fraction
@@ -127,32 +129,64 @@ class Reasons:
         seller = ["the seller with its reserve"] if offer.kept > 0 else []
         return listed([self.name(j) for j in offer.names] + seller) or "nobody"
 
-    def sentence(self, j: BidderNumber) -> str:
-        """Why a winner pays what it pays, in one sentence."""
-        vickrey, above = self.vickrey(j), self.pays(j) - self.vickrey(j)
-        asking = [
-            self.coalitions[share.coalition - 1] for share in self.shares(j) if share.coalition and share.amount > 0
-        ]
-        reasons = listed([self.asked(offer) for offer in asking], "; and since ")
-        start = f"{self.name(j)} pays {fraction(self.pays(j))}: its Vickrey price"
-        if above:
-            return f"{start} of {vickrey}, and {fraction(above)} more, since {reasons}."
-        if asking:
+    def asking(self, j: BidderNumber) -> list[int]:
+        """The numbers of the coalitions that raise prices and ask a winner for more."""
+        return [share.coalition for share in self.shares(j) if share.coalition and share.amount > 0]
+
+    def above(self, j: BidderNumber) -> Fraction:
+        """How much more than its Vickrey price a winner pays."""
+        return self.pays(j) - self.vickrey(j)
+
+    def group_of(self, j: BidderNumber) -> int:
+        """What the winners of one reason have in common: 0 if they pay their Vickrey prices and no coalition asks them
+        for more, the number of the one coalition that raises their prices, and else a number of each winner's own."""
+        asking = self.asking(j)
+        if not asking and not self.above(j):
+            return 0
+        return asking[0] if len(asking) == len(self.shares(j)) == 1 else -j
+
+    def sentences(self) -> Iterator[str]:
+        """Why the winners pay what they pay, in a sentence for those of one reason. What a coalition asks for is said
+        once; a later sentence has the coalition's number."""
+        groups = dict[int, list[BidderNumber]]()
+        for j in self.certificate.winners:
+            groups.setdefault(self.group_of(j), []).append(j)
+        asking = [self.asking(members[0]) for members in groups.values()]
+        often, told = Counter(itertools.chain.from_iterable(asking)), set[int]()
+        for members, numbers in zip(groups.values(), asking):
+            new = [self.asked(number, is_numbered=often[number] > 1) for number in numbers if number not in told]
+            reason = listed([*new, *asked_before([number for number in numbers if number in told])], "; and since ")
+            yield self.sentence(members, reason)
+            told.update(numbers)
+
+    def sentence(self, members: Sequence[BidderNumber], reason: str) -> str:
+        """Why winners pay what they pay; the reason is what coalitions ask them for, empty if none do."""
+        names, pays = [self.name(j) for j in members], [fraction(self.pays(j)) for j in members]
+        is_one, above = len(members) == 1, [fraction(self.above(j)) for j in members]
+        prices = "its Vickrey price" if is_one else "their Vickrey prices"
+        if not reason:
+            each = [f"{name} ({paid})" for name, paid in zip(names, pays)]
+            start = f"{names[0]} pays {pays[0]}: {prices}" if is_one else f"{listed(each)} pay {prices}"
+            cost, paying = ("its winning costs", "it pay") if is_one else ("their winning costs", "them pay")
+            return f"{start}, which is what {cost} the others, and no coalition makes {paying} more."
+        start = listed([f"{names[0]} pays {pays[0]}", *map(" ".join, zip(names[1:], pays[1:]))])
+        if is_one and not self.above(members[0]):
             return (
-                f"{start}. It pays no more although {reasons}: the sum of all payments is least where others bear that."
+                f"{start}: {prices}. It pays no more although {reason}: the sum of all payments is least where others"
+                " bear that."
             )
-        return f"{start}, which is what its winning costs the others, and no coalition makes it pay more."
+        more = f"{above[0]} more{'' if is_one else ' each'}" if len(set(above)) == 1 else f"{listed(above)} more"
+        vickrey = listed(str(self.vickrey(j)) for j in members)
+        return f"{start}: {prices} of {vickrey}, and {more}, since {reason}."
 
-    def is_asked(self, j: BidderNumber) -> bool:
-        """Whether a coalition that raises prices asks a winner for more."""
-        return any(share.coalition and share.amount > 0 for share in self.shares(j))
-
-    def asked(self, offer: Offer) -> str:
-        """What a coalition asks for, as the reason of a sentence."""
+    def asked(self, number: int, is_numbered: bool) -> str:
+        """What a coalition asks for, as the reason of a sentence, with the coalition's number or without."""
+        offer = self.coalitions[number - 1]
         verb = "offers" if len(offer.names) + (offer.kept > 0) < 2 else "offer"
+        who = f"{self.offering(offer)} (coalition {number})" if is_numbered else self.offering(offer)
         return (
-            f"{self.offering(offer)} {verb} {offer.gross} for what {self.names(offer.members)} win, and that is"
-            f" {self.excess(offer)} more than their Vickrey prices"
+            f"{who} {verb} {offer.gross} for what {self.names(offer.members)} win, and that is {self.excess(offer)}"
+            " more than their Vickrey prices"
         )
 
     def winner_lines(self, j: BidderNumber) -> Iterator[str]:
@@ -253,6 +287,13 @@ class Reasons:
         return listed([f"{self.name(j)} pays {fraction(part)} {kind}" for j, part in zip(members, parts)])
 
 
+def asked_before(numbers: Sequence[int]) -> list[str]:
+    """The reason of a sentence for coalitions that an earlier sentence has; empty if there are none."""
+    if len(numbers) > 1:
+        return [f"coalitions {listed(map(str, numbers))} ask for it"]
+    return [f"coalition {numbers[0]} asks for it"] if numbers else []
+
+
 LEGEND = (
     "A winner's Vickrey price is what the others would bring more if it weren't there. A coalition is a group that"
     " offers more than the Vickrey prices for what some winners win; these have to pay as much, or they could be"
@@ -263,12 +304,11 @@ LEGEND = (
 def why_lines(
     certificate: BookCertificate, weights: Sequence[int] | None = None, categories: Sequence[str] = ()
 ) -> Iterator[str]:
-    """All of it: a sentence for each winner, ties, then the arithmetic, then the coalitions."""
+    """All of it: why the winners pay what they pay, ties, then the arithmetic, then the coalitions."""
     reasons = Reasons(certificate, weights)
     if not certificate.winners:
         yield "Nobody wins, so nobody pays."
-    for j in certificate.winners:
-        yield reasons.sentence(j)
+    yield from reasons.sentences()
     yield from tie_sentences(reasons.book, ties_of(reasons.book))
     yield from ["", LEGEND]
     if categories:
