@@ -25,7 +25,7 @@ from checks.cases.samples import sample, taking
 
 from cca_tools.desk.journal import Entry, chained, line_sum
 from cca_tools.desk.logfile import LogFile
-from cca_tools.desk.record import closes_of
+from cca_tools.desk.record import replayed_log
 from cca_tools.rules.auction import replay
 from cca_tools.rules.award import read_award
 from cca_tools.rules.log import read_log
@@ -136,9 +136,14 @@ class Day:
         elif step.is_reopened:
             self.log.cut(base, len(data) - len(CLOSE), step.why, stay=True)
         elif step.back is not None:
-            closes, _ = closes_of(self.rules, data)
+            closes, _ = self.closes(data)
             self.log.cut(base, closes[step.back - 1] if step.back else 0, step.why)
-        self.log.post(lambda log: closes_of(self.rules, log), step.is_publish)
+        self.log.post(self.closes, step.is_publish)
+
+    def closes(self, log: bytes) -> tuple[Sequence[int], bool]:
+        """The bytes of a log up to and with each admitted close, and whether the last one ends the auction."""
+        found = replayed_log(self.rules, log)
+        return found.closes, found.is_over
 
     def files(self) -> Files:
         """The files as they are now."""

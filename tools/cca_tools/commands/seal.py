@@ -43,7 +43,7 @@ from cca_tools.command_line import Parser, run_command
 from cca_tools.desk.disk import Refused
 from cca_tools.desk.record import ByHand, Tester
 from cca_tools.rules.award import read_award
-from cca_tools.rules.noted import Noted, Verdict, judged, read_noted
+from cca_tools.rules.noted import Judge, Noted, Verdict, read_noted
 from cca_tools.rules.printable import printable
 from cca_tools.rules.seals import Public, head_rows, key_of, new_key, read_posted, sum_of
 from cca_tools.rules.stops import NO, WRITE_FAULT, Stop, load, refused
@@ -105,7 +105,7 @@ def add_due(options: argparse.Namespace, key: bytes, award: bytes, log: bytes) -
     if events and events[0].kind in ("back", "reopened") and not options.why:
         why = f"the log lacks close {events[0].close + 1} as it was posted; say with --why why it is void"
         raise Stop("no line is posted", NO, why=why)
-    if options.publish and not hand.ends[1]:
+    if options.publish and not hand.logs[0].is_over:
         raise Stop("no line is posted", NO, why="the auction isn't over, so no set can be published yet")
     time = datetime.datetime.now().astimezone().isoformat(timespec="seconds")
     for event in events:
@@ -158,20 +158,20 @@ def check(options: argparse.Namespace, key: bytes, award: bytes, log: bytes) -> 
     if not noted:
         raise refused("noted", 1, why="no posted line is in it")
     public, foreign = posted_by(options, key, award, log, data)
-    heads = {"key": sum_of(key), "award": sum_of(award)}
-    found = [verdict(it, public, foreign, heads) for it in noted]
+    judge = Judge(public, {"key": sum_of(key), "award": sum_of(award)})
+    found = [verdict(it, judge, foreign) for it in noted]
     text = "\n".join(f"{line.name()}: {printable(it.text)}" for line, it in zip(noted, found))
     if not all(it.is_posted for it in found):
         raise Stop(f"no\n{text}", NO)
     return f"yes\n{text}"
 
 
-def verdict(noted: Noted, public: Public, foreign: set[int], heads: dict[str, str]) -> Verdict:
+def verdict(noted: Noted, judge: Judge, foreign: set[int]) -> Verdict:
     """What is found about a noted line; `foreign` has the posted lines whose seal fits no log."""
-    found = judged(noted, public, heads)
+    found = judge.verdict(noted)
     if not found.is_posted or found.row not in foreign:
         return found
-    if found.row in public.voids:
+    if found.row in judge.public.voids:
         return Verdict(False, f"{found.text}. NOT TESTED: its log isn't here; name the log that was kept with --cut")
     return Verdict(
         False,

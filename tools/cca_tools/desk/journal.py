@@ -14,7 +14,6 @@ from __future__ import annotations
 import contextlib
 import dataclasses
 import datetime
-import hashlib
 import hmac
 import json
 import os
@@ -23,6 +22,7 @@ from pathlib import Path
 from typing import cast
 
 from cca_tools.desk.disk import APPEND, Refused, append_once, opened, read_file, sum_of, write_again
+from cca_tools.rules.sums import Sums
 
 BLOCK = 65_536
 # What makes a torn line one that is no entry, also where the line feed alone is missing. Nothing of it is taken away.
@@ -259,13 +259,13 @@ class LogOfEntries:
     """The log that the entries of a journal lead to, one after another, with the number of its lines."""
 
     def __init__(self) -> None:
-        self.data, self.lines = bytearray(), 0
+        self.text, self.lines = Sums(), 0
 
     def take(self, entry: Entry) -> bytes:
         """Takes an entry, and returns what it takes away from the end of the log."""
-        away = bytes(self.data[entry.start :])
-        del self.data[entry.start :]
-        self.data += entry.text
+        away = bytes(self.text.data[entry.start :])
+        self.text.cut(entry.start)
+        self.text.add(entry.text)
         self.lines += entry.text.count(b"\n") - away.count(b"\n")
         return away
 
@@ -276,17 +276,14 @@ class LogOfEntries:
 
 def replayed(entries: Sequence[Entry]) -> bytes:
     """The log as it was answered last. Raises `Damaged`."""
-    log, total = bytearray(), hashlib.sha256()
+    log = Sums()
     for number, found in enumerate(entries, 1):
-        if found.start < len(log):
-            del log[found.start :]
-            total = hashlib.sha256(log)
-        is_next = found.start == len(log)
-        log += found.text
-        total.update(found.text)
-        if not is_next or (len(log), total.hexdigest()) != (found.length, found.sum):
+        log.cut(found.start)
+        is_next = found.start == len(log.data)
+        log.add(found.text)
+        if not is_next or (len(log.data), log.sum()) != (found.length, found.sum):
             raise Damaged(
                 f"The journal was changed by hand: its entry {number}, of {found.at}, doesn't follow from those before"
                 " it. Put its copy back."
             )
-    return bytes(log)
+    return bytes(log.data)

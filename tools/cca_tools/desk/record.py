@@ -5,10 +5,12 @@ Nothing here writes to the disk, and nothing knows the pages.
 
 from __future__ import annotations
 
+import bisect
 import datetime
 import hmac
+import math
 from collections.abc import Callable, Mapping, Sequence
-from dataclasses import dataclass
+from dataclasses import dataclass, replace
 
 from cca_tools.desk.disk import Refused, sum_of
 from cca_tools.desk.journal import KINDS, Damaged, Entry, LogOfEntries, chained, need_version, replayed, seconds_back
@@ -24,11 +26,13 @@ from cca_tools.rules.seals import (
     Row,
     Sealer,
     closed_lengths,
+    event_of,
     head_text,
     line_ends,
     reason_of,
     row_of,
 )
+from cca_tools.rules.sums import Sums
 
 NOWHERE = 1 << 62  # the bytes up to a line that belongs to no log here
 SHORTENING = "cut", "changed"
@@ -105,12 +109,6 @@ def replayed_log(award: Award, log: bytes) -> Replayed:
     return Replayed(closed_lengths(log, auction), auction.stage == "closed", replies)
 
 
-def closes_of(award: Award, log: bytes) -> tuple[Sequence[int], bool]:
-    """The bytes of a log up to and with each admitted close, and whether the last one ends the auction."""
-    found = replayed_log(award, log)
-    return found.closes, found.is_over
-
-
 @dataclass(frozen=True)
 class Record:
     """A record whose parts agree: its entries, the log that they lead to, what was posted, and the text of that."""
@@ -133,7 +131,7 @@ class Tester:
     def __init__(self, award: bytes, key: bytes) -> None:
         self.award_data, self.key, self.award = award, key, read_award(award)
         self.sealer = Sealer(key, sum_of(award))
-        self.posted, self.public, self.log = self.sealer.head(), Public(), LogOfEntries()
+        self.posted, self.public, self.log = Sums(self.sealer.head()), Public(), LogOfEntries()
 
     def record(self, journal: bytes) -> Record:
         """The record of a journal. Raises `Refused`."""
@@ -152,7 +150,7 @@ class Tester:
         self.need_all_posted(len(entries) + 1, now)
         if self.public.pending:
             raise Refused("The journal ends with a cut or a change that was never posted.")
-        return Record(entries, bytes(self.log.data), self.public, self.posted)
+        return Record(entries, bytes(self.log.text.data), self.public, bytes(self.posted.data))
 
     def step(self, number: int, entry: Entry, now: Replayed) -> None:
         """Tests the replies that an entry has, and what it posts."""
@@ -181,17 +179,17 @@ class Tester:
         if entry.more.get("back", 0) != back:
             raise Refused(f"The journal's entry {number} is {back:g} seconds before the last one, and doesn't say so.")
 
-    def need_nothing_away(self, number: int, entry: Entry, before: Entry | None, log: bytearray) -> None:
+    def need_nothing_away(self, number: int, entry: Entry, before: Entry | None, log: Sums) -> None:
         """Tests that only a cut or a change, which are posted, take lines away from the log before it, and that a cut
         does nothing else than it says."""
-        away = bytes(log[entry.start :])
+        away = bytes(log.data[entry.start :])
         if entry.what not in SHORTENING and away:
             raise Refused(f"The journal's entry {number} takes answered lines away, and it is no cut and no change.")
         if entry.what == "cut" and entry.text:
             raise Refused(f"The journal's entry {number} is a cut, and puts lines into the log.")
         if before and before.what == entry.what == "cut" and same_cut(before, entry):
             return  # (a kill has interrupted the cut, which is noted a second time and keeps the same log)
-        if entry.what == "cut" and entry.names("kept_sums") != [sum_of(bytes(log))]:
+        if entry.what == "cut" and entry.names("kept_sums") != [log.sum()]:
             raise Refused(f"The journal's entry {number} is a cut, and another log than the cut one was kept.")
         if entry.more.get("stay") is True and (entry.what, away) != ("cut", CLOSE):
             raise Refused(
@@ -207,16 +205,16 @@ class Tester:
     def logs(self, entries: Sequence[Entry]) -> list[Replayed]:
         """Each log that was cut or changed, and the last one. Tests what each entry does to its log. Raises
         `Refused`."""
-        found, log = list[Replayed](), bytearray()
+        found, log = list[Replayed](), Sums()
         for number, entry in enumerate(entries, 1):
             before = entries[number - 2] if number > 1 else None
             self.need_form(number, entry, before)
             self.need_nothing_away(number, entry, before, log)
             if entry.what in SHORTENING:
-                found.append(replayed_log(self.award, bytes(log)))
-            del log[entry.start :]
-            log += entry.text
-        return [*found, replayed_log(self.award, bytes(log))]
+                found.append(replayed_log(self.award, bytes(log.data)))
+            log.cut(entry.start)
+            log.add(entry.text)
+        return [*found, replayed_log(self.award, bytes(log.data))]
 
     def need_all_posted(self, number: int, now: Replayed) -> None:
         """Tests that each close of a log was posted before the log was cut, or by the end of the journal."""
@@ -236,19 +234,19 @@ class Tester:
         row, event = posted_of(entry)
         due = self.due(number, now)
         if row.kind == "publish" and now.is_over and not due:
-            due = [Event("publish", 0, len(self.log.data))]
+            due = [Event("publish", 0, len(self.log.text.data))]
         place = f"The line that the journal's entry {number} posts"
         wanted = (due[0].text(), reason_of(due[0].why), due[0].length) if due else None
-        if wanted != (row.event, row.why, event.length) or event.length > len(self.log.data):
+        if wanted != (row.event, row.why, event.length) or event.length > len(self.log.text.data):
             raise Refused(f"{place}, `{row.event}`, isn't the one that was due.")
         if row.number != len(self.public.rows) + 1 or row.time != seconds(entry.at):
             raise Refused(f"{place} has another number or time than its entry.")
-        seal = self.sealer.seal(row.unsealed(), bytes(self.log.data[: event.length]), entry.prev, self.posted)
+        seal = self.sealer.seal(row.unsealed(), self.log.text.sum(event.length), entry.prev, self.posted.sum())
         if not hmac.compare_digest(seal, row.seal):
             raise Refused(
                 f"{place} has a seal that isn't made of this award, key, log and journal and the lines before it."
             )
-        self.posted += f"{row.text()}\n".encode()
+        self.posted.add(f"{row.text()}\n".encode())
         self.public.add(row, due[0])
 
 
@@ -295,6 +293,23 @@ def need_kept(entries: Sequence[Entry], read: Callable[[str], bytes]) -> Mapping
     return files
 
 
+@dataclass(frozen=True)
+class Log:
+    """A log, with the bytes of it up to and with each of its lines and each admitted close, and whether the last close
+    ends the auction."""
+
+    text: Sums
+    line_ends: Sequence[int]
+    closes: Sequence[int]
+    is_over: bool
+
+
+def log_of(award: Award, log: bytes) -> Log:
+    """What is known of the bytes of a log. Raises `Stop` if it isn't one."""
+    found = replayed_log(award, log)
+    return Log(Sums(log), line_ends(log), found.closes, found.is_over)
+
+
 class ByHand:
     """Lines that were posted by hand, without a journal: each seal is tried on the log as it is, and on each longer or
     other one that was kept."""
@@ -302,11 +317,16 @@ class ByHand:
     def __init__(self, award: bytes, key: bytes, logs: Sequence[bytes]) -> None:
         """The first log is the one that counts."""
         rules = read_award(award)
-        self.sealer, self.logs = Sealer(key, sum_of(award)), logs
-        self.head = self.posted = self.sealer.head()
-        self.ends = closes_of(rules, logs[0])
-        self.closes = {log: closes_of(rules, log)[0] for log in logs}
+        self.sealer = Sealer(key, sum_of(award))
+        self.head = self.sealer.head()
+        self.text = Sums(self.head)
+        self.logs = [log_of(rules, log) for log in logs]
         self.public, self.foreign = Public(), set[int]()
+
+    @property
+    def posted(self) -> bytes:
+        """All posted lines, as the file has them."""
+        return bytes(self.text.data)
 
     def take(self, rows: Sequence[Row]) -> None:
         """Takes posted lines. `foreign` has those whose seal fits none of the logs."""
@@ -320,43 +340,46 @@ class ByHand:
             if length is None:
                 self.foreign.add(row.number)
             self.public.add(row, Event(row.kind, row.close, NOWHERE if length is None else length, row.why))
-            self.posted += f"{row.text()}\n".encode()
+            self.text.add(f"{row.text()}\n".encode())
         # (a line that isn't of the past belongs to the log that counts, and to no other one)
-        self.foreign |= {row.number for row in rows if not self.is_past(row)} - own
+        self.foreign |= {row.number for row in rows} - self.past() - own
 
-    def is_past(self, row: Row) -> bool:
-        """Whether a later line has made the log void that the seal of a line covers."""
-        later = [it for it in self.public.rows[row.number :] if it.kind in VOIDING]
-        if row.kind == "publish":
-            return bool(later)
-        if row.kind in VOIDING:
-            return any(it.close < row.close for it in later)
-        return row.number in self.public.voids
+    def past(self) -> set[int]:
+        """The lines whose seals cover a log that a later line has made void."""
+        found, back_to = set(self.public.voids), math.inf  # the earliest close that a later line goes back to
+        for row in reversed(self.public.rows):
+            kind, close = event_of(row.event)
+            if back_to < (close if kind in VOIDING else math.inf if kind == "publish" else 0):
+                found.add(row.number)
+            if kind in VOIDING:
+                back_to = min(back_to, close)
+        return found
 
-    def length_of(self, row: Row, logs: Sequence[bytes]) -> int | None:
+    def length_of(self, row: Row, logs: Sequence[Log]) -> int | None:
         """The bytes of the log that a line's seal covers, if that is one of these; the lines before it were taken."""
+        before = self.text.sum()
         for log in logs:
             for length in self.lengths(row, log):
-                if self.is_sealed(row, log[:length], self.posted):
+                if self.is_sealed(row, log.text.sum(length), before):
                     return length
         return None
 
-    def lengths(self, row: Row, log: bytes) -> Sequence[int]:
+    def lengths(self, row: Row, log: Log) -> Sequence[int]:
         """How many bytes of a log the seal of a line may cover."""
-        closes = self.closes[log]
+        closes = log.closes
         if row.kind == "publish":
-            return [end for end in line_ends(log) if closes and end >= closes[-1]]
+            return log.line_ends[bisect.bisect_left(log.line_ends, closes[-1]) :] if closes else []
         number = len(closes) if row.kind == "end" else row.close
         return [closes[number - 1] if number else 0] if number <= len(closes) else []
 
-    def is_sealed(self, row: Row, log: bytes, before: bytes) -> bool:
-        """Whether a line has the seal of this log after these posted lines."""
+    def is_sealed(self, row: Row, log: str, before: str) -> bool:
+        """Whether a line has the seal of a log after posted lines, by their checksums."""
         return hmac.compare_digest(self.sealer.seal(row.unsealed(), log, NO_JOURNAL, before), row.seal)
 
     def due(self, why: str, is_publish: bool = False) -> list[Event]:
         """The events that have to be posted now: closes that weren't, and before them that closes are void which the
         log doesn't have any more; and that the set is made, if this is asked for and the auction is over."""
-        closes, is_over = self.ends
+        closes, is_over = self.logs[0].closes, self.logs[0].is_over
         ends = [end for _, end in self.public.counting]
         same = next((at for at, end in enumerate(ends) if [end] != list(closes[at : at + 1])), len(ends))
         if same < len(ends):
@@ -364,7 +387,7 @@ class ByHand:
             self.public.shorten("reopened" if self.is_taken_back(same, start) else "back", start, why)
         due = self.public.due(closes, is_over)
         if is_publish and is_over and (due or not self.is_published()):
-            due.append(Event("publish", 0, len(self.logs[0])))
+            due.append(Event("publish", 0, len(self.logs[0].text.data)))
         return due
 
     def is_taken_back(self, same: int, start: int) -> bool:
@@ -373,20 +396,24 @@ class ByHand:
         if same != len(counting) - 1:
             return False
         row = self.public.rows[counting[same][0] - 1]
-        before = self.head + "".join(f"{it.text()}\n" for it in self.public.rows[: row.number - 1]).encode()
-        ends = [end for end in line_ends(log) if end > start]
-        return any(self.is_sealed(row, log[:end] + CLOSE, before) for end in ends)
+        after = sum(len(f"{it.text()}\n".encode()) for it in self.public.rows[row.number - 1 :])
+        before = self.text.sum(len(self.text.data) - after)
+        ends = log.line_ends[bisect.bisect_right(log.line_ends, start) :]
+        return any(self.is_sealed(row, log.text.sum(end, CLOSE), before) for end in ends)
 
     def is_published(self) -> bool:
         """Whether the last posted line says that the set of this very log is made."""
         rows, log = self.public.rows, self.logs[0]
         if not rows or rows[-1].kind != "publish":
             return False
-        return self.is_sealed(rows[-1], log, self.posted.removesuffix(f"{rows[-1].text()}\n".encode()))
+        before = self.text.sum(len(self.text.data) - len(f"{rows[-1].text()}\n".encode()))
+        return self.is_sealed(rows[-1], log.text.sum(), before)
 
     def next_row(self, event: Event, time: str) -> Row:
         """Posts the next line."""
-        row = self.sealer.row(event, time, self.logs[0], NO_JOURNAL, self.posted)
+        row = Row(len(self.public.rows) + 1, time, event.text(), "", reason_of(event.why))
+        log = self.logs[0].text.sum(event.length)
+        row = replace(row, seal=self.sealer.seal(row.unsealed(), log, NO_JOURNAL, self.text.sum()))
         self.public.add(row, event)
-        self.posted += f"{row.text()}\n".encode()
+        self.text.add(f"{row.text()}\n".encode())
         return row

@@ -6,10 +6,11 @@ spaces between the digits. Number, time and reason may be left out, and no digit
 
 from __future__ import annotations
 
+import collections
 import dataclasses
 import hmac
 import re
-from collections.abc import Mapping, Sequence
+from collections.abc import Mapping
 
 from cca_tools.rules.printable import clipped
 from cca_tools.rules.seals import EVENT, TIME, Public, Row
@@ -89,28 +90,49 @@ def noted_of(found: re.Match[str]) -> Noted:
     return Noted(number, (found["time"] or "").upper(), event, seal, (found["why"] or "").strip())
 
 
-def judged(noted: Noted, public: Public, heads: Mapping[str, str]) -> Verdict:
-    """What is found about a noted line, by the posted lines, and by the checksums of key and award."""
-    if noted.event in heads:
-        total = heads[noted.event]
-        if hmac.compare_digest(noted.seal, total):
-            return Verdict(True, "agrees")
-        return Verdict(False, f"NOT of these files: the {noted.event} has another checksum{near(noted.seal, total)}")
-    row = next((it for it in public.rows if hmac.compare_digest(it.seal, noted.seal)), None)
-    if row is None:
-        return Verdict(False, f"NOT of these files: no posted line has this seal{nearest(noted, public.rows)}")
-    if not noted.agrees(row):
-        return Verdict(False, f"NOT of these files: the seal is the one of `{row.unsealed()}`")
-    if void := public.void_words(row.number):
-        return Verdict(True, f"posted as line {row.number}, {void}", row.number)
-    return Verdict(True, f"agrees (line {row.number})" if not noted.number else "agrees", row.number)
+class Judge:
+    """Finds what is to be said about noted lines, by the posted lines, and by the checksums of key and award.
+
+    The posted lines are found by their seals, and those that resemble a seal by its groups of digits: two seals that
+    differ in at most `NEAR` digits have a group in common.
+    """
+
+    def __init__(self, public: Public, heads: Mapping[str, str]) -> None:
+        self.public, self.heads = public, heads
+        self.rows = {row.seal: row for row in reversed(public.rows)}
+        self.alike = collections.defaultdict[tuple[int, str], list[Row]](list)
+        for row in self.rows.values():
+            for group in groups(row.seal):
+                self.alike[group].append(row)
+
+    def verdict(self, noted: Noted) -> Verdict:
+        """What is found about a noted line."""
+        if noted.event in self.heads:
+            total = self.heads[noted.event]
+            if hmac.compare_digest(noted.seal, total):
+                return Verdict(True, "agrees")
+            hint = near(noted.seal, total)
+            return Verdict(False, f"NOT of these files: the {noted.event} has another checksum{hint}")
+        row = self.rows.get(noted.seal)
+        if row is None:
+            return Verdict(False, f"NOT of these files: no posted line has this seal{self.nearest(noted)}")
+        if not noted.agrees(row):
+            return Verdict(False, f"NOT of these files: the seal is the one of `{row.unsealed()}`")
+        if void := self.public.void_words(row.number):
+            return Verdict(True, f"posted as line {row.number}, {void}", row.number)
+        return Verdict(True, f"agrees (line {row.number})" if not noted.number else "agrees", row.number)
+
+    def nearest(self, noted: Noted) -> str:
+        """Which posted line a seal resembles so much that a digit may be misread; nothing if none does."""
+        rows = {row.number: row for group in groups(noted.seal) for row in self.alike.get(group, ())}
+        row = min(rows.values(), key=lambda it: (differing(noted.seal, it.seal), it.number), default=None)
+        hint = near(noted.seal, row.seal) if row else ""
+        return f"{hint} in line {row.number}" if row and hint else ""
 
 
-def nearest(noted: Noted, rows: Sequence[Row]) -> str:
-    """Which posted line a seal resembles so much that a digit may be misread; nothing if none does."""
-    row = min(rows, key=lambda it: differing(noted.seal, it.seal), default=None)
-    hint = near(noted.seal, row.seal) if row else ""
-    return f"{hint} in line {row.number}" if row and hint else ""
+def groups(seal: str) -> list[tuple[int, str]]:
+    """The groups of four digits of a seal, each with its place."""
+    return [(at, seal[at : at + 4]) for at in range(0, len(seal), 4)]
 
 
 def near(noted: str, posted: str) -> str:

@@ -185,16 +185,18 @@ class Sealer:
         """The beginning of LOG.posted."""
         return head_text(sum_of(self.key), self.award)
 
-    def seal(self, row: str, log: bytes, journal: str, before: bytes) -> str:
-        """The seal of a posted line; `before` has LOG.posted before it."""
-        sums = f"award {self.award}\nlog {sum_of(log)}\njournal {journal}\nposted {sum_of(before)}"
+    def seal(self, row: str, log: str, journal: str, before: str) -> str:
+        """The seal of a posted line, by the checksums of the log, of the journal's last line and of LOG.posted before
+        the line."""
+        sums = f"award {self.award}\nlog {log}\njournal {journal}\nposted {before}"
         return hmac.digest(key_of(self.key), f"cca seal 1\n{sums}\n{row}\n".encode(), "sha256").hex()
 
     def row(self, event: Event, time: str, log: bytes, journal: str, before: bytes) -> Row:
         """The next posted line."""
         number = before.count(b"\n") - self.head().count(b"\n") + 1
         made = Row(number, time, event.text(), "", reason_of(event.why))
-        return dataclasses.replace(made, seal=self.seal(made.unsealed(), log[: event.length], journal, before))
+        seal = self.seal(made.unsealed(), sum_of(log[: event.length]), journal, sum_of(before))
+        return dataclasses.replace(made, seal=seal)
 
 
 def row_of(text: str) -> Row | None:
