@@ -404,7 +404,7 @@ class Command(unittest.TestCase):
         )
         self.assertIn("`tools/price AWARD LOG CERT`", called("explain", "award", award, log)[0])
         self.assertIn(
-            "b8 pays 10: its Vickrey price",
+            "b7 (10) and b8 (10) pay",
             called("why", award, log, cert, **NO_PROGRAM)[0],
         )
         told = " ".join(called("report", award, log, cert, "--text", **NO_PROGRAM)[0].split())

@@ -28,7 +28,7 @@ RIGHT = {
     "explain": ("check day-cramton.book day-cramton.cert", "The certificate passes all tests.\n"),
     "caps": ("spectrum.award spectrum.log everest", "everest final round 4 held 1 0 3 0 list 3\n"),
     "what-if": ("spectrum.award spectrum.log copy.log", "lines\nnothing changes\n"),
-    "why": ("day-cramton.book day-cramton.cert", "b1 pays 17: its Vickrey price of 14, and 3 more, "),
+    "why": ("day-cramton.book day-cramton.cert", "b1 pays 17 and b2 15: their Vickrey prices of 14 "),
     "report": ("day-cramton.book day-cramton.cert --text", "Auction report: day-cramton\n"),
     "state": ("spectrum.award spectrum.log", "= The clock ended after round 4. The auction is closed.\n"),
 }
