@@ -7,6 +7,7 @@ import shutil
 import sys
 import threading
 import unicodedata
+from collections.abc import Iterator
 from types import TracebackType
 from typing import IO, Literal, TypeAlias
 
@@ -15,6 +16,7 @@ CODES: dict[Colour, str] = {"red": "31", "green": "32", "bold": "1"}
 NARROWEST = 40
 LONGEST = 6  # digits of a width that is believed
 SECONDS = 2.0  # so long nothing is said
+NO_COLUMN = ("Mn", "Me", "Cf")  # the kinds of marks that have no column of their own
 
 
 def is_terminal(stream: IO[str] | None) -> bool:
@@ -72,9 +74,44 @@ def broken(line: str, columns: int) -> list[str]:
 
 
 def columns_of(text: str) -> int:
-    """How many columns of a terminal a text takes: letters of East Asia take two, and marks over a letter none."""
-    wide = sum(unicodedata.east_asian_width(letter) in "WF" for letter in text)
-    return len(text) + wide - sum(unicodedata.combining(letter) > 0 for letter in text)
+    """How many columns of a terminal a text takes: letters of East Asia and most emoji take two, and marks over a
+    letter none."""
+    if text.isascii():
+        return len(text)
+    letters = [it for it in unicodedata.normalize("NFC", text) if unicodedata.category(it) not in NO_COLUMN]
+    return len(letters) + sum(unicodedata.east_asian_width(it) in "WF" for it in letters)
+
+
+def padded(text: str, columns: int, to_right: bool = False) -> str:
+    """The text with spaces up to so many columns, after it, or before it where it stands to the right."""
+    spaces = " " * (columns - columns_of(text))
+    return spaces + text if to_right else text + spaces
+
+
+def pieces(word: str, columns: int) -> Iterator[str]:
+    """A word in pieces of at most so many columns."""
+    piece = ""
+    for letter in word:
+        if piece and columns_of(piece + letter) > columns:
+            yield piece
+            piece = ""
+        piece += letter
+    yield piece
+
+
+def filled(text: str, columns: int, first: str = "", later: str = "") -> list[str]:
+    """The words of a text in lines of so many columns, with these beginnings; a word that is wider is broken. Words end
+    at a space, and not at one that says it doesn't break. Without a word there is no line."""
+    lines, is_begun = [first], False
+    for word in filter(None, text.split(" ")):
+        for piece in pieces(word, max(1, columns - columns_of(later))):
+            longer = f"{lines[-1]} {piece}" if is_begun else lines[-1] + piece
+            if is_begun and columns_of(longer) > columns:
+                lines.append(later + piece)
+            else:
+                lines[-1] = longer
+            is_begun = True
+    return lines if is_begun else []
 
 
 class Progress:

@@ -3,7 +3,6 @@
 from __future__ import annotations
 
 import sys
-import textwrap
 from collections.abc import Iterator, Sequence
 
 from cca_tools.page.document import (
@@ -23,6 +22,7 @@ from cca_tools.page.document import (
     Words,
 )
 from cca_tools.page.html import parts
+from cca_tools.terminal import columns_of, filled, padded
 from cca_tools.terminal import width as terminal_width
 
 # How wide the text is where it goes to a file.
@@ -40,39 +40,31 @@ def cell_lines(cell: Content, width: int) -> list[str]:
     code = f"[{code}]" if words and code else code
     if isinstance(cell, Cell) and cell.details:
         rows = [f"{head}: {'; '.join(filter(None, values))}" for head, *values in cell.details]
-        return [
-            line
-            for part in (words, *rows, code)
-            for line in textwrap.wrap(part, width, break_on_hyphens=False, subsequent_indent="  ")
-        ]
+        return [line for part in (words, *rows, code) for line in filled(part, width, later="  ")]
     whole = f"{words}  {code}" if words and code else words or code
-    if len(whole) <= width:
+    if columns_of(whole) <= width:
         return [whole]
-    return [line for part in (words, code) for line in textwrap.wrap(part, width, break_on_hyphens=False)]
+    return [line for part in (words, code) for line in filled(part, width)]
 
 
 def length(cell: Content) -> int:
-    """How many letters a cell has on one line."""
+    """How many columns a cell takes on one line."""
     words, code, _ = parts(cell)
-    return len(words) + (len(code) + 4 if words and code else len(code))
+    return columns_of(words) + (columns_of(code) + 4 if words and code else columns_of(code))
 
 
 def wrapped(text: str, before: str = "") -> list[str]:
     """The lines of a paragraph, with a mark before the first."""
-    return textwrap.wrap(
-        text.replace("`", ""),
-        columns_of_text(),
-        initial_indent=before,
-        subsequent_indent=" " * len(before),
-        break_on_hyphens=False,
-    ) or [""]
+    return filled(text.replace("`", ""), columns_of_text(), before, " " * len(before)) or [""]
 
 
 def widths_of(table: Table, cells: Sequence[Sequence[Content]]) -> list[int]:
-    """The width of each column: as wide as its widest cell, and the widest columns of words made narrower until all has
-    room."""
-    widths = [max([len(column.head), *(length(row[i]) for row in cells)]) for i, column in enumerate(table.columns)]
-    words = [i for i, column in enumerate(table.columns) if column.kind == "words"] or [len(widths) - 1]
+    """The width of each column: as wide as its widest cell, and the widest columns of words and of names made narrower
+    until all has room."""
+    widths = [
+        max([columns_of(column.head), *(length(row[i]) for row in cells)]) for i, column in enumerate(table.columns)
+    ]
+    words = [i for i, column in enumerate(table.columns) if column.kind != "number"]
     while sum(widths) + 2 * (len(widths) - 1) > columns_of_text() and max(widths[i] for i in words) > 12:
         widths[max(words, key=lambda i: widths[i])] -= 1
     return widths
@@ -84,7 +76,7 @@ def row_lines(table: Table, cells: Sequence[Content], widths: Sequence[int]) -> 
     for line in range(max(map(len, columns))):
         places = (column[line] if line < len(column) else "" for column in columns)
         yield "  ".join(
-            f"{place:>{width}}" if column.kind == "number" else f"{place:<{width}}"
+            padded(place, width, to_right=column.kind == "number")
             for place, width, column in zip(places, widths, table.columns)
         ).rstrip()
 
@@ -112,15 +104,15 @@ def block_lines(block: Block) -> Iterator[str]:
     elif isinstance(block, Points):
         yield from [*(line for item in block.items for line in wrapped(item, before="- ")), ""]
     elif isinstance(block, Heading):
-        yield from [block.text, "-" * len(block.text), ""]
+        yield from [block.text, "-" * columns_of(block.text), ""]
     elif isinstance(block, Figures):
-        width = max(len(head) for head, _ in block.pairs)
-        yield from [*(f"{head:<{width}}  {value}" for head, value in block.pairs), ""]
+        width = max(columns_of(head) for head, _ in block.pairs)
+        yield from [*(f"{padded(head, width)}  {value}" for head, value in block.pairs), ""]
     elif isinstance(block, (Table, Picture)):
         yield from table_lines(block.table if isinstance(block, Picture) else block)
     elif isinstance(block, Fold):
         title = block.title.partition(" (")[0]  # nothing has to be opened in a text
-        yield from [title, "-" * len(title), ""]
+        yield from [title, "-" * columns_of(title), ""]
         for inner in block.blocks:
             yield from block_lines(inner)
     elif isinstance(block, Cards):
@@ -131,16 +123,16 @@ def block_lines(block: Block) -> Iterator[str]:
 def card_lines(card: Card) -> Iterator[str]:
     """The lines of a card."""
     if card.title:
-        yield f"{card.title}: {card.note}" if card.note else card.title
+        yield from wrapped(f"{card.title}: {card.note}" if card.note else card.title)
     for block in card.blocks:
         yield from block_lines(block)
 
 
 def text(page: Page) -> str:
     """The whole report."""
-    lines = [page.title, "=" * len(page.title), *wrapped(page.under), ""]
+    lines = [page.title, "=" * columns_of(page.title), *wrapped(page.under), ""]
     for section in page.sections:
-        lines += [section.title.upper(), "=" * len(section.title), ""]
+        lines += [section.title.upper(), "=" * columns_of(section.title), ""]
         lines += [*wrapped(f"{section.finding}."), ""] if section.finding else []
         for block in section.blocks:
             lines += block_lines(block)
