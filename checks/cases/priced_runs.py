@@ -6,6 +6,8 @@ count can be stopped and resumed, and a checker that is built later judges what 
 
 from __future__ import annotations
 
+import collections
+import itertools
 import json
 import math
 import os
@@ -14,9 +16,10 @@ import subprocess
 import sys
 import tempfile
 import time
-from collections.abc import Callable, Iterator, Sequence
+from collections.abc import Callable, Iterable, Iterator, Sequence
+from concurrent.futures import ProcessPoolExecutor
 from dataclasses import asdict, dataclass, field
-from typing import NamedTuple, TypeAlias
+from typing import NamedTuple, TypeAlias, TypeVar
 
 from checks.cases.many_winners import Drawn
 from checks.cases.samples import TOOLS, called
@@ -24,11 +27,14 @@ from checks.cases.samples import TOOLS, called
 from cca_tools.pricing.tables import NARROW, most_worth
 from cca_tools.rules.book import Book, book_text
 from cca_tools.rules.stops import DONE, LIMIT
+from cca_tools.studies.runners import begin_worker
 
 ROOT = pathlib.Path(__file__).resolve().parents[2]
 CHECKER = ROOT / "second_proof" / "built" / "checker"
 PROGRAM, COURT, PROOF = "cca", "tools/check", "second proof"
 JUDGES = (PROGRAM, COURT, PROOF)
+AHEAD = 4  # so many jobs are given to each process, so that a long one doesn't hold up the others
+T = TypeVar("T")
 More: TypeAlias = dict[str, int | float | str]
 
 
@@ -155,26 +161,18 @@ def priced_apart(words: Sequence[str]) -> Ended:
         return ended._replace(seconds=float(user) + float(system), megabytes=int(kilobytes) / 1024)
 
 
-class Count:
-    """A count in a folder: its records, which are in the file of its name, and the files of runs."""
+@dataclass(frozen=True)
+class Runner:
+    """Runs tools/price on drawn books, and checkers on its certificates. Its files have its name and are in a
+    folder."""
 
-    def __init__(self, name: str, folder: pathlib.Path, without: Sequence[str] = ()) -> None:
-        folder.mkdir(parents=True, exist_ok=True)
-        self.name, self.folder, self.judges = name, folder, here(without)
-        self.path = folder / f"{name}.jsonl"
-        self.records = {record.number: record for record in read_records(self.path)}
+    name: str
+    folder: pathlib.Path
+    judges: Sequence[str]
 
     def files(self, number: int) -> Files:
         """The files of a run."""
         return Files(*(self.folder / f"{self.name}-{number}.{kind}" for kind in ("book", "weights", "cert")))
-
-    def keep(self, record: Record) -> None:
-        """Keeps a record, in the place of the one of its number. Files that all checkers have judged are removed."""
-        self.records[record.number] = record
-        with open(self.path, "a") as file:
-            file.write(json.dumps(asdict(record)) + "\n")
-        if not record.is_priced or not record.faults and len(record.judged) == len(JUDGES):
-            self.files(record.number).remove()
 
     def run(self, number: int, drawn: Drawn, winners: int, pricer: Pricer = priced) -> tuple[Record, Ended, Files]:
         """Writes the files of a drawn book, and runs tools/price on them. Its certificate is judged."""
@@ -188,28 +186,61 @@ class Count:
         ended = pricer(price_words(files, record.is_weighted))
         take_answer(record, ended, book, files)
         if record.is_priced:
+            record.more["printed"] = ended.printed
             record.judged |= {COURT: True} if f"{COURT} has tested the certificate" in ended.errors else {}
-            self.judge(record, ended.printed)
+            self.judge(record)
         return record, ended, files
 
-    def judge(self, record: Record, printed: str) -> None:
-        """Has each checker that is here and that hasn't judged a certificate judge it."""
+    def judge(self, record: Record) -> Record:
+        """Has each checker that hasn't judged a certificate judge it."""
         files = self.files(record.number)
         for judge in self.judges:
             if judge not in record.judged:
                 said = ran(judge_words(judge, files, record.is_weighted))
-                record.judged[judge] = (said.printed, said.status) == (printed, DONE)
+                record.judged[judge] = (said.printed, said.status) == (record.more["printed"], DONE)
                 record.more[f"seconds of {judge}"] = round(said.seconds, 3)
                 if not record.judged[judge]:
                     record.faults.append(f"{judge} answers {said.printed.splitlines()[:1]} and status {said.status}")
+        return record
 
-    def judge_kept(self) -> Iterator[Record]:
-        """Has the kept certificates judged by the checkers that weren't here before."""
-        for record in list(self.records.values()):
-            if record.is_priced and {*self.judges} - {*record.judged} and self.files(record.number).cert.exists():
-                self.judge(record, str(record.more["printed"]))
-                self.keep(record)
-                yield record
+    def is_left(self, record: Record) -> bool:
+        """Whether a certificate was kept for a checker that hasn't judged it."""
+        is_judged = not {*self.judges} - {*record.judged}
+        return record.is_priced and not is_judged and self.files(record.number).cert.exists()
+
+
+class Count:
+    """A count in a folder: its records, which are in the file of its name, and what runs it."""
+
+    def __init__(self, name: str, folder: pathlib.Path, without: Sequence[str] = ()) -> None:
+        folder.mkdir(parents=True, exist_ok=True)
+        self.runner, self.path = Runner(name, folder, here(without)), folder / f"{name}.jsonl"
+        self.records = {record.number: record for record in read_records(self.path)}
+
+    def keep(self, record: Record) -> None:
+        """Keeps a record, in the place of the one of its number. Files that all checkers have judged are removed."""
+        self.records[record.number] = record
+        with open(self.path, "a") as file:
+            file.write(json.dumps(asdict(record)) + "\n")
+        if not record.is_priced or not record.faults and len(record.judged) == len(JUDGES):
+            self.runner.files(record.number).remove()
+
+
+def in_order(run: Callable[[T], Record], jobs: Iterable[T], processes: int) -> Iterator[Record]:
+    """The records of jobs, in their order, by so many processes; by this one if it is one. After Ctrl-C the jobs that
+    run are finished, but their records are lost."""
+    if processes == 1:
+        yield from map(run, jobs)
+        return
+    with ProcessPoolExecutor(processes, initializer=begin_worker, initargs=(os.getpid(),)) as pool:
+        given = (pool.submit(run, job) for job in jobs)
+        waiting = collections.deque(itertools.islice(given, AHEAD * processes))
+        try:
+            while waiting:
+                yield waiting.popleft().result()
+                waiting.extend(itertools.islice(given, 1))
+        finally:
+            pool.shutdown(wait=False, cancel_futures=True)
 
 
 def take_answer(record: Record, ended: Ended, book: Book, files: Files) -> None:
@@ -217,7 +248,6 @@ def take_answer(record: Record, ended: Ended, book: Book, files: Files) -> None:
     lines = ended.printed.splitlines() or [""]
     record.line, record.status, record.seconds = lines[0], ended.status, round(ended.seconds, 3)
     if record.is_priced:
-        record.more["printed"] = ended.printed
         take_certificate(record, book, lines, files.cert.read_bytes())
     elif record.line.startswith("cca: limit rows ") and ended.status == LIMIT:
         record.rows, record.is_least = int(lines[0].split(" ")[-1]), "these prices need" in ended.errors.lower()

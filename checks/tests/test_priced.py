@@ -5,9 +5,11 @@ from __future__ import annotations
 import json
 import os
 import pathlib
+import signal
 import subprocess
 import sys
 import tempfile
+import time
 import unittest
 from fractions import Fraction
 
@@ -100,11 +102,12 @@ class Counts(unittest.TestCase):
         self.addCleanup(folder.cleanup)
         self.folder = pathlib.Path(folder.name, "counted")
 
-    def count(self, *words: str, program: str | None = None) -> tuple[list[str], int]:
-        """The lines that the program prints with these words and this program of cca, and its status."""
+    def count(self, *words: str, under: str = "", program: str | None = None) -> tuple[list[str], int]:
+        """The lines that the program prints with these words and this program of cca, with its records under a folder,
+        and its status."""
         how = {name: value for name, value in os.environ.items() if name != "CCA_PROGRAM"}
         run = subprocess.run(
-            [sys.executable, ROOT / "checks" / "priced", *words, "--folder", self.folder],
+            [sys.executable, ROOT / "checks" / "priced", *words, "--folder", self.folder / under],
             env=how | ({"CCA_PROGRAM": program} if program else {}),
             stdin=subprocess.DEVNULL,
             capture_output=True,
@@ -145,6 +148,43 @@ class Counts(unittest.TestCase):
         self.assertEqual(sum("cca answers ['no C8 2'] and status 1" in line for line in said), 3)
         self.assertIn("| cca | 3 | 0 |", said)
 
+    def outcomes(self, folder: str) -> list[dict[str, object]]:
+        """The records of `many` in a folder, without what they took."""
+        found = [json.loads(line) for line in (self.folder / folder / "many.jsonl").read_text().splitlines()]
+        for record in found:
+            del record["seconds"]
+            record["more"] = record["more"]["printed"] if "printed" in record["more"] else ""
+        return found
+
+    def test_processes_count_what_one_counts(self) -> None:
+        for jobs in ("1", "3"):
+            said, status = self.count("many", "5", "--jobs", jobs, under=jobs)
+            self.assertEqual((status, said[-1].startswith("5 books, 0 with a fault")), (0, True), said)
+        self.assertEqual(self.outcomes("3"), self.outcomes("1"))
+        # (a checker that comes later judges what was kept, by several processes too)
+        said, status = self.count("many", "5", "--jobs", "3", under="3", program=self.checker("echo no C8 2\nexit 1"))
+        made = sum(it["status"] == 0 for it in self.outcomes("1"))
+        self.assertEqual((status, sum("cca answers ['no C8 2'] and status 1" in line for line in said)), (1, made))
+
+    def test_an_interrupt_of_processes(self) -> None:
+        words = ["checks/priced", "many", "--jobs", "2", "--folder", str(self.folder / "cut")]
+        environment = {name: value for name, value in os.environ.items() if name != "CCA_PROGRAM"}
+        with subprocess.Popen(
+            [sys.executable, *words], cwd=ROOT, env=environment, stdout=subprocess.PIPE, text=True
+        ) as run:
+            while not (self.folder / "cut" / "many.jsonl").exists():
+                time.sleep(0.1)
+            run.send_signal(signal.SIGINT)
+            said, _ = run.communicate()  # (until its processes have ended too)
+        self.assertEqual((run.returncode, said.splitlines()[0]), (0, "stopped; the same command goes on"))
+        count = len(self.outcomes("cut"))
+        self.count("many", str(count + 2), "--jobs", "2", under="cut")
+        self.count("many", str(count + 2), under="whole")
+        self.assertEqual(self.outcomes("cut"), self.outcomes("whole"))
+
+    def test_a_number_of_processes(self) -> None:
+        self.refused("many", "--jobs", "0", why="argument --jobs: invalid choice: 0")
+
     @with_program
     def test_few_winners(self) -> None:
         said, status = self.count("few", "3", program=os.path.abspath(PROGRAM or ""))
@@ -152,15 +192,19 @@ class Counts(unittest.TestCase):
         self.assertEqual(sum(int(line.split(" ")[-2]) for line in said if line.startswith("certificate: ")), 3)
         self.assertIn("| cca | 3 | 3 |", said)
 
-    def test_few_winners_need_the_program(self) -> None:
+    def refused(self, *words: str, why: str) -> None:
+        """The program refuses these words, without a program of cca."""
         run = subprocess.run(
-            [sys.executable, ROOT / "checks" / "priced", "few", "--folder", self.folder],
+            [sys.executable, ROOT / "checks" / "priced", *words, "--folder", self.folder],
             env={name: value for name, value in os.environ.items() if name != "CCA_PROGRAM"},
             capture_output=True,
             text=True,
         )
         self.assertEqual((run.returncode, run.stdout), (2, ""))
-        self.assertIn("few compares with cca: CCA_PROGRAM has to name it", run.stderr)
+        self.assertIn(why, run.stderr)
+
+    def test_few_winners_need_the_program(self) -> None:
+        self.refused("few", why="few compares with cca: CCA_PROGRAM has to name it")
 
     def test_weights(self) -> None:
         said, status = self.count("weighed", "3")
