@@ -18,12 +18,13 @@ from fractions import Fraction
 from collections.abc import Iterator, Sequence
 
 from contextlib import AbstractContextManager
+from checks.cases.many_winners import with_few_winners
 from checks.cases.program import PROGRAM, with_program
 from checks.cases.samples import EXAMPLES, TOOLS, called
 from checks.cases.searches import core_point as plain_point
 
 from cca_tools.rules.types import Bid
-from cca_tools.pricing import certificates, files, search
+from cca_tools.pricing import certificates, files, program_rows, search
 from cca_tools.pricing.certificates import certificate_of
 from cca_tools.pricing.fewer_rows import (
     Shown,
@@ -70,6 +71,12 @@ def rivals(winners: int, losers: Sequence[int] = (50, 40, 30, 20, 10)) -> Book:
     other. So each winner alone has to pay the first loser's bid, and two together less than twice that.
     """
     return singles([100 + j for j in range(winners)], winners, [(1, amount) for amount in losers])
+
+
+def found_of(book: Book) -> tuple[Market, Found]:
+    """The core point of a book without weights."""
+    market = market_of(book)
+    return market, core_point(market, [1] * len(market.winners))
 
 
 class Tables(unittest.TestCase):
@@ -195,12 +202,8 @@ class Certificates(unittest.TestCase):
 
 
 class Rows(unittest.TestCase):
-    def found(self, book: Book) -> tuple[Market, Found]:
-        market = market_of(book)
-        return market, core_point(market, [1] * len(market.winners))
-
     def test_eleven_rows_are_needed_where_no_two_winners_are_asked_together(self) -> None:
-        market, found = self.found(rivals(11))
+        market, found = found_of(rivals(11))
         self.assertEqual(found.point.pays, [50] * 11)
         tight = tight_rows(market, found, 1_000)
         self.assertEqual(
@@ -213,7 +216,7 @@ class Rows(unittest.TestCase):
     def test_tight_rows_are_those_of_an_enumeration(self) -> None:
         """All sets of winners, each with the best choice without them by a table of its own."""
         for seed in range(12):
-            market, found = self.found(drawn(seed))
+            market, found = found_of(drawn(seed))
             book, winners, expected = market.book, market.winners, set()
             for members in range(1, 1 << min(len(winners), 9)):
                 out = [k for i, k in enumerate(winners) if members >> i & 1]
@@ -230,7 +233,7 @@ class Rows(unittest.TestCase):
                 )
 
     def test_a_cap_on_the_tight_rows_is_known(self) -> None:
-        market, found = self.found(singles([10] * 12, 12))
+        market, found = found_of(singles([10] * 12, 12))
         self.assertFalse(tight_rows(market, found, 100).are_all)
         self.assertEqual(len(tight_rows(market, found, 5_000).rows), 2**12 - 1)
 
@@ -266,6 +269,14 @@ class Rows(unittest.TestCase):
         self.assertLessEqual(len(found.rows), 3)
         for i in range(6):
             self.assertEqual(sum(u for row, u in zip(found.rows, found.first) if row.holds(i)), 1)
+
+    def test_a_set_of_rows_that_isn_t_found_soon(self) -> None:
+        """The rows of the search are kept then."""
+        market, found = found_of(with_few_winners(15).book)
+        with unittest.mock.patch.object(program_rows, "MOST_TRIES", 0):
+            other = found_of(market.book)[1]
+        self.assertEqual(other.point.pays, found.point.pays)
+        self.assertNotEqual(other.point.kept, found.point.kept)
 
     def test_independence(self) -> None:
         rows = [Demand(members, 0, ()) for members in (0b011, 0b101, 0b110)]
@@ -340,15 +351,28 @@ class Command(unittest.TestCase):
         self.assertEqual((made.stdout, made.returncode, made.stderr), (judged.stdout, 0, ""))
         self.assertTrue(made.stdout.startswith("yes\n"))
 
+    def need_same(self, name: str, book: str, flags: Sequence[str]) -> None:
+        """The tool prints what `cca price` prints of a book, and writes its certificate."""
+        ours, theirs = f"{name}{len(flags)}.cert", f"{name}{len(flags)}.cca"
+        made = self.run_it(book, ours, *flags, program=PROGRAM)
+        words = [os.path.abspath(PROGRAM), "price", book, theirs, *flags]
+        expected = subprocess.run(words, cwd=self.folder, capture_output=True, text=True).stdout
+        self.assertEqual(made.stdout, expected if flags else "yes\n" + expected)
+        self.assertEqual((self.folder / ours).read_bytes(), (self.folder / theirs).read_bytes(), name)
+
     @with_program
     def test_prices_up_to_six_winners_are_those_of_the_program(self) -> None:
         for name in ("day-cramton", "six-bidders", "tie"):
-            book = os.path.join(EXAMPLES, f"{name}.book")
             for flags in ((), ("--json",)):
-                made = self.run_it(book, f"{name}{len(flags)}.cert", *flags, program=PROGRAM)
-                words = [os.path.abspath(PROGRAM), "price", book, "/dev/null", *flags]
-                expected = subprocess.run(words, capture_output=True, text=True).stdout
-                self.assertEqual(made.stdout, expected if flags else "yes\n" + expected)
+                self.need_same(name, os.path.join(EXAMPLES, f"{name}.book"), flags)
+
+    @with_program
+    def test_rows_are_those_of_the_program_if_several_sets_show_the_prices(self) -> None:
+        for number in (15, 43, 44, 54):
+            market, found = found_of(with_few_winners(number).book)
+            tight = tight_rows(market, found, 1_000)
+            self.assertFalse(are_independent(tight.rows))
+            self.need_same(str(number), self.write(f"{number}.book", book_text(market.book)), ())
 
     def test_json_and_rounds(self) -> None:
         self.write("a.book", book_text(singles([10] * 8, 8, [(8, 64)])))

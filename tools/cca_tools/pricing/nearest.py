@@ -88,9 +88,15 @@ class Nearest:
         rows = [self.rows[r] for r in kept]
         return solved(self.gram(kept), [[self.weight(r.members) for r in rows], [self.gap(r) for r in rows]])
 
-    def both(self) -> tuple[list[Fraction], list[Fraction]]:
-        """Both multipliers of the active set, whose rows never depend on each other."""
-        parts = self.parts(self.kept)
+    def shares(self, kept: Sequence[int], new: int) -> list[Fraction]:
+        """How often each of these rows, which don't depend on each other, is taken to make another one."""
+        found = solved(self.gram(kept), [[self.weight(self.rows[new].members & self.rows[r].members) for r in kept]])
+        assert found is not None
+        return found[0]
+
+    def both(self, kept: Sequence[int]) -> tuple[list[Fraction], list[Fraction]]:
+        """Both multipliers of rows that don't depend on each other, as those of the active set never do."""
+        parts = self.parts(kept)
         assert parts is not None
         return parts[0], parts[1]
 
@@ -103,9 +109,9 @@ class Nearest:
         """The nearest point of least sum that meets all rows so far."""
         while True:
             self.settle()
-            first, second = self.both()
+            first, second = self.both(self.kept)
             if self.shows(first, second):
-                return self.made(first, second)
+                return self.made(self.kept, first, second)
             self.great, self.kept, self.held = self.great**2, [], {}
 
     def settle(self) -> None:
@@ -123,7 +129,7 @@ class Nearest:
         self.kept.append(new)
         self.held[new] = begun
         while True:
-            first, second = self.both()
+            first, second = self.both(self.kept)
             wanted = {r: w + self.great * u for r, u, w in zip(self.kept, first, second)}
             if min(wanted.values()) > 0:
                 self.held = wanted
@@ -145,10 +151,7 @@ class Nearest:
         much it has taken over."""
         if self.parts([*self.kept, new]) is not None:
             return Fraction(0)
-        side = [self.weight(self.rows[new].members & self.rows[r].members) for r in self.kept]
-        found = solved(self.gram(self.kept), [side])
-        assert found is not None
-        share = dict(zip(self.kept, found[0]))
+        share = dict(zip(self.kept, self.shares(self.kept, new)))
         part = min(self.held[r] / share[r] for r in self.kept if share[r] > 0)
         self.keep({r: self.held[r] - part * share[r] for r in self.kept})
         return part
@@ -159,11 +162,11 @@ class Nearest:
         sums = [sum(u for row, u in zip(kept, first) if row.holds(i)) for i in range(len(self.reference))]
         return all(total == 1 for total in sums) and all(u > 0 or u == 0 <= w for u, w in zip(first, second))
 
-    def made(self, first: list[Fraction], second: list[Fraction]) -> Point:
-        """The point of these multipliers."""
-        kept = [self.rows[r] for r in self.kept]
+    def made(self, kept: Sequence[int], first: list[Fraction], second: list[Fraction]) -> Point:
+        """The point of these multipliers of rows."""
+        rows = [self.rows[r] for r in kept]
         pays = [
-            Fraction(v) + w * sum(x for row, x in zip(kept, second) if row.holds(i))
+            Fraction(v) + w * sum(x for row, x in zip(rows, second) if row.holds(i))
             for i, (v, w) in enumerate(zip(self.reference, self.weights))
         ]
-        return Point(pays, list(self.kept), first, second)
+        return Point(pays, list(kept), first, second)

@@ -14,8 +14,10 @@ from dataclasses import dataclass
 from fractions import Fraction
 
 from cca_tools.pricing.nearest import Demand, Nearest, Point
+from cca_tools.pricing.program_rows import program_point
 from cca_tools.pricing.tables import NARROW, Filler, Lines, Worths, filler_of, most_worth
 from cca_tools.rules.book import Book
+from cca_tools.rules.stops import MOST
 from cca_tools.rules.types import Amount, Choice
 from cca_tools.terminal import progress
 
@@ -112,6 +114,12 @@ def most_blocking(market: Market, pays: Sequence[Fraction], den: int) -> tuple[D
     return (demand if missing(demand, pays) > 0 else None), worths, lines
 
 
+def shown(nearest: Nearest, point: Point) -> Point:
+    """The last point, with the rows with which the program shows it if it prices so many winners."""
+    is_priced = len(point.pays) <= MOST["winners"]
+    return (program_point(nearest) if is_priced else None) or point
+
+
 def core_point(market: Market, weights: Sequence[int]) -> Found:
     """The nearest core point of least sum by these weights of the winners."""
     nearest = Nearest(market.vickrey, list(weights))
@@ -126,6 +134,6 @@ def core_point(market: Market, weights: Sequence[int]) -> Found:
         if demand is None and rough != den:
             demand, worths, lines = most_blocking(market, point.pays, den)
         if demand is None:
-            return Found(point, nearest.rows, den, worths, lines, [*turns, Turn(point.pays)])
+            return Found(shown(nearest, point), nearest.rows, den, worths, lines, [*turns, Turn(point.pays)])
         turns.append(Turn(point.pays, demand, missing(demand, point.pays)))
         nearest.rows.append(demand)
