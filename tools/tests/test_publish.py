@@ -272,7 +272,7 @@ class Publish(Files):
                 return list(csv.DictReader(file))
 
         self.assertEqual(
-            [(it["bidder"], it["pays"], it["mhz"], it["pays_per_mhz"]) for it in rows("winners")],
+            [(it["bidder"], it["price"], it["mhz"], it["price_per_mhz"]) for it in rows("winners")],
             [
                 ("everest", "292400", "40", "7310"),
                 ("harbour", "310400", "50", "6208"),
@@ -292,7 +292,7 @@ class Publish(Files):
         )
         self.assertEqual([it["sold"] for it in rows("prices")], ["4", "1", "14", "9"])
         self.assertEqual(
-            [it["amount"] for it in rows("bids") if it["wins"] == "yes"],
+            [it["amount"] for it in rows("bids") if it["won"] == "yes"],
             "420000 400000 380000 120000 500000".split(),
         )
 

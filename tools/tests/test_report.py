@@ -252,7 +252,7 @@ class OfABook(Told):
 
     def test_what_it_rests_on(self) -> None:
         made = page(facts_of(*self.files))
-        (files,) = tables(made, "The files, by their sums (SHA-256)")
+        (files,) = tables(made, "The files, by their checksums (SHA-256)")
         self.assertEqual([row[:2] for row in files], [["book of bids", "file0"], ["certificate", "file1"]])
         self.assert_told("The program isn't here, so nothing is known about its proof.", flat(plain.text(made)))
 

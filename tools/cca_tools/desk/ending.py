@@ -92,7 +92,7 @@ def price_table(printed: str, speech: Speech) -> Table:
             rows.append(Row([*cells, *(Cell(commas(it)) for it in amounts)]))
     total = "".join(line.removeprefix("revenue ") for line in printed.splitlines() if line.startswith("revenue "))
     rows.append(Row([Cell("Revenue"), *[Cell("")] * 3, Cell(commas(total))], "next"))
-    columns = [Column("Bidder", is_number=False), Column("Wins", is_number=False)]
+    columns = [Column("Winner", is_number=False), Column("Won", is_number=False)]
     return Table(
         speech.caption("What the winners pay"), [*columns, *map(Column, ("Bid", "Vickrey price", "Pays"))], rows
     )

@@ -306,7 +306,7 @@ def clock_table(states: Sequence[CategoryState], speech: Speech) -> Table:
         Row([Cell("Supply"), *(Cell(number(it.supply)) for it in states)]),
         Row(
             [
-                Cell("Above supply"),
+                Cell("Excess"),
                 *(Cell(number(it.excess) if it.excess else NONE, "", "warm" if it.excess else "") for it in states),
             ]
         ),
@@ -352,7 +352,7 @@ def bidder_table(auction: Auction, speech: Speech) -> Table:
     ]
     goes_on = any(it.after is not None for it in category_states(auction))
     rows = [bidder_row(state, goes_on, names) for state in clock_states(auction)]
-    return Table("Bidders", [*columns, Column("Costs", speech.unit), *caps], rows)
+    return Table("Bidders", [*columns, Column("Cost", speech.unit), *caps], rows)
 
 
 def list_state(state: ListState) -> Cell:
@@ -578,7 +578,7 @@ def lost_table(auction: Auction, names: LongNames) -> list[Table]:
 def final_table(auction: Auction, speech: Speech) -> Table:
     """What each bidder asks for in the round that would be the final one."""
     names = speech.names
-    columns = [Column("Bidder", is_number=False), Column("Asks for"), Column("Costs", speech.unit)]
+    columns = [Column("Bidder", is_number=False), Column("Asks for"), Column("Cost", speech.unit)]
     rows = [
         Row([Cell(it.name, named(names, it.name)), asks(it), Cell(number(it.cost) if it.cost else NONE)])
         for it in clock_states(auction)
@@ -781,7 +781,7 @@ def bidder_figures(auction: Auction, j: BidderNumber, speech: Speech) -> list[Fi
         Figure("May ask for", count(row.eligibility, "point")),
         Figure("Asks for", speech.package(row.package) if row.activity == "asks" else row.activity),
         Figure("Points", number(row.points)),
-        Figure("Costs", speech.amount(row.cost)),
+        Figure("Cost", speech.amount(row.cost)),
         *rooms,
     ]
 

@@ -84,7 +84,7 @@ def sums(source: Source, with_program: bool) -> Table:
     if with_program and source.program:
         path = pathlib.Path(source.program)
         rows.append(["program", path.name, Cell("", hashlib.sha256(path.read_bytes()).hexdigest())])
-    return Table("The files, by their sums (SHA-256)", columns("What", "File", "Sum"), rows)
+    return Table("The files, by their checksums (SHA-256)", columns("What", "File", "Checksum"), rows)
 
 
 def asked(source: Source) -> Words:

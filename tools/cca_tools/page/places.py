@@ -127,7 +127,7 @@ def rows(source: Source, c: int) -> Iterator[list[Content]]:
 
 def table(source: Source, c: int) -> Table:
     """Where the lots of a category are in its band."""
-    wide = ["MHz #"] if source.frequencies(c) else []
+    wide = ["Frequencies, MHz #"] if source.frequencies(c) else []
     heads = columns("Winner", "Lots #", *wide, f"Pays for the place{source.unit} #")
     return Table(f"The band of {source.names.categories[c]}", heads, list(rows(source, c)))
 

@@ -14,7 +14,7 @@ BESIDE = 8  # bidders whose table is beside the others; of more it has the whole
 
 def categories(source: Source) -> Table:
     """What is sold."""
-    heads = columns("Category", "Lots #", f"Reserve of a lot{source.unit} #")
+    heads = columns("Category", "Supply #", f"Reserve of a lot{source.unit} #")
     if not source.award:
         book = given(source.book)
         lots = zip(source.names.categories, book.supply, book.reserves)

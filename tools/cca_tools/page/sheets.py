@@ -1,7 +1,7 @@
 """The tables of an auction that is over, as CSV: for a spreadsheet or for a program.
 
 Bidders and categories have their short names. Amounts are in the unit of the award and include reserves, unless a
-column says `net`. A price that isn't a whole number has six decimals, and beside it what the program prints.
+column says `net`. A price is exact, as `79+2/3` if no decimal is, and beside it there are its first six decimals.
 """
 
 from __future__ import annotations
@@ -12,19 +12,13 @@ from collections.abc import Iterator, Sequence
 from fractions import Fraction
 from operator import mul
 
+from cca_tools.data.numbers import decimal, exact
 from cca_tools.page.source import Source, given
 from cca_tools.page.winners import origins
-from cca_tools.rules.printing import fraction
 
 FOLDER = "tables"
 Row = Sequence[str | int]
 Sheet = Iterator[Row]
-
-
-def decimal(value: Fraction | int) -> str:
-    """A number with at most six decimals, halves up."""
-    millionths = (Fraction(value) * 2 * 10**6 + 1) // 2
-    return f"{millionths // 10**6}.{millionths % 10**6:06}".rstrip("0").rstrip(".")
 
 
 def wide(widths: Sequence[Fraction], package: Sequence[int]) -> Fraction:
@@ -35,14 +29,14 @@ def wide(widths: Sequence[Fraction], package: Sequence[int]) -> Fraction:
 def winners(source: Source) -> Sheet:
     """Who won what and pays what, with the price of a MHz if the names have the width of all lots."""
     widths = source.widths
-    by_mhz = ["mhz", "pays_per_mhz"] if widths else []
-    yield ["bidder", "name", *source.short_categories, "reserve", "bid", "vickrey", "pays", "pays_as_printed", *by_mhz]
+    by_mhz = ["mhz", "price_per_mhz"] if widths else []
+    yield ["bidder", "name", *source.short_categories, "reserve", "bid", "vickrey", "price", "price_decimal", *by_mhz]
     for j in source.winners:
         package, bid = source.won(j)
         pays, mhz = source.pays(j), wide(widths, package)
         more = [decimal(mhz), decimal(pays / mhz)] if widths else []
         names = [source.short_bidder(j), source.names.bidder(j)]
-        amounts: list[str | int] = [source.reserve(j), bid, source.vickrey(j), decimal(pays), fraction(pays)]
+        amounts: list[str | int] = [source.reserve(j), bid, source.vickrey(j), exact(pays), decimal(pays)]
         yield [*names, *package, *amounts, *more]
 
 
@@ -68,14 +62,14 @@ def prices(source: Source) -> Sheet:
 
 
 def bids(source: Source) -> Sheet:
-    """Each bid of the book: its package, its amount, where it comes from, and whether it wins."""
+    """Each bid of the book: its package, its amount, where it comes from, and whether it won."""
     book, choice = given(source.book), given(source.certificate).choice
-    yield ["bidder", "number", *source.short_categories, "amount", "net", "from", "wins"]
+    yield ["bidder", "number", *source.short_categories, "amount", "net", "from", "won"]
     for j, (pairs, nets) in enumerate(zip(book.bids, book.net), 1):
         whence = origins(given(source.auction), j)
         for place, ((package, amount), net) in enumerate(zip(pairs, nets), 1):
-            wins = "yes" if choice[j - 1] == place else "no"
-            yield [source.short_bidder(j), place, *package, amount, net, whence[package], wins]
+            won = "yes" if choice[j - 1] == place else "no"
+            yield [source.short_bidder(j), place, *package, amount, net, whence[package], won]
 
 
 SHEETS = {"winners": winners, "rounds": rounds, "prices": prices, "bids": bids}

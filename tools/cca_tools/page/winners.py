@@ -101,7 +101,7 @@ def winners_table(source: Source) -> Table:
 
 def net_table(source: Source) -> Table:
     """The bids and prices net of reserve."""
-    heads = columns("Winner", "Reserve #", "Bid, net #", "Vickrey, net #", "Pays, net #")
+    heads = columns("Winner", "Reserve #", "Bid, net #", "Vickrey price, net #", "Pays, net #")
     rows = list[list[Content]]()
     for j in source.winners:
         reserve, bid = source.reserve(j), source.won(j)[1]
