@@ -8,10 +8,10 @@
 //! The numbers of pricing have to stay below 2^120 in size. The bounds that show this follow from a few limits, and are
 //! written by hand in the crates that are named. After a change of such a limit, choose these bounds again.
 //!
-//! | Bound | Of what | Follows from | Written in |
+//! | Bound | What it bounds | Follows from | Written in |
 //! |---|---|---|---|
 //! | `MOST_VALUE` 2^46 | a choice's value, a bound of a row, the sum of all prices | bidders * amount | here |
-//! | `MOST_WEIGHTED_VALUE` 2^45 | the same where not all weights are 1 | 2 * weighted winners * amount | here |
+//! | `MOST_WEIGHTED_VALUE` 2^45 | these three, if not all weights are 1 | 2 * weighted winners * amount | here |
 //! | 6, 80 | an entry of a system, without weights and with them | winners, weighted winners * weight | `lin_solve` |
 //! | 36, 320 | the sum of a line of a system | winners * entry | `lin_solve` |
 //! | 2^32, 320^4 | a denominator | line ^ winners | `lin_solve`, `nearest_point`, `core_price` |
@@ -22,10 +22,13 @@
 //! | 2^80 | the excess of a block | denominator * value | `core_price` |
 //! | 2^110 | a lowered worth | 2^109 + 2^80 | `core_price` |
 //! | 2^47, 2^48 | a Vickrey price, net and with its reserve | value | `cert_summary`, `outcome` |
+//! | 2^13, 2^56 | the denominator and the surpluses of a table in 64 bits | amount | `value_table` |
+//! | 2^38 | a price after a raise | price, permille of a step | `clock_stage` |
+//! | 2^54 | the cost of a package in a drawn auction | price | `big_auction` |
 //! | 232,792,560 | the least number that each weight divides | weight | `auction_model` and what cites `share` |
 //! | `PRICED_CERT_BYTES` | the bytes of a certificate that pricing writes | bidders, states, amount, winners | `cert_soundness` |
 //!
-//! So six winners are the most that this method can price in 128 bits: with seven the bound of 2^106 would be 2^122. A set of winners
+//! Six winners are the most that this method can price in 128 bits: with seven the bound of 2^106 would be 2^122. A set of winners
 //! is the bits of a `u16`, so there are at most 16 bidders.
 #![tactic(auto)]
 
