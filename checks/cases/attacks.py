@@ -25,7 +25,7 @@ from checks.cases.samples import sample, taking
 
 from cca_tools.desk.journal import Entry, chained, line_sum
 from cca_tools.desk.logfile import LogFile
-from cca_tools.desk.record import replayed_log
+from cca_tools.desk.replays import replayed_log
 from cca_tools.rules.auction import replay
 from cca_tools.rules.award import read_award
 from cca_tools.rules.log import read_log

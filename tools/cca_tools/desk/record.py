@@ -14,9 +14,8 @@ from dataclasses import dataclass, replace
 
 from cca_tools.desk.disk import Refused, sum_of
 from cca_tools.desk.journal import KINDS, Damaged, Entry, LogOfEntries, chained, need_version, replayed, seconds_back
-from cca_tools.rules.auction import replay
+from cca_tools.desk.replays import Replayed, Replays, replayed_log
 from cca_tools.rules.award import Award, read_award
-from cca_tools.rules.log import read_log
 from cca_tools.rules.seals import (
     NO_JOURNAL,
     VOIDING,
@@ -25,7 +24,6 @@ from cca_tools.rules.seals import (
     Public,
     Row,
     Sealer,
-    closed_lengths,
     event_of,
     head_text,
     line_ends,
@@ -90,23 +88,6 @@ def public_of_rows(rows: Sequence[Row]) -> Public:
     for row in rows:
         public.add(row, Event(row.kind, row.close, 0, row.why))
     return public
-
-
-@dataclass(frozen=True)
-class Replayed:
-    """A log: the bytes up to and with each admitted close, whether the last one ends the auction, and the reply to the
-    record that begins in each line, by the line's number in an editor."""
-
-    closes: Sequence[int]
-    is_over: bool
-    replies: Mapping[int, str]
-
-
-def replayed_log(award: Award, log: bytes) -> Replayed:
-    """What the second program finds in a log. Raises `Stop` if it isn't one."""
-    auction = replay(award, read_log(log, award))
-    replies = {line.row: reply.text() for line, reply in zip(auction.lines, auction.replies)}
-    return Replayed(closed_lengths(log, auction), auction.stage == "closed", replies)
 
 
 @dataclass(frozen=True)
@@ -205,16 +186,16 @@ class Tester:
     def logs(self, entries: Sequence[Entry]) -> list[Replayed]:
         """Each log that was cut or changed, and the last one. Tests what each entry does to its log. Raises
         `Refused`."""
-        found, log = list[Replayed](), Sums()
+        found, log, replays = list[Replayed](), Sums(), Replays(self.award)
         for number, entry in enumerate(entries, 1):
             before = entries[number - 2] if number > 1 else None
             self.need_form(number, entry, before)
             self.need_nothing_away(number, entry, before, log)
             if entry.what in SHORTENING:
-                found.append(replayed_log(self.award, bytes(log.data)))
+                found.append(replays.replayed(log.data, entry.start))
             log.cut(entry.start)
             log.add(entry.text)
-        return [*found, replayed_log(self.award, bytes(log.data))]
+        return [*found, replays.replayed(log.data, len(log.data))]
 
     def need_all_posted(self, number: int, now: Replayed) -> None:
         """Tests that each close of a log was posted before the log was cut, or by the end of the journal."""
