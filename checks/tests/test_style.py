@@ -1,5 +1,4 @@
-"""All Python of the repository is formatted and linted, and typed except for the files that UNTYPED names. What is
-shell is checked.
+"""All Python of the repository is typed, formatted and linted, and what is shell is checked.
 
 A test is skipped if its program isn't installed.
 """
@@ -34,24 +33,7 @@ def head(path: pathlib.Path) -> bytes:
 
 PYTHON, SHELL = files(b"python", ".py"), files(b"/sh", ".sh")
 COURT = ["tools/audit", "tools/check"]
-# The files of tests that aren't typed yet, by their folders. All other Python is.
-UNTYPED = {
-    *(f"checks/tests/{name}" for name in ("test_program_runs_auctions.py", "test_program_runs_certs.py")),
-    *(
-        f"tools/tests/{name}"
-        for name in (
-            "desk_client.py",
-            "test_desk_answers.py",
-            "test_desk_guard.py",
-            "test_desk_lists.py",
-            "test_desk_log.py",
-            "test_desk_pages.py",
-            "test_desk_people.py",
-            "test_record.py",
-        )
-    ),
-}
-TYPED = [name for name in PYTHON if name not in (*UNTYPED, *COURT)]
+TYPED = [name for name in PYTHON if name not in COURT]
 
 
 class Style(unittest.TestCase):

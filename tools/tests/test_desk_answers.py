@@ -1,20 +1,25 @@
 """Both programs' replies to a log, compared: alike, different and missing."""
+
+from __future__ import annotations
+
 import hashlib
 import pathlib
 import tempfile
 import unittest
 import unittest.mock
+from collections.abc import Sequence
 
 from checks.cases.drawn import Drawing
 from checks.cases.program import PROGRAM, with_program
 from checks.cases.samples import lines, sample
 
-from cca_tools.desk import answers, sealed_program
+from cca_tools.desk import sealed_program
 from cca_tools.desk.answers import Answers, Differ, NoLine, NoProgram
+from cca_tools.page.source import given
 from cca_tools.rules.auction import Auction, replay
-from cca_tools.rules.award import read_award
+from cca_tools.rules.award import Award, read_award
 from cca_tools.rules.log import read_log
-from cca_tools.rules.stops import Stop
+from cca_tools.rules.stops import MOST, Stop
 from cca_tools.rules.view import record_text
 
 SMALL = b"""version = 1
@@ -28,14 +33,14 @@ CLOCK = lines("bid,east,2 1, / bid,west,2 1, / close,,, / bid,east,2 0, / bid,we
 SEALED = CLOCK + lines("close,,, / draft,east,2 0,40 / draft,east,1 0,30 / draft,west,1 1,30")
 
 
-def state_of(auction):
+def state_of(auction: Auction) -> tuple[object, ...]:
     """All that an auction has come to."""
     rounds = [*auction.rounds, *([auction.open_round] if auction.open_round else [])]
     desks = [(desk.drafts, desk.submitted, desk.highest_in_clock) for desk in auction.desks]
     return auction.stage, auction.final, auction.lines, auction.replies, rounds, desks
 
 
-def by_rules(award, data):
+def by_rules(award: Award, data: bytes) -> Auction:
     """The auction of a log, replayed from nothing."""
     return replay(award, read_log(data, award))
 
@@ -46,8 +51,8 @@ class Case(unittest.TestCase):
         self.addCleanup(folder.cleanup)
         self.folder = pathlib.Path(folder.name)
 
-    def answers(self, award=SMALL, script=""):
-        """Both programs, where a script of the shell may stand for cca: it has the real one as $CCA."""
+    def answers(self, award: bytes = SMALL, script: str = "") -> Answers:
+        """Both programs. A script of the shell may stand for cca: it has the real one as $CCA."""
         file, program = self.folder / "award", self.folder / "cca"
         file.write_bytes(award)
         program.write_bytes(
@@ -57,8 +62,8 @@ class Case(unittest.TestCase):
         )
         return Answers(file, program)
 
-    def changed(self, edit):
-        """Both programs, where sed edits what cca prints."""
+    def changed(self, edit: str) -> Answers:
+        """Both programs. Sed edits what cca prints."""
         return self.answers(script=f'out=$($CCA "$@"); status=$?; echo "$out" | sed -E "{edit}"; exit $status')
 
 
@@ -113,7 +118,7 @@ class Alike(Case):
     def test_limits(self) -> None:
         """A close that a limit refuses is answered, and both programs say that the log ends there."""
         both = self.answers(SMALL.replace(b"reserve = 10", b"reserve = 68719476736"))
-        self.assertEqual(both.auction(CLOCK).limit_stop.line, "cca: limit price 82463372084")
+        self.assertEqual(given(both.auction(CLOCK).limit_stop).line, "cca: limit price 82463372084")
 
     def test_pinned(self) -> None:
         """What happens to the files afterwards changes nothing."""
@@ -159,7 +164,7 @@ class NoAnswers(Case):
         both, data = self.answers(), CLOCK + b"bid,east,1 0,\n" * 5
         both.auction(data)
         ended = sealed_program.Ended(["cca: limit records 11"], 7, b"")
-        with unittest.mock.patch.dict(answers.MOST, records=10), unittest.mock.patch.object(
+        with unittest.mock.patch.dict(MOST, records=10), unittest.mock.patch.object(
             both._program, "auction", return_value=ended
         ):
             self.assertEqual(len(both.auction(data).lines), 10)
@@ -190,8 +195,9 @@ class NoAnswers(Case):
             self.answers(script="echo 1 ok; exit 3").auction(b"bid;east\n")
 
     def test_a_program_that_fails(self) -> None:
+        both = self.answers()
         with self.assertRaisesRegex(NoProgram, "can't be read"):
-            Answers(self.folder / "award", self.folder / "none") if self.answers() else None
+            Answers(self.folder / "award", self.folder / "none")
         for script, words in (
             ("echo cca: memory; exit 6", "status 6, which no log leads to, and its last line is `cca: memory`"),
             ("exit 5", "status 5, which no log leads to."),
@@ -202,7 +208,6 @@ class NoAnswers(Case):
         with unittest.mock.patch.object(sealed_program, "SECONDS", 0.2):
             with self.assertRaisesRegex(NoProgram, "doesn't answer within 0.2 s"):
                 self.answers(script="exec sleep 60").auction(CLOCK)
-        both = self.answers()
         (self.folder / "cca").write_bytes(b"no program\n" * 10)
         none = Answers(self.folder / "award", self.folder / "cca")
         with self.assertRaisesRegex(NoProgram, "can't be started"):
@@ -213,13 +218,12 @@ class NoAnswers(Case):
 @with_program
 class Probing(Case):
     def test_alike(self) -> None:
-        for award, logs in (
+        rows = sample("spectrum.log").splitlines(True)
+        cases: list[tuple[bytes, Sequence[bytes]]] = [
             (SMALL, (b"", CLOCK, SEALED, SEALED + lines("submit,east,, / close,,,"))),
-            (
-                sample("spectrum.award"),
-                [b"".join(sample("spectrum.log").splitlines(True)[:count]) for count in (16, 33)],
-            ),
-        ):
+            (sample("spectrum.award"), [b"".join(rows[:count]) for count in (16, 33)]),
+        ]
+        for award, logs in cases:
             both = self.answers(award)
             for log in logs:
                 self.assertEqual(both.probe(log), [])
@@ -247,7 +251,7 @@ class Probing(Case):
 
     def test_a_log_without_room(self) -> None:
         both = self.answers()
-        with unittest.mock.patch.dict(answers.MOST, records=len(CLOCK.splitlines()) + 1):
+        with unittest.mock.patch.dict(MOST, records=len(CLOCK.splitlines()) + 1):
             found = both.probe(CLOCK)
         self.assertEqual(len(found), 4)
         self.assertTrue(all("no room for probing lines" in sentence for sentence in found))

@@ -1,4 +1,7 @@
 """Who may ask the desk what: each measure against another host, origin, user or form has its test."""
+
+from __future__ import annotations
+
 import http.client
 import os
 import pathlib
@@ -14,11 +17,13 @@ import time
 import unittest
 import unittest.mock
 import urllib.parse
+from collections.abc import Mapping
 
-from desk_client import HAS_ALL, PORT, WHY, DeskTest, Reader, words
+from desk_client import HAS_ALL, PORT, WHY, Answer, DeskTest, Reader, matched, words
 from checks.cases.samples import EXAMPLES, TOOLS, taking
 
 from cca_tools.commands.desk import listener_on
+from cca_tools.page.source import given
 from cca_tools.rules.stops import CRASH, WORDS, Stop
 
 desk = taking("desk")
@@ -49,11 +54,13 @@ class Requests(DeskTest):
         self.open()
         self.inside = f"{self.guard.inside}/"
 
-    def refuses(self, status, method, path, form=None, **headers) -> None:
+    def refuses(
+        self, status: int, method: str, path: str, form: Mapping[str, str] | str | None = None, **headers: str | None
+    ) -> None:
         """A request is refused with this status, by a page without an address of the desk, and writes nothing."""
         answer = self.client.ask(method, path, form, **headers)
         self.assertEqual(answer.status_code, status, (method, path, headers))
-        self.assertNotIn("/desk-", answer.text_)
+        self.assertNotIn("/desk-", answer.text)
         self.assertNotIn("Set-Cookie", answer.headers)
         self.assertEqual(self.log(), b"")
 
@@ -120,13 +127,14 @@ class Requests(DeskTest):
             )
 
     def test_each_form_has_the_token_of_this_start(self) -> None:
-        for token in (
+        tokens: list[dict[str, str]] = [
             {},
             {"token": ""},
             {"token": "x"},
             {"token": "\u00e9"},
             {"token": self.guard.token[:-1]},
-        ):
+        ]
+        for token in tokens:
             for action in (
                 "preview",
                 "write",
@@ -139,7 +147,7 @@ class Requests(DeskTest):
                 with self.subTest(token=token, action=action):
                     self.refuses(403, "POST", self.inside + action, {"raw": LINE, **token})
         for place in ("", "close", "again"):
-            page = self.client.load(place).text_
+            page = self.client.load(place).text
             for action, fields in Reader(page).forms:
                 self.assertEqual(fields.get("token"), self.guard.token, action)
 
@@ -185,7 +193,7 @@ class Requests(DeskTest):
             self.guard.session,
         ):
             answer = self.client.ask("POST", "/", {"key": key}, Cookie=None)
-            self.assertEqual((answer.status_code, answer.headers["Location"]), (303, "/?wrong"))
+            self.assertEqual((answer.status_code, answer.location), (303, "/?wrong"))
             self.assertNotIn("Set-Cookie", answer.headers)
         grouped = "-".join(re.findall("....", self.guard.key))
         for key in (self.guard.key, grouped, grouped.upper(), f" {grouped} "):
@@ -272,7 +280,8 @@ class Requests(DeskTest):
 
 
 class Texts(DeskTest):
-    def named(self, text):
+    def named(self, text: str) -> pathlib.Path:
+        """The file of names with this text."""
         path = self.folder / "names.toml"
         path.write_text(text, encoding="utf-8")
         return path
@@ -282,7 +291,7 @@ class Texts(DeskTest):
         self.client.write(LINE)
         seen = ""
         for place in ("", "close", "bidder/everest", "again", "/posted"):
-            page = self.client.load(place).text_
+            page = self.client.load(place).text
             self.assertEqual(self.client.answer.status_code, 200, words(page))
             tags = Reader(page).tags
             self.assertFalse({"script", "img", "svg", "iframe"} & {tag for tag, _ in tags}, place)
@@ -321,7 +330,7 @@ class Texts(DeskTest):
             "/posted",
             "nowhere",
         ):
-            for tag, attrs in Reader(client.load(place).text_).tags:
+            for tag, attrs in Reader(client.load(place).text).tags:
                 self.assertNotIn(tag, ("script", "style", "iframe", "object", "base"), place)
                 self.assertFalse(
                     [name for name in attrs if name.startswith("on") or name == "style"],
@@ -330,7 +339,7 @@ class Texts(DeskTest):
 
 
 class Room(DeskTest):
-    def page(self):
+    def page(self) -> Answer:
         """The room's screen, as a browser without key and cookie has it."""
         answer = self.client.ask("GET", "/posted", Cookie=None)
         self.assertEqual(answer.status_code, 200)
@@ -339,8 +348,8 @@ class Room(DeskTest):
     def test_nothing_changes_between_closes(self) -> None:
         client = self.open(with_demand=True)
         first = self.page()
-        self.assertIn("Round 1 is open", first.text_)
-        self.assertIn('http-equiv="refresh"', first.text_)
+        self.assertIn("Round 1 is open", first.text)
+        self.assertIn('http-equiv="refresh"', first.text)
         client.write("bid,everest,2 0 4 0,\nbid,tarn,2 1 4 0,\nbid,tarn,4 1 0 0,")
         self.assertEqual(
             (self.page().data, dict(self.page().headers)),
@@ -349,8 +358,8 @@ class Room(DeskTest):
         client.write("bid,meridian,2 0 7 6,")
         client.close("1")
         second = self.page()
-        self.assertIn("Round 2 is open", second.text_)
-        self.assertIn("6 of 4", second.text_)
+        self.assertIn("Round 2 is open", second.text)
+        self.assertIn("6 of 4", second.text)
         client.write("bid,everest,2 0 4 0,")
         self.assertEqual(self.page().data, second.data)
 
@@ -358,17 +367,17 @@ class Room(DeskTest):
         client = self.open()
         client.write("bid,everest,4 1 0 0,\nbid,everest,3 0 0 0,\nbid,tarn,2 1 4 0,")
         client.load("close")
-        client.send("close", typed=client.form("close") and self.words())
+        client.send("close", typed=self.words())
         page = self.page()
-        self.assertIn("Posted price", page.text_)
-        self.assertNotIn("<a ", page.text_)
-        self.assertNotIn("<form", page.text_)
-        self.assertNotIn(self.guard.inside, page.text_)
+        self.assertIn("Posted price", page.text)
+        self.assertNotIn("<a ", page.text)
+        self.assertNotIn("<form", page.text)
+        self.assertNotIn(self.guard.inside, page.text)
         for name in self.desk.award.names:
-            self.assertNotIn(name, page.text_)
-        self.assertNotIn(" of 4", page.text_)
+            self.assertNotIn(name, page.text)
+        self.assertNotIn(" of 4", page.text)
 
-    def words(self):
+    def words(self) -> str:
         """What the close on the page asks for."""
         found = re.search(r"Type: ([a-z ]+)<", self.client.page)
         return found[1] if found else "1"
@@ -392,8 +401,8 @@ class AsProgram(unittest.TestCase):
             "day.log",
         ]
 
-    def start(self, *words):
-        """Starts the desk, and gives its process with what it says."""
+    def start(self, *words: str) -> tuple[subprocess.Popen[str], str]:
+        """Starts the desk, and returns its process with the first three lines that it says."""
         made = subprocess.Popen(
             [*self.words, *words],
             cwd=self.folder,
@@ -402,76 +411,73 @@ class AsProgram(unittest.TestCase):
             text=True,
             preexec_fn=take_interrupts,
         )
-        self.addCleanup(made.stderr.close)
-        self.addCleanup(made.stdout.close)
+        self.addCleanup(made.communicate)
         self.addCleanup(made.kill)
-        return made, "".join(made.stdout.readline() for _ in range(3))
+        return made, "".join(given(made.stdout).readline() for _ in range(3))
 
     def test_a_start_and_an_end(self) -> None:
         made, said = self.start()
-        found = re.fullmatch(
-            r"desk  (http://127\.0\.0\.1:(\d+))/\nkey   ((?:\w{4}-){5}\w{4})\nroom  \1/posted\n",
-            said,
-        )
-        self.assertTrue(found, said or made.stderr.read())
-        port, key = int(found[2]), found[3]
+        form = r"\Adesk  (http://127\.0\.0\.1:(\d+))/\nkey   ((?:\w{4}-){5}\w{4})\nroom  \1/posted\n\Z"
+        origin, port, key = matched(form, said).groups()
         if shutil.which("ss"):
-            self.assertEqual(listening(port), ["127.0.0.1"])
+            self.assertEqual(listening(int(port)), ["127.0.0.1"])
         self.assertFalse(in_processes(key) or in_processes(key.replace("-", "")))
-        asked = http.client.HTTPConnection("127.0.0.1", port, timeout=20)
-        form = urllib.parse.urlencode({"key": key})
-        headers = {
-            "Origin": found[1],
-            "Content-Type": "application/x-www-form-urlencoded",
-        }
-        asked.request("POST", "/", form, headers)
-        answer = asked.getresponse()
-        answer.read()
-        self.assertEqual(answer.status, 303)
-        self.assertIsNone(answer.headers["Server"])
-        asked.request(
-            "GET",
-            answer.headers["Location"],
-            headers={"Cookie": answer.headers["Set-Cookie"].split(";")[0]},
-        )
-        page = asked.getresponse()
-        self.assertIn("Round 1 is open", page.read().decode())
-        asked.close()
+        self.assertIn("Round 1 is open", self.entered(origin, int(port), key))
         for kind in ("", ".desk", ".key"):
             self.assertEqual(stat.S_IMODE(os.stat(self.folder / f"day.log{kind}").st_mode), 0o600)
         made.send_signal(signal.SIGINT)
         self.assertEqual(made.wait(20), 0)
-        self.assertEqual(made.stdout.read(), "The desk is closed.\n")
+        self.assertEqual(given(made.stdout).read(), "The desk is closed.\n")
+
+    def entered(self, origin: str, port: int, key: str) -> str:
+        """The page to which the key leads, by HTTP."""
+        asked = http.client.HTTPConnection("127.0.0.1", port, timeout=20)
+        headers = {"Origin": origin, "Content-Type": "application/x-www-form-urlencoded"}
+        asked.request("POST", "/", urllib.parse.urlencode({"key": key}), headers)
+        answer = asked.getresponse()
+        answer.read()
+        self.assertEqual(answer.status, 303)
+        self.assertIsNone(answer.headers["Server"])
+        cookie = answer.headers["Set-Cookie"].split(";")[0]
+        asked.request("GET", answer.headers["Location"], headers={"Cookie": cookie})
+        page = asked.getresponse().read().decode()
+        asked.close()
+        return page
 
     def test_idle_connections_hold_nobody(self) -> None:
         """More of them than a server takes by default; the room's screen is answered beside them."""
         _, said = self.start()
-        port = int(re.search(r":(\d+)/posted", said)[1])
-        idle = [socket.create_connection(("127.0.0.1", port), timeout=20) for _ in range(150)]
-        self.addCleanup(lambda: [it.close() for it in idle])
-        for it in idle[:75]:
+        port = int(matched(r":(\d+)/posted", said)[1])
+        for it in self.connections(port, 150)[:75]:
             it.send(b"POST / HTTP/1.1\r\nHost: ")
         asked = http.client.HTTPConnection("127.0.0.1", port, timeout=60)
         asked.request("GET", "/posted")
         self.assertIn("Round 1 is open", asked.getresponse().read().decode())
         asked.close()
 
+    def connections(self, port: int, count: int) -> list[socket.socket]:
+        """Connections to a port, which are closed after the test."""
+        made = [socket.create_connection(("127.0.0.1", port), timeout=20) for _ in range(count)]
+        for it in made:
+            self.addCleanup(it.close)
+        return made
+
     def test_two_people_have_two_keys(self) -> None:
         made, said = self.start("--second")
-        said += made.stdout.readline()
+        said += given(made.stdout).readline()
         keys = re.findall(r"(?:key|second) +((?:\w{4}-){5}\w{4})\n", said)
         self.assertEqual((len(keys), len(set(keys))), (2, 2))
 
     def test_a_log_has_one_address(self) -> None:
-        addresses = set()
+        addresses: set[str] = set()
         for _ in range(2):
             made, said = self.start()
-            addresses.add(re.search(r"room  (\S+)", said)[1])
+            addresses.add(matched(r"room  (\S+)", said)[1])
             made.kill()
             made.wait(20)
         self.assertEqual(len(addresses), 1)
 
-    def refused(self, *words_):
+    def refused(self, *words_: str) -> tuple[int, str]:
         """Why a start fails, with its status. Nothing is made."""
         log = self.folder / "other.log"
         with self.assertRaises(Stop) as caught:
@@ -518,14 +524,14 @@ class AsProgram(unittest.TestCase):
         self.assertIn(f"port {port} of 127.0.0.1 can't be had", caught.exception.why)
 
 
-def listening(port):
+def listening(port: int) -> list[str]:
     """The addresses at which somebody listens on a port."""
     said = subprocess.run(["ss", "-ltnH"], capture_output=True, text=True, check=True).stdout
     places = [row.split()[3].rpartition(":") for row in said.splitlines()]
     return [address for address, _, place in places if place == str(port)]
 
 
-def in_processes(text):
+def in_processes(text: str) -> bool:
     """Whether a text is in the words or the environment of any process that can be seen."""
     found = False
     for name in ("cmdline", "environ"):

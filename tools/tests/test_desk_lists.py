@@ -1,5 +1,8 @@
 """Lists of a bidder as CSV, as a file of a spreadsheet or pasted: what is read, what is refused by name, and what the
 desk does with the rows that have faults."""
+
+from __future__ import annotations
+
 import codecs
 import io
 import os
@@ -8,7 +11,7 @@ import tempfile
 import unittest
 import unittest.mock
 
-from desk_client import DeskTest, Reader
+from desk_client import DeskTest, File, Reader, Sent
 from checks.cases.samples import sample
 
 from cca_tools.desk.lines import NotLines
@@ -40,6 +43,11 @@ BIDS = {(1, 0): 10, (2, 3): 2100}
 OPEN = os.open
 ROWS = "2 0 0 0;490,000\n2 0 2 0;510,000\n"
 DRAFTS = "draft,tarn,2 0 0 0,490000\ndraft,tarn,2 0 2 0,510000\n"
+
+
+def rows_file(name: str = "list.csv") -> File:
+    """The rows as a file that is chosen."""
+    return io.BytesIO(ROWS.encode()), name
 
 
 class Sheets(unittest.TestCase):
@@ -141,18 +149,18 @@ class Files(unittest.TestCase):
 class Handing(DeskTest):
     """A list that is handed in at the desk."""
 
-    def hand_in(self, file=None, name="list.csv", **fields):
+    def hand_in(self, file: bytes | None = None, name: str = "list.csv", **fields: str) -> None:
         """Sends the form of a list, with a file if its bytes are given, and loads the page that it leads to."""
-        sent = {"bidder": "tarn", "list": "", **fields}
+        sent: dict[str, Sent] = {"bidder": "tarn", "list": "", **fields}
         if file is not None:
             sent["file"] = io.BytesIO(file), name
         answer = self.client.post("list", **sent)
-        self.assertEqual(answer.status_code, 303, answer.text_)
-        self.client.load(answer.headers["Location"])
+        self.assertEqual(answer.status_code, 303, answer.text)
+        self.client.load(answer.location)
 
-    def kept(self):
-        """The form of the list that the page of what was written leads to."""
-        self.client.load(re.search(r'href="([^"]+)">Go on with the lines that the form keeps', self.client.page)[1])
+    def kept(self) -> str:
+        """The list in the form to which the page of what was written leads."""
+        self.client.follow("Go on with the lines that the form keeps")
         return self.client.form("list")["list"].strip()
 
     def test_a_pasted_list(self) -> None:
@@ -197,34 +205,38 @@ class Handing(DeskTest):
         parts = "".join(
             f'--x\r\nContent-Disposition: form-data; name="{name}"\r\n\r\n{text}\r\n' for name, text in fields.items()
         )
-        opened = []
-        with unittest.mock.patch("os.open", lambda *words: opened.append(words[0]) or OPEN(*words)):
+        opened: list[str] = []
+
+        def opening(path: str, flags: int, mode: int = 0o777, *, dir_fd: int | None = None) -> int:
+            """Opens a file as the system does, and notes its path."""
+            opened.append(path)
+            return OPEN(path, flags, mode, dir_fd=dir_fd)
+
+        with unittest.mock.patch("os.open", opening):
             kind = "multipart/form-data; boundary=x"
             answer = client.ask("POST", f"{self.guard.inside}/list", f"{parts}--x--\r\n".encode(), Content_Type=kind)
             self.assertEqual(opened.count(tempfile.gettempdir()), 0)
             tempfile.TemporaryFile().close()
             self.assertEqual(opened.count(tempfile.gettempdir()), 1)
-        client.load(answer.headers["Location"])
+        client.load(answer.location)
         self.assertIn("The file has 700,000 bytes, and a list has at most 262,144.", client.text())
 
     def test_files_that_are_refused(self) -> None:
         client = self.open(SEALED)
-        for file, part in (
+        cases: list[tuple[bytes | None, str]] = [
             (b"PK\x03\x04\x14", "Nothing was written. The file is a workbook (.xlsx or .ods), not CSV."),
             (b"x" * (MOST_FILE + 1), "Nothing was written. The file has 262,145 bytes"),
             (b"x" * (1 << 20), "Nothing was read: the file is larger than 262,144 bytes"),
             (None, "Choose the bidder's file, or paste its rows."),
-        ):
+        ]
+        for file, part in cases:
             with self.subTest(part):
                 self.hand_in(file)
                 self.assertIn(part, client.text())
                 (wrong,) = [attrs for _, attrs in Reader(client.page).tags if "aria-invalid" in attrs]
                 self.assertEqual(wrong["id"], "file")
-        two = [(io.BytesIO(ROWS.encode()), "a.csv"), (io.BytesIO(ROWS.encode()), "b.csv")]
-        answer = client.ask(
-            "POST", f"{self.guard.inside}/list", {"token": self.guard.token, "bidder": "tarn", "file": two}
-        )
-        self.assertIn("Choose one file.", client.load(answer.headers["Location"]).text_)
+        answer = client.post_on("list", bidder="tarn", file=[rows_file("a.csv"), rows_file("b.csv")])
+        self.assertIn("Choose one file.", answer.text)
         self.assertEqual(self.log(), SEALED)
 
     def test_faults_by_the_lines_of_the_file(self) -> None:
@@ -249,13 +261,13 @@ class Handing(DeskTest):
         self.hand_in(file.encode(), submit="on")
         self.assertEqual(client.heading(), "1 of 3 would be refused")
         place = client.place
-        client.load(re.search(r'href="([^"]+)">Correct the list', client.page)[1])
+        client.follow("Correct the list")
         self.assertRegex(client.text(), r"Line 3, `1 0 0 0;1`, would be refused: \w+")
         self.assertEqual(client.form("list")["list"].strip(), file.strip())
         client.load(place.lstrip("/"))
-        forms = [fields for where, fields in Reader(client.page).forms if where.endswith("/write")]
+        forms = client.forms("write")
         self.assertEqual(forms[1]["text"], "draft,tarn,2 0 2 0,510000\n")
-        client.load(client.post("write", **forms[1]).headers["Location"])
+        client.post_on("write", **forms[1])
         self.assertTrue(self.log().endswith(b"\ndraft,tarn,2 0 2 0,510000\n"))
         self.assertEqual(self.kept(), "package;amount\n1 0 0 0;1")
 
@@ -265,22 +277,24 @@ class Handing(DeskTest):
         fields = client.form("write")
         with self.log_path.open("ab") as file:
             file.write(b"draft,niche,0 0 1 0,20000\n")
-        client.load(client.post("write", **fields).headers["Location"])
+        client.post_on("write", **fields)
         self.assertIn("Correct the list", client.text())
         self.assertNotIn(b"tarn,2 0 2 0,510000", self.log())
 
     def test_one_route_takes_files(self) -> None:
         client = self.open(SEALED)
         for place in ("preview", "write", "close", "again", "lists", "list/x"):
-            file = io.BytesIO(ROWS.encode()), "list.csv"
-            answer = client.post(place, bidder="tarn", list=ROWS, raw="bid,tarn,1 0 0 0,", file=file)
+            answer = client.post(place, bidder="tarn", list=ROWS, raw="bid,tarn,1 0 0 0,", file=rows_file())
             self.assertEqual(answer.status_code, 415, place)
-        for how in ({"Cookie": None}, {"Origin": "http://evil.example"}, {"Sec_Fetch_Site": "cross-site"}):
-            file = io.BytesIO(ROWS.encode()), "list.csv"
-            fields = {"token": self.guard.token, "bidder": "tarn", "file": file}
+        hows: list[dict[str, str | None]] = [
+            {"Cookie": None},
+            {"Origin": "http://evil.example"},
+            {"Sec_Fetch_Site": "cross-site"},
+        ]
+        for how in hows:
+            fields: dict[str, Sent] = {"token": self.guard.token, "bidder": "tarn", "file": rows_file()}
             self.assertEqual(client.ask("POST", f"{self.guard.inside}/list", fields, **how).status_code, 403)
-        file = io.BytesIO(ROWS.encode()), "list.csv"
-        self.assertEqual(client.ask("POST", f"{self.guard.inside}/list", {"file": file}).status_code, 403)
+        self.assertEqual(client.ask("POST", f"{self.guard.inside}/list", {"file": rows_file()}).status_code, 403)
         self.assertEqual(self.log(), SEALED)
 
 

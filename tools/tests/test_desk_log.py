@@ -1,4 +1,7 @@
 """The desk's log on the disk: what is written, refused, cut and mended, after kills and by two processes at once."""
+
+from __future__ import annotations
+
 import contextlib
 import fcntl
 import hashlib
@@ -11,21 +14,26 @@ import sys
 import tempfile
 import unittest
 import unittest.mock
+from collections.abc import Callable, Iterable, Iterator
+from typing import Any, ParamSpec
 
 from checks.cases import desk_kills
-from checks.cases.desk_kills import FIRST, PINS, SECOND, THIRD, kept_beside, ok
+from checks.cases.desk_kills import FIRST, PINS, SECOND, THIRD, Ended, Scene, kept_beside, ok
 
 from cca_tools.desk import disk
+from cca_tools.desk.faults import Mend, Stop
 from cca_tools.desk.journal import Journal, replayed
 from cca_tools.desk.logfile import Base, Busy, Grown, LogFile, Refused, Unsure, warnings_of
 
+MENDS: set[Mend] = {"take back", "end line", "cut again", "keep changed log", "restart", "none"}
+Given = ParamSpec("Given")
 TRACES = desk_kills.can_trace()
 if not TRACES:
     print(desk_kills.UNTRACED, file=sys.stderr)
 with_strace = unittest.skipUnless(TRACES, desk_kills.UNTRACED)
 
 
-def never(wanted):
+def never(wanted: bytes) -> list[str]:
     """A check that nothing may come to."""
     raise AssertionError("nothing may be checked, and so written")
 
@@ -37,30 +45,54 @@ class Case(unittest.TestCase):
         self.folder = pathlib.Path(folder.name)
         self.path = self.folder / "a.log"
 
-    def beside(self, kind):
+    def beside(self, kind: str) -> pathlib.Path:
+        """A file beside the log."""
         return self.folder / f"a.log.{kind}"
 
-    def open(self, copies=None, **pins):
+    def open(self, copies: pathlib.Path | None = None, **pins: str) -> LogFile:
+        """A desk's log at the path of the test."""
         return LogFile(self.path, {**PINS, **pins}, copies)
 
-    def write(self, log, *lines) -> None:
+    def write(self, log: LogFile, *lines: bytes) -> None:
+        """Writes lines one by one."""
         for line in lines:
             log.append(log.base(log.read()), line, ok)
 
-    def entries(self):
+    def add(self, data: bytes) -> None:
+        """Writes onto the log by hand."""
+        with self.path.open("ab") as file:
+            file.write(data)
+
+    def entries(self) -> list[dict[str, Any]]:
+        """The lines of the journal, as JSON has them."""
         return [json.loads(line) for line in self.beside("desk").read_bytes().splitlines()]
 
-    def refused(self, fault, words, run, *given) -> None:
+    def refused(
+        self,
+        fault: type[Exception],
+        words: str,
+        run: Callable[Given, object],
+        *given: Given.args,
+        **named: Given.kwargs,
+    ) -> None:
         """A call is refused in these words, and changes no file."""
         before = self.files()
         with self.assertRaisesRegex(fault, words):
-            run(*given)
+            run(*given, **named)
         self.assertEqual(self.files(), before)
 
-    def files(self):
+    def files(self) -> dict[str, bytes]:
+        """The files of the folder, and what is in them."""
         return {file.name: file.read_bytes() for file in self.folder.iterdir() if file.is_file()}
 
-    def is_whole(self, log, wanted) -> None:
+    def stopped(self, log: LogFile) -> Stop:
+        """Why the log can't be written; the test fails if it can."""
+        stop = log.stop()
+        assert stop, "the log can be written"
+        return stop
+
+    def is_whole(self, log: LogFile, wanted: bytes) -> None:
+        """The log is the one that is wanted, and its journal leads to it."""
         self.assertIsNone(log.stop())
         self.assertEqual(log.read(), wanted)
         self.assertEqual(replayed(Journal(self.beside("desk")).entries()), wanted)
@@ -69,9 +101,10 @@ class Case(unittest.TestCase):
 class Lines(Case):
     def test_a_line(self) -> None:
         """The log has it, and the journal its time, length, sum, text and replies."""
-        log, seen = self.open(), []
-        written = log.append(log.base(b""), FIRST, lambda wanted: seen.append(wanted) or ["1 ok"])
-        self.assertEqual((written.log, written.was_there, seen), (FIRST, False, [FIRST]))
+        log, check = self.open(), unittest.mock.Mock(return_value=["1 ok"])
+        written = log.append(log.base(b""), FIRST, check)
+        self.assertEqual((written.log, written.was_there), (FIRST, False))
+        check.assert_called_once_with(FIRST)
         self.is_whole(log, FIRST)
         last = self.entries()[-1]
         self.assertEqual((last["bytes"], last["sum"]), (len(FIRST), hashlib.sha256(FIRST).hexdigest()))
@@ -103,7 +136,7 @@ class Lines(Case):
     def test_a_check_that_refuses(self) -> None:
         log = self.open()
 
-        def check(wanted):
+        def check(wanted: bytes) -> list[str]:
             raise Refused("The words don't fit.")
 
         self.refused(Refused, "The words", log.append, log.base(b""), FIRST, check)
@@ -145,14 +178,14 @@ class Lines(Case):
         log = self.open()
         self.write(log, FIRST)
 
-        def check(wanted):
+        def check(wanted: bytes) -> list[str]:
             (self.folder / "new").write_bytes(FIRST)
             os.rename(self.folder / "new", self.path)
             return ["ok"]
 
         with self.assertRaisesRegex(Unsure, "Another|another file"):
             log.append(log.base(FIRST), SECOND, check)
-        self.assertEqual(log.stop().mend, "restart")
+        self.assertEqual(self.stopped(log).mend, "restart")
         self.refused(Refused, "Nothing was written", log.append, log.base(FIRST), SECOND, never)
         log.mend("restart", "an editor")
         self.write(log, SECOND)
@@ -161,9 +194,8 @@ class Lines(Case):
     def test_a_writer_without_the_lock(self) -> None:
         log = self.open()
 
-        def check(wanted):
-            with open(self.path, "ab") as file:
-                file.write(THIRD)
+        def check(wanted: bytes) -> list[str]:
+            self.add(THIRD)
             return ["ok"]
 
         with self.assertRaisesRegex(Unsure, "without asking for the lock"):
@@ -194,8 +226,7 @@ class Starts(Case):
         self.path.write_bytes(FIRST + SECOND)
         log = self.open()
         self.assertEqual((log.note_found(), log.note_found()), (2, 0))
-        with open(self.path, "ab") as file:
-            file.write(THIRD)
+        self.add(THIRD)
         self.assertEqual(log.note_found(), 1)
         self.is_whole(log, FIRST + SECOND + THIRD)
         self.assertEqual([what for _, what, _ in log.answered_at()], ["begun", "found", "found"])
@@ -203,8 +234,7 @@ class Starts(Case):
     def test_what_the_disk_may_not_have_is_written_again(self) -> None:
         """A start writes the newest entry and the lines that were never answered once more, over themselves."""
         self.write(self.open(), FIRST)
-        with open(self.path, "ab") as file:
-            file.write(SECOND)
+        self.add(SECOND)
         entry = self.beside("desk").read_bytes().splitlines(True)[-1]
         for torn in (b"", b"{"):
             with open(self.beside("desk"), "ab") as file:
@@ -233,7 +263,7 @@ class Starts(Case):
                 os.rename(file, target)
                 os.symlink(target, file)
                 self.refused(Refused, "is a link", self.open)
-                self.assertEqual(log.stop().mend, "none")
+                self.assertEqual(self.stopped(log).mend, "none")
                 self.refused(Refused, "is a link", log.append, Base("0" * 16, 0, "0" * 64), SECOND, never)
                 os.rename(target, file)
         os.remove(self.path)
@@ -252,7 +282,7 @@ class Starts(Case):
                     key.write_bytes(left)
                 self.refused(Refused, "Put its copy back", self.open)
                 # the desk that runs has it, and writes it again
-                self.assertEqual(log.stop().mend, "restart")
+                self.assertEqual(self.stopped(log).mend, "restart")
                 self.refused(Refused, "Nothing was written", log.append, log.base(FIRST), SECOND, never)
                 log.mend("restart", "the key was lost")
                 self.assertEqual(key.read_bytes(), log.key)
@@ -287,7 +317,7 @@ class Starts(Case):
         self.write(log, FIRST)
         base = log.base(FIRST)
         self.beside("desk").unlink()
-        self.assertEqual(log.stop().mend, "restart")
+        self.assertEqual(self.stopped(log).mend, "restart")
         log.mend("restart", "the journal was lost")
         self.assertEqual(log.note_found(), 1)
         self.refused(Refused, "held again", log.append, base, SECOND, never)
@@ -299,11 +329,14 @@ class Starts(Case):
         self.write(log, FIRST, SECOND)
         log.cut(log.base(log.read()), len(FIRST), "a slip")
         self.write(log, THIRD)
-        for start in (lambda: log.mend("restart", "lost"), self.open):
-            self.path.unlink()
-            self.assertEqual(log.stop().mend, "restart")
-            start()
-            self.is_whole(log, FIRST + THIRD)
+        self.path.unlink()
+        self.assertEqual(self.stopped(log).mend, "restart")
+        log.mend("restart", "lost")
+        self.is_whole(log, FIRST + THIRD)
+        self.path.unlink()
+        self.assertEqual(self.stopped(log).mend, "restart")
+        self.open()
+        self.is_whole(log, FIRST + THIRD)
 
     def test_warnings(self) -> None:
         self.open()
@@ -320,14 +353,14 @@ class Starts(Case):
 class Mends(Case):
     """Each stop with its mend."""
 
-    def mended(self, log, mend, wanted):
+    def mended(self, log: LogFile, mend: Mend, wanted: bytes) -> Stop:
         """The stop names this mend, nothing is written before it, and it works; the journal names what is kept."""
-        stop = log.stop()
+        stop = self.stopped(log)
         self.assertTrue(stop.allows(mend), stop)
         self.assertTrue(stop.why and stop.safe and stop.todo)
         self.refused(Refused, "Nothing was written", log.append, log.base(b""), SECOND, never)
         self.refused(Refused, "Nothing was written", log.cut, log.base(b""), 0, "why")
-        for other in {"take back", "end line", "cut again", "keep changed log", "restart", "none"} - {mend}:
+        for other in MENDS - {mend}:
             if not stop.allows(other):
                 self.refused(Refused, "this fault", log.mend, other, "why")
         before = kept_beside(self.path)
@@ -341,11 +374,11 @@ class Mends(Case):
         self.is_whole(log, wanted + SECOND)
         return stop
 
-    def torn(self, tail):
+    def torn(self, tail: bytes) -> LogFile:
+        """A log that ends with something without a line feed."""
         log = self.open()
         self.write(log, FIRST)
-        with open(self.path, "ab") as file:
-            file.write(tail)
+        self.add(tail)
         self.assertEqual(log.note_found(), 0)
         return log
 
@@ -364,7 +397,7 @@ class Mends(Case):
         log = self.open()
         self.write(log, FIRST)
         self.path.write_bytes(FIRST[:-1])
-        self.assertEqual(log.stop().mend, "end line")
+        self.assertEqual(self.stopped(log).mend, "end line")
         self.mended(log, "end line", FIRST)
 
     def test_a_changed_log(self) -> None:
@@ -388,7 +421,7 @@ class Mends(Case):
         log = self.open()
         self.write(log, FIRST)
         self.path.write_bytes(SECOND)
-        self.assertIn("from byte 4 on, in line 1", log.stop().why)
+        self.assertIn("from byte 4 on, in line 1", self.stopped(log).why)
         self.path.write_bytes(FIRST)
         self.is_whole(log, FIRST)
 
@@ -452,8 +485,7 @@ class Cuts(Case):
         log = self.open()
         self.write(log, FIRST, THIRD)
         log.cut(log.base(log.read()), len(FIRST), "doubled")
-        with open(self.path, "ab") as file:
-            file.write(THIRD)
+        self.add(THIRD)
         self.assertEqual(log.note_found(), 1)
         self.is_whole(log, FIRST + THIRD)
 
@@ -489,7 +521,7 @@ class Cuts(Case):
 
 
 @contextlib.contextmanager
-def most_bytes(count):
+def most_bytes(count: int) -> Iterator[None]:
     """No file gets longer than this."""
     before = resource.getrlimit(resource.RLIMIT_FSIZE)
     resource.setrlimit(resource.RLIMIT_FSIZE, (count, before[1]))
@@ -516,7 +548,7 @@ class FullDisk(Case):
         with most_bytes(self.beside("desk").stat().st_size + 20):
             with self.assertRaisesRegex(Unsure, "What was sent is in the log, but the journal"):
                 log.append(log.base(FIRST), SECOND, ok)
-        self.assertEqual(log.stop().mend, "restart")
+        self.assertEqual(self.stopped(log).mend, "restart")
         log.mend("restart", "there is room again")
         self.assertEqual(log.note_found(), 1)
         self.is_whole(log, FIRST + SECOND)
@@ -533,27 +565,32 @@ class FullDisk(Case):
 class Faults(Case):
     """System calls that fail: of the log, the journal and the folder."""
 
-    def failing(self, scene, fault):
-        """The scene with a fault; what it said, and the calls after the one that failed."""
+    @contextlib.contextmanager
+    def failing(self, scene: type[Scene], fault: str) -> Iterator[tuple[Scene, Ended]]:
+        """A scene whose child met a fault, and what came of the child. What is left is tested afterwards."""
         with desk_kills.staged(scene) as it:
-            ended = desk_kills.traced(it.act, fault)
-            yield it, ended
+            yield it, desk_kills.traced(it.act, fault)
             it.check()
 
     def test_a_sync_that_fails_is_unsure_and_not_tried_again(self) -> None:
-        for scene, number in ((desk_kills.Write, 1), (desk_kills.Write, 2), (desk_kills.Cut, 3), (desk_kills.Cut, 4)):
-            with self.subTest(scene=scene.name, number=number):
-                for _, ended in self.failing(scene, f"fsync:error=EIO:when={number}"):
-                    self.assertRegex(ended.said, "^Unsure: The disk doesn't say that it keeps")
-                    names = [name for name, _ in ended.calls]
-                    self.assertEqual(names.count("fsync"), number)
-                    noted = [words for name, words in ended.calls if name == "write" and r"{\"prev\"" in words]
-                    self.assertEqual(len(noted), 0 if (scene, number) == (desk_kills.Write, 1) else 1)
+        cases: list[tuple[type[Scene], int, int]] = [
+            (desk_kills.Write, 1, 0),
+            (desk_kills.Write, 2, 1),
+            (desk_kills.Cut, 3, 1),
+            (desk_kills.Cut, 4, 1),
+        ]
+        for scene, number, entries in cases:
+            fault = f"fsync:error=EIO:when={number}"
+            with self.subTest(scene=scene.name, number=number), self.failing(scene, fault) as (_, ended):
+                self.assertRegex(ended.said, "^Unsure: The disk doesn't say that it keeps")
+                self.assertEqual([name for name, _ in ended.calls].count("fsync"), number)
+                noted = [words for name, words in ended.calls if name == "write" and r"{\"prev\"" in words]
+                self.assertEqual(len(noted), entries)
 
     def test_a_copy_that_can_t_be_synced(self) -> None:
         """Neither the copy nor its name in the folder: nothing is cut."""
         for number in (1, 2):
-            for it, ended in self.failing(desk_kills.Cut, f"fsync:error=EIO:when={number}"):
+            with self.failing(desk_kills.Cut, f"fsync:error=EIO:when={number}") as (it, ended):
                 self.assertRegex(ended.said, "^Refused: ")
                 self.assertEqual(it.outcome(), "not begun")
 
@@ -561,19 +598,20 @@ class Faults(Case):
         count = [name for name, _ in desk_kills.calls_of(desk_kills.Start)].count("fsync")
         self.assertEqual(count, 9)
         for number in range(1, count + 1):
-            for _, ended in self.failing(desk_kills.Start, f"fsync:error=EIO:when={number}"):
+            with self.failing(desk_kills.Start, f"fsync:error=EIO:when={number}") as (_, ended):
                 self.assertRegex(ended.said, "^(Refused|Unsure): ")
 
     def test_the_line_that_is_unsure_is_found_at_the_next_start(self) -> None:
-        for it, _ in self.failing(desk_kills.Write, "fsync:error=EIO:when=1"):
+        with self.failing(desk_kills.Write, "fsync:error=EIO:when=1") as (it, _):
             log = it.open()
             self.assertEqual((log.note_found(), log.read()), (1, FIRST + SECOND))
 
 
 @with_strace
 class Kills(unittest.TestCase):
-    def killed(self, scene, calls):
-        seen = set()
+    def killed(self, scene: type[Scene], calls: Iterable[tuple[str, int]]) -> set[str]:
+        """What is left after a kill at each of these calls."""
+        seen: set[str] = set()
         for call, number in calls:
             with self.subTest(scene=scene.name, call=call, number=number):
                 seen.add(desk_kills.kill(scene, call, number))

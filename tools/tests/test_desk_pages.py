@@ -1,19 +1,27 @@
 """The pages of the desk: what is typed, answered, written, closed, held again, stopped and ended, through HTTP."""
+
+from __future__ import annotations
+
 import pathlib
 import re
 import shutil
 import subprocess
 import unittest
 import unittest.mock
+from collections.abc import Callable, Sequence
 
-from desk_client import PROGRAM, DeskTest, Reader, files_of
+from desk_client import DeskTest, Fields, Reader, files_of, matched
+from checks.cases.program import PROGRAM
 from checks.cases.samples import lines, sample, taking
 
 from cca_tools.desk.feed import Feed, missing
 from cca_tools.desk.lines import NotLines, Typed, agrees, need_alone, pasted, plain
+from cca_tools.rules.auction import Auction
 
 SAMPLE = sample("spectrum.log")
 ROUND = "bid,everest,2 0 4 0,\nbid,harbour,1 1 2 4,\nbid,meridian,2 0 7 6,\nbid,niche,0 0 7 5,\nbid,tarn,2 1 4 0,"
+ONE, OTHER = "bid,everest,2 0 4 0,", "bid,harbour,1 1 2 4,"
+ABOVE = "bid,tarn,3 1 0 0,"  # of 100 points, and tarn has 96
 ONE_LOT = """version = 1
 tick = 1
 [[category]]
@@ -34,7 +42,8 @@ permille = 1000
 
 
 class Lines(unittest.TestCase):
-    def refused(self, call, part) -> None:
+    def refused(self, call: Callable[[], object], part: str) -> None:
+        """What was typed states no line, and the fault says this part of why."""
         with self.assertRaises(NotLines) as caught:
             call()
         self.assertIn(part, str(caught.exception))
@@ -81,8 +90,8 @@ class Lines(unittest.TestCase):
             with self.subTest(text):
                 self.refused(lambda: pasted(text), part)
         self.refused(lambda: plain("a"), "no line feed")
-        for text in (b"a\nclose,,,\n", b"close,,,\nclose,,,\n", b" close,,,\n", b"close\n"):
-            self.refused(lambda: need_alone(text), "written alone")
+        for data in (b"a\nclose,,,\n", b"close,,,\nclose,,,\n", b" close,,,\n", b"close\n"):
+            self.refused(lambda: need_alone(data), "written alone")
         need_alone(b"close,,,\n")
         need_alone(b"bid,close,1,\n")
 
@@ -108,7 +117,8 @@ class Line(DeskTest):
         self.assertIn("3 x 20 + 1 x 40 = 100 points, and tarn is eligible for 96 in this round.", client.text())
         actions = re.findall(r'<a class="button main"[^>]*>(.*?)</a>|<button[^>]*>(.*?)</button>', client.page)
         self.assertEqual(actions, [("", "Lock"), ("Correct it", ""), ("", "The bidder sent this: write it")])
-        client.load(re.search(r'href="([^"]+/entry/[^"]+)">Correct it', client.page)[1])
+        client.follow("Correct it")
+        self.assertRegex(client.place, "^/entry/")
         self.assertIn('<option value="tarn" selected>', client.page)
         self.assertIn('value="3  1 0 0"', client.page)
         self.assertIn("bid,tarn,3 1 0 0, would be refused: points 96.", client.text())
@@ -146,44 +156,53 @@ class Line(DeskTest):
 
     def test_one_line_is_it_and_many_are_them(self) -> None:
         """Of all that can be done on the page of replies, and of what the page says of a refused line."""
-        client = self.open()
-        one, other, above = "bid,everest,2 0 4 0,", "bid,harbour,1 1 2 4,", "bid,tarn,3 1 0 0,"
-        for texts, links, button, warning in (
-            ([one], ["Correct it", "Drop it"], "Write it", ""),
-            ([above], ["Correct it", "Drop it"], "The bidder sent this: write it", "Write it only if the bidder sent"),
-            ([one, other], ["Correct them", "Drop them"], "Write 2 lines", ""),
+        self.open()
+        for texts, links, buttons, warning in (
+            ((ONE,), ["Correct it", "Drop it"], ["Write it"], ""),
             (
-                [one, above],
+                (ABOVE,),
+                ["Correct it", "Drop it"],
+                ["The bidder sent this: write it"],
+                "Write it only if the bidder sent",
+            ),
+            ((ONE, OTHER), ["Correct them", "Drop them"], ["Write 2 lines"], ""),
+            (
+                (ONE, ABOVE),
                 ["Correct them", "Drop them"],
-                "The bidders sent these: write them",
+                [
+                    "The bidders sent these: write them",
+                    "Write only the 1 admitted line, keep the others in the form",
+                ],
                 "Write these 2 lines only if the bidders sent just these; correct slips of your own.",
             ),
         ):
             with self.subTest(texts=texts):
-                client.load("")
-                client.send("preview", raw="\n".join(texts))
-                row = client.page.partition('<div class="row">')[2]
+                self.client.send_to("preview", raw="\n".join(texts))
+                row = self.client.page.partition('<div class="row">')[2]
                 self.assertEqual(re.findall(r"<a[^>]*>(.*?)</a>", row.partition("</div>")[0]), links)
-                alone = ["Write only the 1 admitted line, keep the others in the form"] if texts == [one, above] else []
-                self.assertEqual(re.findall(r"<button[^>]*>(.*?)</button>", row), [button, *alone])
-                self.assertIn(warning, client.text())
-                self.assertEqual("stays in the log forever" in client.text(), bool(warning))
-        client.load("")
-        client.send("preview", raw=f"{one}\n{other}")
+                self.assertEqual(re.findall(r"<button[^>]*>(.*?)</button>", row), buttons)
+                self.assertIn(warning, self.client.text())
+                self.assertEqual("stays in the log forever" in self.client.text(), bool(warning))
+
+    def test_two_lines_that_are_sent_twice(self) -> None:
+        """They are written once, and the page of the second time says so."""
+        client = self.open()
+        client.send_to("preview", raw=f"{ONE}\n{OTHER}")
         form = client.form("write")
         for heading, lead in (
             ("Written and synced", "Both programs reply:"),
             ("They are in the log already", "They were written before, and not a second time. Both programs reply:"),
         ):
-            client.load(client.post("write", **form).headers["Location"])
+            client.post_on("write", **form)
             self.assertEqual(client.heading(), heading)
             self.assertIn(lead, client.text())
+            self.assertEqual(self.log(), f"{ONE}\n{OTHER}\n".encode())
 
     def test_the_same_form_twice_writes_once(self) -> None:
         client = self.open()
         client.send("preview", raw="bid,everest,2 0 4 0,")
         form = client.form("write")
-        places = [client.post("write", **form).headers["Location"] for _ in range(3)]
+        places = [client.post("write", **form).location for _ in range(3)]
         self.assertEqual([it.rpartition("/")[2] for it in places], ["1-1", "1-1?again", "1-1?again"])
         client.load(places[1])
         self.assertEqual((client.heading(), self.log()), ("It is in the log already", b"bid,everest,2 0 4 0,\n"))
@@ -193,8 +212,7 @@ class Line(DeskTest):
         client.send("preview", raw="bid,everest,2 0 4 0,")
         old = client.form("write")
         client.write("bid,tarn,1 0 0 0,")
-        answer = client.post("write", **old)
-        client.load(answer.headers["Location"])
+        client.post_on("write", **old)
         self.assertIn("The log has grown", client.text())
         self.assertEqual(self.log(), b"bid,tarn,1 0 0 0,\n")
         client.send("write")
@@ -212,7 +230,7 @@ class Line(DeskTest):
             with self.subTest(action, **fields):
                 answer = client.post(action, **fields)
                 self.assertEqual(answer.status_code, 303)
-                self.assertEqual(client.load(answer.headers["Location"]).status_code, 200)
+                self.assertEqual(client.load(answer.location).status_code, 200)
                 self.assertTrue(client.place == "/close" or 'role="alert"' in client.page, client.text())
                 self.assertEqual(self.log(), b"")
 
@@ -221,7 +239,7 @@ class Line(DeskTest):
         for action in ("preview", "write", "close", "again", "mend", "waiting", "end/award", "end/x"):
             answer = client.post(action)
             self.assertEqual(answer.status_code, 303, action)
-            self.assertIn(client.load(answer.headers["Location"]).status_code, (200,))
+            self.assertEqual(client.load(answer.location).status_code, 200)
 
     def test_a_page_that_is_gone_writes_nothing(self) -> None:
         client = self.open()
@@ -304,9 +322,10 @@ class Closes(DeskTest):
         copies = self.folder / "copies"
         copies.mkdir()
         client = self.open(copies=copies)
-        for write in (lambda: client.write(ROUND), lambda: client.close("1")):
-            write()
-            self.need_copies(copies)
+        client.write(ROUND)
+        self.need_copies(copies)
+        client.close("1")
+        self.need_copies(copies)
         shutil.rmtree(copies)
         client.close("end the clock")
         self.assertIn("The log is written, and the copies aren't.", client.text())
@@ -320,7 +339,7 @@ class Closes(DeskTest):
         client.load("")
         self.assertNotIn("the copies aren't", client.text())
 
-    def need_copies(self, copies) -> None:
+    def need_copies(self, copies: pathlib.Path) -> None:
         """The copies are the files."""
         for kind in ("", ".desk", ".key", ".posted"):
             self.assertEqual((copies / f"day.log{kind}").read_bytes(), (self.folder / f"day.log{kind}").read_bytes())
@@ -332,8 +351,7 @@ class Closes(DeskTest):
         old = client.form("close")
         client.write("bid,everest,0 0 0 0,")
         log = self.log()
-        answer = client.post("close", **{**old, "typed": "1"})
-        client.load(answer.headers["Location"])
+        client.post_on("close", **{**old, "typed": "1"})
         self.assertIn("The log has grown", client.text())
         self.assertEqual(self.log(), log)
 
@@ -348,8 +366,7 @@ class Closes(DeskTest):
         client.send("again", record="6", why="closed twice", typed="cut after 6")
         log = self.log()
         self.assertEqual(log, f"{ROUND}\nclose,,,\n".encode())
-        answer = client.post("close", **{**old, "typed": "end the clock"})
-        client.load(answer.headers["Location"])
+        client.post_on("close", **{**old, "typed": "end the clock"})
         self.assertIn("A round was held again since this page was made", client.text())
         self.assertEqual(self.log(), log)
 
@@ -381,8 +398,7 @@ class Limits(DeskTest):
         self.assertEqual([it for it, _ in Reader(client.page).forms if not it.endswith("/leave")], [])
         self.assertIn("Write no close.", client.text())
         log = self.log()
-        answer = client.post("close", base=self.desk.log.base(log).text(), typed="1")
-        client.load(answer.headers["Location"])
+        client.post_on("close", base=self.desk.log.base(log).text(), typed="1")
         self.assertIn("This close isn't written.", client.text())
         self.assertEqual(self.log(), log)
 
@@ -393,7 +409,7 @@ class Again(DeskTest):
         client.write(ROUND)
         client.close("1")
         client.close("end the clock")
-        void = re.search(r"(?:[0-9a-f]{4} ){15}[0-9a-f]{4}", client.text())[0]
+        void = matched(r"(?:[0-9a-f]{4} ){15}[0-9a-f]{4}", client.text())[0]
         long = self.log()
         client.load("again")
         self.assertIn("Close 1, line 6: posted round 2 cuts 1 line: type cut after 6", client.text())
@@ -424,12 +440,12 @@ class Bidders(DeskTest):
             self.assertIn("bid,niche,0 0 7 5,", text)
             for name in ("everest", "harbour", "meridian", "tarn", "stranger"):
                 self.assertNotIn(name, text)
-        rows = re.findall(r'<span class="place">(\d*)</span>\s*<code>([^<]*)</code>', client.load("bidder/niche").text_)
+        rows = re.findall(r'<span class="place">(\d*)</span>\s*<code>([^<]*)</code>', client.load("bidder/niche").text)
         own = [line for line in SAMPLE.decode().splitlines() if ",niche," in line]
         numbered = [(int(number), record) for number, record in rows if number]
         self.assertEqual(numbered, list(enumerate(own, 1))[::-1])
         expected = taking("caps")([str(files_of(self.award).award), str(self.log_path), "niche", "--view"])
-        self.assertEqual(client.load("bidder/niche/view").text_, expected + "\n")
+        self.assertEqual(client.load("bidder/niche/view").text, expected + "\n")
 
 
 class Stops(DeskTest):
@@ -468,10 +484,10 @@ class Stops(DeskTest):
         client.send_to("preview", raw="bid,tarn,1 0 0 0,")
         form = client.form("write")
         self.log_path.write_bytes(b"bid,everest,1 0 4 0,\n")
-        client.load(client.post("write", **form).headers["Location"])
+        client.post_on("write", **form)
         self.assertEqual((client.answer.status_code, client.heading()), (503, "The desk has stopped"))
         self.assertEqual(self.log(), b"bid,everest,1 0 4 0,\n")
-        self.assertIn("Please wait", client.load("/posted").text_)
+        self.assertIn("Please wait", client.load("/posted").text)
         client.load("")
         self.assertIn("From line 1 on: answered lines that go away: 1; lines that are new: 1.", client.text())
         client.post("mend", mend="keep changed log", why="a mistake on paper")
@@ -525,13 +541,14 @@ class Stops(DeskTest):
         client.send_to("preview", raw="bid,tarn,1 0 0 0,")
         form, real = client.form("write"), self.desk.answers.auction
 
-        def differing(data):
+        def differing(data: bytes) -> Auction:
+            """Another answer to a line of tarn."""
             if b"tarn" in data:
                 raise Differ("In line 1 of the replies the program says `1 ok`, and the second program `1 stage`.")
             return real(data)
 
         with unittest.mock.patch.object(self.desk.answers, "auction", differing):
-            client.load(client.post("write", **form).headers["Location"])
+            client.post_on("write", **form)
             self.assertEqual((client.answer.status_code, self.log()), (503, b""))
             self.assertIn("The programs differ. In line 1 of the replies", client.text())
         self.assertEqual(client.load("").status_code, 503)
@@ -569,13 +586,13 @@ class Auctions(DeskTest):
             form = client.form("close")
             words = {"Close": str(number), "End t": f"end the {'auction' if number == 5 else 'clock'}"}
             form["typed"] = words[client.heading()[:5]]
-            places = [client.post("close", **form).headers["Location"] for _ in range(2)]
+            places = [client.post("close", **form).location for _ in range(2)]
             self.assertEqual(places[1], f"{places[0]}?again")
         self.assertEqual(self.log(), SAMPLE)
         client.load("")
         client.send("end/award")
-        words = [PROGRAM, "award", files_of(self.award).award, self.log_path, self.folder / "other.cert"]
-        prices = subprocess.run(words, stdout=subprocess.PIPE, check=True).stdout
+        call = [PROGRAM, "award", *map(str, (files_of(self.award).award, self.log_path, self.folder / "other.cert"))]
+        prices = subprocess.run(call, stdout=subprocess.PIPE, check=True).stdout
         self.assertIn("Both programs say yes, and print the same to the byte.", client.text())
         self.assertEqual(client.page.count(prices.decode()), 3)
         cert = (self.folder / "day.log.cert").read_bytes()
@@ -636,7 +653,8 @@ class Auctions(DeskTest):
 
     def test_lists_name_every_entry_above_its_cap(self) -> None:
         client = self.open(b"".join(SAMPLE.splitlines(True)[:32]))
-        text = client.load("").text_ and client.text()
+        client.load("")
+        text = client.text()
         self.assertIn("Entry 2, 2 0 4 0 for 760,000, is above its cap 534,800 by 225,200.", text)
         self.assertIn("A submission would be refused: relative-cap 2 534800.", text)
 
@@ -675,40 +693,42 @@ class Rehearsals(DeskTest):
 class Accessible(DeskTest):
     def test_each_page(self) -> None:
         client = self.open(b"".join(SAMPLE.splitlines(True)[:32]))
-        pages = {
-            place: client.load(place).text_
-            for place in ("", "close", "again", "bidder/tarn", "lines/30-32", "/", "/posted")
-        }
-        client.load("")
-        client.send("preview", raw="draft,niche,0 0 7 9,180000")
+        places = "", "close", "again", "bidder/tarn", "lines/30-32", "/", "/posted"
+        pages = {place: client.load(place).text for place in places}
+        client.send_to("preview", raw="draft,niche,0 0 7 9,180000")
         pages["preview"] = client.page
         for place, page in pages.items():
-            tags = Reader(page).tags
-            names = [tag for tag, _ in tags]
             with self.subTest(place):
-                self.assertEqual((names.count("h1"), names.count("main"), names.count("title")), (1, 1, 1))
                 self.assertIn('<html lang="en">', page)
-                ids = [attrs["id"] for _, attrs in tags if "id" in attrs]
-                self.assertEqual(len(ids), len(set(ids)))
-                labels = {attrs.get("for") for tag, attrs in tags if tag == "label"}
-                for tag, attrs in tags:
-                    if (
-                        tag in ("input", "select", "textarea")
-                        and attrs.get("type") != "hidden"
-                        and "hidden" not in attrs
-                    ):
-                        self.assertIn(attrs.get("id"), labels, attrs)
-                    if tag == "th":
-                        self.assertIn(attrs.get("scope"), ("col", "row"))
-                    if tag == "a" and attrs["href"].startswith("#"):
-                        self.assertIn(attrs["href"][1:], ids)
-                focused = [tag for tag, attrs in tags if "autofocus" in attrs]
-                self.assertEqual(len(focused), 0 if place == "/posted" else 1, focused)
-                self.assertNotIn("button", focused)
-                if place not in ("/", "/posted"):
-                    self.assertEqual((names.count("nav"), 'class="skip" href="#main"' in page), (1, True))
+                self.need_parts(place, page)
+                self.need_named(Reader(page).tags)
         self.assertIn('<h1 tabindex="-1" autofocus>', pages["preview"])
         self.assertIn('<input id="typed" name="typed" required autofocus', pages["close"])
+
+    def need_parts(self, place: str, page: str) -> None:
+        """A page has one of each part, and the focus is where its reader begins."""
+        tags = Reader(page).tags
+        names = [tag for tag, _ in tags]
+        self.assertEqual((names.count("h1"), names.count("main"), names.count("title")), (1, 1, 1))
+        focused = [tag for tag, attrs in tags if "autofocus" in attrs]
+        self.assertEqual(len(focused), 0 if place == "/posted" else 1, focused)
+        self.assertNotIn("button", focused)
+        if place not in ("/", "/posted"):
+            self.assertEqual((names.count("nav"), 'class="skip" href="#main"' in page), (1, True))
+
+    def need_named(self, tags: Sequence[tuple[str, Fields]]) -> None:
+        """Each field has its label, each head its scope, each link within the page its place."""
+        ids = [attrs["id"] for _, attrs in tags if "id" in attrs]
+        self.assertEqual(len(ids), len(set(ids)))
+        labels = {attrs.get("for") for tag, attrs in tags if tag == "label"}
+        for tag, attrs in tags:
+            is_hidden = attrs.get("type") == "hidden" or "hidden" in attrs
+            if tag in ("input", "select", "textarea") and not is_hidden:
+                self.assertIn(attrs.get("id"), labels, attrs)
+            if tag == "th":
+                self.assertIn(attrs.get("scope"), ("col", "row"))
+            if tag == "a" and attrs["href"].startswith("#"):
+                self.assertIn(attrs["href"][1:], ids)
 
     def test_a_seal_agrees_with_the_tool(self) -> None:
         self.open(SAMPLE)

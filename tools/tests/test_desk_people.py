@@ -1,12 +1,18 @@
 """What the people at the desk see: previews in sentences, faults at their field, lists, searches, and two people."""
+
+from __future__ import annotations
+
 import io
+import pathlib
 import re
 import subprocess
 import threading
 import unittest
+import unittest.mock
 import zipfile
 
-from desk_client import PROGRAM, Client, DeskTest, Reader, files_of
+from desk_client import PORT, Client, DeskTest, Reader, files_of, matched
+from checks.cases.program import PROGRAM
 from checks.cases.samples import sample
 
 from cca_tools.desk.disk import why_of
@@ -26,28 +32,28 @@ name = "First Networks plc"
 """
 
 
-def award_of(bidders, supply, eligibility=1, reserve=1):
+def award_of(bidders: int, supply: int, eligibility: int = 1, reserve: int = 1) -> str:
     """The text of an award of one category."""
     head = f'version = 1\ntick = 1\n[[category]]\nname = "lot"\nsupply = {supply}\npoints = 1\nreserve = {reserve}\n'
     rows = "".join(f'[[bidder]]\nname = "b{j}"\neligibility = {eligibility}\n' for j in range(1, bidders + 1))
     return f"{head}{rows}[[step]]\nexcess = 1\npermille = 1000\n"
 
 
-def rows_of(bidders):
-    """A bid of one lot of each bidder, and the two closes that lead to the lists and to the end."""
+def rows_of(bidders: int) -> str:
+    """A bid of one lot of each bidder."""
     return "".join(f"bid,b{j},1,\n" for j in range(1, bidders + 1))
 
 
 class Small(DeskTest):
     """A desk with an award of one category."""
 
-    def take(self, bidders, supply, eligibility=1, reserve=1) -> None:
+    def take(self, bidders: int, supply: int, eligibility: int = 1, reserve: int = 1) -> None:
         """Writes the award."""
         path = self.folder / "small.award"
         path.write_text(award_of(bidders, supply, eligibility, reserve))
         self.award = str(path)
 
-    def named(self):
+    def named(self) -> pathlib.Path:
         """The file of names."""
         path = self.folder / "names.toml"
         path.write_bytes(NAMES)
@@ -113,7 +119,7 @@ class Previews(Small):
     def test_a_draft_shows_the_list(self) -> None:
         client = self.open(b"".join(SAMPLE.splitlines(True)[:45]))
         client.load("bidder/tarn")
-        table = re.search(r"<table.*?</table>", client.page, re.S)[0]
+        table = matched(r"<table.*?</table>", client.page)[0]
         auction = self.desk.now().auction
         packages = {*auction.desks[4].drafts, *(it for it in auction.desks[4].highest_in_clock if any(it))}
         self.assertEqual(table.count('<th scope="row"'), len(packages | {*auction.desks[4].submitted}))
@@ -160,7 +166,7 @@ class Faults(DeskTest):
         self.assertIn("3 more lines with faults of form stay in the form for later.", client.text())
         client.send("write")
         self.assertEqual(self.log(), b"bid,everest,2 0 4 0,\nbid,tarn,1 0 0 0,\n")
-        client.load(re.search(r'href="([^"]+)">Go on with the lines that the form keeps', client.page)[1])
+        client.follow("Go on with the lines that the form keeps")
         kept = "hello\nbid,tarn,1 0 0,\nbid,\u201cx\u201d,1 0 0 0,"
         self.assertEqual(client.form("preview", "raw")["raw"].strip(), kept)
 
@@ -168,11 +174,11 @@ class Faults(DeskTest):
         client = self.open()
         client.send("preview", raw="bid,everest,2 0 4 0,\nbid,tarn,3 1 0 0,\nbid,niche,0 0 1 0,")
         self.assertEqual(client.heading(), "1 of 3 would be refused")
-        forms = [fields for place, fields in Reader(client.page).forms if place.endswith("/write")]
+        forms = client.forms("write")
         self.assertEqual(len(forms), 2)
-        client.load(client.post("write", **forms[1]).headers["Location"])
+        client.post_on("write", **forms[1])
         self.assertEqual(self.log(), b"bid,everest,2 0 4 0,\nbid,niche,0 0 1 0,\n")
-        client.load(re.search(r'href="([^"]+)">Go on with the lines that the form keeps', client.page)[1])
+        client.follow("Go on with the lines that the form keeps")
         self.assertEqual(client.form("preview", "raw")["raw"].strip(), "bid,tarn,3 1 0 0,")
         self.assertIn("bid,tarn,3 1 0 0, would be refused: points 96.", client.text())
 
@@ -226,24 +232,26 @@ class Found(DeskTest):
         ):
             client.load(f"all{asked}")
             self.assertIn(f"{wanted} line{'' if wanted == 1 else 's'} of {len(rows)}.", client.text(), asked)
-        client.load("all?reply=refused")
-        refused = int(re.search(r"(\d+) lines? of", client.text())[1])
-        client.load("all?reply=admitted")
-        self.assertEqual(refused + int(re.search(r"(\d+) lines? of", client.text())[1]), len(rows))
+        counts = []
+        for reply in ("refused", "admitted"):
+            client.load(f"all?reply={reply}")
+            counts.append(int(matched(r"(\d+) lines? of", client.text())[1]))
+        self.assertEqual(sum(counts), len(rows))
+        self.assertTrue(all(counts), counts)
 
     def test_files_of_all_bidders(self) -> None:
         client = self.open(SAMPLE)
         answer = client.load("views.zip")
-        with zipfile.ZipFile(io.BytesIO(answer.get_data())) as file:
+        with zipfile.ZipFile(io.BytesIO(answer.data)) as file:
             for name in self.desk.award.names:
-                self.assertEqual(file.read(f"{name}.view").decode(), client.load(f"bidder/{name}/view").text_)
+                self.assertEqual(file.read(f"{name}.view").decode(), client.load(f"bidder/{name}/view").text)
             self.assertIn("The auction is closed.", file.read("announcement.txt").decode())
 
     def test_an_announcement(self) -> None:
         client = self.open(b"".join(SAMPLE.splitlines(True)[:10]))
         client.close("1")
         self.assertIn("Round 1 is closed. Round 2 is open.", client.text())
-        text = client.load("announcement/11").text_
+        text = client.load("announcement/11").text
         for price in self.desk.now().auction.running_round.prices:
             self.assertIn(f"{price:,}", text)
         self.assertNotIn("Lots asked for", text)
@@ -276,31 +284,25 @@ class Cut(DeskTest):
 
 
 class TwoPeople(DeskTest):
-    def two(self, log=b""):
+    def two(self, log: bytes = b"") -> tuple[Client, Client]:
         """A desk with two people in two browsers."""
-        from cca_tools.desk.ending import Ending
         from cca_tools.desk.guard import Guard
-        from cca_tools.desk.web import make_app
 
         self.open(log)
-        self.guard = Guard(18400, second_key="bcdf" * 6)
-        app = make_app(self.desk, self.guard, Ending(self.desk, None))
-        found = []
-        for key, name in ((self.guard.key, "Anna First"), (self.guard.second_key, "Bo Second")):
-            client = Client(app, self.guard)
-            answer = client.ask("POST", "/", {"key": key, "name": name})
-            client.cookie = answer.headers["Set-Cookie"].partition(";")[0]
-            client.load(answer.headers["Location"])
-            found.append(client)
-        return found
+        self.guard = Guard(PORT, second_key="bcdf" * 6)
+        app = self.app_of(self.guard)
+        one, two = Client(app, self.guard), Client(app, self.guard)
+        one.let_in({"key": self.guard.key, "name": "Anna First"})
+        two.let_in({"key": self.guard.second_key, "name": "Bo Second"})
+        return one, two
 
-    def places(self, client):
+    def places(self, client: Client) -> list[str]:
         """Where the forms of a page are sent to."""
         return [place.removeprefix(f"{self.guard.inside}/") for place, _ in Reader(client.page).forms]
 
-    def goes_on(self, client):
+    def goes_on(self, client: Client) -> str:
         """The heading of the page that the first person's browser comes to once the second person has decided."""
-        client.load(client.load("approve").headers["Location"])
+        client.load(client.load("approve").location)
         return client.heading()
 
     def test_a_close_waits_for_the_second_person(self) -> None:
@@ -309,7 +311,7 @@ class TwoPeople(DeskTest):
         one.load("close")
         self.assertEqual(one.send("close", typed="end the clock"), "/approve")
         self.assertEqual(self.log(), log)
-        one.load(one.post("approve", says="approve").headers["Location"])
+        one.post_on("approve", says="approve")
         self.assertEqual(self.log(), log)
         two.load("")
         self.assertIn("A close or a cut waits for the second person", two.text())
@@ -379,7 +381,7 @@ class TwoPeople(DeskTest):
         for action in ("preview", "write", "close", "again", "mend", "end/award", "list"):
             self.assertEqual(two.post(action, raw="bid,tarn,1 0 0 0,").status_code, 403, action)
         for key, name in ((self.guard.second_key, ""), (self.guard.second_key, "anna first"), ("x", "Eve")):
-            self.assertEqual(two.ask("POST", "/", {"key": key, "name": name}).headers["Location"], "/?wrong")
+            self.assertEqual(two.ask("POST", "/", {"key": key, "name": name}).location, "/?wrong")
         self.assertEqual(self.log(), b"")
 
 
@@ -388,9 +390,9 @@ class Ends(DeskTest):
         client = self.open(SAMPLE)
         client.load("")
         client.send("end/award")
-        table = re.search(r"<table.*?</table>", client.page, re.S)[0]
-        words = [PROGRAM, "award", files_of(self.award).award, self.log_path, self.folder / "again.cert"]
-        prices = subprocess.run(words, stdout=subprocess.PIPE, check=True).stdout.decode()
+        table = matched(r"<table.*?</table>", client.page)[0]
+        call = [PROGRAM, "award", *map(str, (files_of(self.award).award, self.log_path, self.folder / "again.cert"))]
+        prices = subprocess.run(call, stdout=subprocess.PIPE, check=True).stdout.decode()
         winners = re.findall(r"winner (\w+) .* pays (\d+)", prices)
         self.assertEqual(table.count('<th scope="row"'), len(winners) + 1)
         for name, pays in winners:
@@ -429,15 +431,27 @@ class Doors(DeskTest):
         self.assertTrue(second.is_shared())
 
     def test_the_room_s_screen_waits_for_nothing(self) -> None:
-        client = self.open()
-        first = client.load("/posted").text_
-        pages = self.app.before_request_funcs[None][0].__self__
-        with pages.lock:
-            found = []
-            thread = threading.Thread(target=lambda: found.append(Client(self.app, self.guard).load("/posted").text_))
-            thread.start()
-            thread.join(20)
-        self.assertEqual(found, [first])
+        """It is answered while the desk is at work for another page."""
+        client, answers = self.open(), self.desk.answers
+        first, probe = client.load("/posted").text, answers.probe
+        is_begun, goes_on = threading.Event(), threading.Event()
+        went_on: list[bool] = []
+
+        def slow(data: bytes) -> list[str]:
+            """Compares the programs once the room's screen is there."""
+            is_begun.set()
+            went_on.append(goes_on.wait(20))
+            return probe(data)
+
+        with unittest.mock.patch.object(answers, "probe", slow):
+            page = threading.Thread(target=client.load, args=["close"])
+            page.start()
+            self.assertTrue(is_begun.wait(20))
+            seen = Client(self.app, self.guard).load("/posted").text
+            goes_on.set()
+            page.join(20)
+        self.assertEqual((seen, went_on), (first, [True]))
+        self.assertEqual(client.heading(), "End the clock?")
 
     def test_a_log_has_one_port(self) -> None:
         self.open()
