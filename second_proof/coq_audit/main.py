@@ -16,10 +16,11 @@ from second_proof.coq_audit.theorems import AUDIT, Kind, in_words, kind_of, proo
 PROOFS = pathlib.Path(__file__).resolve().parent.parent
 CLOSED = "Closed under the global context"
 LIMITS = {"award": 65_536, "log": 8_388_608, "book": 1_048_576, "weights": 65_536, "slots": 65_536, "cert": 67_108_864}
-STATUS = """status: 0 yes; 1 no, with the test that fails, and without a line `no ..` no verdict; 2 other words; 3 a file isn't of its form;
-4 a file can't be read; 5 the output can't be written; 7 a limit is exceeded; 9 yes or no, but of the plain spelling of a file that is
-spelled otherwise, or no verdict, as the award isn't TOML 1.0 and may be TOML 1.1; 70 Coq or the build is missing, the kernel doesn't
-accept the proof, or a program failed; 130 it was interrupted."""
+STATUS = """status: 0 yes; 1 no, with the test that fails, and without a line `no ..` no verdict; 2 other words;
+3 a file isn't of its form; 4 a file can't be read; 5 the output can't be written; 7 a limit is exceeded; 9 yes or no,
+but of the plain spelling of a file that is spelled otherwise, or no verdict, as the award isn't TOML 1.0 and may be
+TOML 1.1; 70 Coq or the build is missing, the kernel doesn't accept the proof, or a program failed; 130 it was
+interrupted."""
 
 
 class Stop(Exception):

@@ -28,7 +28,8 @@ AUDIT = Kind(
     "audit_answer read_award read_log read_cert award_file log_file cert_file",
     "audit_yes _ _ _ _ _ _ _ answer",
     "audit_no _ _ _ _ _ _ _ _ answer",
-    """The bytes of the three files, those of the award without its comments, state one award, one log and one certificate, and
+    """The bytes of the three files, those of the award without its comments, state one award, one log and one \
+certificate, and
 nothing else.
 The log is complete, and its book holds exactly the bids that the activity rules admit.
 The winners are the first feasible choice of greatest net value, {net}.
