@@ -16,8 +16,7 @@ def path() -> str:
 
 
 def tool() -> ModuleType:
-    """The command as a module, beside which the kit's own modules are found."""
-    sys.path.insert(0, os.path.dirname(path()))
+    """The command as a module. It loads the kit's other modules by their paths."""
     sys.dont_write_bytecode = True
     loader = importlib.machinery.SourceFileLoader("rt", path())
     spec = importlib.util.spec_from_loader(loader.name, loader)

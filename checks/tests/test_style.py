@@ -1,10 +1,12 @@
-"""All Python of the repository is typed, formatted and linted, and what is shell is checked.
+"""All Python of the repository is typed, formatted and linted, and no module changes where modules are found. What is
+shell is checked.
 
 A test is skipped if its program isn't installed.
 """
 
 from __future__ import annotations
 
+import ast
 import pathlib
 import shutil
 import subprocess
@@ -31,9 +33,55 @@ def head(path: pathlib.Path) -> bytes:
     return line if line.startswith(b"#!") else b""
 
 
+PLACED = (ast.expr, ast.stmt)  # the nodes of a program that have a line
 PYTHON, SHELL = files(b"python", ".py"), files(b"/sh", ".sh")
 COURT = ["tools/audit", "tools/check"]
 TYPED = [name for name in PYTHON if name not in COURT]
+
+
+def is_path(node: ast.AST) -> bool:
+    """Whether a node of a program is, patches or adds to `sys.path`, by that name."""
+    match node:
+        case ast.Attribute(value=ast.Name(id="sys"), attr="path") | ast.Attribute(
+            attr="addsitedir" | "syspath_prepend"
+        ):
+            return True
+        case ast.ImportFrom(module="sys", names=names):
+            return any(it.name == "path" for it in names)
+        case ast.Call(args=[ast.Name(id="sys"), ast.Constant(value="path"), *_]):
+            return True
+    return isinstance(node, ast.Constant) and str(node.value).split(".") == ["sys", "path"]
+
+
+def path_lines(text: str) -> list[int]:
+    """The lines of a program that have to do with `sys.path`."""
+    return sorted({node.lineno for node in ast.walk(ast.parse(text)) if isinstance(node, PLACED) and is_path(node)})
+
+
+class Paths(unittest.TestCase):
+    """Where modules are found is said by the scripts that start a tool, on one line each."""
+
+    def test_no_module_has_to_do_with_it(self) -> None:
+        for name in PYTHON:
+            lines = path_lines((ROOT / name).read_text(encoding="utf-8"))
+            with self.subTest(name):
+                self.assertLessEqual(len(lines), 0 if name.endswith(".py") else 1, lines)
+
+    def test_each_form_is_seen(self) -> None:
+        for text in (
+            "sys.path.insert(0, x)",
+            "sys.path[:1] = [x]",
+            "sys.path += [x]",
+            "del sys.path[0]",
+            "from sys import path",
+            "site.addsitedir(x)",
+            "setattr(sys, 'path', [x])",
+            "mock.patch.object(sys, 'path', [x])",
+            "mock.patch('sys.path', [x])",
+        ):
+            with self.subTest(text):
+                self.assertEqual(path_lines(f"import sys\n{text}\n"), [2])
+        self.assertEqual(path_lines("import sys\nsys.argv = os.path, path, 'path', x.sys\n"), [])
 
 
 class Style(unittest.TestCase):
