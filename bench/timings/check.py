@@ -3,12 +3,10 @@ solvers.
 
 The books are those of `price`. It prints the median of the CPU times of whole runs in milliseconds, and whether both
 programs print the same, and how much memory `cca win` and `cca check` keep: the book is the same, so what `check` keeps
-beyond `win` is
-what it needs for the certificate. The plain program has the best loops known. Then some certificates are broken in one
-number, and both checkers have to give the same verdict. The solvers cbc and glpsol, where they
-are installed, solve again all winner determinations that the certificate shows, each for at most this many seconds:
-what has to be done
-if there is no certificate. It needs rustc and python3.
+beyond `win` is what it needs for the certificate. The plain program has the best loops known. Then some certificates
+are broken in one number, and both checkers have to give the same verdict. The solvers cbc and glpsol, where they are
+installed, solve again all winner determinations that the certificate shows, each for at most this many seconds: what
+has to be done if there is no certificate. It needs rustc and python3.
 """
 
 from __future__ import annotations

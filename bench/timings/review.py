@@ -1,14 +1,10 @@
 """Times an edit of `cca review` on books at the limits, next to `cca win` from scratch.
 
 The books are those of `price`. Raises are of a bid of the first, a middle and the last bidder, and change no winner as
-long as the
-bid stays below, then the bid of each winner is taken out and put in again, so that each edit changes the winners.
-It prints the CPU
-time of one edit in milliseconds, which is that of many edits less that of few, divided by how many more they are, each
-the least of
-the runs, then that of `cca win`, less that of a start on the smallest book; what part of it an edit is, and whether the
-winners after
-the edits are those that `cca win` prints for the edited book.
+long as the bid stays below, then the bid of each winner is taken out and put in again, so that each edit changes the
+winners. It prints the CPU time of one edit in milliseconds, which is that of many edits less that of few, divided by
+how many more they are, each the least of the runs, then that of `cca win`, less that of a start on the smallest book;
+what part of it an edit is, and whether the winners after the edits are those that `cca win` prints for the edited book.
 """
 
 from __future__ import annotations

@@ -2,9 +2,8 @@
 
 The books are those of `price`, and two kinds whose bids nearly all matter. It prints the least CPU time of the runs in
 milliseconds, less that of a start on the smallest book, and whether both programs print the same. The solvers cbc and
-glpsol, where
-they are installed, get the same winner determination as an integer program, for at most this many seconds. It needs
-rustc and python3.
+glpsol, where they are installed, get the same winner determination as an integer program, for at most this many
+seconds. It needs rustc and python3.
 """
 
 from __future__ import annotations

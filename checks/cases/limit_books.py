@@ -34,9 +34,8 @@ def build_cca() -> None:
 
 
 def build_plain() -> str:
-    """The plain Rust program of this folder. It has the commands `win`, `price` and `check` of cca, and as cca it runs
-    on any processor: the
-    vector code that it could choose at run time is left out."""
+    """The plain Rust program in bench/plain. It has the commands `win`, `price` and `check` of cca, and as cca it runs
+    on any processor: the vector code that it could choose at run time is left out."""
     os.makedirs(OUT, exist_ok=True)
     os.environ["PLAIN_OFF"] = "simd"
     program, source = os.path.join(OUT, "plain"), os.path.join(HERE, "..", "bench", "plain", "main.rs")
@@ -124,8 +123,7 @@ def priced_book(kind: str) -> tuple[str, list[list[Bid]]]:
     bids.
 
     The packages are the 600 smallest, random ones, or random ones of at most half the supply or of few categories.
-    Worths are drawn,
-    or grow with the package in the dense kinds.
+    Worths are drawn, or grow with the package in the dense kinds.
     """
     rng = random.Random(kind)
     book = [bids_of(kind, rng) for _ in range(BIDDERS)]

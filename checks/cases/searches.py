@@ -1,8 +1,7 @@
 """Prices of small books and placements by a plain search, without any table, surplus or turn.
 
 It lists the choices that are allowed, asks of every set of winners what the best choice without it asks, finds the
-least sum among the corners of
-these rows, and then the nearest point among all sets of rows that may be tight.
+least sum among the corners of these rows, and then the nearest point among all sets of rows that may be tight.
 """
 
 from __future__ import annotations

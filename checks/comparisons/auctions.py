@@ -2,14 +2,10 @@
 ones.
 
 NUMBER runs of each kind: drawn auctions, with lines that are refused for each reason and with ends and none; awards
-with a rule broken;
-awards of any TOML and of none; logs with a record that states no line; logs of any CSV; audits of certificates as they
-were written and
-altered, and a few runs with other words, the samples, made auctions and logs of 100,000 records. Compared are the
-printed lines, the
-exit status and the appended book. It prints how many differ of each kind, and how often each answer came. What differs
-is kept in
-checks/out.
+with a rule broken; awards of any TOML and of none; logs with a record that states no line; logs of any CSV; audits of
+certificates as they were written and altered, and a few runs with other words, the samples, made auctions and logs of
+100,000 records. Compared are the printed lines, the exit status and the appended book. It prints how many differ of
+each kind, and how often each answer came. What differs is kept in checks/out.
 """
 
 from __future__ import annotations

@@ -2,8 +2,7 @@
 command.
 
 NUMBER runs are made on the samples, each with some of its files damaged. It prints how many differ, and how often each
-status of each
-command came.
+status of each command came.
 """
 
 from __future__ import annotations

@@ -2,14 +2,11 @@
 and time.
 
 A run changes one or two files of a sample (bytes, lines, numbers, prefixes, parts of another file), draws a command,
-and now and then a
-limit of memory, one of file size, or an output that takes nothing. It has to end in time with a status of the table and
-its line; the
-files that it reads stay as they are, and the file that it appends to holds what it held: all of the new text after a
-run that is done, a
-prefix of it after a fault of writing, and nothing new otherwise. It prints how often each command ended with each
-status. Then come the
-cases of `edge_cases.py`. It needs python3, and strace for what is said of syncs.
+and now and then a limit of memory, one of file size, or an output that takes nothing. It has to end in time with a
+status of the table and its line; the files that it reads stay as they are, and the file that it appends to holds what
+it held: all of the new text after a run that is done, a prefix of it after a fault of writing, and nothing new
+otherwise. It prints how often each command ended with each status. Then come the cases of `edge_cases.py`. It needs
+python3, and strace for what is said of syncs.
 """
 
 from __future__ import annotations

@@ -2,9 +2,8 @@
 and `audit`.
 
 The numbers are 0, 7, the greatest one and NUMBER drawn ones. For each two runs of `make` have to append the generator's
-bytes and print its line, `award` has to be Done, and `audit` has to print `yes` and the same prices. It prints how
-many differ, and
-the CPU time of each command in milliseconds, the least and the greatest.
+bytes and print its line, `award` has to be Done, and `audit` has to print `yes` and the same prices. It prints how many
+differ, and the CPU time of each command in milliseconds, the least and the greatest.
 """
 
 from __future__ import annotations

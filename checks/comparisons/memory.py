@@ -1,18 +1,13 @@
 """Refuses each single request of memory of a command in turn, one in a run.
 
 The commands are `award`, `audit` and `auction` on the sample in the form of the UK's award, `price` and `check` on
-books of one and of
-several turns, `place` and `place-check` on a band, and `review` on edits of each kind. After a refused request the run
-has to end with
-out of memory, its line alone printed and every file as it was, or with the result of a run in which nothing is refused:
-where the
-program can do without the memory. A request that comes before `main` has its words may end it with 6 and no line. So it
-is for the
-desk, by its replays of logs with each kind of line: a line that is answered with out of memory is handed in again, and
-all
-replies have to be those of a desk that never saw it refused. It prints, for each command and for the desk, how many
-requests it makes
-and how the runs ended. It needs a C compiler, python3 and a program that is linked to the system's library.
+books of one and of several turns, `place` and `place-check` on a band, and `review` on edits of each kind. After a
+refused request the run has to end with out of memory, its line alone printed and every file as it was, or with the
+result of a run in which nothing is refused: where the program can do without the memory. A request that comes before
+`main` has its words may end it with 6 and no line. So it is for the desk, by its replays of logs with each kind of
+line: a line that is answered with out of memory is handed in again, and all replies have to be those of a desk that
+never saw it refused. It prints, for each command and for the desk, how many requests it makes and how the runs ended.
+It needs a C compiler, python3 and a program that is linked to the system's library.
 """
 
 from __future__ import annotations

@@ -1,14 +1,11 @@
 """Compares what a report says with what the program prints, on drawn auctions and books.
 
 For each of NUMBER drawn auctions the program prices the book, and the report has to agree: every reply; for each winner
-its
-package, its bid, its Vickrey price and what it pays; a sum of what the others would bring more that comes to the
-Vickrey price; the
-revenue and the net value; as many turns as the program has. And for each bidder, from the whole log and from its own
-view alone, the
-same report. It has to agree on NUMBER drawn books too, and there no group of winners may pay less than it has to. Every
-tenth is made as a
-page too. It needs the program; the status is 1 if something differs.
+its package, its bid, its Vickrey price and what it pays; a sum of what the others would bring more that comes to the
+Vickrey price; the revenue and the net value; as many turns as the program has. And for each bidder, from the whole log
+and from its own view alone, the same report. It has to agree on NUMBER drawn books too, and there no group of winners
+may pay less than it has to. Every tenth is made as a page too. It needs the program; the status is 1 if something
+differs.
 """
 
 from __future__ import annotations

@@ -2,19 +2,14 @@
 they end.
 
 `check`, `weigh-check` and `place-check` are run on certificates that `cca` wrote of drawn books and slots: as they were
-made, with
-another denominator, with other numbers (entries, payments, rows, choices, orders), with damaged lines and bytes, on
-damaged books, weights
-and slots, about the limits, on the sample of the spectrum, on files that are missing, and with other words. Of drawn
-logs what `cca auction`
-prints and writes has to be what `auction` of the second proof prints, and both audit certificates of them, as made,
-altered and damaged.
-It prints how many runs of each kind there were, how many differ, and how often each answer and reply came; Ctrl-C
-prints what there is so far.
+made, with another denominator, with other numbers (entries, payments, rows, choices, orders), with damaged lines and
+bytes, on damaged books, weights and slots, about the limits, on the sample of the spectrum, on files that are missing,
+and with other words. Of drawn logs what `cca auction` prints and writes has to be what `auction` of the second proof
+prints, and both audit certificates of them, as made, altered and damaged. It prints how many runs of each kind there
+were, how many differ, and how often each answer and reply came; Ctrl-C prints what there is so far.
 
 It builds second_proof with `second_proof/build` where that isn't built yet. CCA_PROGRAM=path runs that program of cca.
-It needs python3,
-coqc and ocamlopt.
+It needs python3, coqc and ocamlopt.
 """
 
 from __future__ import annotations

@@ -2,10 +2,9 @@
 
 NUMBER auctions of award version 1, from number FIRST on, with bidders that are straightforward in the clock and list
 every package with its value: each line has to be admitted by the program, no winner may pay more than its value, and
-where values
-are separable with decreasing marginal values, each price has to be the Vickrey price. Then 20 small auctions, in which
-efficiency
-and revenue have to be those of a program that visits all allocations. It prints what isn't so, and ends with 1 then.
+where values are separable with decreasing marginal values, each price has to be the Vickrey price. Then 20 small
+auctions, in which efficiency and revenue have to be those of a program that visits all allocations. It prints what
+isn't so, and ends with 1 then.
 """
 
 from __future__ import annotations

@@ -277,9 +277,8 @@ class Prices(unittest.TestCase):
         """Net of reserve a and b bid 15 each and win with 30, and c bids 36 less 15, which is 21.
 
         Without a or without b the best is these 21, so both Vickrey prices are 21 - 30 + 15 = 6. c offers 9 more than
-        both, of which each
-        pays the half: 10+1/2 net. With the reserves of 10 and 5 that is 20+1/2 and 15+1/2, and the Vickrey prices are
-        16 and 11.
+        both, of which each pays the half: 10+1/2 net. With the reserves of 10 and 5 that is 20+1/2 and 15+1/2, and the
+        Vickrey prices are 16 and 11.
         """
         turns = ["round 1 point 6 6 row 1 2 choice 0 0 1 excess 9", "round 2 point 10+1/2 10+1/2 end"]
         prices = (
@@ -302,10 +301,8 @@ class Prices(unittest.TestCase):
         both lots.
 
         Without one of them the other two still win with 20, more than the 7 + 10 of the others, so the Vickrey prices
-        are 0 net. The three
-        demands of 7 sum to twice what all pay: at least 10+1/2 net, and where it is no more, 3+1/2 from each. The
-        reserve is 10, of the
-        lot of a.
+        are 0 net. The three demands of 7 sum to twice what all pay: at least 10+1/2 net, and where it is no more, 3+1/2
+        from each. The reserve is 10, of the lot of a.
         """
         prices = (
             "winner a 1 0 0 bid 20 vickrey 10 pays 13+1/2\nwinner b 0 1 0 bid 10 vickrey 0 pays 3+1/2\n"

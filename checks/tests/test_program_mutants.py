@@ -2,8 +2,7 @@
 numbers.
 
 Each mutant is a sample with a few changes, as a fuzzer makes them: flipped bits, numbers at a limit, lines and blocks
-that are moved, cut or
-said twice. Statuses and lines have to be those of the second program.
+that are moved, cut or said twice. Statuses and lines have to be those of the second program.
 """
 import hashlib
 import os

@@ -145,8 +145,8 @@ class LogFile:
 
         `pins` are the checksums of award and program by name, and `about` is what else the journal's first entry says
         about them. `takes` says whether each record of a log states a line: what is no line is never noted, so that it
-        can be taken out. Raises `Refused` where locks don't work, a file is a link, the
-        key is lost, or the journal began with other pins; `Unsure` where a new file can't be synced.
+        can be taken out. Raises `Refused` where locks don't work, a file is a link, the key is lost, or the journal
+        began with other pins; `Unsure` where a new file can't be synced.
         """
         self.path, self.copies, self.key = path, copies, b""
         self._key_path, self._journal = beside(path, "key"), Journal(beside(path, "desk"))
