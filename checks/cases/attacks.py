@@ -27,7 +27,7 @@ from cca_tools.desk.journal import Entry, chained, line_sum
 from cca_tools.desk.logfile import LogFile
 from cca_tools.desk.replays import replayed_log
 from cca_tools.rules.auction import replay
-from cca_tools.rules.award import read_award
+from cca_tools.rules.award import Award, read_award
 from cca_tools.rules.log import read_log
 from cca_tools.rules.seals import sum_of
 from cca_tools.rules.stops import Stop
@@ -113,6 +113,12 @@ class Clock:
         return self.time.isoformat(timespec="milliseconds")
 
 
+def closes_of(award: Award, log: bytes) -> tuple[Sequence[int], bool]:
+    """The bytes of a log up to and with each admitted close, and whether the last one ends the auction."""
+    found = replayed_log(award, log)
+    return found.closes, found.is_over
+
+
 class Day:
     """A day at the desk's log, by steps."""
 
@@ -136,14 +142,9 @@ class Day:
         elif step.is_reopened:
             self.log.cut(base, len(data) - len(CLOSE), step.why, stay=True)
         elif step.back is not None:
-            closes, _ = self.closes(data)
+            closes, _ = closes_of(self.rules, data)
             self.log.cut(base, closes[step.back - 1] if step.back else 0, step.why)
-        self.log.post(self.closes, step.is_publish)
-
-    def closes(self, log: bytes) -> tuple[Sequence[int], bool]:
-        """The bytes of a log up to and with each admitted close, and whether the last one ends the auction."""
-        found = replayed_log(self.rules, log)
-        return found.closes, found.is_over
+        self.log.post(lambda log: closes_of(self.rules, log), step.is_publish)
 
     def files(self) -> Files:
         """The files as they are now."""

@@ -18,11 +18,12 @@ import tempfile
 from collections.abc import Callable, Sequence
 from typing import Any, TypeAlias
 
+from checks.cases.attacks import closes_of
 from checks.cases.samples import sample
 
 from cca_tools.desk.faults import Mend
 from cca_tools.desk.logfile import LogFile
-from cca_tools.desk.record import Tester, closes_of
+from cca_tools.desk.record import Tester
 from cca_tools.rules.auction import replay
 from cca_tools.rules.award import read_award
 from cca_tools.rules.log import read_log
