@@ -5,50 +5,21 @@ The limits are those of docs/FORMATS.md; a text of bytes grows up to the limit o
 
 from __future__ import annotations
 
-import hashlib
 import itertools
-import json
 import pathlib
 from collections.abc import Callable, Iterator, Sequence
 from typing import NamedTuple
 
+from bench.grown import models
+from bench.grown.form import Grown, between, numbered
+from bench.grown.records import journals, noted, posted
 from checks.cases import hostile_logs
 from checks.cases.samples import EXAMPLES, sample
 from cca_tools.rules.stops import MOST
 
-KEY = b"0123456789abcdef" * 4 + b"\n"
-# A certificate, and a note, up to the part that grows.
-CERT, NOTE = sample("day-cramton.cert"), b"noted on the day\n"
+# Certificates up to the part that grows.
+CERT = sample("day-cramton.cert")
 PLACED = pathlib.Path(EXAMPLES, "..", "second_proof", "band.cert").read_bytes()
-
-
-# How the dimensions begin whose texts within the limits are of the form of their input, and not refused in reading.
-TAKEN: tuple[str, ...] = ("bytes of a comment", "bidders", "records", "quoted records", "rounds", "bids of", "states")
-TAKEN += (
-    "places of",
-    "edits",
-    "entries",
-    "lines of an entry",
-    "lines",
-    "torn lines",
-    "rows of",
-    "objects of",
-    "spaces",
-)
-TAKEN += ("events",)
-
-
-class Grown(NamedTuple):
-    """An input that grows in a dimension: the text of each size, and the greatest size within the limits."""
-
-    input: str
-    dimension: str
-    most: int
-    text: Callable[[int], bytes]
-
-    def is_taken(self) -> bool:
-        """Whether a tool does more with a text within the limits than to read it."""
-        return self.dimension.startswith(TAKEN)
 
 
 class Toml(NamedTuple):
@@ -61,11 +32,6 @@ class Toml(NamedTuple):
 
 def note(value: bytes) -> bytes:
     return b"note = " + value + b"\n"
-
-
-def numbered(form: bytes, count: int) -> bytes:
-    """The form for each number below a count."""
-    return b"".join(form % number for number in range(count))
 
 
 TOML = (
@@ -109,12 +75,8 @@ def toml(role: str, base: bytes) -> Iterator[Grown]:
         )
 
 
-def between(head: bytes, text: Callable[[int], bytes], end: bytes) -> Callable[[int], bytes]:
-    """The texts that have another text before and after them."""
-    return lambda size: head + text(size) + end
-
-
 BIDDER = b'[[bidder]]\nname = "m%d"\neligibility = 1\n'
+STEP, CAP = b"[[step]]\nexcess = 1000\npermille = 1\n", b"[[cap]]\nweight = [1, 1, 1, 1]\nlimit = 9\n"
 CATEGORY = b'[[category]]\nname = "m%d"\nsupply = 1\npoints = 1\nreserve = 1\n'
 
 
@@ -124,6 +86,11 @@ def awards() -> Iterator[Grown]:
     yield Grown("award", "bidders", 11, lambda n: base + numbered(BIDDER, n))
     yield Grown("award", "bidders of a long file", 1_400, lambda n: base + numbered(BIDDER, n))
     yield Grown("award", "categories of a long file", 900, lambda n: base + numbered(CATEGORY, n))
+    yield Grown("award", "steps of a long file", 1_700, lambda n: base + STEP * n)
+    yield Grown("award", "caps of a long file", 1_300, lambda n: base + CAP * n)
+    holding = b'[[bidder]]\nname = "m"\neligibility = 1\nholding = ['
+    yield Grown("award", "numbers of a holding", 30_000, lambda n: base + holding + b"0," * n + b"]\n")
+    yield Grown("award", "bytes of a name", 60_000, lambda n: base + b'[[bidder]]\nname = "' + b"x" * n + b'"\n')
 
 
 def hostile(kind: str) -> Callable[[int], bytes]:
@@ -143,7 +110,33 @@ def rounds(count: int) -> bytes:
     return b"".join(b"bid,b1,20 19,\nbid,b2,20 19,\nclose,,,\n" for _ in range(count))
 
 
+def whole_auction(count: int) -> bytes:
+    """A complete log of so many records: a clock of up to 299 rounds, then drafts, drops and submissions."""
+    lines, each = hostile_logs.ordinary(), hostile_logs.BIDDERS + 1
+    last = each * (hostile_logs.ROUNDS - 1)
+    clock = each * max(1, min(hostile_logs.ROUNDS - 1, count // 40))
+    drafts = itertools.islice(itertools.cycle(lines[last + 1 : -1]), max(0, count - clock - 2))
+    return "\n".join([*lines[:clock], "close,,,", *drafts, "close,,,", ""]).encode()
+
+
+def after_the_end(count: int) -> bytes:
+    """A log with so many lines after the auction's end."""
+    return b"close,,,\n" * 2 + b"bid,b1,1 1,\n" * count
+
+
+def view(count: int) -> bytes:
+    """A bidder's own view of so many records."""
+    rounds = min(hostile_logs.ROUNDS - 1, count // 40)
+    clock = b"".join(b"bid,b1,20 19,\nclose,,%d %d,\n" % (1_000 + it, 1_000 + it) for it in range(1, rounds + 1))
+    packages = itertools.cycle(it for it in itertools.product(range(21), range(20)) if any(it))
+    drafts = itertools.islice(packages, max(0, count - 2 * rounds - 1))
+    return clock + b"close,,sealed,\n" + b"".join(b"draft,b1,%d %d,900000\n" % it for it in drafts)
+
+
 def logs() -> Iterator[Grown]:
+    yield Grown("view", "records of a bidder", MOST["records"], view)
+    yield Grown("log", "records of a whole auction", MOST["records"], whole_auction)
+    yield Grown("log", "lines after the end", MOST["records"], after_the_end)
     room, records = MOST["log bytes"] - 100, MOST["records"]
     for kind in ("ordinary", "bids", "submits", "drafts and submits", "drafts and drops"):
         yield Grown("log", f"records: {kind}", records, hostile(kind))
@@ -215,6 +208,7 @@ def books() -> Iterator[Grown]:
     yield Grown("book", "bidder lines", room // 14, lambda n: head[:-10] + numbered(b"bidder m%d\n", n))
     yield Grown("book", "categories", room // 2, lambda n: b"book 1\nsupply" + b" 1" * n + b"\n")
     yield Grown("book", "counts of a package", room // 2, lambda n: head + b"bid" + b" 1" * n + b"\n")
+    yield Grown("book", "bytes of a name", room, lambda n: head[:-3] + b"b" * n + b"\n")
     yield from lines_of("book", room, head, b"bid 1 1 ")
 
 
@@ -254,98 +248,13 @@ def certificates(role: str, cert: bytes) -> Iterator[Grown]:
     yield Grown(role, "bytes after its end", room, lambda n: cert + b"x" * n)
 
 
-def noted() -> Iterator[Grown]:
-    """What a witness noted, and the lines that were posted."""
-    room, seal = MOST["noted bytes"] - 100, b" ".join([b"0123"] * 16)
-    line = b"1 2026-12-01T19:20:00+01:00 close 1 " + seal + b"\n"
-    for dimension, size, text in (
-        ("lines", len(line), lambda n: NOTE + line * n),
-        ("lines without number and time", 88, lambda n: NOTE + (b"close 1 " + seal + b"\n") * n),
-        ("bytes of a line", 1, lambda n: NOTE + b"x" * n + b"\n"),
-        ("spaces", 1, lambda n: NOTE + b"close 1" + b" " * n + b"0"),
-        ("spaces between digits", 2, lambda n: NOTE + b"close 1: " + b"0 " * n),
-        ("digits", 1, lambda n: NOTE + b"0" * n + b"\n"),
-        ("numbers", 2, lambda n: NOTE + b"1 " * n),
-        ("events without a seal", 8, lambda n: NOTE + b"close 1 " * n),
-        ("blank lines", 1, lambda n: NOTE + b"\n" * n),
-        ("bytes of a reason", 1, lambda n: NOTE + line[:-1] + b": " + b"x" * n + b"\n"),
-    ):
-        yield Grown("noted", dimension, room // size, text)
-
-
-def posted(award: bytes) -> Iterator[Grown]:
-    def digits(data: bytes) -> bytes:
-        total = hashlib.sha256(data).hexdigest()
-        return " ".join(total[at : at + 4] for at in range(0, 64, 4)).encode()
-
-    head = b"cca posted 1\nkey " + digits(KEY) + b"\naward " + digits(award) + b"\n"
-    seal = b" ".join([b"0123"] * 16)
-
-    def line(number: int, why: bytes = b"") -> bytes:
-        kind = b"close %d" % ((number + 1) // 2) if number % 2 else b"back to the start"
-        return b"%d 2026-12-01T19:20:00+01:00 %s %s" % (number, kind, seal) + why + b"\n"
-
-    room = MOST["posted bytes"] - len(head) - 200
-    yield Grown("posted", "lines", room // 130, lambda n: head + b"".join(map(line, range(1, n + 1))))
-    yield Grown("posted", "bytes of a reason", room, lambda n: head + line(2, b": " + b"x" * n))
-    yield Grown("posted", "bytes of a line", room, lambda n: head + b"x" * n + b"\n")
-    yield Grown("posted", "blank lines", room, lambda n: head + b"\n" * n)
-
-
-ZEROS = "0" * 64
-
-
-def entry_line(prev: str, what: str, start: int, text: str, total: str, **more: object) -> bytes:
-    """An entry of the journal, as docs/FORMATS.md has its form."""
-    fields = {"prev": prev, "at": "2026-12-01T19:20:00.000+01:00", "what": what, "epoch": "0" * 16}
-    return json.dumps(
-        {**fields, "bytes": start + len(text), "sum": total, "from": start, "text": text, **more}
-    ).encode()
-
-
-def journal_of(award: bytes, count: int, text: str) -> bytes:
-    """A journal of this many entries, each with these lines of the log, which are refused as `unknown`."""
-    log, size, lines = hashlib.sha256(), 0, list[bytes]()
-    about: dict[str, object] = {"version": 1, "pins": {"award": hashlib.sha256(award).hexdigest(), "program": ZEROS}}
-    about |= {"key": hashlib.sha256(KEY).hexdigest(), "about": {"program": "-", "tools": "-"}}
-    lines.append(entry_line(ZEROS, "begun", 0, "", log.hexdigest(), **about))
-    for _ in range(count):
-        log.update(text.encode())
-        replies = ["unknown"] * text.count("\n")
-        prev = hashlib.sha256(lines[-1]).hexdigest()
-        lines.append(entry_line(prev, "line", size, text, log.hexdigest(), replies=replies))
-        size += len(text)
-    return b"".join(line + b"\n" for line in lines)
-
-
-NOBODY = "bid,nobody,1 0 0 0,\n"
-
-
-def journals(award: bytes) -> Iterator[Grown]:
-    room = MOST["journal bytes"] // 16  # (journals of 256 MiB take Python gigabytes)
-    begun = journal_of(award, 0, "")
-    yield Grown("journal", "entries", MOST["records"], lambda n: journal_of(award, n, NOBODY))
-    yield Grown("journal", "lines of an entry", MOST["records"], lambda n: journal_of(award, 1, NOBODY * n))
-    yield Grown("journal", "torn lines", room // 10, lambda n: begun + b"{} (torn)\n" * n)
-    for dimension, size, text in (
-        ("bytes of a line", 1, lambda n: b"x" * n),
-        ("depth of lists", 2, lambda n: b"[" * n + b"]" * n),
-        ("depth of objects", 6, lambda n: b'{"a":' * n + b"1" + b"}" * n),
-        ("digits of a number", 1, lambda n: b'{"at": ' + b"1" * n + b"}"),
-        ("bytes of a text", 1, lambda n: b'{"at": "' + b"x" * n + b'"}'),
-        ("escapes of a text", 6, lambda n: b'{"at": "' + b"\\u0041" * n + b'"}'),
-        ("keys", 12, lambda n: b"{" + numbered(b'"k%d":1,', n)[:-1] + b"}"),
-        ("blank lines", 1, lambda n: b"\n" * n),
-    ):
-        yield Grown("journal", dimension, room // size, between(begun, text, b"\n"))
-
-
 def tables() -> Iterator[Grown]:
     """Tables of bids for tools/book, with the supply `1 1`, and the same as JSON."""
-    room = MOST["bids bytes"] // 4 - 100  # (tables of 64 MiB take Python gigabytes)
+    room = MOST["bids bytes"] - 100
     head = b"bidder,first,second,amount\n"
     for dimension, size, text in (
         ("rows of a bidder", 9, lambda n: head + b"b1,1,0,9\n" * n),
+        ("names of categories", 10, lambda n: b"bidder" + numbered(b",c%d", n) + b",amount\n"),
         ("rows of many bidders", 14, lambda n: head + numbered(b"b%d,1,0,9\n", n)),
         ("columns", 2, lambda n: b"bidder,first,second,amount" + b",x" * n + b"\n"),
         ("columns without a head", 2, lambda n: b"b1" + b",1" * n + b"\n"),
@@ -382,8 +291,6 @@ def json_bids(bids: bytes) -> bytes:
 def all_grown() -> list[Grown]:
     """Each input in each dimension."""
     award = sample("spectrum.award")
-    plan = b'plan = 1\naward = "award"\nvalues = "values"\nauctions = 1\nseed = 1\n'
-    names = b'title = "a"\n'
     return [
         *awards(),
         *logs(),
@@ -391,9 +298,13 @@ def all_grown() -> list[Grown]:
         *others(),
         *certificates("cert", CERT),
         *certificates("placed", PLACED),
-        *toml("names", names),
+        *toml("names", models.NAMES),
+        *models.names(),
         *toml("values", sample("final-cap.values")),
-        *toml("plan", plan),
+        *models.values(),
+        *toml("plan", models.PLAN + b"auctions = 1\nseed = 1\n"),
+        *models.plans(),
+        *models.lists(),
         *noted(),
         *posted(award),
         *journals(award),

@@ -85,8 +85,9 @@ class Bench(unittest.TestCase):
     def test_growth_of_each_input(self) -> None:
         """Small sizes, which take no time."""
         done = ran("bench/inputs", "--one", "--largest", "2", "--doublings", "0")
-        rows = [line.split(" | ") for line in done.stdout.splitlines()[2:-1]]
-        inputs = "award log book weights slots edits cert placed names values plan noted posted journal bids arguments"
+        rows = [line.split(" | ") for line in done.stdout.splitlines() if line.endswith("|")][2:]
+        inputs = "award log view book weights slots edits cert placed names values plan list pasted noted posted"
+        inputs += " journal bids arguments"
         self.assertEqual((done.returncode, done.stderr), (0, ""))
         self.assertEqual(sorted(row[1] for row in rows), sorted(inputs.split()))
         self.assertEqual({len(row) for row in rows}, {6})
