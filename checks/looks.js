@@ -19,6 +19,7 @@
     range.selectNodeContents(node)
     for (const box of range.getClientRects()) if (box.width > 0.5 && box.height > 0.5) parts.push({ node, holder, box, text: short(node.data) })
   }
+  const ancestors = it => { const found = []; for (let at = it; at && at !== document.body; at = at.parentElement) found.push(at); return found }
   // a part of the page that scrolls up and down shows its texts one after the other
   const scrolls = it => { const box = it.closest(".scroll.long"); return box && getComputedStyle(box).overflowY !== "visible" ? box : null }
 
@@ -29,6 +30,11 @@
   for (const it of document.querySelectorAll(".scroll")) if (it.scrollWidth > it.clientWidth + 1) say(`a table has ${it.scrollWidth} and room for ${it.clientWidth}: "${short(it.innerText)}"`)
   for (const it of document.querySelectorAll("h1, h2, h3, h4, p, li, dd, dt, figcaption, caption, .card"))
     if (it.scrollWidth > it.clientWidth + 1 && it.clientWidth) say(`overflows: "${short(it.innerText)}"`)
+  for (const it of new Set(parts.filter(({ node, holder }) => !holder.closest("svg")).flatMap(({ holder }) => ancestors(holder)))) {
+    const style = getComputedStyle(it), hides = way => ["hidden", "clip"].includes(way)
+    if (style.clipPath !== "none" || !it.clientWidth) continue
+    if (hides(style.overflowX) && it.scrollWidth > it.clientWidth + 1 || hides(style.overflowY) && it.scrollHeight > it.clientHeight + 1) say(`cut: "${short(it.innerText)}" in <${it.tagName.toLowerCase()}>`)
+  }
   for (const svg of document.querySelectorAll("svg")) {
     const frame = svg.getBoundingClientRect()
     for (const it of svg.querySelectorAll("text")) {
@@ -42,7 +48,7 @@
   }
   for (const it of document.querySelectorAll(".details th")) if (getComputedStyle(it, "::before").content.includes("Line")) say(`a head of details is called a line: "${short(it.innerText)}"`)
 
-  // lots of one category are equally wide, and all lots where the page says so; the axes of the core have one scale
+  // lots of one category are equally wide, and all lots where the page says so, or as wide as their MHz; the axes of the core have one scale
   function scales(svg) {
     const widths = new Map()
     for (const it of svg.querySelectorAll("rect")) {
@@ -50,22 +56,29 @@
       if (lot) widths.set(lot[1], [...(widths.get(lot[1]) ?? []), it.getBoundingClientRect().width])
     }
     const differ = all => Math.max(...all) > 1.02 * Math.min(...all) + 0.5
+    const plain = it => it.textContent.replace(/\s+/g, " "), onScreen = svg.getScreenCTM()
     for (const [name, all] of widths) if (differ(all)) say(`lots of ${name} differ in width`)
     const isAlike = /all are equally wide/.test(svg.closest(".card")?.textContent ?? "")
     if (isAlike && widths.size && differ([...widths.values()].flat())) say("lots of two categories differ in width")
+    if (/as wide as its MHz/.test(svg.closest(".card")?.textContent ?? "")) {
+      const mhz = new Map([...plain(document.body).matchAll(/A lot of (.+?) is ([\d.]+) MHz wide/g)].map(([, name, wide]) => [name, Number(wide)]))
+      const each = [...widths].map(([name, all]) => all[0] / mhz.get(plain({ textContent: name })))
+      if (each.some(isNaN)) say("lots are as wide as their MHz, and the page doesn't say of each how wide that is")
+      else if (differ(each)) say("lots aren't as wide as their MHz")
+    }
     if (!/^core/.test(svg.querySelector("title")?.id ?? "")) return
-    const units = [["x1", "y1", "y2"], ["y1", "x1", "x2"]].map(([at, from, to]) => {
+    const units = [["x1", "y1", "y2", onScreen.a], ["y1", "x1", "x2", onScreen.d]].map(([at, from, to, scale]) => {
       const found = []
       for (const line of svg.querySelectorAll("line")) {
         const text = line.nextElementSibling, value = text?.tagName === "text" ? parseFloat(text.textContent.replace(/,/g, "")) : NaN
-        if (Math.abs(Math.abs(line.getAttribute(from) - line.getAttribute(to)) - 4) < 0.1 && !isNaN(value)) found.push([Number(line.getAttribute(at)), value])
+        if (Math.abs(Math.abs(line.getAttribute(from) - line.getAttribute(to)) - 4) < 0.1 && !isNaN(value)) found.push([Number(line.getAttribute(at)) * scale, value])
       }
       return found.length < 2 ? null : Math.abs((found[1][0] - found[0][0]) / (found[1][1] - found[0][1]))
     })
     if (units.every(Boolean) && Math.abs(units[0] / units[1] - 1) > 0.02) say(`axes differ: ${units.map(it => it.toFixed(3)).join(" and ")} a unit`)
     const outline = [...svg.querySelectorAll("path")].find(it => it.querySelector("title")?.textContent.startsWith("all ways"))
     if (outline) {
-      const at = outline.getAttribute("d").match(/-?[\d.]+/g).map(Number), corners = [0, 2, 4].map(i => [at[i], at[i + 1]])
+      const at = outline.getAttribute("d").match(/-?[\d.]+/g).map(Number), corners = [0, 2, 4].map(i => [at[i] * onScreen.a, at[i + 1] * onScreen.d])
       if (differ(corners.map(([x, y], i) => Math.hypot(x - corners[(i + 1) % 3][0], y - corners[(i + 1) % 3][1])))) say("the sides of the triangle differ")
     }
   }
@@ -111,6 +124,17 @@
     if (!table || !table.querySelector("tbody tr") || !table.caption?.innerText.trim()) say(`a picture without its table: "${short(it.innerText)}"`)
     if (!it.querySelector("figcaption")?.innerText.trim()) say("a figure without words")
   }
+  for (const it of document.querySelectorAll("table")) {
+    if (!it.checkVisibility()) continue
+    const rows = [...it.tBodies].flatMap(body => [...body.rows]).filter(row => row.innerText.trim()), first = it.tHead?.rows[0] ?? rows.find(row => [...row.cells].every(cell => cell.tagName === "TH"))
+    const heads = first?.cells[0].checkVisibility() ? first : null
+    const wide = row => [...row.cells].reduce((sum, cell) => sum + cell.colSpan, 0), name = short(it.caption?.innerText || it.innerText)
+    // a table of two columns may have its heads before its rows
+    if (!heads) { if (!rows.every(row => row.cells.length === 2 && row.cells[0].tagName === "TH")) say(`a table without heads: "${name}"`); continue }
+    if ([...heads.cells].slice(1).some(cell => !cell.textContent.trim())) say(`a column without a head: "${name}"`)
+    if (rows.some(row => wide(row) > wide(heads))) say(`more columns than heads: "${name}"`)
+    if (it.tHead && getComputedStyle(it.tHead).clipPath !== "none" && [...it.classList].some(kind => /^stack/.test(kind))) for (const row of rows) for (const cell of row.querySelectorAll("td")) if (cell.closest("table") === it && cell.innerText.trim() && ["none", "normal", '""'].includes(getComputedStyle(cell, "::before").content)) say(`a cell without its head: "${short(cell.innerText)}" of "${name}"`)
+  }
   if (isReport && document.querySelectorAll("svg").length !== document.querySelectorAll("figure").length) say("a picture outside a figure")
   const ids = [...document.querySelectorAll("[id]")].map(it => it.id)
   for (const id of new Set(ids.filter((id, i) => ids.indexOf(id) !== i))) say(`two parts are called ${id}`)
@@ -122,11 +146,16 @@
   const over = (above, below) => above.slice(0, 3).map((part, i) => above[3] * part + (1 - above[3]) * below[i]).concat(1)
   const light = ([r, g, b]) => { const [x, y, z] = [r, g, b].map(part => part / 255).map(part => part <= 0.04045 ? part / 12.92 : ((part + 0.055) / 1.055) ** 2.4); return 0.2126 * x + 0.7152 * y + 0.0722 * z }
   const contrast = (one, other) => { const [a, b] = [light(one), light(other)].sort((a, b) => b - a); return (a + 0.05) / (b + 0.05) }
-  const ground = it => {
-    const chain = []
-    for (let at = it; at; at = at.parentElement) chain.unshift(colour(getComputedStyle(at).backgroundColor))
-    return chain.reduce((below, above) => over(above, below), [255, 255, 255, 1])
+  const grounds = new Map([[null, { below: [255, 255, 255, 1], opacity: 1 }]])
+  const standing = it => {
+    if (!grounds.has(it)) {
+      const style = getComputedStyle(it), { below, opacity } = standing(it.parentElement), all = opacity * style.opacity, [r, g, b, a] = colour(style.backgroundColor)
+      grounds.set(it, { below: over([r, g, b, a * all], below), opacity: all })
+    }
+    return grounds.get(it)
   }
+  const ground = it => standing(it).below
+  const seenAs = (it, [r, g, b, a], more = 1) => [r, g, b, a * more * standing(it).opacity]
   const under = (it, box) => {
     const svg = it.closest("svg"), x = box.left + box.width / 2, y = box.top + box.height / 2
     let below = ground(svg)
@@ -143,13 +172,20 @@
   for (const { holder, box, text } of parts) {
     const style = getComputedStyle(holder), svg = holder.closest("svg")
     if (svg) { if (seen.size > 4000) continue; holder.scrollIntoView({ block: "center" }) }
-    const key = svg ? holder : style.color + style.fontSize + holder.className + holder.tagName
+    const key = svg ? holder : [style.color, style.fontSize, holder.className, holder.tagName, ground(holder), standing(holder).opacity].join()
     if (seen.has(key)) continue
     seen.add(key)
     const at = svg ? holder.getBoundingClientRect() : box
-    const ratio = svg ? contrast(colour(style.fill), under(holder, at)) : contrast(over(colour(style.color), ground(holder)), ground(holder))
+    const below = svg ? under(holder, at) : ground(holder), above = svg ? seenAs(holder, colour(style.fill), style.fillOpacity) : seenAs(holder, colour(style.color))
+    const ratio = contrast(over(above, below), below)
     if (ratio < 4.5) say(`contrast ${ratio.toFixed(1)}: "${text}"`)
     if (!svg && parseFloat(style.fontSize) < 11 && !matchMedia("print").matches) say(`letters of ${style.fontSize}: "${text}"`)
+  }
+  for (const it of document.querySelectorAll("svg rect")) {
+    const style = getComputedStyle(it)
+    if (!/wins .* lots? of /.test(it.querySelector("title")?.textContent ?? "") || style.fill.startsWith("url")) continue
+    const below = ground(it.closest("svg")), ratio = contrast(over(seenAs(it, colour(style.fill), style.fillOpacity), below), below)
+    if (ratio < 1.2) say(`a lot that is sold looks empty, with a contrast of ${ratio.toFixed(2)}: "${it.querySelector("title").textContent}"`)
   }
   scrollTo(0, 0)
   return found
