@@ -58,13 +58,14 @@ STYLE = (
     "code,pre{overflow-wrap:anywhere}.winners td,.winners th{padding-right:1.5rem}"
     "td.number,th.number{text-align:right;font-variant-numeric:tabular-nums}a.first{font-weight:bold;font-size:1.2rem}"
     "dd{margin:0 0 .6rem}summary{cursor:pointer}h1{font-size:1.6rem;line-height:1.25}h2{font-size:1.25rem}"
-    "@media(max-width:34rem){.winners,.winners tbody{display:block}.winners tr:first-child{display:none}"
+    "@media(max-width:34rem){.winners,.winners tbody{display:block}"
+    "thead{position:absolute;width:1px;height:1px;overflow:hidden;clip-path:inset(50%)}"
     ".winners tr{display:grid;grid-template-columns:1fr auto;border-bottom:1px solid #ccc;padding:.3rem 0}"
     ".winners td,.winners th{border:0;padding:0}.winners td{grid-column:1}"
     ".winners td.number{grid-area:2/2}.winners td:last-child{grid-area:1/2}"
     ".winners td.number:not(:last-child)::after{content:' MHz'}"
-    ".wide tr{display:block;border-bottom:1px solid #ccc;padding:.3rem 0}.wide th{display:none}"
-    ".wide td{display:block;border:0;padding:0}}"
+    ".wide tr{display:block;border-bottom:1px solid #ccc;padding:.3rem 0}"
+    ".wide th,.wide td{display:block;border:0;padding:0}}"
     "textarea{width:100%;font:13px/1.5 ui-monospace,monospace;box-sizing:border-box}"
     "button,textarea{color:inherit;background:transparent;border:1px solid #888;padding:.4rem .7rem}"
     "@media(prefers-color-scheme:dark){body{color:#eee;background:#111}a{color:#9cf}"
@@ -220,7 +221,7 @@ def result_text(result: Result, files: Mapping[str, bytes]) -> str:
         )
         for row in result.rows
     ]
-    table = f"<table class=winners>\n<tr>{heads}\n{chr(10).join(rows)}\n</table>\n" if rows else ""
+    table = f"<table class=winners>\n<thead><tr>{heads}</thead>\n<tbody>\n{chr(10).join(rows)}\n</table>\n"
     sheets = [
         f'<a href="{esc(name)}">{esc(pathlib.PurePath(name).stem)}</a>' for name in files if name.endswith(".csv")
     ]
@@ -233,7 +234,7 @@ def result_text(result: Result, files: Mapping[str, bytes]) -> str:
     more += [f"<p>What each bidder sees: {', '.join(bidders)}.\n"] if bidders else []
     occasion = f"<p>{esc(result.occasion)}\n" if result.occasion else ""
     return f"""{occasion}<h2>{esc(result.sentence)}</h2>
-{table}<p><small>{esc(result.amounts)}</small>
+{table if rows else ""}<p><small>{esc(result.amounts)}</small>
 <p><a class=first href="report.html">Read the report</a>
 {"".join(more)}"""
 
@@ -248,7 +249,7 @@ def page(title: str, result: Result, files: Mapping[str, bytes], made: Made) -> 
     tests = by_browser(files)
     tests += [f"<dt>{esc(what)}<dd><code>{esc(command)}</code>" for what, command in commands(files)]
     by = [
-        f"<tr><td>{esc(name)}<td><code{'' if is_right else ' class=bad'}>{esc(text)}</code>"
+        f"<tr><th scope=row>{esc(name)}<td><code{'' if is_right else ' class=bad'}>{esc(text)}</code>"
         for name, text, is_right in made.rows
     ]
     text = f"""<!DOCTYPE html>
@@ -266,7 +267,8 @@ def page(title: str, result: Result, files: Mapping[str, bytes], made: Made) -> 
 <p>The checksums are in <a href="{SUMS}">{SUMS}</a>.
 <details><summary>{len(rows)} files with their checksums</summary>
 <div class=wide>
-<table><tr><th scope=col>File<th scope=col>What it is<th scope=col>Checksum (SHA-256)
+<table><thead><tr><th scope=col>File<th scope=col>What it is<th scope=col>Checksum (SHA-256)</thead>
+<tbody>
 {chr(10).join(rows)}
 </table>
 </div>
