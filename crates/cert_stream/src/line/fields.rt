@@ -107,8 +107,9 @@ pub(crate) struct FieldRun {
     pub(crate) end: usize,
 }
 
-/// Puts the numbers that stand whole in a piece from a place on after those that are kept, up to that many in all. It may stop before any
-/// of them.
+/// Puts the numbers that are whole in a piece from a place on after those that are kept, up to that many in all. It may stop before any
+/// of them. It isn't inlined, so that its loop has the registers to itself.
+#[inline(never)]
 pub(crate) fn put_fields(
     out: &mut [i128],
     count: usize,
