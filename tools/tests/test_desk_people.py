@@ -111,7 +111,7 @@ class Previews(Small):
         price = self.desk.now().auction.rounds[-1].prices[0]
         for amount, is_odd in ((10 * price, False), (10 * price + 1, True)):
             client.send_to("preview", kind="draft", bidder="tarn", package="1 0 0 0", amount=str(amount))
-            self.assertEqual("is 10 times its price at the last clock prices" in client.text(), is_odd, amount)
+            self.assertEqual("is 10 times its price at the final clock prices" in client.text(), is_odd, amount)
         client.write(f"draft,tarn,1 0 0 0,{price}")
         client.send_to("preview", raw=f"draft,tarn,1 0 0 0,{9 * price}\ndraft,tarn,1 0 0 0,{price}")
         self.assertNotIn("times", client.text())

@@ -47,7 +47,7 @@ def draft_table(auction: Auction, j: BidderNumber, speech: Speech) -> Table:
             amount_cell(price),
         ]
         rows.append(Row(cells))
-    heads = ("Drafted", "Submitted", "Cap", "In the clock", "At last clock prices")
+    heads = ("Drafted", "Submitted", "Cap", "In the clock", "Final clock price")
     columns = [Column("Package", is_number=False), *map(Column, heads)]
     name = speech.bidder(auction.award.names[j - 1])
     return Table(speech.caption(f"The list of {name}"), columns, rows)

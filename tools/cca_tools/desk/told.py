@@ -74,7 +74,7 @@ def times_words(amount: Amount, base: Amount) -> str:
 
 
 def proportion_warnings(speech: Speech, auction: Auction, j: BidderNumber, bid: tuple[Package, Amount]) -> list[str]:
-    """Why an amount of a list is out of proportion to the package's price at the last clock prices, and to the amount
+    """Why an amount of a list is out of proportion to the package's price at the final clock prices, and to the amount
     that its list had before."""
     package, amount = bid
     found, price = list[str](), dot(last_prices(auction), package)
@@ -82,7 +82,7 @@ def proportion_warnings(speech: Speech, auction: Auction, j: BidderNumber, bid: 
     if price and amount > PROPORTION * price:
         many = times_words(amount, price)
         at = speech.amount(price)
-        found.append(f"{named} is {many} its price at the last clock prices, {at}. Is it a typing error?")
+        found.append(f"{named} is {many} its price at the final clock prices, {at}. Is it a typing error?")
     desk = auction.desks[j - 1]
     before = desk.drafts.get(package, desk.submitted.get(package, 0))
     if before and amount > PROPORTION * before:
@@ -93,14 +93,14 @@ def proportion_warnings(speech: Speech, auction: Auction, j: BidderNumber, bid: 
 
 
 def list_warnings(speech: Speech, auction: Auction, j: BidderNumber) -> list[str]:
-    """The entries of a submitted list that are out of proportion to the last clock prices."""
+    """The entries of a submitted list that are out of proportion to the final clock prices."""
     found, prices = list[str](), last_prices(auction)
     for package, amount in auction.submitted(j):
         price = dot(prices, package)
         if price and amount > PROPORTION * price:
             found.append(
                 f"{speech.bidder(auction.award.names[j - 1])} offers {speech.amount(amount)} for"
-                f" {speech.package(package)}, {times_words(amount, price)} its price at the last clock prices."
+                f" {speech.package(package)}, {times_words(amount, price)} its price at the final clock prices."
             )
     return found
 
@@ -133,7 +133,7 @@ def draft_told(speech: Speech, auction: Auction, line: Line) -> Told:
     cap = auction.caps(j).amount({**desk.drafts, package: line.amount}, package)
     price = dot(last_prices(auction), package)
     found.append(
-        f"{'No cap' if cap is None else f'Cap: {speech.amount(cap)}'}. At the last clock prices:"
+        f"{'No cap' if cap is None else f'Cap: {speech.amount(cap)}'}. At the final clock prices:"
         f" {speech.amount(price)}. Asked for in the clock at: {speech.amount(desk.highest_in_clock.get(package, 0))}."
     )
     if package in desk.drafts and (before := last_line_of(auction, line)):
@@ -169,7 +169,7 @@ def submit_told(speech: Speech, auction: Auction, line: Line) -> Told:
     prices = last_prices(auction)
     warnings = [
         f"{speech.amount(amount)} for {speech.package(package)} is {times_words(amount, dot(prices, package))} its"
-        " price at the last clock prices. Is it a typing error?"
+        " price at the final clock prices. Is it a typing error?"
         for package, amount in sorted(desk.drafts.items())
         if dot(prices, package) and amount > PROPORTION * dot(prices, package)
     ]

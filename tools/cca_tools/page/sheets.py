@@ -50,12 +50,12 @@ def rounds(source: Source) -> Sheet:
 
 
 def prices(source: Source) -> Sheet:
-    """Of each category the reserve, the last price of the clock, and the lots sold, with prices of a MHz if known."""
+    """Of each category the reserve, the final clock price, and the lots sold, with prices of a MHz if known."""
     award, last = given(source.award), given(source.auction).rounds[-1].prices
     sold = [sum(source.won(j)[0][c] for j in source.winners) for c in range(len(award.categories))]
     widths = source.widths
-    more = ["mhz", "reserve_per_mhz", "last_price_per_mhz"] if widths else []
-    yield ["category", "name", "supply", "sold", "reserve", "last_price", *more]
+    more = ["mhz", "reserve_per_mhz", "final_clock_price_per_mhz"] if widths else []
+    yield ["category", "name", "supply", "sold", "reserve", "final_clock_price", *more]
     for c, (it, short) in enumerate(zip(award.categories, source.short_categories)):
         by_mhz = [widths[c], it.reserve / widths[c], last[c] / widths[c]] if widths else []
         yield [short, it.name, it.supply, sold[c], it.reserve, last[c], *map(decimal, by_mhz)]

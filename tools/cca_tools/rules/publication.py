@@ -45,7 +45,7 @@ ABOUT = {
     "report.txt": "the report as plain text",
     "tables/winners.csv": "a table: who won what and pays what",
     "tables/rounds.csv": "a table: prices and demand by round",
-    "tables/prices.csv": "a table: reserves and last prices of the clock by category",
+    "tables/prices.csv": "a table: reserves and final clock prices by category",
     "tables/bids.csv": "a table: all bids of the book",
 }
 STYLE = (
