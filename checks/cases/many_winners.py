@@ -319,3 +319,42 @@ def at_limits(number: int, seed: int = 1) -> Drawn:
     is_great = number % 3 == 2
     book = book_of(enlarged(rng, sale, NOISE) if is_great else sale)
     return Drawn("great" if is_great else "small", book, weights_of(rng, book) if number % 4 == 3 else None)
+
+
+PRIMES = (17, 19, 23, 29, 31, 37)
+
+
+def wide(number: int, seed: int = 1) -> Drawn:
+    """A book of great amounts, with weights, whose prices have so great a denominator that 64 bits don't suffice.
+
+    For each of five categories two or three winners, whose weights add up to a prime, share what a loser bids for all
+    of it. Some losers also bid for two categories."""
+    rng = random.Random(f"wide {seed} {number}")
+    lots, left = [2, 2, 2, 2, rng.randint(2, 3)], {*PRIMES}
+    bidders = list[tuple[Bids, int]]()
+    for c, count in enumerate(lots):
+        weights = weights_of_sum(rng, count, left)
+        left.remove(sum(weights))
+        small = [rng.randint(GREAT // 4, GREAT // 3) for _ in weights]
+        bidders += [({unit(5, c): amount}, weight) for amount, weight in zip(small, weights)]
+        large = {all_of(lots, [c]): int(sum(small) * rng.uniform(0.6, 0.95))}
+        if rng.random() < 0.5:
+            large[all_of(lots, [c, c - 1])] = rng.randint(GREAT // 4 * 3, GREAT)
+        bidders.append((large, rng.randint(1, MOST["weight"])))
+    rng.shuffle(bidders)
+    book = book_of(Sale(tuple(lots), (0,) * 5, [bids for bids, _ in bidders]))
+    return Drawn("wide", book, [weight for _, weight in bidders])
+
+
+def weights_of_sum(rng: random.Random, count: int, sums: set[int]) -> list[int]:
+    """So many weights that add up to one of these sums."""
+    weights = list[int]()
+    while sum(weights) not in sums:
+        weights = [rng.randint(1, MOST["weight"]) for _ in range(count)]
+    return weights
+
+
+def all_of(lots: Sequence[int], categories: Sequence[int]) -> Package:
+    """All lots of some categories."""
+    chosen = {c % len(lots) for c in categories}
+    return tuple(count * (c in chosen) for c, count in enumerate(lots))

@@ -15,7 +15,7 @@ from fractions import Fraction
 
 from checks.cases import many_winners
 from checks.cases.all_coalitions import faults, has_solution
-from checks.cases.many_winners import FAMILIES, at_limits, drawn, small, with_few_winners
+from checks.cases.many_winners import FAMILIES, at_limits, drawn, small, wide, with_few_winners
 from checks.cases.priced_runs import CHECKER
 from checks.cases.program import PROGRAM, with_program
 
@@ -32,7 +32,7 @@ class Books(unittest.TestCase):
 
     def test_drawn_books_are_of_the_format(self) -> None:
         for number in range(40):
-            for made in (drawn(number), with_few_winners(number), small(number)):
+            for made in (drawn(number), with_few_winners(number), small(number), wide(number)):
                 self.need_read(made.book)
                 self.assertTrue(all(1 <= weight <= 20 for weight in made.weights or []))
 
@@ -210,6 +210,11 @@ class Counts(unittest.TestCase):
         said, status = self.count("weighed", "3")
         self.assertEqual((status, said[-1].startswith("3 books, 0 with a fault")), (0, True), said)
         self.assertTrue(any(line.startswith("plain search: same, ") for line in said))
+
+    def test_more_than_64_bits(self) -> None:
+        said, status = self.count("wide", "2")
+        self.assertEqual((status, said[-1].startswith("2 books, 0 with a fault")), (0, True), said)
+        self.assertIn("| Python's integers | yes | 2 | 2 | 0 | 0 | 0 |", said)
 
     def test_a_longer_search(self) -> None:
         """Of a book for which more than ten rows were found; here of a record that says so."""

@@ -148,7 +148,9 @@ class ListFiller(Filler):
 
 
 class ArrayFiller(Filler):
-    """Fills tables with numpy, in 64 bits if no sum can overflow, and otherwise with Python's integers.
+    """Fills tables with numpy, in 64 bits if no sum can overflow, and otherwise with Python's integers: great amounts
+    with weights need these, since five groups of winners can have prices whose denominator is the product of five sums
+    of weights.
 
     The longest category is the last axis, which is the fastest.
     """
