@@ -325,7 +325,8 @@ PRIMES = (17, 19, 23, 29, 31, 37)
 
 
 def wide(number: int, seed: int = 1) -> Drawn:
-    """A book of great amounts, with weights, whose prices have so great a denominator that 64 bits don't suffice.
+    """A book of great amounts, with weights, whose prices most often have so great a denominator that 64 bits don't
+    suffice.
 
     For each of five categories two or three winners, whose weights add up to a prime, share what a loser bids for all
     of it. Some losers also bid for two categories."""

@@ -18,7 +18,7 @@ from fractions import Fraction
 from collections.abc import Iterator, Sequence
 
 from contextlib import AbstractContextManager
-from checks.cases.many_winners import with_few_winners
+from checks.cases import many_winners
 from checks.cases.program import PROGRAM, with_program
 from checks.cases.samples import EXAMPLES, TOOLS, called
 from checks.cases.searches import core_point as plain_point
@@ -27,9 +27,11 @@ from cca_tools.rules.types import Bid
 from cca_tools.pricing import certificates, files, program_rows, search
 from cca_tools.pricing.certificates import certificate_of
 from cca_tools.pricing.fewer_rows import (
+    Makers,
     Shown,
     Tight,
     are_independent,
+    exchanges_with,
     fewer,
     fewest,
     searched,
@@ -261,6 +263,25 @@ class Rows(unittest.TestCase):
             4,
         )
 
+    def need_shown(self, market: Market, found: Found, shown: Shown) -> None:
+        """Rows show the point: C7 and C8 of docs/CERTIFICATES.md, with equal weights."""
+        members = [[row.holds(i) for row in shown.rows] for i in range(len(market.winners))]
+        self.assertEqual([sum(u for u, has in zip(shown.first, of) if has) for of in members], [1] * len(members))
+        moved = [pays - v for pays, v in zip(found.point.pays, market.vickrey)]
+        self.assertEqual([sum(w for w, has in zip(shown.second, of) if has) for of in members], moved)
+        self.assertTrue(all(u > 0 or u == 0 < w for u, w in zip(shown.first, shown.second)))
+
+    def test_exchanges_show_the_point(self) -> None:
+        counts = []
+        for number in (4, 9, 17, 24, 27):
+            market, found = found_of(many_winners.drawn(number).book)
+            first = fewest(market, found, 16).shown
+            for row in tight_rows(market, found, 100).rows:
+                for other in exchanges_with(Makers(first, len(market.winners)), row):
+                    self.need_shown(market, found, other.shown())
+                    counts.append(len(other.rows) - len(first.rows))
+        self.assertEqual({*counts}, {-1, 0})
+
     def test_a_search_joins_rows_that_no_single_exchange_joins(self) -> None:
         """Two ways to cover six winners: three pairs, or two triples that overlap each pair."""
         pairs, triples = [0b000011, 0b001100, 0b110000], [0b010101, 0b101010]
@@ -272,7 +293,7 @@ class Rows(unittest.TestCase):
 
     def test_a_set_of_rows_that_isn_t_found_soon(self) -> None:
         """The rows of the search are kept then."""
-        market, found = found_of(with_few_winners(15).book)
+        market, found = found_of(many_winners.with_few_winners(15).book)
         with unittest.mock.patch.object(program_rows, "MOST_TRIES", 0):
             other = found_of(market.book)[1]
         self.assertEqual(other.point.pays, found.point.pays)
@@ -369,7 +390,7 @@ class Command(unittest.TestCase):
     @with_program
     def test_rows_are_those_of_the_program_if_several_sets_show_the_prices(self) -> None:
         for number in (15, 43, 44, 54):
-            market, found = found_of(with_few_winners(number).book)
+            market, found = found_of(many_winners.with_few_winners(number).book)
             tight = tight_rows(market, found, 1_000)
             self.assertFalse(are_independent(tight.rows))
             self.need_same(str(number), self.write(f"{number}.book", book_text(market.book)), ())

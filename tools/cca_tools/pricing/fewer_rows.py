@@ -130,28 +130,37 @@ class Makers:
 
     def shares(self, new: Demand) -> list[int] | None:
         """How often each row is taken to make the new one, times `den`; None if they don't make it."""
-        columns = [column for i, column in enumerate(self.columns) if new.holds(i)]
-        made = [sum(parts) for parts in zip(*columns)]
-        for i, holders in enumerate(self.holders):
-            if sum(made[k] for k in holders) != new.holds(i) * self.den:
-                return None
-        return made
+        made = list(map(sum, zip(*(column for i, column in enumerate(self.columns) if new.members >> i & 1))))
+        is_whole = len(made) == len(self.holders)  # (so many independent rows make each other one)
+        return made if is_whole or self.make(new, made) else None
+
+    def make(self, new: Demand, made: Sequence[int]) -> bool:
+        """Whether the rows, taken so often, make the new one."""
+        sums = (sum(made[k] for k in holders) for holders in self.holders)
+        return all(total == new.holds(i) * self.den for i, total in enumerate(sums))
 
     def most_part(self, made: Sequence[int]) -> tuple[Fraction, int]:
-        """The most of the first multipliers that a row can take over, and a row that is left without one; 0 if it
-        can't."""
-        gone = -1
-        for k, (u, x) in enumerate(zip(self.first, made)):
-            if x > 0 and (gone < 0 or u * made[gone] < self.first[gone] * x):
-                gone = k
+        """The most of the first multipliers that a row can take over, and a row that is left without one; 0 and -1 if
+        it can't."""
+        gone = first_left(self.first, made, [k for k, x in enumerate(made) if x > 0])
         return Fraction(self.first[gone] * self.den, self.first_den * made[gone]) if gone >= 0 else Fraction(0), gone
 
     def moves(self, first: Sequence[int], made: Sequence[int]) -> list[tuple[Fraction, int]]:
-        """How much of the second multipliers can be taken over so that a row without a first one is left without both,
-        and that row."""
+        """The least and the most of the second multipliers that can be taken over so that no row without a first one
+        has a second one below 0, and a row that is left without both; none if there is no such row."""
         rows = [k for k, (u, x) in enumerate(zip(first, made)) if u == 0 and x]
-        moves = {Fraction(self.second[k] * self.den, self.second_den * made[k]): k for k in rows}
-        return sorted(moves.items())
+        ends = [first_left(self.second, made, [k for k in rows if made[k] * sign > 0]) for sign in (-1, 1)]
+        moves = {Fraction(self.second[k] * self.den, self.second_den * made[k]): k for k in ends if k >= 0}
+        return [*moves.items()] if [*moves] == sorted(moves) else []
+
+
+def first_left(multipliers: Sequence[int], made: Sequence[int], rows: Sequence[int]) -> int:
+    """The row of which nothing is left first; -1 if there are no rows."""
+    gone = -1
+    for k in rows:
+        if gone < 0 or multipliers[k] * abs(made[gone]) < multipliers[gone] * abs(made[k]):
+            gone = k
+    return gone
 
 
 def in_whole_numbers(parts: Sequence[Fraction]) -> tuple[list[int], int]:
@@ -195,8 +204,8 @@ def exchanges(makers: Makers, new: Demand, made: list[int]) -> Iterator[Exchange
     for part in {most, Fraction(0)}:
         first = left_over(makers.first, made, gone if part else -1)
         for move, k in makers.moves(first, made):
-            second = left_over(makers.second, made, k)
-            if (part > 0 or move >= 0) and all(u > 0 or w >= 0 for u, w in zip(first, second)):
+            if part > 0 or move >= 0:
+                second = left_over(makers.second, made, k)
                 rows = [row for row, u, w in zip(makers.shown.rows, first, second) if u or w]
                 yield Exchange(makers, new, made, part, move, [*rows, *([new] if part or move else [])])
 
