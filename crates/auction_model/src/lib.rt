@@ -1,6 +1,6 @@
 //! The definitions of a combinatorial auction and their laws, which the contracts of the crates above cite.
 //!
-//! Each function here is a law: it does nothing, and its contract is what holds of every market.
+//! Each function here is a law: it has no effect, and its contract is true for every market.
 #![tactic(auto)]
 
 ghost use Rattle.std.specs.Prelude.{◌≡◌, ℕ, ◌<◌, ◌≤◌, ◌^◌, Bool, List, ℤ, length, pos, ◌*ℤ◌, ◌-ℤ◌, ◌≤ℤ◌};
@@ -29,7 +29,7 @@ pub fn core_points()
     ensures { (m : Market) (z : List ℕ) → IsMarket m → IsWinning m z → (p : Point) × IsCorePoint m z p }
 {}
 
-/// All core outcomes of a choice with the same weights are the same point. The weights of the bidders alone count.
+/// All core outcomes of a choice with the same weights are the same point. Only the bidders' weights matter.
 pub fn core_outcome()
     ensures one { (m : Market) (w : ℕ → ℕ) (z : List ℕ) (p q : Point) → IsMarket m → IsCoreOutcome m w z p
         → IsCoreOutcome m w z q → SamePoint m p q }
@@ -37,8 +37,8 @@ pub fn core_outcome()
         → ((j : ℕ) → 0 < j → j ≤ m.bidders → w j ≡ y j) → IsCoreOutcome m w z p → IsCoreOutcome m y z p }
 {}
 
-/// A share times its weight is the same number for all weights of 1 to 20, so squares count by what is divided by the weight.
-/// Where all weigh 1, the square distance is the sum of the squares times that number.
+/// A share times its weight is the same number for all weights of 1 to 20, so each square is in effect divided by the weight.
+/// If all weights are 1, the square distance is the sum of the squares times that number.
 pub fn weighted_distance()
     ensures share { (n : ℕ) → 1 ≤ n → n ≤ 20 → share n *ℤ pos n ≡ pos 232792560 }
     ensures plain { (m : Market) (v : ℕ → ℤ) (p : Point)
@@ -48,7 +48,7 @@ pub fn weighted_distance()
         (λ j. (of_bidder p.at j -ℤ (p.den *ℤ v j)) *ℤ (of_bidder p.at j -ℤ (p.den *ℤ v j))) m.bidders }
 {}
 
-/// A point is unblocked exactly where no coalition blocks it with any choice.
+/// A point is unblocked exactly if no coalition blocks it with any choice.
 pub fn blocking_coalitions()
     ensures free { (m : Market) (z : List ℕ) (p : Point) → IsUnblocked m z p → (k : ℕ → Bool) (f : List ℕ)
         → IsBlocking m z p k f → ⊥ }
@@ -56,7 +56,7 @@ pub fn blocking_coalitions()
         → IsUnblocked m z p }
 {}
 
-/// A book is a market where its net amounts aren't negative.
+/// A book is a market if none of its net amounts is negative.
 pub fn book_market()
     ensures { (book : Book) → length book.bidders < 2 ^ 16
         → ((j i : ℕ) → i ≤ length (bids_of book j) → pos 0 ≤ℤ net_of book j i) → IsMarket (market_of book) }

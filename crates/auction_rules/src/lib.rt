@@ -1,13 +1,13 @@
-//! The rules of a combinatorial clock auction up to its book: the lines of a log, the replies to them, and in `specs/` what
-//! they mean.
+//! The rules of a combinatorial clock auction up to its book: the lines of a log, the replies to them, and their meaning (in
+//! `specs/`).
 //!
-//! The form of the auction is that of the Wireless Telegraphy (Licence Award) Regulations 2012, SI 2012/2817: clock rounds with
-//! eligibility points at posted prices, then one sealed list of each bidder under relative caps. (Ausubel, Cramton and Milgrom,
-//! The clock-proxy auction, in Combinatorial Auctions, 2006, on clock rounds before package bids.) The number rules are this
-//! project's.
+//! The auction has the form of the Wireless Telegraphy (Licence Award) Regulations 2012, SI 2012/2817: clock rounds with
+//! eligibility points at posted prices, then one sealed list from each bidder under relative caps. (Ausubel, Cramton and
+//! Milgrom, The clock-proxy auction, in Combinatorial Auctions, 2006, on clock rounds before package bids.) The number rules
+//! are this project's.
 //!
-//! Each function here is a law: it does nothing, and its contract is what holds of every award and every log. A list of lines
-//! has its newest line first.
+//! Each function here is a law: it has no effect, and its contract is true for every award and every log. A list of lines
+//! starts with its newest line.
 #![tactic(auto)]
 
 ghost use Rattle.std.specs.Prelude.{◌≡◌, ℕ, suc, ◌+◌, ◌*◌, ◌≤◌, List, ◌∷◌, None, IsTrue, true, false, not, ◌&&◌, length, map};
@@ -55,8 +55,8 @@ pub enum Event {
     Close,
 }
 
-/// What a line is answered by: the first reply after `Ok` whose condition holds among those that are tested for the line's
-/// kind, and `Ok` where none holds. Categories, spectrum caps and entries are numbered from 1.
+/// The reply to a line: the first one after `Ok` whose condition is true, among those that are tested for the line's kind, and
+/// `Ok` if none is. Categories, spectrum caps and entries are numbered from 1.
 #[derive(Clone, Copy, Debug, PartialEq, Eq)]
 pub enum Reply {
     /// The line is admitted.
@@ -68,7 +68,8 @@ pub enum Reply {
     Unknown,
     /// The package asks for more than the supply in this category, the first such one.
     Supply(u16),
-    /// With what the bidder holds already, the package is above the limit of the spectrum cap of this number, the first such one.
+    /// With the bidder's present holdings, the package is above the limit of the spectrum cap of this number, the first such
+    /// one.
     SpectrumCap { number: u32, limit: u64 },
     /// The points of the package are above this eligibility: of the posted round for a clock bid, of round 1 for a draft.
     Points(u64),
@@ -88,24 +89,23 @@ pub enum Reply {
     AmountTop(u64),
     /// A close would raise the price of this category to this, which is above the greatest price; the first such category.
     PriceTop { category: u16, price: u64 },
-    /// There was no memory. The rules never give this reply; it may come instead of theirs.
+    /// Out of memory. The rules never return this reply. It may replace the rules' reply.
     Memory,
 }
 
-/// How far an auction is.
+/// The stage of an auction.
 #[derive(Clone, Copy, Debug, PartialEq, Eq)]
 pub enum Stage {
     /// Rounds are posted, one after the other, until demand is within the supply.
     Clock,
     /// Bidders draft and submit their lists.
     Sealed,
-    /// No line is admitted any more.
+    /// No further line is admitted.
     Closed,
 }
 
-/// The tests of packages say what the words of packages say: being the same is equality; the test of order is the order of
-/// packages, among packages with equally many categories; and no category is over exactly where the package is within the
-/// supply.
+/// The tests of packages agree with the definitions: `is_same` is equality. `is_before` is the order of packages, for packages
+/// with equally many categories. No category is over the supply exactly if the package is within it.
 pub fn package_tests()
     ensures same { (p q : List ℕ) → is_same p q ≡ true → p ≡ q }
     ensures is_same { (p : List ℕ) → is_same p p ≡ true }
@@ -117,15 +117,15 @@ pub fn package_tests()
         → is_within lots supply ≡ true }
 {}
 
-/// A price rises by the permille of the greatest threshold that the excess reaches, where the thresholds rise and the excess
+/// A price rises by the permille of the greatest threshold that the excess reaches, if the thresholds rise and the excess
 /// reaches the first.
 pub fn greatest_threshold()
     ensures { (first : ℕ × ℕ) (later : List (ℕ × ℕ)) (excess : ℕ) → AreRisingFrom first.0 later → first.0 ≤ excess
         → IsReachedShare (first ∷ later) excess (permille_at (first ∷ later) excess) }
 {}
 
-/// A raise is the least multiple of the tick that is at least the tick and at least that many thousandths of the price, and there
-/// is no other.
+/// A raise is the least multiple of the tick that is at least the tick and at least that many thousandths of the price. It is
+/// unique.
 pub fn raise_is_least()
     ensures least { (tick price permille : ℕ) → 1 ≤ tick
         → IsRaise tick price permille (ticks_of tick price permille * tick) }
@@ -133,14 +133,14 @@ pub fn raise_is_least()
         → u ≡ v }
 {}
 
-/// The price of a package never falls from round to round, whatever is held.
+/// The price of a package never falls from round to round, whatever the bidders hold.
 pub fn prices_never_fall()
     ensures { (terms : Terms) (held : ℕ → ℕ → List ℕ) (n : ℕ) (lots : List ℕ)
         → cost_of (prices_after terms held n) lots ≤ cost_of (prices_after terms held (suc n)) lots }
 {}
 
-/// The constraining round for some points is the round of its number. Where the bidder's eligibility was enough for them in some
-/// round, it was so in this one, and in no later one.
+/// The constraining round for some points is the round of its number. If the bidder's eligibility was enough for them in some
+/// round, it was enough in this one, and in no later one.
 pub fn constraining_round()
     ensures last { (points : ℕ) (rounds : List OwnRound) (k : ℕ) → 1 ≤ k → k ≤ length rounds
         → points ≤ (round_at rounds k).eligibility
@@ -149,8 +149,8 @@ pub fn constraining_round()
         → constraining points rounds ≡ round_at rounds (constraining_number points rounds) }
 {}
 
-/// After any log a bidder is eligible for the package that it holds, and its submitted list is valid: each amount in it, but
-/// that for the package of the final round, is at most its cap over that list.
+/// After any log a bidder is eligible for the package that it holds, and its submitted list is valid: each amount in it, except
+/// the amount for the package of the final round, is at most its cap over this list.
 pub fn sound_standings()
     ensures eligible { (terms : Terms) (log : List Event) (j : ℕ)
         → cost_of terms.points (standing terms (admitted terms log) j).held
@@ -160,11 +160,11 @@ pub fn sound_standings()
         (standing terms (admitted terms log) j).submitted ≡ None }
 {}
 
-/// What a bidder's rounds and lists keep after any log, on which relative caps rest: there are no more closed rounds than there may be; the
-/// eligibility never rises, from that of the award, which is that of round 1, to that of the posted round; and once the clock has
-/// stopped a round is closed. Where the packages of the log have the award's
-/// number of categories, the draft list and the submitted list have no more entries than they may, in the order of their
-/// packages, each package once, and each of them the bidder may draft.
+/// The invariants of a bidder's rounds and lists after any log, which relative caps need. There are at most `MOST_ROUNDS`
+/// closed rounds. The eligibility of round 1 is the award's, and it never rises up to the posted round. Once the clock has
+/// stopped, at least one round is closed. If the packages of the log have the award's number of categories, the draft list and
+/// the submitted list are within their limit, in the order of their packages, each package once, and the bidder may draft each
+/// of them.
 pub fn kept_standings()
     ensures rounds { (terms : Terms) (log : List Event) (j : ℕ)
         → length (standing terms (admitted terms log) j).rounds ≤ MOST_ROUNDS }
@@ -183,9 +183,9 @@ pub fn kept_standings()
         → AreDrafts terms j (standing terms (admitted terms log) j).submitted }
 {}
 
-/// However the lines of bidders are interleaved, a bidder is treated by what it sees: its own lines and the closes, each close
-/// with its reply and the prices that it posts. Where it has the same view of two logs on one award, its next line gets the
-/// same reply, its lines got the same replies, and it has the same bids in the book.
+/// However the lines of bidders are interleaved, a bidder's treatment depends only on what it sees: its own lines and the
+/// closes, each close with its reply and the prices that it posts. If it has the same view of two logs on one award, its next
+/// line gets the same reply, its lines got the same replies, and it has the same bids in the book.
 pub fn interleaving()
     ensures next { (terms : Terms) (j : ℕ) (log other : List Event) (line : Event) → IsTrue (is_of j line)
         → view terms j log ≡ view terms j other → reply_to terms log line ≡ reply_to terms other line }
@@ -195,8 +195,8 @@ pub fn interleaving()
         → view terms j log ≡ view terms j other → bids_in_book terms log j ≡ bids_in_book terms other j }
 {}
 
-/// A state is enough for a desk. From the state after a log, the reply to a line is that of the rules, which look through the
-/// whole log; and what the line makes of the state is the state after the log with the line.
+/// A state is enough for a desk. From the state after a log, the reply to a line is the rules' reply, which reads the whole
+/// log. The line changes the state to the state after the log with the line.
 pub fn desk_step()
     ensures reply { (terms : Terms) (log : List Event) (line : Event)
         → reply_in (state_of terms log) line ≡ reply_to terms log line }
@@ -204,7 +204,7 @@ pub fn desk_step()
         → state_with (state_of terms log) line ≡ state_of terms (line ∷ log) }
 {}
 
-/// What the state after a log says is what the whole log says: how far the auction is, the number of the posted round, and its
+/// The state after a log shows what the whole log shows: the stage of the auction, the number of the posted round, and its
 /// prices.
 pub fn desk_tells()
     ensures stage { (terms : Terms) (log : List Event) → (state_of terms log).stage ≡ log_stage terms log }
@@ -224,9 +224,9 @@ pub fn bidders_of_book()
         → bidder_of (book_of_log terms log) j ≡ book_bidder terms (bids_in_book terms log) j }
 {}
 
-/// What is in the book of a log. A package has a bid of the bidder exactly where it isn't empty and is among the bidder's
-/// clock bids or in its submitted list. Each bid is one of these, and none of them has a greater amount for its package. No bid
-/// is for the empty package, and there are no more than a book allows.
+/// What is in the book of a log. A package has a bid of the bidder exactly if it isn't empty and is among the bidder's clock
+/// bids or in its submitted list. Each bid is one of these, and none of them has a greater amount for its package. No bid is
+/// for the empty package, and there are no more than a book allows.
 pub fn bids_of_book()
     ensures packages { (terms : Terms) (log : List Event) (j : ℕ) (lots : List ℕ)
         → has_entry lots (bids_in_book terms log j)
@@ -243,15 +243,15 @@ pub fn book_in_order()
     ensures { (terms : Terms) (log : List Event) (j : ℕ) → InOrder (map bid_lots (bids_in_book terms log j)) }
 {}
 
-/// After a log whose packages have the award's number of categories, each bid of the book is within the supply, at least its price
-/// at the reserves and at most the greatest amount, where the award keeps its limits of lots and of reserves.
+/// After a log whose packages have the award's number of categories, each bid of the book is within the supply, at least its
+/// price at the reserves and at most the greatest amount, if the award keeps the limits of lots and of reserves.
 pub fn lawful_bids()
     ensures { (terms : Terms) (log : List Event) (j : ℕ) → AreLimited terms → AllByRecursion (HasCategories terms) log
         → AllByRecursion (IsLawfulBid terms) (bids_in_book terms log j) }
 {}
 
-/// After any log the bids that a bidder has in the book are a valid list: each, but that for the package of the final round, is
-/// at most its cap over the book's own bids.
+/// After any log the bids that a bidder has in the book are a valid list: each, except the bid for the package of the final
+/// round, is at most its cap over the book's own bids.
 pub fn book_within_caps()
     ensures { (terms : Terms) (log : List Event) (j : ℕ)
         → list_fault (final_cap terms) terms.points (standing terms (admitted terms log) j).rounds

@@ -40,7 +40,8 @@ fn take(rt: &impl Abort, alloc: Global, desk: &mut Desk, event: &Event) -> Reply
     reply
 }
 
-/// The replies to the lines of a log, and after each close the stage, the round and the prices, and then the book, where there is one.
+/// The replies to the lines of a log, and after each close the stage, the round and the prices, and then the book, if there is
+/// one.
 fn replay(rt: &impl Abort, alloc: Global, award: &str, log: &str) -> Result<String, Fail> {
     let award = award_of(rt, alloc, award);
     let events = events_of(rt, alloc, log, &award);

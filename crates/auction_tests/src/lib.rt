@@ -1,5 +1,5 @@
-//! Tests of what awards, logs, the clock, caps and the desk tell through their own types; of books, choices, tables of greatest value, values
-//! without a winner, blocking coalitions, slots, weights, edits and printed fractions.
+//! Tests of awards, logs, the clock, caps and the desk through their own types, and of books, choices, tables of greatest
+//! value, values without a winner, blocking coalitions, slots, weights, edits and printed fractions.
 #![tactic(auto)]
 
 #[cfg(test)]

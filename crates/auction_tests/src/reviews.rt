@@ -20,7 +20,7 @@ fn categories_of(edit: &Edit) -> usize
     }
 }
 
-// The answer to an edit, where its package has as many categories as the book.
+// The answer to an edit, if its package has as many categories as the book.
 fn answer(alloc: Global, review: &mut Review, edit: &Edit) -> Option<EditReply> {
     if categories_of(edit) != review.book().supply().categories() {
         return None;

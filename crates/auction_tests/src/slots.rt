@@ -20,7 +20,7 @@ fn slots_of(rt: &impl Abort, alloc: Global, text: &str) -> Slots {
     slots
 }
 
-// Asserts which order allows the choice first, where one does.
+// Asserts which order allows the choice first, if one does.
 fn order_is(
     rt: &impl Abort,
     alloc: Global,
@@ -130,7 +130,7 @@ fn first_two_win(rt: &impl Abort, chooser: &SlotChooser) {
     assert_eq!(rt; chooser.winner_value(3), 0);
 }
 
-// Where x pays 15 for its bid of 10, its surplus is -5, and it counts 5 beside z, which leaves it without a bid.
+// If x pays 15 for its bid of 10, its surplus is -5, and it counts 5 beside z, which leaves it without a bid.
 fn searches(rt: &impl Abort, alloc: Global, chooser: &SlotChooser) -> Result<(), AllocError> {
     let paid = [12i128, 2, 12, 0, 2, 2, 0, 0];
     lowered_is(rt, alloc, chooser, &[6, 6, 0], &[0, 0, 1], 12, &paid)?;

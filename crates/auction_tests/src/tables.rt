@@ -69,8 +69,8 @@ fn a_chooser_searches_at_surpluses(rt: HostRuntime) -> Result<(), AllocError> {
     Ok(())
 }
 
-// Where a pays 15 for its bid of 10, its surplus is -5, and b's is 9 where it pays 1. So a and b together count 15 and 1, and
-// c alone counts 12 beside the 5 of a that isn't used.
+// If a pays 15 for its bid of 10, its surplus is -5, and b's is 9 if it pays 1. So a and b together count 15 and 1, and c
+// alone counts 12 beside the 5 of a that isn't used.
 #[test]
 fn a_bidder_that_pays_more_than_its_bid_counts_where_it_is_not_used(
     rt: HostRuntime,

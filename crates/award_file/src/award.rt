@@ -65,7 +65,7 @@ impl Award {
     pub fn kept(&self)
         ensures { IsAward self.now }
     {
-        // The rules of a type are known where a field of it is used.
+        // The rules of a type are known once its field is used.
         let _ = &self.supply;
     }
 

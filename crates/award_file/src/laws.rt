@@ -11,7 +11,7 @@ ghost use Rattle.award_file.specs.Reading.{reading, stated_terms};
 
 use auction_rules::{bids_of_book, book_in_order, lawful_bids, package_tests};
 
-/// The book of a log on an award keeps all rules and all limits of a book, where the packages of the log have the award's number
+/// The book of a log on an award keeps all rules and all limits of a book, if the packages of the log have the award's number
 /// of categories.
 pub fn book_of_award()
     ensures { (terms : Terms) (log : List Event) → IsAward terms → AllByRecursion (HasCategories terms) log

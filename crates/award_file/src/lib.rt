@@ -1,5 +1,5 @@
-//! The settings of an award: what is sold, at what reserves and points, how prices rise, who bids, and the spectrum caps; and
-//! the reader of their files.
+//! The settings of an award: what is sold, at what reserves and points, how prices rise, who bids, and the spectrum caps. It
+//! also has the reader of their files.
 #![tactic(auto)]
 
 mod award;

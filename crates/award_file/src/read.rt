@@ -60,7 +60,7 @@ pub enum AwardStop {
     },
     /// A quantity that exceeds its limit, with its count, in an award that breaks no rule.
     Limit(LimitKind, u64),
-    /// There was no memory.
+    /// Out of memory.
     Memory,
 }
 

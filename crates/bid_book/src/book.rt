@@ -165,7 +165,7 @@ impl BidBook {
     pub fn kept(&self)
         ensures { IsBidBook self.now }
     {
-        // The rules of a type are known where a field of it is used.
+        // The rules of a type are known once its field is used.
         let _ = &self.supply;
     }
 
@@ -238,7 +238,7 @@ impl BidBook {
         entry.net
     }
 
-    /// An earlier bid of bidder `j` that is no larger than its bid `i` in any category and worth at least as much, and 0 where
+    /// An earlier bid of bidder `j` that is no larger than its bid `i` in any category and worth at least as much, and 0 if
     /// none was found. Anyone who looks for the first of the greatest choices can leave such a bid `i` out.
     pub fn better(&self, j: u16, i: u16) -> u16
         requires bidder { (0 < j) × (j ≤ length self.now.bidders) }

@@ -7,7 +7,7 @@ ghost use Rattle.book_grammar.specs.BookLines.{Excess, IsBookWithinLimits, book_
 ghost use Rattle.bid_book.specs.Changes.{CanPut, with_put};
 
 /// Bytes say one thing of a book: a book, where the first faulty line begins, or what exceeds its limit first. So each
-/// answer of `read_book` comes exactly where the bytes say so.
+/// answer of `read_book` comes exactly if the bytes say so.
 pub fn one_book()
     ensures { (bytes : List ℕ) (x y : Said Book Excess) → Says IsBook book_lines bytes x → Says IsBook book_lines bytes y
         → x ≡ y }
@@ -26,7 +26,7 @@ pub fn one_text()
         → Says IsBook book_lines bytes (stated other) → book ≡ other }
 {}
 
-/// The rules of a book go on to hold where a bid that keeps them is put in.
+/// The rules of a book go on to hold if a bid that keeps them is put in.
 pub fn rules_with_bid()
     ensures { (book : Book) (j : ℕ) (bid : BookBid) → IsBookWithinLimits book → CanPut book j bid
         → IsBookWithinLimits (with_put book j bid) }

@@ -22,13 +22,13 @@ pub use read::fields::is_name;
 pub use read::read_book;
 pub use write::write_book;
 
-/// Why bytes are no book.
+/// Why bytes aren't a book.
 #[derive(Clone, Copy, Debug, PartialEq, Eq)]
 pub enum BookStop {
     /// The byte where the first faulty line begins, counted from 0.
     Form(u64),
     /// A quantity that exceeds its limit, at the first line where one does, with its count.
     Limit(LimitKind, u64),
-    /// There was no memory.
+    /// Out of memory.
     Memory,
 }

@@ -20,7 +20,7 @@ use lots::{Bid, Package, Supply};
 use relative_cap::amount_listed;
 use std::alloc::{AllocError, Global};
 
-/// Sets the amount for the package in a list, or leaves the list's own where that is greater.
+/// Sets the amount for the package in a list, or leaves the list's own if that is greater.
 fn raise_to(list: &mut Vec<Bid>, package: &Package, amount: u64) -> Result<(), AllocError>
     requires { IsKept (length «package».now) (map bid_value list.old.items) }
     ensures { OnOk result

@@ -43,11 +43,11 @@ use std::marker::Model;
 pub enum DeskStop {
     /// The sealed round isn't closed.
     NotClosed,
-    /// There was no memory.
+    /// Out of memory.
     Memory,
 }
 
-/// What a desk begins with, beside its award.
+/// The initial state of a desk, without its award.
 #[derive(Drop)]
 struct Start {
     clock: Clock,
@@ -103,7 +103,7 @@ impl Model for Desk {
 }
 
 impl Desk {
-    /// The desk of an award, at which no line has been taken. It stands for the empty log.
+    /// The desk of an award before its first line. It stands for the empty log.
     pub fn new(alloc: Global, award: Award) -> Result<Desk, AllocError>
         ensures { IfOk result (λ desk. desk ≡ state_of award []) }
     {
@@ -153,10 +153,10 @@ impl Desk {
 
     /// Takes a line of a log, whose package has the award's number of categories.
     ///
-    /// The reply is that of the rules, and what the line changes is what the rules say; a desk that stands for a log then stands for
-    /// the log with this line. After every reply but Ok the desk is as it was. Memory comes instead of the reply of the rules, and hides
-    /// few refusals: it never comes for a clock bid or a drop, for a draft only instead of Ok, for a submission only where the bidder's list is
-    /// tested, and for a close only while the clock runs. Whatever other bidders do, the reply follows from the line and from what its bidder
+    /// The reply and the changes are the rules'. A desk that stands for a log then stands for the log with this line. After
+    /// every reply but Ok the desk is unchanged. Memory replaces the rules' reply, and hides few refusals: it never occurs for
+    /// a clock bid or a drop, for a draft only instead of Ok, for a submission only if the bidder's list is tested, and for a
+    /// close only while the clock runs. Whatever other bidders do, the reply depends only on the line and on what its bidder
     /// has seen.
     pub fn take(&mut self, alloc: Global, line: &Event) -> Reply
         requires { HasCategories self.old.terms line.now }
@@ -193,13 +193,14 @@ impl Desk {
         }
     }
 
-    /// The book of the log that the desk stands for: the award's supply, reserves and bidders, and for each package that isn't empty
-    /// and is among a bidder's clock bids or in its submitted list the greatest amount there, reserve included. Each bid, but that for the
-    /// package of the final round, is at most its relative cap over the book's own bids, and a bidder's bids depend on what it has seen alone.
+    /// The book of the log that the desk stands for: the award's supply, reserves and bidders, and for each package that isn't
+    /// empty and is among a bidder's clock bids or in its submitted list the greatest amount there, reserve included. Each bid,
+    /// except the bid for the package of the final round, is at most its relative cap over the book's own bids, and a bidder's
+    /// bids depend only on what it has seen.
     ///
     /// # Errors
     ///
-    /// NotClosed exactly where the sealed round isn't closed; Memory.
+    /// NotClosed exactly if the sealed round isn't closed; Memory.
     pub fn book(&self, alloc: Global) -> Result<BidBook, DeskStop>
         ensures book { IfOk result (λ book. book ≡ book_in self.now) }
         ensures log { (log : List Event) → self.now ≡ state_of self.now.terms log
@@ -292,7 +293,7 @@ impl Desk {
         self.reply_to_amount(bidder, package, amount)
     }
 
-    /// The reply to a draft of a package for which the bidder is eligible.
+    /// The reply to a draft of a package within the bidder's eligibility.
     fn reply_to_amount(&self, bidder: u16, package: &Package, amount: u64) -> Reply
         requires sealed { is_sealed self.now.stage ≡ true }
         requires known { IsKnown self.now.terms self.now bidder }
@@ -390,7 +391,7 @@ impl Desk {
         matches!(self.stage(), Stage::Sealed)
     }
 
-    /// Whether the number is that of a bidder of the award.
+    /// Whether the award has a bidder of this number.
     fn knows(&self, bidder: u16) -> bool
         ensures knows { result ≡ (nat_lt 0 bidder && nat_le bidder (length self.now.terms.bidders)) }
         ensures known { result ≡ true → IsKnown self.now.terms self.now bidder }
@@ -419,7 +420,7 @@ impl Desk {
         }
     }
 
-    /// Takes a submission to which the rules give this reply.
+    /// Takes a submission with this reply of the rules.
     fn submit_by(&mut self, bidder: u16, reply: Reply) -> Reply
         requires reply { reply ≡ reply_in self.old (Event.Submit bidder) }
         requires known { reply ≡ Reply.Ok → IsKnown self.old.terms self.old bidder }
@@ -444,7 +445,8 @@ impl Desk {
         Reply::Ok
     }
 
-    /// The reply to a submission. What the desk stands for stays the same; the only error is out of memory, and only where the list is tested.
+    /// The reply to a submission. The desk's state is unchanged. The only error is out of memory, and only if the list is
+    /// tested.
     fn reply_to_submit(&mut self, alloc: Global, bidder: u16) -> Result<Reply, AllocError>
         ensures reply { IfOk result (λ reply. reply ≡ reply_in self.old (Event.Submit bidder)) }
         ensures known { IfOk result (λ reply. reply ≡ Reply.Ok → IsKnown self.old.terms self.old bidder) }

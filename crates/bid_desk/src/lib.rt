@@ -1,4 +1,5 @@
-//! The desk of an auction. It takes the lines of a log one by one, answers each, and gives the book of the log.
+//! The desk of an auction. It takes the lines of a log one by one, replies to each, and makes the book of the
+//! log.
 #![tactic(auto)]
 
 mod book;

@@ -117,7 +117,7 @@ impl BidderLists {
         Ok(())
     }
 
-    /// The amount of the draft at the place, in which alone the lists differ, becomes that of the submitted entry.
+    /// Copies the amount of the draft at the place, the only difference of the lists, to the submitted entry.
     fn submit_amount(&mut self, place: usize)
         requires { IsSameButAt place self.old.drafts self.old.submitted }
         ensures { self.new ≡ lists_with self.old.drafts self.old.drafts }

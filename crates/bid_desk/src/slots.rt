@@ -44,8 +44,8 @@ pub fn has_entry(list: &[Bid], package: &Package) -> bool
     }
 }
 
-/// Sets the amount for the package in a list, and gives the place of its entry where one was there. If memory runs out, the list stays
-/// as it is.
+/// Sets the amount for the package in a list, and returns the place of its entry if there was one. If memory runs out, the
+/// list stays as it is.
 pub fn put_entry(
     list: &mut Vec<Bid>,
     package: &Package,
@@ -85,7 +85,7 @@ pub fn copied_entries(alloc: Global, list: &[Bid]) -> Result<Vec<Bid>, AllocErro
     Ok(copies)
 }
 
-/// Makes the entry at the place that of the bid; those before it stay.
+/// Copies the bid to the entry at the place. The entries before it stay.
 fn copy_entry(list: &mut Vec<Bid>, place: usize, bid: &Bid) -> Result<(), AllocError>
     requires { place ≤ length list.old.items }
     ensures { OnOk result
@@ -106,8 +106,8 @@ fn copy_entry(list: &mut Vec<Bid>, place: usize, bid: &Bid) -> Result<(), AllocE
     Ok(())
 }
 
-/// Makes the entries of a list those of another. It overwrites what is there, and takes memory only where there are fewer. For want
-/// of memory the list has some entries of each.
+/// Copies the entries of one list to another. It overwrites the old ones, and takes memory only if there are fewer. If it is
+/// out of memory, the list has some entries of each.
 pub fn copy_entries(from: &[Bid], list: &mut Vec<Bid>) -> Result<(), AllocError>
     ensures { OnOk result (map bid_value list.new.items ≡ map bid_value from.now) }
 {

@@ -24,7 +24,7 @@ pub fn no_testers(alloc: Global, bidders: usize) -> Result<Vec<Option<ListTester
     Ok(testers)
 }
 
-/// The tester where there is one, and else a new one for bidder `j`.
+/// The tester if there is one, and else a new one for bidder `j`.
 fn tester_or_new(
     alloc: Global,
     kept: Option<ListTester>,
@@ -40,8 +40,8 @@ fn tester_or_new(
     }
 }
 
-/// The first entry above its cap of a list of bidder `j`, by its tester, which is made for the first list. The only error is want of
-/// memory.
+/// The first entry above its cap of a list of bidder `j`, by its tester, which is made for the first list. The only error is
+/// out of memory.
 pub fn test_list(
     alloc: Global,
     testers: &mut Vec<Option<ListTester>>,

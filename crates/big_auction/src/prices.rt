@@ -49,8 +49,8 @@ fn is_same(left: Lots, right: Lots) -> bool
     left.a == right.a && left.b == right.b && left.c == right.c && left.e == right.e
 }
 
-/// The amount of a draft of a bidder with these two packages: what it costs, where it is one of them. Else that many thousandths of
-/// that, but no less than at the reserves.
+/// The amount of a draft of a bidder with these two packages: what it costs, if it is one of them. Else that many thousandths
+/// of that, but no less than at the reserves.
 pub fn amount(prices: &Figures, own: Lots, last: Lots, lots: Lots, permille: u64) -> u64
     requires prices { AllByRecursion (λ p. p ≤ MOST_PRICE) (figures_of prices.now) }
     requires permille { permille ≤ 1000 }
@@ -85,7 +85,7 @@ fn demand(packages: &[Lots]) -> Figures
     all
 }
 
-/// The next price of a category: it rises where more is asked for than there is.
+/// The next price of a category: it rises if more is asked for than there is.
 fn raised_price(price: u64, asked: u64, supply: u16, table: &StepTable) -> u64
     requires { price ≤ MOST_PRICE }
     ensures { result
@@ -114,7 +114,7 @@ fn raised(prices: &Figures, asked: &Figures, table: &StepTable) -> Figures
     }
 }
 
-/// The prices of the last round, where these packages are asked for in each round before it.
+/// The prices of the last round, if these packages are asked for in each round before it.
 pub fn final_prices(alloc: Global, packages: &[Lots]) -> Result<Figures, AllocError>
     requires { length packages.now ≡ made_bidders }
     ensures prices { IfOk result

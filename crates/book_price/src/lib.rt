@@ -1,7 +1,7 @@
 //! The prices of a book with their certificate.
 //!
 //! The table of all bids is built once. The winning choice, the tables without each winner and the winners' Vickrey prices come
-//! from it, and the certificate shares its lines and those of all other tables.
+//! from it, and the certificate shares its lines and the lines of all other tables.
 #![tactic(auto)]
 
 mod bidder_rows;

@@ -39,8 +39,8 @@ pub struct PricedBook {
 ///
 /// # Errors
 ///
-/// `Winners` exactly where more than six win, or more than four that don't all weigh 1, with their number; `Memory` for want of
-/// memory.
+/// `Winners` exactly if more than six win, or more than four that don't all weigh 1, with their number; `Memory` if it is out
+/// of memory.
 pub fn price_book(alloc: Global, book: &BidBook, weights: &[u32]) -> Result<PricedBook, PriceStop>
     requires { AreWeights (bidders_of book.now) weights.now }
     ensures priced { IfOk result (IsPricedBook book.now weights.now) }

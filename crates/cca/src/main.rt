@@ -1,4 +1,4 @@
-//! The program `cca`: runs the command that its words say, and ends with the code of its status.
+//! The program `cca`: runs the command of its arguments, and ends with the exit code of its status.
 #![tactic(auto)]
 
 ghost use Rattle.std.specs.IoError.{error_kind};
@@ -21,12 +21,12 @@ use std::io::ErrorKind;
 use std::process::ExitCode;
 use std::{env, io, rt};
 
-/// Why there are no words to run.
+/// Why there are no arguments to run.
 #[derive(Clone, Copy, Debug, PartialEq, Eq)]
 enum NoWords {
-    /// There was no memory.
+    /// Out of memory.
     Memory,
-    /// A word isn't UTF-8.
+    /// An argument isn't UTF-8.
     NotText,
 }
 
@@ -43,7 +43,7 @@ impl NoWords {
     }
 }
 
-// Why there are no words, where the system's list of them can't be had.
+// Why there are no arguments, if the system's list of them is unavailable.
 fn none_by(error: &io::Error) -> NoWords
     ensures memory { error_kind error.now ≡ OutOfMemory → result ≡ Memory }
     ensures not_text { error_kind error.now ≢ OutOfMemory → result ≡ NotText }
@@ -54,7 +54,7 @@ fn none_by(error: &io::Error) -> NoWords
     }
 }
 
-// The words as a list.
+// The arguments as a list.
 fn listed(alloc: Global, all: Args) -> Result<Vec<String>, AllocError>
     ensures { IfOk result (λ list. list.items ≡ into_iter_items all) }
 {
@@ -75,7 +75,7 @@ fn after_name(mut all: Vec<String>) -> Vec<String>
     all
 }
 
-// The words after the program's name, of what the system gives.
+// The arguments after the program's name, from the system's list.
 fn words(alloc: Global, given: io::Result<Args>) -> Result<Vec<String>, NoWords>
     ensures words { IfOk given (λ all. IfOk result (λ words. words.items ≡ drop 1 (into_iter_items all))) }
     ensures memory { IfOk given (λ all. IfErr result (λ none. none ≡ Memory)) }
@@ -96,11 +96,11 @@ fn words(alloc: Global, given: io::Result<Args>) -> Result<Vec<String>, NoWords>
 struct Start<F: Drop> {
     /// The words after the program's name.
     words: Vec<String>,
-    /// Files that know these words.
+    /// Files that know these arguments.
     files: F,
 }
 
-// The words after the program's name, of what the system gives, and files of just these names.
+// The arguments after the program's name, from the system's list, and files of just these names.
 fn prepared<R: rt::Files<File = File> + Drop>(
     alloc: Global,
     rt: R,
@@ -129,7 +129,7 @@ fn exit_of(status: Status) -> ExitCode
     ExitCode::from(status.code())
 }
 
-// The exit code where there was no run.
+// The exit code if there was no run.
 fn exit_without(none: NoWords) -> ExitCode
     ensures memory { none ≡ Memory → exit_status result ≡ 6 }
     ensures not_text { none ≡ NotText → exit_status result ≡ 8 }
@@ -151,8 +151,8 @@ fn exit_after<F: Files, O: Sink>(
     exit_of(run(alloc, words, files, out))
 }
 
-// The program over any files and any output: the exit code of the run of the words, which left these files, and if there are none the
-// code of why.
+// The program over any files and any output: the exit code of the run, which left these files, or the code of why there was no
+// run.
 fn ended<F: Files + Drop, O: Sink>(
     alloc: Global,
     start: &mut Result<Start<F>, NoWords>,

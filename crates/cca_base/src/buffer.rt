@@ -30,7 +30,7 @@ impl Buffer {
         &self.bytes[..self.used]
     }
 
-    // Adds the whole piece, and fails exactly where it is longer than the room. Takes no memory.
+    // Adds the whole piece, and fails exactly if it is longer than the room. Takes no memory.
     pub(crate) fn add(&mut self, piece: &[u8]) -> Result<(), Failed>
         ensures added { OnOk result
             (take self.new.used self.new.bytes.items ≡ take self.old.used self.old.bytes.items ++ piece.now) }

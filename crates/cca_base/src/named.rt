@@ -15,7 +15,7 @@ pub(crate) trait Named: Drop {
     // Whether the bytes are reported.
     ghost told: { Bool };
 
-    // What one is at first, where this room was asked for.
+    // What one is at first, if this room was asked for.
     ghost first_seen: { List ℕ → ℕ → Seen };
 
     fn name(&self) -> &str
@@ -35,7 +35,7 @@ pub(crate) trait Named: Drop {
         ensures set { (seen self.new).append_faults ≡ count }
         ensures kept { KeepsButAppends (seen self.old) (seen self.new) };
 
-    // A file on which no call was made. The room is reserved now, where the type reserves one.
+    // A file on which no call was made. The room is reserved now, if the type reserves one.
     fn with_name(alloc: Global, name: String, room: usize) -> Result<Self, AllocError>
         ensures name { IfOk result (λ file. (seen file).name ≡ string_bytes name) }
         ensures fresh { IfOk result (λ file. seen file ≡ first_seen (string_bytes name) room) };
@@ -48,7 +48,7 @@ fn knows<F: Named>(files: &[F], name: &str) -> bool
     files.iter().any(|f| f.name() == name)
 }
 
-// A new file of each name, one where a name is given twice.
+// A new file of each name, one if a name is given twice.
 pub(crate) fn new_files<F: Named>(
     alloc: Global,
     names: &[String],
@@ -71,7 +71,7 @@ pub(crate) fn new_files<F: Named>(
     Ok(files)
 }
 
-// The place of the first file of this name, where there is one.
+// The place of the first file of this name, if there is one.
 fn position_of<F: Named>(files: &[F], name: &str) -> Option<usize>
     ensures { result ≡ position (λ f. bytes_eq (F.seen f).name name.now) files.now }
 {

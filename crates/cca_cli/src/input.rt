@@ -40,7 +40,7 @@ pub trait Input {
     ///
     /// # Errors
     ///
-    /// The status at which the bytes stop a run, or Memory.
+    /// The status with which the bytes stop a run, or Memory.
     fn read(&self, alloc: Global, bytes: &[u8]) -> Result<Self::Value, Status>
         ensures value { IfOk result (states self.now bytes.now) }
         ensures stop { IfErr result (λ s. (s ≡ Memory) ⊎ (IsStop s × halts self.now bytes.now s)) };
@@ -50,8 +50,8 @@ pub trait Input {
 ///
 /// # Errors
 ///
-/// ReadFault of the input's kind, only where a load of the file failed in this call, and never where a room is reported for the name; Limit of bytes, where the file has more than the
-/// input may have, and else the status at which its bytes stop a run; Memory.
+/// ReadFault of the input's kind, only if a load of the file failed in this call, and never if a room is reported for the name;
+/// Limit of bytes, where the file has more than the input may have, and else the status at which its bytes stop a run; Memory.
 pub fn read_input<F: Files, I: Input>(
     alloc: Global,
     files: &mut F,

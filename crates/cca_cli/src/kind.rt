@@ -26,8 +26,8 @@ pub enum Kind {
     Audit,
     /// An auction is made from a number; its award and its log are appended, and a summary is printed.
     Make,
-    /// The bidders of a band are placed and priced; the certificate is appended, and the placement and the prices are printed, after the
-    /// lines of the turns where they are asked for.
+    /// The bidders of a band are placed and priced; the certificate is appended, and the placement and the prices are printed,
+    /// after the lines of the turns if they are asked for.
     Place,
     /// A certificate of a placement is tested.
     PlaceCheck,
@@ -60,13 +60,13 @@ pub enum Flags {
 pub struct Row {
     /// A number comes before the files.
     pub number: bool,
-    /// The part of each file, and what is done with it, in the order of the words.
+    /// The part of each file, and what is done with it, in the order of the arguments.
     pub files: &'static [(FileKind, Use)],
     /// The flags after the files.
     pub flags: Flags,
 }
 
-// The row of a command that has files alone.
+// The row of a command that has only files.
 fn plain(files: &'static [(FileKind, Use)]) -> Row
     ensures { (result.number ≡ false) × (result.files.now ≡ files.now) × (result.flags ≡ Flags.None) }
 {

@@ -1,5 +1,5 @@
-//! From the words and the files of a run to a command and the values of its inputs: the commands and their files, the statuses and
-//! their lines, and one way from a file to what its bytes state.
+//! From the arguments and files of a run to a command and the values of its inputs: the commands and their files, the statuses
+//! and their lines, and one way to read the value of an input from its file.
 #![tactic(auto)]
 
 mod file_text;

@@ -1,4 +1,4 @@
-// The form in which prices are printed.
+// The form of printed prices.
 ghost use Rattle.std.specs.Prelude.{◌≡◌, map, string_bytes, Some, None, codes, true, false, if◌then◌else◌};
 ghost use Rattle.std.specs.Str.{bytes_eq};
 ghost use Rattle.cca_cli.specs.Command.{asked, form_asked, form_with, nothing_asked, one_flag, rounds_asked, two_flags};
@@ -67,7 +67,7 @@ fn rounds_flag(flag: &str) -> Option<PriceForm>
     })
 }
 
-// The turns alone.
+// Only the turns.
 fn asked_rounds(flags: &[String]) -> Option<PriceForm>
     ensures { result ≡ rounds_asked (map string_bytes flags.now) }
 {
@@ -87,7 +87,7 @@ fn asked_nothing(flags: &[String]) -> Option<PriceForm>
     }
 }
 
-/// The form that the words after the files ask for by these flags; None where they say something else.
+/// The form that the arguments after the files ask for by these flags, or None if they say something else.
 pub(crate) fn form_of(flags: Flags, words: &[String]) -> Option<PriceForm>
     ensures { result ≡ asked flags (map string_bytes words.now) }
 {

@@ -45,11 +45,12 @@ pub enum Status {
         test: u8,
         place: u64,
     },
-    /// The words aren't of the plain form.
+    /// The arguments aren't of the plain form.
     Words,
-    /// A file isn't of its form, or a log isn't complete. For a book, a certificate, weights, slots and edits the place is the byte where the first faulty line
-    /// begins, and for a log the number of the first faulty record, or of the one that would follow. For an award the place is the number
-    /// of the field whose rule is broken first, with that of its table as the entry, or 0 where it isn't TOML.
+    /// A file isn't of its form, or a log isn't complete. For a book, a certificate, weights, slots and edits the place is the
+    /// byte where the first faulty line begins, and for a log the number of the first faulty record, or of the one that would
+    /// follow. For an award the place is the number of the field whose rule is broken first, with the number of its table as
+    /// the entry, or 0 if it isn't TOML.
     Refused {
         file: FileKind,
         place: u64,
@@ -63,7 +64,7 @@ pub enum Status {
     WriteFault {
         file: FileKind,
     },
-    /// There was no memory.
+    /// Out of memory.
     Memory,
     /// A quantity exceeds its limit, with its count.
     Limit {

@@ -1,4 +1,4 @@
-// The plain form of the words.
+// The plain form of the arguments.
 ghost use Rattle.std.specs.Prelude.{◌≡◌, ◌≢◌, map, string_bytes, option_map, ℕ, List, [], IfSome, true, length, get_or, if◌then◌else◌};
 ghost use Rattle.cca_cli.specs.Command.{are_file_words, command_of, is_among, is_file_word, number_said, output_as, row, said_after, said_by, said_numbered, said_with};
 ghost use Rattle.cca_cli.specs.Words.{AreAmong, command_value};
@@ -9,7 +9,7 @@ use crate::price_form::form_of;
 use crate::{FileKind, Kind, PriceForm, Use};
 use wide_num::read_natural;
 
-// The greatest number from which an auction is made.
+// The greatest number of a made auction.
 const MOST_NUMBER: u128 = u32::MAX as u128;
 
 /// A command in its plain form. What its kind has no use for says nothing.
@@ -20,7 +20,7 @@ pub struct Command<'a> {
     pub first: &'a str,
     pub second: &'a str,
     pub third: &'a str,
-    /// The form in which it prints prices.
+    /// The form of its printed prices.
     pub form: PriceForm,
     /// The number before its files.
     pub number: u32,
@@ -94,7 +94,7 @@ fn name_at(names: &[String], at: usize) -> &str
     }
 }
 
-// The command of a kind and a number, where these can be names of its files and these are flags of it.
+// The command of a kind and a number, if these can be names of its files and these are flags of it.
 fn said_after<'a>(
     kind: Kind,
     number: u32,
@@ -133,7 +133,7 @@ fn said_with(kind: Kind, number: u32, words: &[String]) -> Option<Command<'_>>
     said_after(kind, number, &words[..count], &words[count..])
 }
 
-// The same after a number.
+// The command of a kind whose first argument is a number.
 fn said_numbered(kind: Kind, words: &[String]) -> Option<Command<'_>>
     requires { (row kind).number ≡ true }
     ensures among { IfSome result (λ c. AreAmong (map string_bytes words.now) (command_value c)) }
@@ -146,7 +146,7 @@ fn said_numbered(kind: Kind, words: &[String]) -> Option<Command<'_>>
     said_with(kind, number, rest)
 }
 
-// The command of a kind that the words after its name say.
+// The command of a kind that the arguments after its name state.
 fn said_by(kind: Kind, words: &[String]) -> Option<Command<'_>>
     ensures among { IfSome result (λ c. AreAmong (map string_bytes words.now) (command_value c)) }
     ensures command { option_map command_value result ≡ said_by kind (map string_bytes words.now) }
@@ -158,7 +158,7 @@ fn said_by(kind: Kind, words: &[String]) -> Option<Command<'_>>
     }
 }
 
-/// The command that the words say, where they are of the plain form. It takes no memory.
+/// The command that the arguments state, if they are of the plain form. It takes no memory.
 pub fn read_command(words: &[String]) -> Option<Command<'_>>
     ensures among { IfSome result (λ c. AreAmong (map string_bytes words.now) (command_value c)) }
     ensures command { option_map command_value result ≡ command_of (map string_bytes words.now) }

@@ -122,7 +122,7 @@ fn status_of_text(stop: TextStop) -> Status
     }
 }
 
-// Why the text that was fed isn't a certificate for which all tests hold, and nothing where it is. It takes no memory.
+// Why the text that was fed isn't a certificate for which all tests hold, and nothing if it is. It takes no memory.
 fn test_cert(checker: &StreamCheck<'_>, room: &[i128]) -> Result<(), Status>
     requires room { length room.now ≡ room_size (bidders_of checker.now.book.now) (states checker.now.book.now) }
     requires stands { (text : List ℕ) × HasTaken checker.now room.now text }
@@ -196,9 +196,9 @@ fn check_file<F: Files>(
 ///
 /// # Errors
 ///
-/// ReadFault of Cert, only where a load of the file failed in this call, and never where a room is reported for the name; Limit of bytes, where
-/// the file has more than a certificate may have; Refused, where it states no certificate of the book; No with the first test that fails
-/// and its first place; Memory.
+/// ReadFault of Cert, only if a load of the file failed in this call, and never if a room is reported for the name; Limit of
+/// bytes, if the file has more than a certificate may have; Refused, if it states no certificate of the book; No with the first
+/// test that fails and its first place; Memory.
 pub fn check_input<F: Files>(
     alloc: Global,
     files: &mut F,

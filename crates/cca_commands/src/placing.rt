@@ -26,7 +26,7 @@ use slot_places::Slots;
 use std::alloc::{AllocError, Global};
 use wide_num::Text;
 
-// What is printed of a certificate and the turns that led to it, with the lines of the turns where they are asked for.
+// What is printed of a certificate and the turns that led to it, with the lines of the turns if they are asked for.
 fn placed_lines(
     alloc: Global,
     slots: &Slots,
@@ -81,7 +81,7 @@ fn placed_texts(alloc: Global, slots: &Slots, rounds: bool) -> Result<PriceTexts
     slot_texts(alloc, slots, &priced, rounds)
 }
 
-/// The placement of the bidders of a band with its prices, printed with the lines of the turns where they are asked for, and its
+/// The placement of the bidders of a band with its prices, printed with the lines of the turns if they are asked for, and its
 /// certificate.
 pub fn placed(alloc: Global, slots: &Slots, rounds: bool) -> Result<Work, Stop>
     ensures { IsWork (PlaceGives slots.now rounds) (FileKind.Cert ∷ []) result }

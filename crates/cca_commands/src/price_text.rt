@@ -21,7 +21,7 @@ use outcome::{outcome_json, outcome_text, rounds_text};
 use std::alloc::{AllocError, Global};
 use wide_num::Text;
 
-// The lines of the turns, where they are asked for.
+// The lines of the turns, if they are asked for.
 fn rounds_part(
     alloc: Global,
     winners: &Choice,
@@ -39,7 +39,7 @@ fn rounds_part(
     }
 }
 
-/// These lines, after those of the turns where they are asked for.
+/// These lines, after those of the turns if they are asked for.
 pub fn after_rounds(
     alloc: Global,
     winners: &Choice,
@@ -88,7 +88,7 @@ fn price_lines(
     after_rounds(alloc, &cert.choice, turns, rounds, &prices)
 }
 
-// The line of JSON of the facts of a certificate, with the turns where they are asked for.
+// The line of JSON of the facts of a certificate, with the turns if they are asked for.
 fn facts_json(
     alloc: Global,
     book: &BidBook,

@@ -29,7 +29,7 @@ fn append_text<F: Files>(
     }
 }
 
-/// Appends the texts in order, each whole to the command's file of its kind. The error names the kind at which an append failed.
+/// Appends the texts in order, each whole to the command's file of its kind. The error names the kind whose append failed.
 pub fn append_all<F: Files>(
     files: &mut F,
     command: Command<'_>,

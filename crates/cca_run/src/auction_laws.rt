@@ -1,4 +1,4 @@
-// What holds of what an auction gives.
+// What is true for the output of `auction`.
 ghost use Rattle.std.specs.Prelude.{◌≡◌, ◌≤◌, ℕ, List, Option, length};
 ghost use Rattle.limits.specs.declared.TheConstants.{AWARD_BYTES, LOG_BYTES};
 ghost use Rattle.big_auction.specs.AwardText.{made_award_text};

@@ -1,4 +1,4 @@
-// What holds of the definitions of a run, regardless of who runs it.
+// What is true for the definitions of a run, regardless of who runs it.
 ghost use Rattle.std.specs.Prelude.{◌≡◌, ◌<◌, ◌≤◌, ◌++◌, ◌∷◌, ℕ, Bool, false, List, [], Option, codes, length};
 ghost use Rattle.auction_model.specs.Book.{Book};
 ghost use Rattle.cert_soundness.specs.Tests.{bidders_of};
@@ -25,8 +25,8 @@ use cca_commands::{
     vickrey_prices, winning_choice,
 };
 
-/// The words and the bytes of the files give at most one status and one printed text. So each status that is decided comes exactly
-/// where they give it.
+/// The arguments and the bytes of the files determine at most one status and one printed text. So a run ends with a decided
+/// status exactly if they determine it.
 pub fn one_outcome()
     ensures { (words : List (List ℕ)) (file : List ℕ → Option (List ℕ)) (o p : Outcome) → Gives words file o
         → Gives words file p
@@ -58,7 +58,7 @@ pub fn one_outcome()
     one_review_text();
 }
 
-/// With weights of 1 too many win exactly where more than six do. The choice has a number for each bidder.
+/// With weights of 1 too many win exactly if more than six do. The choice has a number for each bidder.
 pub fn limit_of_ones()
     ensures few { (book : Book) (z : List ℕ) → length z ≡ bidders_of book → winners_in z ≤ MOST_WINNERS
         → FewWin z (ones book) }
@@ -66,8 +66,9 @@ pub fn limit_of_ones()
         → MOST_WINNERS < winners_in z }
 {}
 
-/// What `price` writes, `check` accepts. Where the file of the certificate held nothing before and holds the text that `price` appended,
-/// and that of the book holds what it held, `check` gives Done, and nothing else. Without flags it prints `yes` and then what `price` printed.
+/// What `price` writes, `check` accepts. If the certificate's file was empty before and now contains the text that `price`
+/// appended, and the book's file is unchanged, `check` ends with Done, and nothing else. Without flags it prints `yes` and then
+/// what `price` printed.
 pub fn written_cert_passes()
     ensures passes { (book cert : List ℕ) (form : PriceForm) (file later : List ℕ → Option (List ℕ)) (o p : Outcome)
         → FilesGive (price book cert form) file o → HoldsCert (book ∷ []) cert file later o
@@ -85,7 +86,7 @@ pub fn written_cert_passes()
     one_price_text();
 }
 
-/// What `weigh` writes, `weigh-check` accepts by the same weights, as `check` accepts what `price` writes.
+/// What `weigh` writes, `weigh-check` accepts by the same weights, just like `check` accepts what `price` writes.
 pub fn weighed_cert_passes()
     ensures passes { (book weights cert : List ℕ) (form : PriceForm) (file later : List ℕ → Option (List ℕ))
         (o p : Outcome)
@@ -123,8 +124,8 @@ pub fn placed_cert_passes()
     one_place_text();
 }
 
-/// What a run that is done shows of its files, by definitions alone: `audit`, that they state an auction, and that the certificate has its
-/// outcome; `award`, that they state an auction, and that the appended text is that of a certificate of its outcome.
+/// What a run that is done shows about its files, only by definitions. `audit`: they state an auction, and the certificate has
+/// its outcome. `award`: they state an auction, and the appended text is a certificate of its outcome.
 pub fn headline()
     ensures audit { (file : List ℕ → Option (List ℕ)) (terms log cert : List ℕ) (o : Outcome)
         → FilesGive (audit terms log cert) file o → o.status ≡ Done
@@ -142,8 +143,8 @@ pub fn headline()
     short_text();
 }
 
-/// What a run of each other command that is done shows of its files, by definitions alone: a checker, that what the certificate shows is
-/// right; a command that prices, that the appended text is that of a certificate for which all tests hold; a review, the winners after
+/// What a run of each other command that is done shows about its files, only by definitions. A checker: what the certificate
+/// shows is right. A command that prices: the appended text is a certificate that passes all tests. A review: the winners after
 /// each edit.
 pub fn verdicts()
     ensures checked { (file : List ℕ → Option (List ℕ)) (book cert : List ℕ) (o : Outcome)
@@ -171,9 +172,9 @@ pub fn verdicts()
     plain_outcome();
 }
 
-/// What `award` writes, `audit` accepts. Where the file of the certificate held nothing before and holds the text that `award` appended, and
-/// those of the award and the log hold what they held, `audit` gives Done, and nothing else. Without flags it prints `yes` and then what
-/// `award` printed.
+/// What `award` writes, `audit` accepts. If the certificate's file was empty before and now contains the text that `award`
+/// appended, and the files of the award and the log are unchanged, `audit` ends with Done, and nothing else. Without flags it
+/// prints `yes` and then what `award` printed.
 pub fn awarded_cert_passes()
     ensures passes { (terms log cert : List ℕ) (form : PriceForm) (file later : List ℕ → Option (List ℕ))
         (o p : Outcome)
@@ -203,7 +204,7 @@ pub fn complete_log_ends()
     one_reading();
 }
 
-/// `award` gives Done exactly where the award and the log state an auction within the limits.
+/// `award` ends with Done exactly if the award and the log state an auction within the limits.
 pub fn complete_log_is_awarded()
     ensures done { (file : List ℕ → Option (List ℕ)) (terms log cert : List ℕ) (form : PriceForm) (o : Outcome)
         → CanBeAwarded file terms log → FilesGive (award terms log cert form) file o → o.status ≡ Done }

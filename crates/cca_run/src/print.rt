@@ -20,7 +20,7 @@ fn put_all<O: Sink>(out: &mut O, text: &[u8]) -> bool
     }
 }
 
-/// Prints two texts, one after the other, and answers the status.
+/// Prints two texts, one after the other, and returns the status.
 pub fn print<O: Sink>(out: &mut O, before: &[u8], text: &[u8], status: Status) -> Status
     ensures printed { Prints (O.output out.old) (O.output out.new) (before.now ++ text.now) status result }
     ensures count { (O.output out.old).faults ≤ (O.output out.new).faults }
@@ -34,7 +34,7 @@ pub fn print<O: Sink>(out: &mut O, before: &[u8], text: &[u8], status: Status) -
     }
 }
 
-/// Prints the text of a stop and the line of its status, and answers the status.
+/// Prints the text of a stop and the line of its status, and returns the status.
 pub fn print_stop<O: Sink>(out: &mut O, stop: &Stop) -> Status
     ensures printed { Prints (O.output out.old) (O.output out.new)
         (text_before stop.now ++ status_line stop.now.status) stop.now.status result }

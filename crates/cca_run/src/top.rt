@@ -73,7 +73,7 @@ fn end_command<F: Files, O: Sink>(
     }
 }
 
-// Tells that the words are of no plain form.
+// Reports arguments that aren't of the plain form.
 fn tell_words<F: Files, O: Sink>(files: &F, out: &mut O) -> Status
     ensures ends { RunEnds None (F.folder files.now) (F.folder files.now) (O.output out.old) (O.output out.new) result }
     ensures words { (result ≡ Status.Words) ⊎ (result ≡ Status.WriteFault FileKind.Out) }
@@ -82,7 +82,7 @@ fn tell_words<F: Files, O: Sink>(files: &F, out: &mut O) -> Status
     print(out, b"", line_of(Status::Words).as_slice(), Status::Words)
 }
 
-// Runs the command that the words say.
+// Runs the command of the arguments.
 fn ran<F: Files, O: Sink>(alloc: Global, words: &[String], files: &mut F, out: &mut O) -> Status
     requires { All (λ w. IsTrue ((F.folder files.old).knows w)) (map string_bytes words.now) }
     ensures { Runs (map string_bytes words.now) (F.folder files.old) (F.folder files.new) (O.output out.old) (O.output out.new) result }
@@ -101,46 +101,48 @@ fn ran<F: Files, O: Sink>(alloc: Global, words: &[String], files: &mut F, out: &
     }
 }
 
-/// Runs the command that the words say, the words after the program's name.
+/// Runs the command that the arguments after the program's name state.
 ///
-/// `win BOOK` prints the winners of a book and their net value. `price BOOK CERT` prices the book, appends the certificate to CERT and
-/// prints what the winners bid, their Vickrey prices and what they pay; with `--rounds` after the files a line for each turn of pricing
-/// comes before that, and with `--json` all is one line of JSON. `check BOOK CERT` tests a certificate of the book, regardless of who wrote it, and
-/// prints `yes` and the outcome that it shows, or the first test that fails with its place. A yes is sound: the choice is the winning
-/// one, and the payments are the core outcome.
+/// `win BOOK` prints the winners of a book and their net value. `price BOOK CERT` prices the book, appends the certificate to
+/// CERT and prints what the winners bid, their Vickrey prices and what they pay; with `--rounds` after the files it first
+/// prints a line for each turn of pricing, and with `--json` all is one line of JSON. `check BOOK CERT` tests a certificate of
+/// the book, regardless of who wrote it, and prints `yes` and the outcome that it shows, or the first test that fails with its
+/// place. Acceptance is sound: the choice is the winning one, and the payments are the core outcome.
 ///
-/// `weigh BOOK WEIGHTS CERT` prices as `price` does, with the same flags, except for the distance from the Vickrey prices: each square is
-/// divided by the weight that WEIGHTS gives the bidder. `weigh-check BOOK WEIGHTS CERT` tests a certificate as `check` does, by these
-/// weights; a yes says that the payments are the core outcome for them.
+/// `weigh BOOK WEIGHTS CERT` prices as `price` does, with the same flags, except for the distance from the Vickrey prices: each
+/// square is divided by the bidder's weight in WEIGHTS. `weigh-check BOOK WEIGHTS CERT` tests a certificate as `check` does, by
+/// these weights. If it accepts, the payments are the core outcome for them.
 ///
-/// `auction AWARD LOG BOOK` replays the log of an auction, appends the text of its book to BOOK and prints a line for the reply to each
-/// record; where a close is refused for a limit, or the log isn't complete, there is no book, and the line of the status comes after
-/// those lines. `award AWARD LOG CERT` prices the book of the log as `price` does, with the same flags, and `audit AWARD LOG CERT` makes
-/// the book from the log itself and tests the certificate as `check` does; both end where `auction` would, with its status and its lines.
+/// `auction AWARD LOG BOOK` replays the log of an auction, appends the text of its book to BOOK and prints a line for the reply
+/// to each record. If a close is refused for a limit, or the log isn't complete, it writes no book and prints the line of the
+/// status last. `award AWARD LOG CERT` prices the book of the log as `price` does, with the same flags, and `audit AWARD LOG
+/// CERT` makes the book from the log and tests the certificate as `check` does. If `auction` would write no book, both end with
+/// its status and its lines.
 ///
 /// `make NUMBER AWARD LOG` makes the auction of a number, appends its award to AWARD and then its log to LOG, and prints a line with the
 /// number, how many bidders there are and how many lines the log has.
 ///
-/// All is computed before anything is written, and files are appended before anything is printed. Except for that, a status other than
-/// Done prints its line alone; a fault of the output is WriteFault of Out, whatever came before. Words that aren't of the plain form are
-/// told without taking memory. The condition is that `files` knows each of the words.
+/// All is computed before anything is written, and files are appended before anything is printed. Except for that, a status
+/// other than Done prints only its line. A fault of the output is WriteFault of Out, whatever came before. Arguments that
+/// aren't of the plain form are reported without taking memory. The condition is that `files` knows each argument.
 pub fn run<F: Files, O: Sink>(alloc: Global, words: &[String], files: &mut F, out: &mut O) -> Status
     requires { All (λ w. IsTrue ((F.folder files.old).knows w)) (map string_bytes words.now) }
 
-    // The words alone decide on Words.
+    // Only the arguments decide on Words.
     ensures words { result ≡ Status.Words → command_of (map string_bytes words.now) ≡ None }
     ensures not_plain { command_of (map string_bytes words.now) ≡ None
         → (result ≡ Status.Words) ⊎ (result ≡ Status.WriteFault FileKind.Out) }
 
-    // The headline: whenever `audit` says yes, the book of the log holds exactly the bids that the activity rules admit, the winners are
-    // the first feasible choice of greatest net value, no coalition blocks the prices, their sum is least in the core, and every other
-    // core point of that sum lies farther from the Vickrey point; and `award` appends a certificate of such an outcome.
+    // The headline: whenever `audit` says yes, the book of the log contains exactly the bids that the activity rules admit, the
+    // winners are the first feasible choice of greatest net value, no coalition blocks the prices, their sum is least in the
+    // core, and every other core point of this sum is farther from the Vickrey point. `award` appends a certificate of such an
+    // outcome.
     ensures audit { (terms log cert : List ℕ) → command_of (map string_bytes words.now) ≡ Some (audit terms log cert)
         → (given : List ℕ → Option (List ℕ)) → Agrees given (F.folder files.old) (F.folder files.new)
         → result ≡ Status.Done
         → (text : List ℕ) × IsAudited given terms log cert text
         × Puts (O.output out.old) (O.output out.new) text (length text) }
-    // So it is, whatever the status, where what was printed begins with `yes`.
+    // This is true for every status if the printed text begins with `yes`.
     ensures seen { (terms log cert : List ℕ) → command_of (map string_bytes words.now) ≡ Some (audit terms log cert)
         → (given : List ℕ → Option (List ℕ)) → Agrees given (F.folder files.old) (F.folder files.new)
         → (more : List ℕ) → (O.output out.new).bytes ≡ (O.output out.old).bytes ++ (codes "yes" ++ more)
@@ -191,8 +193,8 @@ pub fn run<F: Files, O: Sink>(alloc: Global, words: &[String], files: &mut F, ou
         → result ≡ Status.Done → (text : List ℕ) × IsReviewed given book edits text
         × Puts (O.output out.old) (O.output out.new) text (length text) }
 
-    // For every complete log `award` is done, with such a certificate, or stopped by a limit; except for a fault that was counted, and want of
-    // memory.
+    // For every complete log `award` is done, with such a certificate, or stopped by a limit, except after a counted fault or
+    // when out of memory.
     ensures every_log { (terms log cert : List ℕ) (form : PriceForm)
         → command_of (map string_bytes words.now) ≡ Some (award terms log cert form)
         → (given : List ℕ → Option (List ℕ)) → Agrees given (F.folder files.old) (F.folder files.new)
@@ -200,8 +202,8 @@ pub fn run<F: Files, O: Sink>(alloc: Global, words: &[String], files: &mut F, ou
         → HasNoFault (command_of (map string_bytes words.now)) (F.folder files.old) (F.folder files.new)
         (O.output out.old) (O.output out.new) → IsDoneOrLimited result ⊎ (result ≡ Status.Memory) }
 
-    // Its other half: `award` writes such a certificate for every auction within the limits, and `audit` over the same bytes says yes, where
-    // the certificate's file held nothing before; except for a fault that was counted, and out of memory.
+    // Its other half: `award` writes such a certificate for every auction within the limits, and `audit` accepts over the same
+    // bytes, if the certificate's file was empty before, except after a counted fault or when out of memory.
     ensures awarded { (terms log cert : List ℕ) (form : PriceForm)
         → command_of (map string_bytes words.now) ≡ Some (award terms log cert form)
         → (given : List ℕ → Option (List ℕ)) → Agrees given (F.folder files.old) (F.folder files.new)
@@ -228,11 +230,11 @@ pub fn run<F: Files, O: Sink>(alloc: Global, words: &[String], files: &mut F, ou
         → (o : Outcome) × FilesGive (award terms log cert form) (F.folder files.old).file o
         × HoldsCert (terms ∷ log ∷ []) cert (F.folder files.old).file (F.folder files.new).file o }
 
-    // Where no fault was counted, the status is one that the words and the bytes decide, or out of memory.
+    // If no fault was counted, the status is one that the arguments and the bytes decide, or out of memory.
     ensures complete { HasNoFault (command_of (map string_bytes words.now)) (F.folder files.old) (F.folder files.new)
         (O.output out.old) (O.output out.new) → (result ≡ Status.Memory) ⊎ IsDecided result }
 
-    // So it is over files and an output with room for all that the words and the bytes ask for.
+    // This is true for files and an output with room for all that the arguments and the bytes ask for.
     ensures roomy { IsTrue (F.folder files.old).told
         → HasRooms (map string_bytes words.now) (F.folder files.old) (O.output out.old)
         → (result ≡ Status.Memory) ⊎ IsDecided result }
@@ -250,12 +252,12 @@ pub fn run<F: Files, O: Sink>(alloc: Global, words: &[String], files: &mut F, ou
     // Only the files that the command reads are loaded, one after the other, each once.
     ensures loaded { Loaded (inputs (command_of (map string_bytes words.now))) (F.folder files.old) (F.folder files.new) }
 
-    // Where the bytes are reported, the loads of this call gave them.
+    // If the bytes are reported, they come from the loads of this call.
     ensures told { IsTrue (F.folder files.old).told
         → Agrees (F.folder files.old).file (F.folder files.old) (F.folder files.new) }
 
-    // Every other status but out of memory is the one that the words and the bytes give; its text was printed whole, and what it
-    // appends was appended whole.
+    // Every other status but out of memory is the one that the arguments and the bytes decide. Its text was printed whole, and
+    // what it appends was appended whole.
     ensures answer { (given : List ℕ → Option (List ℕ)) → Agrees given (F.folder files.old) (F.folder files.new)
         → IsDecided result → (o : Outcome) × Gives (map string_bytes words.now) given o
         × (o.status ≡ result) × Puts (O.output out.old) (O.output out.new) o.printed (length o.printed)
@@ -278,7 +280,7 @@ pub fn run<F: Files, O: Sink>(alloc: Global, words: &[String], files: &mut F, ou
     // The files know the same names, so that another run may follow.
     ensures knows { (F.folder files.new).knows ≡ (F.folder files.old).knows }
 
-    // No count falls, and only those of the files that the command reads and appends to may rise.
+    // No count falls, and only the counts of files that the command reads and appends to may rise.
     ensures loads { CountsAmong (inputs (command_of (map string_bytes words.now))) (F.folder files.old).load_faults
         (F.folder files.new).load_faults }
     ensures appends { CountsAmong (outputs (command_of (map string_bytes words.now)))

@@ -18,8 +18,8 @@ pub struct Failure {
     pub place: u64,
 }
 
-/// What fails first after a test, of which this is the first place at which it fails: the test at this place, and nothing where there
-/// is none.
+/// What fails first after a test, of which this is the first place at which it fails: the test at this place, and nothing if
+/// there is none.
 pub fn failure_of(test: u8, found: Option<u64>) -> Option<Failure>
     requires test { test < 10 }
     ensures judged { (book : Book) (w : ℕ → ℕ) (c : CertValue) → HoldsTo book w c test 0
@@ -80,7 +80,7 @@ pub fn merge_early(late: Option<u64>, place: u64, holds: bool) -> Option<u64>
     }
 }
 
-/// The place, where it fails.
+/// The place, if it fails.
 fn one_late(place: u64, holds: bool) -> Option<u64>
     ensures { (book : Book) (w : ℕ → ℕ) (c : CertValue) (test base : ℕ) → IsLate book w c test base place None
         → (IsTrue holds ↔ Asks book w c test (base + place)) → IsLate book w c test base (place + 1) result }

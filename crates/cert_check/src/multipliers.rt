@@ -57,7 +57,7 @@ pub fn is_first(first: i128) -> bool
     first >= 0
 }
 
-/// Whether the sum of the first multipliers of the rows that hold bidder `j` is the denominator, where it wins.
+/// Whether the sum of the first multipliers of the rows that hold bidder `j` is the denominator, if it wins.
 pub(crate) fn is_least(claim: &Claim, sum: i128, j: u16) -> bool
     requires { (0 < j) × (j ≤ bidders_of claim.now.book.now) }
     ensures { IsTrue result ↔ (IsTrue (uses claim.now.choice.now j) → sum ≡ claim.now.den) }
@@ -68,7 +68,7 @@ pub(crate) fn is_least(claim: &Claim, sum: i128, j: u16) -> bool
     is_equal(sum, claim.den)
 }
 
-/// The first place at which C8 fails of a certificate with these payments and multipliers, where the choices without the winners
+/// The first place at which C8 fails of a certificate with these payments and multipliers, if the choices without the winners
 /// have these values.
 pub fn second_test(
     claim: &Claim,
@@ -144,7 +144,7 @@ pub fn is_signed(first: i128, second: i128) -> bool
 }
 
 /// Whether what bidder `j` pays above its Vickrey price is its weight times the sum of the second multipliers of the rows that
-/// hold it, where it wins. The choice without it has this value.
+/// hold it, if it wins. The choice without it has this value.
 pub(crate) fn is_nearest(
     claim: &Claim,
     payment: i128,
@@ -169,7 +169,7 @@ pub(crate) fn is_nearest(
     is_times(above, weight, sum)
 }
 
-/// The Vickrey price of winner `j`, where the choice without it has this value.
+/// The Vickrey price of winner `j`, if the choice without it has this value.
 fn vickrey(claim: &Claim, without: i128, j: u16) -> i128
     requires without { (pos 0 ≤ℤ without) × (without ≤ℤ claim.now.value) }
     requires bidder { (0 < j) × (j ≤ bidders_of claim.now.book.now) }

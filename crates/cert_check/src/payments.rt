@@ -21,7 +21,7 @@ pub fn payments_test(claim: &Claim, pay: &[i128]) -> Option<u64>
     None
 }
 
-/// Whether a bidder pays no more than it bids, and nothing where it loses.
+/// Whether a bidder pays no more than it bids, and nothing if it loses.
 fn payment_holds(claim: &Claim, pay: &[i128], j: u16) -> bool
     requires count { length pay.now ≡ bidders_of claim.now.book.now }
     requires bidder { (0 < j) × (j ≤ bidders_of claim.now.book.now) }

@@ -36,9 +36,10 @@ use limits::MOST_ROWS;
 
 /// Tests a certificate of a book.
 ///
-/// `Yes` comes exactly where all nine tests hold, and then the choice is the winning one, and with the payments it is the core
+/// `Yes` comes exactly if all nine tests hold, and then the choice is the winning one, and with the payments it is the core
 /// outcome for these weights. Else the answer is the first test that fails, with the first place at which it does. There is one
-/// weight of 1 to 20 for each bidder, and the certificate is for as many bidders and states as the book has. It takes no memory.
+/// weight of 1 to 20 for each bidder, and the certificate is for as many bidders and states as the book has. It takes no
+/// memory.
 pub fn check(book: &BidBook, cert: &Certificate, weights: &[u32]) -> Verdict
     requires shape { IsFor (bidders_of book.now) (states book.now) cert.now }
     requires weights { AreWeights (bidders_of book.now) weights.now }

@@ -1,4 +1,4 @@
-//! Texts that are held as parts, and a certificate's text as one of these.
+//! Texts that are kept as parts, and a certificate's text as one of these.
 //!
 //! A part is bytes, or the lines of a table, which are kept as numbers and spelled when they are written. So a long text takes a
 //! fraction of the memory that its bytes would take, and to write it takes none.

@@ -10,7 +10,7 @@ use std::alloc::{AllocError, Global};
 use std::marker::Model;
 use wide_num::Text;
 
-/// A text that is held as parts, and as its bytes only where it is short.
+/// A text that is held as parts, and as its bytes only if it is short.
 #[derive(Drop)]
 pub struct LongText {
     parts: Vec<Part>,

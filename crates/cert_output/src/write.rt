@@ -17,7 +17,7 @@ use wide_num::Text;
 #[derive(Clone, Copy, Debug, PartialEq, Eq)]
 pub struct CutShort;
 
-// That many bytes are appended at once, where there are as many.
+// That many bytes are appended at once, if there are as many.
 const ROOM: usize = 262_144;
 
 /// Adds the whole text to the end of the file of this known name, and a missing file counts as empty.
@@ -25,9 +25,9 @@ const ROOM: usize = 262_144;
 ///
 /// # Errors
 ///
-/// `CutShort`, only where the count of the name's failed appends rose in this call or is at its last
-/// value. Some bytes at the start of the text went out then, and not all. Where a room is reported for the name and the
-/// whole text fits in it, the answer is `Ok`.
+/// `CutShort`, only if the count of the name's failed appends rose in this call or is at its last value. Some bytes at
+/// the start of the text went out then, and not all. If a room is reported for the name and the whole text fits in it,
+/// the answer is `Ok`.
 pub fn write_long<F: Files>(files: &mut F, name: &str, text: &LongText) -> Result<(), CutShort>
     requires { IsTrue ((F.folder files.old).knows name.now) }
     ensures whole { OnOk result (Adds name.now (F.folder files.old) (F.folder files.new) text.now (length text.now)) }
@@ -57,7 +57,7 @@ fn write_whole<F: Files>(files: &mut F, name: &str, text: &LongText) -> Result<(
     }
 }
 
-/// The bytes where these are all parts.
+/// The bytes if these are all parts.
 fn only_bytes(parts: &[Part]) -> Option<&Text>
     ensures { IfSome result (λ bytes. bytes.now ≡ all_bytes parts.now) }
 {

@@ -1,4 +1,4 @@
-//! The tests of a certificate of a book, and why a yes is right. It has no code.
+//! The tests of a certificate of a book, and why acceptance is sound. It has no code.
 //!
 //! A certificate says who wins, what the winners pay, and why. For the winning choice and for the choice without each
 //! winner it has a table of dynamic programming, for the payments rows of winners with two multipliers each, and a last
@@ -24,8 +24,8 @@ ghost use Rattle.cert_soundness.specs.Priced.{IsPricedCert};
 ghost use Rattle.cert_soundness.specs.Sound.{IsSound};
 ghost use Rattle.cert_soundness.specs.Tests.{Obeys, bidders_of, states, C5, lowered_net, Holds, FailsFirst};
 
-/// A certificate that passes all tests is sound: its choice is the winning one, its value the value of that choice, its
-/// parts give the Vickrey prices, and its choice and payments are the core outcome.
+/// A certificate that passes all tests is sound: its choice is the winning one, its value the value of this choice, its parts
+/// show the Vickrey prices, and its choice and payments are the core outcome.
 ///
 /// A table that obeys the rules of dynamic programming bounds each choice that fits (Bellman, The theory of dynamic
 /// programming, Bulletin of the American Mathematical Society 60, 1954), and multipliers show a least sum and a least
@@ -36,8 +36,7 @@ pub fn sound_yes()
         → Holds book (weight_of weights) c → IsSound book (weight_of weights) c }
 {}
 
-/// A certificate has at most one verdict: not both that all tests hold and that one fails first, and at most one place of one test at which
-/// it fails first.
+/// A certificate has at most one verdict: all tests pass, or one test fails first at one place, not both.
 pub fn one_verdict()
     ensures one { (book : Book) (w : ℕ → ℕ) (c : CertValue) (t p u q : ℕ) → FailsFirst book w c t p
         → FailsFirst book w c u q → (t ≡ u) × (p ≡ q) }
@@ -45,9 +44,8 @@ pub fn one_verdict()
         → ⊥ }
 {}
 
-/// Exact tables obey the rules that the tests ask of a table: that of the net amounts, that of the net amounts without a
-/// bidder, and, where nobody pays more than its bid and losers pay nothing, that of the worths which are lowered by what
-/// each bidder gains.
+/// Exact tables obey the rules that the tests ask of a table: the table of net amounts, the table without a bidder, and, if
+/// nobody pays more than its bid and losers pay nothing, the table of worths lowered by each bidder's surplus.
 pub fn exact_tables()
     ensures plain { (book : Book) (table : List (List ℤ))
         → IsExactTable (menu_of book) (net_of book) book.supply table
@@ -62,8 +60,8 @@ pub fn exact_tables()
         → Obeys (menu_of book) (lowered_net book c) book.supply table }
 {}
 
-/// The text of a certificate that pricing writes has less than `PRICED_CERT_BYTES` bytes, where the book is within the limits and at most
-/// six bidders win: so it is never above the limit of a certificate file.
+/// The text of a certificate that pricing writes has less than `PRICED_CERT_BYTES` bytes if the book is within the limits and
+/// at most six bidders win. So it is never above the limit of a certificate file.
 ///
 /// A table of net amounts has at most 17 lines of 16,384 entries, each of at most 14 digits, and a certificate has at most seven
 /// of them. The table of lowered worths has entries of at most 37 digits.

@@ -1,7 +1,8 @@
-//! A certificate from pieces of its text: line by line and number by number, without holding it, and without memory.
+//! A certificate from pieces of its text: line by line and number by number, without the whole text and without
+//! allocating memory.
 //!
-//! A `Reader` keeps where it is. What it keeps of the numbers is in a room that the caller hands in, a slice of
-//! `room_len` numbers. However a text is cut into pieces, the reader then stands for the text.
+//! A `Reader` keeps its position. It keeps numbers in a room that the caller passes in, a slice of `room_len`
+//! numbers. However a text is cut into pieces, the reader then represents the text.
 #![tactic(auto)]
 
 mod due;

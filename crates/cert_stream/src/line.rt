@@ -91,7 +91,7 @@ impl LinePart {
         }
     }
 
-    /// Keeps a whole number, where it may follow those that are kept.
+    /// Keeps a whole number, if it may follow those that are kept.
     fn keep(&mut self, form: Form, out: &mut [i128], kept: ReadNumber) -> bool
         requires room { room_for form ≤ length out.old }
         requires some { (ns : List ℤ) × (z : ℤ) × Keeps ns out.old self.old.count self.old.beyond
@@ -152,7 +152,7 @@ impl LinePart {
         fields.end
     }
 
-    /// Takes the digits at the start of a piece, where the line is in a number. Gives where they end.
+    /// Takes the digits at the start of a piece, if the line is in a number. Gives where they end.
     pub(crate) fn take_digits(&mut self, piece: &[u8], at: usize) -> usize
         requires { at ≤ length piece.now }
         ensures from { at ≤ result }

@@ -59,7 +59,7 @@ fn next_version(shape: Shape) -> NextLine
     }
 }
 
-/// A count of rows, and 0 where the number is none.
+/// A count of rows, and 0 if the number is none.
 fn row_count(number: i128) -> u16
     ensures { (r : ℕ) → number ≡ pos r → r ≤ 10 → result ≡ r }
 {

@@ -64,8 +64,8 @@ fn add_piece(text: &mut Text, numbers: &[i128]) -> Result<(), AllocError>
     }
 }
 
-/// Puts numbers at the end of a room, each after one space, and says where they begin; None where one is below 0 or
-/// has more than 64 bits.
+/// Puts numbers at the end of a room, each after one space, and says where they begin; None if one is below 0 or has
+/// more than 64 bits.
 fn put_fields(room: &mut [u8], numbers: &[i128]) -> Option<usize>
     requires { 21 * length numbers.now ≤ length room.old }
     ensures within { IfSome result (λ start. start ≤ length room.old) }
@@ -80,7 +80,7 @@ fn put_fields(room: &mut [u8], numbers: &[i128]) -> Option<usize>
     Some(start)
 }
 
-/// The number in 64 bits, and None where it is below 0 or has more.
+/// The number in 64 bits, and None if it is below 0 or has more.
 fn short(number: i128) -> Option<u64>
     ensures { IfSome result (λ n. number ≡ pos n) }
 {

@@ -1,8 +1,9 @@
-//! Certificates of the prices of a book: what they hold, and their text.
+//! Certificates of the prices of a book: their content and their text.
 //!
-//! A certificate shows that the winners are the first choice of greatest net value and that their prices are the core
-//! outcome. It holds the winning choice with its exact table, the same without each winner, the payments, the rows that ask for
-//! them with their multipliers, and the table of the worths that are lowered by what each winner gains. Amounts are net of reserve.
+//! A certificate shows that the winners are the first choice of greatest net value and that their prices are the core outcome.
+//! It contains the winning choice with its exact table, a choice and a table without each winner, the payments, the rows that
+//! require them with their multipliers, and the table of the worths that are lowered by each winner's surplus. Amounts are net
+//! of reserve.
 #![tactic(auto)]
 
 mod certificate;

@@ -26,8 +26,8 @@ use std::alloc::Global;
 
 /// The certificate that the bytes are the text of, for that many bidders and states.
 ///
-/// Errors: `Form` and `Range` with the byte where the first faulty line begins, the first where its form is wrong, the second
-/// where its form is right and a number in it is out of range; `Memory` when out of memory.
+/// Errors: `Form` and `Range` with the byte where the first faulty line begins, the first if its form is wrong, the second if
+/// its form is right and a number in it is out of range; `Memory` when out of memory.
 pub fn read_cert(alloc: Global, bytes: &[u8], shape: Shape) -> Result<Certificate, CertStop>
     ensures says { IfOk result (λ c. CertSays shape.bidders shape.states bytes.now (stated (cert_value c))) }
     ensures shape { IfOk result (IsFor shape.bidders shape.states) }

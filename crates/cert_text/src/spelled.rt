@@ -1,4 +1,4 @@
-// The texts of a table's lines, which are added again where another table has the same line.
+// The texts of a table's lines, which are added again if another table has the same line.
 ghost use Rattle.std.specs.Prelude.{◌≡◌, ◌<◌, ◌++◌, [], codes, length, map, slice_index_or, IfOk, IsTrue, OnOk};
 ghost use Rattle.std.specs.List.{concat};
 ghost use Rattle.line_format.specs.Range.{AllInRange};
@@ -105,7 +105,7 @@ fn same_place(winner: usize, line: usize) -> usize {
     }
 }
 
-/// Adds a line of a table, by its text where it is this line of the other table.
+/// Adds a line of a table, by its text if it is this line of the other table.
 fn add_known_line(
     text: &mut Text,
     table: &Grid,

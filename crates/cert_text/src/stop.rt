@@ -11,7 +11,7 @@ pub enum CertStop {
     Form(u64),
     /// The byte where the first faulty line begins, counted from 0. That line is of right form and has a number out of range.
     Range(u64),
-    /// There was no memory.
+    /// Out of memory.
     Memory,
 }
 

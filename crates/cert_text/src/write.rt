@@ -38,7 +38,7 @@ pub fn write_cert(alloc: Global, cert: &Certificate) -> Result<Text, AllocError>
     Ok(text)
 }
 
-// About how many bytes the text has, and no fewer where no line of a table falls. Only room is taken by it, so that no text is
+// About how many bytes the text has, and no fewer if no line of a table falls. Only room is taken by it, so that no text is
 // copied while it grows.
 fn room_for(cert: &Certificate) -> usize {
     let mut room = table_room(&cert.table).saturating_add(table_room(&cert.lowered));

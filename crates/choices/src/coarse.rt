@@ -1,6 +1,6 @@
-// Lines of tables in 16 bits: two lines are counted in one unit, the line rounded down, and the line below and the worth of a bid
-// rounded up. Then a block of the last few categories is tested in one run, with a mask of the places at which the package fits. A
-// yes is a yes of the exact numbers; where units are too coarse to tell, anyone who asks says by these.
+// Lines of tables in 16 bits: two lines are counted in one unit, the line rounded down, and the line below and the worth of a
+// bid rounded up. Then a block of the last few categories is tested in one run, with a mask of the places at which the package
+// fits. A yes is a yes of the exact numbers; if units are too coarse to tell, anyone who asks says by these.
 ghost use Rattle.std.specs.Prelude.{◌≡◌, ℕ, ◌+◌, ◌-◌, ◌*◌, ◌%◌, ◌^◌, ◌≤◌, ◌<◌, IsTrue, length, slice_index_or, pos, ◌≤ℤ◌};
 ghost use Rattle.auction_model.specs.Place.{states_of, widths_of};
 ghost use Rattle.limits.specs.declared.TheConstants.{MOST_STATES};
@@ -43,7 +43,7 @@ fn units(number: i64, shift: u32) -> u64
     number as u64 >> shift
 }
 
-/// A worth in units of `2^shift`, rounded up, or 0 where it is below 0 or has too many.
+/// A worth in units of `2^shift`, rounded up, or 0 if it is below 0 or has too many.
 pub fn worth_units(worth: i64, shift: u32) -> u16
     requires { shift < 64 }
     ensures small { result < 2 ^ 15 }
@@ -76,7 +76,7 @@ fn last_bits(bits: u64) -> u16
     (bits & LAST_BITS) as u16
 }
 
-/// The last 16 bits of the numbers of a line in units of `2^shift`, and whether no number is below 0. It goes on where one is, and
+/// The last 16 bits of the numbers of a line in units of `2^shift`, and whether no number is below 0. It goes on if one is, and
 /// looks at the bits of all at the end, so that no number costs a test.
 fn put_units(low: &mut [u16], line: &[i64], shift: u32) -> bool
     requires places { length low.old ≡ length line.now }
@@ -93,7 +93,7 @@ fn put_units(low: &mut [u16], line: &[i64], shift: u32) -> bool
     seen < SIGN
 }
 
-/// The numbers of a line in units of `2^shift`, rounded down, and none of these where a number is below 0.
+/// The numbers of a line in units of `2^shift`, rounded down, and none of these if a number is below 0.
 pub fn put_low(low: &mut [u16], line: &[i64], shift: u32)
     requires places { length low.old ≡ length line.now }
     requires shift { shift < 64 }
@@ -105,7 +105,8 @@ pub fn put_low(low: &mut [u16], line: &[i64], shift: u32)
     }
 }
 
-/// The numbers of a line in units of `2^shift`, rounded up, and whether none has too many. It goes on where one has, as `put_units` does.
+/// The numbers of a line in units of `2^shift`, rounded up, and whether none has too many. It goes on if one has, as
+/// `put_units` does.
 pub fn put_high(high: &mut [u16], line: &[i64], shift: u32) -> bool
     requires places { length high.old ≡ length line.now }
     requires shift { shift < 64 }
@@ -129,7 +130,7 @@ pub fn shift_for(most: u64) -> u32
     bits.saturating_sub(15)
 }
 
-/// Whether at each place that the mask names the line has at least the worth and what the line below has. It goes on where it
+/// Whether at each place that the mask names the line has at least the worth and what the line below has. It goes on if it
 /// hasn't, so that it takes several places at a time.
 fn covers_masked(low: &[u16], high: &[u16], mask: &[u16], worth: u16) -> bool
     requires places { length high.now ≡ length low.now }

@@ -43,7 +43,7 @@ impl Grid {
     pub fn kept(&self)
         ensures { IsEven self.now }
     {
-        // The rules of a type are known where a field of it is used.
+        // The rules of a type are known once its field is used.
         let _ = &self.lines;
     }
 

@@ -90,7 +90,7 @@ impl GridLine {
         }
     }
 
-    /// Whether another line is seen to have the same numbers: it isn't where they are of another size.
+    /// Whether another line is seen to have the same numbers: it isn't if they are of another size.
     pub(crate) fn is_same(&self, other: &GridLine) -> bool
         ensures { IsTrue result → numbers_in self.now ≡ numbers_in other.now }
     {

@@ -55,8 +55,8 @@ pub fn are_within(book: &BidBook, numbers: &[u16]) -> bool
     true
 }
 
-/// The place of what the package of bid `i` of bidder `j` leaves of the supply of a place, or None where it exceeds that.
-/// Number 0 is the empty package.
+/// The place of what the package of bid `i` of bidder `j` leaves of the supply of a place, or None if it exceeds that. Number 0
+/// is the empty package.
 pub fn place_after(book: &BidBook, j: u16, i: u16, place: usize) -> Option<usize>
     requires bidder { (0 < j) × (j ≤ length book.now.bidders) }
     requires bid { i ≤ length (bids_of book.now j) }

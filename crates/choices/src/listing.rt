@@ -34,7 +34,7 @@ fn with_number(number: u16, worth: i128, rest: Best) -> Result<Best, AllocError>
     })
 }
 
-/// The one of greater value, and `next` where both are equal.
+/// The one of greater value, and `next` if both are equal.
 fn better(best: Best, next: Best) -> Best
     ensures kept { next.value <ℤ best.value → result ≡ best }
     ensures taken { best.value ≤ℤ next.value → result ≡ next }

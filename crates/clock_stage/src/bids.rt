@@ -9,9 +9,9 @@ use auction_rules::{Reply, Stage};
 use award_file::Award;
 use lots::Package;
 
-/// The reply to a package of a bidder of the award who is eligible for that many points: the first category above the supply, the
-/// first spectrum cap that it breaks, or the eligibility where its points are above that, and else Ok. Clock bids and drafts are
-/// tested by it.
+/// The reply to a package of a bidder of the award who is eligible for that many points: the first category above the supply,
+/// the first spectrum cap that it breaks, or the eligibility if its points are above that, and else Ok. Clock bids and drafts
+/// are tested by it.
 pub fn reply_to_package(award: &Award, eligible: u64, bidder: u16, package: &Package) -> Reply
     requires bidder { (1 ≤ bidder) × (bidder ≤ length award.now.bidders) }
     requires categories { length «package».now ≡ length award.now.supply }
@@ -33,7 +33,7 @@ pub fn reply_to_package(award: &Award, eligible: u64, bidder: u16, package: &Pac
     Reply::Ok
 }
 
-/// The reply to a bid of a bidder, where this is what each bidder is eligible for in the posted round.
+/// The reply to a bid of a bidder, if this is what each bidder is eligible for in the posted round.
 pub fn reply_to_bid(award: &Award, eligibility: &[u64], bidder: u16, package: &Package) -> Reply
     requires bidders { length eligibility.now ≡ length award.now.bidders }
     requires categories { length «package».now ≡ length award.now.supply }

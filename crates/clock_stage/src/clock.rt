@@ -73,7 +73,7 @@ impl Clock {
     /// Takes a clock bid: the package that the bidder asks for in the posted round, instead of an earlier one. It takes no
     /// memory. The clock has to run, and the award has to be that of its start, or one with as many bidders and categories.
     ///
-    /// The reply is Ok, Unknown, Supply, SpectrumCap or Points; where it isn't Ok, nothing changes. A clock that stands for a log
+    /// The reply is Ok, Unknown, Supply, SpectrumCap or Points; if it isn't Ok, nothing changes. A clock that stands for a log
     /// answers by the rules, and then stands for the log with this line.
     pub fn bid(&mut self, award: &Award, bidder: u16, package: &Package) -> Reply
         requires running { IsTrue self.old.running }
@@ -95,8 +95,8 @@ impl Clock {
         reply
     }
 
-    /// Closes the posted round. Where some count of what all bidders ask for is above the supply, the prices of these
-    /// categories rise and the next round is posted, else the clock stage ends. The conditions are those of a bid.
+    /// Closes the posted round. If some count of what all bidders ask for is above the supply, the prices of these categories
+    /// rise and the next round is posted, else the clock stage ends. The conditions are those of a bid.
     ///
     /// After a refusal and when out of memory all is as it was. A clock that stands for a log answers by the rules, and then
     /// stands for the log with this line, unless there was no memory.

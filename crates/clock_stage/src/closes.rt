@@ -24,7 +24,7 @@ pub enum Closed {
     Full(u64),
     /// There was excess demand, and the price of this category would rise to this, above the greatest price; the first such category.
     PriceTop { category: u16, price: u64 },
-    /// There was no memory.
+    /// Out of memory.
     Memory,
 }
 

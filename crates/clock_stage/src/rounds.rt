@@ -176,7 +176,7 @@ impl History {
         self.round(r).eligibility[j as usize - 1]
     }
 
-    /// The package of bidder `j` in round `r`, which is empty where it made no bid.
+    /// The package of bidder `j` in round `r`, which is empty if it made no bid.
     pub fn package(&self, r: u32, j: u16) -> &Package
         requires round { (1 ≤ r) × (r ≤ length self.now) }
         requires bidder { (1 ≤ j) × (j ≤ bidders_in self.now) }

@@ -9,7 +9,7 @@ use auction_rules::{greatest_threshold, raise_is_least};
 use award_file::StepTable;
 use std::alloc::{AllocError, Global};
 
-/// The permille of the last threshold whose excess is reached, and 0 where none is.
+/// The permille of the last threshold whose excess is reached, and 0 if none is.
 fn permille_of(excess: u64, thresholds: &[(u64, u64)]) -> u64
     requires { All (λ t. t.1 ≤ 1000) thresholds.now }
     ensures permille { result ≡ permille_at thresholds.now excess }
@@ -42,7 +42,7 @@ pub fn step(price: u64, excess: u64, table: &StepTable) -> u64
     price + ticks.max(1) * tick
 }
 
-/// The prices after a round with this demand: each is raised where the demand is above the supply.
+/// The prices after a round with this demand: each is raised if the demand is above the supply.
 pub fn raised_prices(
     alloc: Global,
     table: &StepTable,

@@ -1,11 +1,11 @@
 //! Blocks at a point, rows of winners as sets of bits, and what an auction ends with: their definitions and laws. It has no code.
 //!
-//! A pricing turn looks for the coalition that blocks a point most. It lowers the worths of the bids by what each bidder
-//! gains at the point, its surplus, and looks for the choice of greatest lowered sum. The laws say that this sum, less what
-//! all bidders pay, is the greatest excess of any choice over any set of winners that it doesn't use. The greatest such set,
-//! with the bound that the choice gives it, is the row of the next turn. (Day and Raghavan, Fair payments for efficient
-//! allocations in public sector combinatorial auctions, Management Science 53, 2007; Day and Cramton, Quadratic
-//! core-selecting payment rules for combinatorial auctions, Operations Research 60, 2012.)
+//! A pricing turn looks for the coalition that blocks a point most. It lowers the worths of the bids by what each bidder gains
+//! at the point, its surplus, and looks for the choice of greatest lowered sum. The laws say that this sum, less what all
+//! bidders pay, is the greatest excess of any choice over any set of winners that it doesn't use. The greatest such set, with
+//! its bound from the choice, is the row of the next turn. (Day and Raghavan, Fair payments for efficient allocations in public
+//! sector combinatorial auctions, Management Science 53, 2007; Day and Cramton, Quadratic core-selecting payment rules for
+//! combinatorial auctions, Operations Research 60, 2012.)
 #![tactic(auto)]
 
 mod plain;
@@ -34,8 +34,8 @@ pub fn taken_block()
         → IsTakenBlock m z p f (idle_row m z p f) (lowered_sum m z p f -ℤ paid m p) }
 {}
 
-/// A point is unblocked exactly where the greatest lowered sum is at most what all bidders pay. At the winning choice it
-/// is never less.
+/// A point is unblocked exactly if the greatest lowered sum is at most what all bidders pay. At the winning choice it is never
+/// less.
 pub fn unblocked_points()
     ensures free { (m : Market) (z : List ℕ) (p : Point) (f : List ℕ) → IsMarket m → AsksWinnersOnly m z p
         → IsFirstGreatest m.allowed (lowered_sum m z p) f
@@ -57,8 +57,8 @@ pub fn rows_as_bits()
         ≡ dot (winners_in z) (holds bits) (nth at) }
 {}
 
-/// A block with an excess has a member. Its row is given by its choice: no choice that uses no member gives the set a greater
-/// bound. No row that the point meets has the same members, so no row comes twice. Each core point meets each such row.
+/// A block with an excess has a member. Its choice determines its row: no choice that uses no member leads to a greater bound
+/// for the set. No row that the point meets has the same members, so no row comes twice. Each core point meets each such row.
 pub fn rows_of_blocks()
     ensures some { (m : Market) (z : List ℕ) (p : Point) (f : List ℕ) (members : ℕ → Bool) (excess : ℤ) → IsMarket m
         → IsWinning m z → pos 1 ≤ℤ p.den

@@ -11,8 +11,8 @@ ghost use Rattle.core_laws.specs.PlainNearest.{IsPlainNearest};
 
 use auction_model::{core_outcome, weighted_distance};
 
-/// Where each bidder weighs 1, the weighted distance is the plain one: the core outcome with these weights, at the winning choice, is
-/// the outcome of the auction.
+/// If each bidder weighs 1, the weighted distance is the plain one: the core outcome with these weights, at the winning choice,
+/// is the outcome of the auction.
 pub fn plain_outcome()
     ensures { (m : Market) (w : ℕ → ℕ) (z : List ℕ) (p : Point) → ((j : ℕ) → 0 < j → j ≤ m.bidders → w j ≡ 1) → IsWinning m z → IsCoreOutcome m w z p → IsAuctionOutcome m z p }
 {
@@ -20,8 +20,8 @@ pub fn plain_outcome()
     weighted_distance();
 }
 
-/// Where each bidder weighs 1, the point of a turn of a pricing run is the one that the plain distance asks for: of the points of least sum
-/// that meet the rows, the nearest to the prices.
+/// If each bidder weighs 1, the point of a turn of a pricing run is the one that the plain distance asks for: of the points of
+/// least sum that meet the rows, the nearest to the prices.
 pub fn plain_turns()
     ensures plain { (m : Market) (w : ℕ → ℕ) (z : List ℕ) (v : ℕ → ℤ) (rows : List BidderRow) (p : Point)
         → ((j : ℕ) → 0 < j → j ≤ m.bidders → w j ≡ 1)

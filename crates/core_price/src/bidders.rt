@@ -55,7 +55,7 @@ pub fn members_of(alloc: Global, winners: &Choice, bits: u16) -> Result<Numbers,
     Ok(list)
 }
 
-// Appends the bidder, where the lowest bit is set.
+// Appends the bidder, if the lowest bit is set.
 fn add_lowest(list: &mut Numbers, bits: u16, bidder: u16) -> Result<(), AllocError>
     ensures { OnOk result (list.new ≡ list.old ++ (if (bits % 2) == 1 then bidder ∷ [] else [])) }
 {

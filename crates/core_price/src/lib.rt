@@ -35,10 +35,9 @@ pub use weights::many_win;
 /// The core-selecting prices of the winning choice, found by rows: the core point of least sum, and of these the nearest
 /// to the Vickrey prices. All amounts are net of reserve.
 ///
-/// The rows start with each winner alone, in order, with its Vickrey price as bound. In each turn the point of least sum
-/// that meets all rows, and of these the nearest to the Vickrey prices, is tested for a coalition that blocks it. If one
-/// does, its row is added; if none does, the point is the answer. No row comes twice, so with `m` winners there are at most `2^m`
-/// turns.
+/// The first rows are the single winners, in order, each with its Vickrey price as bound. In each turn, among the points of
+/// least sum that meet all rows, the nearest to the Vickrey prices is tested for a coalition that blocks it. If one does, its
+/// row is added. If none does, the point is the result. No row comes twice, so with `m` winners there are at most `2^m` turns.
 ///
 /// `singles` are all winners in order, each with its Vickrey price and its best choice. `weights` has one weight of 1 to 20
 /// for each bidder; distances are by squares, each divided by the bidder's weight. There are at most 64 bidders, and the
@@ -46,12 +45,12 @@ pub use weights::many_win;
 ///
 /// # Errors
 ///
-/// `Winners` exactly where more than `MOST_WINNERS` win, or more than `MOST_WEIGHTED_WINNERS` that don't all weigh 1, with their
-/// number; `Memory` for want of memory.
+/// `Winners`, with their number, exactly if more than `MOST_WINNERS` win, or more than `MOST_WEIGHTED_WINNERS` with weights
+/// that aren't all 1. `Memory` if it is out of memory.
 ///
-/// The rule is that of Day and Cramton (Quadratic core-selecting payment rules for combinatorial auctions, Operations
-/// Research 60, 2012), the turns are those of Day and Raghavan (Fair payments for efficient allocations in public sector
-/// combinatorial auctions, Management Science 53, 2007).
+/// The rule is by Day and Cramton (Quadratic core-selecting payment rules for combinatorial auctions, Operations Research 60,
+/// 2012), the turns are by Day and Raghavan (Fair payments for efficient allocations in public sector combinatorial auctions,
+/// Management Science 53, 2007).
 pub fn price<C: Chooser>(
     alloc: Global,
     chooser: &C,
@@ -76,7 +75,7 @@ pub fn price<C: Chooser>(
     Ok(price_by_rows(alloc, chooser, singles, weights)?)
 }
 
-// The prices by rows, where no more win than can be priced.
+// The prices by rows, if no more bidders win than can be priced.
 fn price_by_rows<C: Chooser>(
     alloc: Global,
     chooser: &C,

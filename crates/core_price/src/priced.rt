@@ -54,7 +54,7 @@ pub struct Priced<T> {
 pub enum PriceStop {
     /// More than `MOST_WINNERS` win, or more than `MOST_WEIGHTED_WINNERS` that don't all weigh 1: that many.
     Winners(u64),
-    /// There was no memory.
+    /// Out of memory.
     Memory,
 }
 

@@ -59,7 +59,7 @@ fn read_bidder<'a>(book: &BidBook, text: &'a [u8]) -> Option<(u16, &'a [u8])>
     Some((bidder_named(book, name), rest))
 }
 
-/// The number of the bidder of this name, and 0 where the book has none.
+/// The number of the bidder of this name, and 0 if the book has none.
 fn bidder_named(book: &BidBook, name: &[u8]) -> u16
     ensures { result ≡ number_among name.now 0 book.now.bidders }
 {

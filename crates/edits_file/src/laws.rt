@@ -7,8 +7,8 @@ ghost use Rattle.line_format.specs.LineText.{Said, stated};
 ghost use Rattle.review.specs.Edits.{edit_lots};
 ghost use Rattle.edits_file.specs.EditsForm.{EditsSay, NamedEdit, edits_of};
 
-/// Bytes say one thing of the edits of a book: edits, where the first faulty line begins, or that there are too many. So each answer
-/// of `read_edits` comes exactly where the bytes say so.
+/// Bytes say one thing of the edits of a book: edits, where the first faulty line begins, or that there are too many. So each
+/// answer of `read_edits` comes exactly if the bytes say so.
 pub fn one_edits()
     ensures { (categories : ℕ) (bytes : List ℕ) (x y : Said (List NamedEdit) Excess) → EditsSay categories bytes x
         → EditsSay categories bytes y → x ≡ y }

@@ -23,7 +23,7 @@ pub enum EditStop {
     Form(u64),
     /// A quantity that exceeds its limit, at the first line where one does, with its count.
     Limit(LimitKind, u64),
-    /// There was no memory.
+    /// Out of memory.
     Memory,
 }
 

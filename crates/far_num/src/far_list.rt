@@ -18,7 +18,7 @@ impl Model for FarList {
 }
 
 impl FarList {
-    /// The empty list, with room for that many pairs, so that it need not grow before it has more. The only error is want of
+    /// The empty list, with room for that many pairs, so that it need not grow before it has more. The only error is out of
     /// memory.
     pub fn with_capacity(alloc: Global, pairs: usize) -> Result<Self, AllocError>
         ensures { IfOk result (λ list. list ≡ []) }

@@ -31,7 +31,7 @@ pub struct FarPoint {
 /// A set of members, one for each set bit, with a bound on what they sum to.
 #[derive(Clone, Copy, Debug, Drop, PartialEq, Eq)]
 pub struct Row {
-    /// Bit `i` is set where `i` is a member.
+    /// Bit `i` is set if `i` is a member.
     pub members: u16,
     /// The least sum of the members.
     pub bound: i128,

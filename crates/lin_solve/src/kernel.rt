@@ -37,7 +37,7 @@ fn find_pivot(line: &[i128], basis: &[NumList], free: &[bool]) -> Option<usize>
     None
 }
 
-/// The row of `j` after `line` is cleared at `pivot`, and an empty one where `j` isn't free or is the pivot.
+/// The row of `j` after `line` is cleared at `pivot`, and an empty one if `j` isn't free or is the pivot.
 fn next_row(
     alloc: Global,
     line: &[i128],
@@ -117,7 +117,7 @@ fn take_free(mut basis: Vec<NumList>, free: &[bool]) -> Option<NumList>
     None
 }
 
-/// A small row other than 0 that all lines send to 0, or None where they send only 0 to 0.
+/// A small row other than 0 that all lines send to 0, or None if they send only 0 to 0.
 ///
 /// There is one row for each coordinate, and a coordinate is free until a line is cleared at it. The rows of the free
 /// coordinates span what all lines so far send to 0, and each is 0 at the other free coordinates.

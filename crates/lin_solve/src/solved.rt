@@ -20,7 +20,7 @@ pub enum Solved {
     Dependent { combination: NumList },
 }
 
-/// The only solution, where the lines send only 0 to 0.
+/// The only solution, if the lines send only 0 to 0.
 fn one_solution(
     alloc: Global,
     lines: &[NumList],
@@ -79,7 +79,7 @@ fn near_parts(alloc: Global, right: &[Far]) -> Result<NumList, AllocError>
 
 /// Solves the system that has `matrix` and the right side `right`, both parts of it at once.
 ///
-/// Where the only row that the matrix sends to 0 is 0 itself, the answer is the only solution, and else a row other
+/// If the only row that the matrix sends to 0 is 0 itself, the answer is the only solution, and else a row other
 /// than 0 that the matrix sends to 0. The method and its bounds are reported at the head of this crate.
 ///
 /// The entries aren't negative. The system is that of at most `MOST_WINNERS` winners who all weigh 1, or of at most

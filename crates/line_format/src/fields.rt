@@ -20,7 +20,7 @@ pub fn field_len(text: &[u8]) -> usize
     text.len()
 }
 
-/// The number of at most `most` that a field spells, and None exactly where it spells none.
+/// The number of at most `most` that a field spells, and None exactly if it spells none.
 pub fn read_at_most(field: &[u8], most: u64) -> Option<u64>
     ensures found { IfSome result (λ n. (n ≤ most) × (field.now ≡ decimal n)) }
     ensures none { IfNone result ((n : ℕ) → n ≤ most → field.now ≡ decimal n → ⊥) }

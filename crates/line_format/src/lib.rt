@@ -1,7 +1,7 @@
 //! Texts by lines: the definitions of a form, the length of the next line, and how the numbers of a line are read and written.
 //!
-//! A number is decimal digits without a leading zero, after a `-` where it is below zero, and follows one space. What is
-//! written here takes memory for the text alone; the only error is want of it.
+//! A number is decimal digits without a leading zero, after a `-` if it is below zero, and follows one space. Writing takes
+//! memory only for the text. The only error is out of memory.
 #![tactic(auto)]
 
 mod fields;

@@ -46,7 +46,7 @@ struct Kept {
 pub enum NumbersStop {
     /// The text is none of numbers, each after one space.
     Form,
-    /// There was no memory.
+    /// Out of memory.
     Memory,
 }
 
@@ -56,7 +56,7 @@ const SHORT: u64 = 1 << 60;
 /// Appends to an empty list the numbers of a text, each after one space, to its end. Each number may have any length. Says whether
 /// one isn't strictly between -2^120 and 2^120, and then the list has as many numbers as the text, and says no more of them.
 ///
-/// Errors: `Form` where the text is no such text, and `Memory` when out of memory; what the list holds then is not said.
+/// Errors: `Form` if the text is no such text, and `Memory` when out of memory; what the list holds then is not said.
 pub fn read_numbers(text: &[u8], out: &mut Vec<i128>) -> Result<bool, NumbersStop>
     requires { out.old.items ≡ [] }
     ensures ok { IfOk result (λ beyond. HasNumbers text.now out.new.items beyond) }
@@ -146,7 +146,7 @@ fn read_natural(text: &[u8]) -> Natural
     }
 }
 
-/// The natural number at the start of the text, if it has few digits. Where it is None, no number below 2^60 is there as a field.
+/// The natural number at the start of the text, if it has few digits. If it is None, no number below 2^60 is there as a field.
 fn read_short(text: &[u8]) -> Option<Natural>
     ensures found { IfSome result (λ number. ReadsNatural text.now number) }
     ensures none { IfNone result ((n stop : ℕ) → IsField text.now n stop → 2 ^ 60 ≤ n) }
@@ -155,9 +155,9 @@ fn read_short(text: &[u8]) -> Option<Natural>
     Some(Natural::Within(number as u128, stop))
 }
 
-/// The natural number at the start of the text, up to a space or to its end, and where it ends. It is a fast way for numbers of few
-/// digits: it gives the number where it is below 2^60, and may give a greater one. Where it gives none, no number below 2^60 stands
-/// there as a field.
+/// The natural number at the start of the text, up to a space or to its end, and where it ends. It is a fast way for numbers of
+/// few digits: it gives the number if it is below 2^60, and may give a greater one. If it gives none, no number below 2^60
+/// stands there as a field.
 pub fn short_field(text: &[u8]) -> Option<(u64, usize)>
     ensures found { IfSome result (λ field. IsField text.now field.0 field.1) }
     ensures none { IfNone result ((n stop : ℕ) → IsField text.now n stop → 2 ^ 60 ≤ n) }

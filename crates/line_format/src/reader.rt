@@ -42,7 +42,7 @@ pub trait LineReader {
         ensures limit { (excess : Self.Excess) → result ≡ Err (LineStop.Limit excess)
             → (t : Self.Stage) × leads self.now stage line.now t × (over self.now t ≡ Some excess) };
 
-    /// The value that a text states whose lines lead to this stage, and None where more lines have to come.
+    /// The value that a text states whose lines lead to this stage, and None if more lines have to come.
     fn end(&self, stage: Self::Stage) -> Option<Self::Value>
         ensures some { IfSome result (λ value. stage ≡ ended self.now value) }
         ensures none { IfNone result ((value : Self.Value) → stage ≡ ended self.now value → ⊥) };

@@ -12,7 +12,7 @@ pub enum LineStop<L> {
     Form,
     /// The line exceeds this limit.
     Limit(L),
-    /// There was no memory.
+    /// Out of memory.
     Memory,
 }
 
@@ -52,6 +52,6 @@ pub enum TextStop<L> {
     Form(u64),
     /// What the first line that exceeds a limit exceeds.
     Limit(L),
-    /// There was no memory.
+    /// Out of memory.
     Memory,
 }

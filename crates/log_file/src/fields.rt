@@ -15,7 +15,7 @@ use lots::Package;
 /// The counts of a package.
 type Counts = ArrayVec<u16, MOST_CATEGORIES>;
 
-/// The number of the bidder that a field names, 0 for a stranger, and None where the field is no name.
+/// The number of the bidder that a field names, 0 for a stranger, and None if the field is no name.
 pub fn read_bidder(award: &Award, field: &[u8]) -> Option<u16>
     ensures found { IfSome result (λ k. IsNameOf award.now k field.now) }
     ensures none { IfNone result (IsName field.now → ⊥) }
@@ -26,7 +26,7 @@ pub fn read_bidder(award: &Award, field: &[u8]) -> Option<u16>
     }
 }
 
-/// The amount that a field spells, and None where it spells none of at most `MOST_STATED_AMOUNT`.
+/// The amount that a field spells, and None if it spells none of at most `MOST_STATED_AMOUNT`.
 pub fn read_amount(field: &[u8]) -> Option<u64>
     ensures found { IfSome result (λ n. (n ≤ MOST_STATED_AMOUNT) × (field.now ≡ decimal n)) }
     ensures none { IfNone result ((n : ℕ) → n ≤ MOST_STATED_AMOUNT → field.now ≡ decimal n → ⊥) }
@@ -34,7 +34,7 @@ pub fn read_amount(field: &[u8]) -> Option<u64>
     read_at_most(field, MOST_STATED_AMOUNT)
 }
 
-/// The package that a field spells by its counts, one for each category of the award, and None where it spells none.
+/// The package that a field spells by its counts, one for each category of the award, and None if it spells none.
 pub fn read_package(award: &Award, field: &[u8]) -> Option<Package>
     ensures found { IfSome result
         (λ lots. AreCounts (length award.now.supply) lots × (field.now ≡ counts_text lots)) }

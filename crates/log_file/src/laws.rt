@@ -32,7 +32,7 @@ pub fn packages_of_log()
         → AllByRecursion (HasCategories terms) events }
 {}
 
-/// The text of events is read as these events, where a record can state each of them and there aren't too many.
+/// The text of events is read as these events, if a record can state each of them and there aren't too many.
 pub fn written_log()
     ensures { (terms : Terms) (name : ℕ → List ℕ) (events : List Event) → AllByRecursion (IsStatable terms name) events
         → length events ≤ MOST_RECORDS → AreLog terms (log_records (log_text name events)) events }

@@ -20,15 +20,15 @@ pub use read::read_log;
 pub use reply::{add_reply_line, reply_line};
 use std::alloc::{AllocError, AllocFailed};
 
-/// Why bytes are no log.
+/// Why bytes aren't a log.
 #[derive(Clone, Copy, Debug, PartialEq, Eq)]
 pub enum LogStop {
-    /// The number of the first record that is of no form, counted from 1.
+    /// The number of the first record without a valid form, counted from 1.
     Form(u64),
-    /// There are more records than a log may have: always `Records` with one more than the limit, which is how many were looked
-    /// at. Whether the last of these has a form isn't asked.
+    /// There are more records than a log may have: always `Records` with one more than the limit, the number of records that
+    /// were read. The form of the last one isn't tested.
     Limit(LimitKind, u64),
-    /// There was no memory.
+    /// Out of memory.
     Memory,
 }
 

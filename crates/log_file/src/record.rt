@@ -17,7 +17,7 @@ struct Fields<'a> {
     amount: &'a [u8],
 }
 
-/// The event that a record states, and None where it states none. It takes no memory.
+/// The event that a record states, and None if it states none. It takes no memory.
 pub fn read_event(award: &Award, row: &ByteRecord) -> Option<Event>
     ensures { ReadsAs award.now (fields_of row.now) result }
 {
@@ -27,7 +27,7 @@ pub fn read_event(award: &Award, row: &ByteRecord) -> Option<Event>
     }
 }
 
-/// The fields of a record, where there are four.
+/// The fields of a record, if there are four.
 fn four_fields(row: &ByteRecord) -> Option<Fields<'_>>
     ensures found { IfSome result (λ f. fields_of row.now ≡ four f.kind.now f.bidder.now f.lots.now f.amount.now) }
     ensures none { IfNone result (length (fields_of row.now) ≢ 4) }

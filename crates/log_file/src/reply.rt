@@ -27,7 +27,7 @@ pub fn reply_line(
 
 /// Adds the line of the reply to the record of this number, counted from 1.
 ///
-/// `done` says what the close did where the record is a close that was admitted, and is None else. `prices` are those that are
+/// `done` says what the close did if the record is a close that was admitted, and is None else. `prices` are those that are
 /// posted after the record, by categories, and are printed of a new round alone. The only error is out of memory.
 pub fn add_reply_line(
     text: &mut Text,

@@ -38,7 +38,8 @@ struct Effect {
 
 const FIELDS: u8 = 4;
 
-/// The text up to the first record that has a fifth field, and no further than to where that begins; all of it, where no record has one.
+/// The text up to the first record that has a fifth field, and no further than to where that begins; all of it, if no record
+/// has one.
 pub(crate) fn up_to_wide_record(bytes: &[u8]) -> &[u8]
     ensures { ReadsAlike (records default_config (strip_bom result.now)) (records default_config (strip_bom bytes.now)) }
 {
@@ -65,7 +66,7 @@ fn is_mark(a: u8, b: u8, c: u8) -> bool
     a == 0xEF && b == 0xBB && c == 0xBF
 }
 
-/// Where the first fifth field of a record begins, and the length of the text, where no record has one.
+/// Where the first fifth field of a record begins, and the length of the text, if no record has one.
 fn wide_end(text: &[u8]) -> usize
     ensures within { result ≤ length text.now }
     ensures alike { ReadsAlike (records default_config (take result text.now)) (records default_config text.now) }

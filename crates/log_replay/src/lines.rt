@@ -59,7 +59,7 @@ pub fn take_line(
     Ok(())
 }
 
-/// What the desk answers to a line. The only error is out of memory, where the desk's own may come.
+/// What the desk answers to a line. The only error is out of memory, if the desk's own may come.
 fn answer(alloc: Global, desk: &mut Desk, line: &Event) -> Result<Reply, AllocError>
     requires { HasCategories desk.old.terms line.now }
     ensures answers { IfOk result (λ reply. Answers desk.old line.now reply desk.new) }
@@ -71,7 +71,7 @@ fn answer(alloc: Global, desk: &mut Desk, line: &Event) -> Result<Reply, AllocEr
     }
 }
 
-/// What the line did that led to this desk, where it is an admitted close.
+/// What the line did that led to this desk, if it is an admitted close.
 fn done_by(desk: &Desk, line: &Event, reply: Reply) -> Option<CloseDone>
     ensures { result ≡ done_by line.now reply desk.now.stage (round_in desk.now) }
 {
@@ -92,7 +92,7 @@ fn close_result(desk: &Desk) -> CloseDone
     }
 }
 
-/// The limit for which the line was refused, where it is a close.
+/// The limit for which the line was refused, if it is a close.
 fn refusal_of(line: &Event, reply: Reply) -> Option<ReplayStop>
     ensures { result ≡ refusal_of line.now reply }
 {

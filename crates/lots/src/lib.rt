@@ -25,7 +25,7 @@ pub enum LotStop {
     Lots(u64),
     /// There are that many states, which is more than 16,384.
     States(u64),
-    /// There was no memory.
+    /// Out of memory.
     Memory,
 }
 

@@ -49,7 +49,7 @@ impl Package {
         Ok(Package::of_counts(counts))
     }
 
-    /// The package of these counts, of which there are 1 to 6, or None where one is above 999.
+    /// The package of these counts, of which there are 1 to 6, or None if one is above 999.
     pub fn from_numbers(numbers: &[u64]) -> Option<Package>
         requires { IsPackage numbers.now }
         ensures made { IfSome result (λ p. p ≡ numbers.now) }

@@ -42,7 +42,7 @@ fn leaves_enough(supply: &[u16], states: usize, place: usize, counts: &[u16]) ->
     true
 }
 
-/// The place of what is left of a place, or None where the counts exceed it.
+/// The place of what is left of a place, or None if the counts exceed it.
 pub fn place_less(supply: &[u16], states: usize, place: usize, counts: &[u16]) -> Option<usize>
     requires states { states ≡ states_of supply.now }
     requires most { states ≤ MOST_STATES }

@@ -55,7 +55,7 @@ impl Supply {
         ensures kept { IsSupply self.now }
         ensures last { place_of self.now self.now + 1 ≡ states_of self.now }
     {
-        // The rules of a type are known where a field of it is used.
+        // The rules of a type are known once its field is used.
         let _ = &self.counts;
     }
 
@@ -122,7 +122,7 @@ impl Supply {
         Ok(Package::of_counts(&counts[..self.counts.len()]))
     }
 
-    /// The place of what the package leaves of the supply of a place, or None where the package exceeds that.
+    /// The place of what the package leaves of the supply of a place, or None if the package exceeds that.
     pub fn minus(&self, place: usize, package: &Package) -> Option<usize>
         requires place { place < states_of self.now }
         requires categories { length «package».now ≡ length self.now }

@@ -12,7 +12,7 @@ use std::alloc::{AllocError, Global};
 
 /// The set with its last row instead of another: the first of those that the last row is made of with a factor above 0.
 ///
-/// So where the rows before are in the order of their multipliers, one of the least goes.
+/// So if the rows before are in the order of their multipliers, one of the least goes.
 pub(crate) fn exchanged(
     alloc: Global,
     target: &[i128],

@@ -15,10 +15,10 @@ const MOST_TRIES: u32 = 64;
 
 /// The nearest point that meets all rows, where a few sets of rows lead to one that passes the test.
 ///
-/// A set gives the point that meets its rows with equality. That point is the nearest of all where no multiplier is
-/// below 0 and no row is violated, so nothing has to be known of how the sets are chosen. The first has the last rows that
-/// are independent. The next set is made without the rows whose multipliers are below 0, or with the row that is violated
-/// most, instead of another one where it depends on the others. `systems` counts the sets for which systems are solved.
+/// A set gives the point that meets its rows with equality. That point is the nearest of all if no multiplier is below 0 and
+/// no row is violated, so nothing has to be known of how the sets are chosen. The first has the last rows that are
+/// independent. The next set is made without the rows whose multipliers are below 0, or with the row that is violated most,
+/// instead of another one if it depends on the others. `systems` counts the sets for which systems are solved.
 pub(crate) fn guess(
     alloc: Global,
     target: &[i128],

@@ -8,10 +8,10 @@ use crate::settle::{Held, is_violated};
 use far_num::Row;
 use std::alloc::{AllocError, Global};
 
-/// The set to be tried after that of the point, or None where the point passes the test: no multiplier is below 0, and it
-/// meets all rows.
+/// The set to be tried after that of the point, or None if the point passes the test: no multiplier is below 0, and it meets
+/// all rows.
 ///
-/// The next set is that of the point without the rows whose multipliers are below 0. Where there are none, it has the row that
+/// The next set is that of the point without the rows whose multipliers are below 0. If there are none, it has the row that
 /// the point violates most too, as its last one, and the others are in the order of their multipliers.
 pub(crate) fn next_set(
     alloc: Global,

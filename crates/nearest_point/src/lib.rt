@@ -5,7 +5,7 @@
 //! are pairs: the far part is the first multiplier, the near part the second.
 //!
 //! A point whose multipliers aren't below 0 and that meets all rows is that point, however its rows were found. So a guess
-//! comes first, and a search only where it finds none.
+//! comes first, and a search only if it finds none.
 #![tactic(auto)]
 
 ghost use Rattle.nearest_point.specs.Found.{IsRight};
@@ -42,12 +42,12 @@ use spread::spread_out;
 ///
 /// `target` and `weights` have one number for each of 1 to `MOST_WINNERS` coordinates, and each weight is 1 to `MOST_WEIGHT`.
 /// Bit `j` of the members of a row stands for coordinate `j`. Each row has a member, and each single coordinate is a row, so
-/// a point exists. No target and no bound is negative, and neither the sum of the targets nor a bound is above `MOST_VALUE`.
-/// Where a weight isn't 1, there are at most `MOST_WEIGHTED_WINNERS` coordinates, and neither that sum nor a bound is above
+/// a point exists. No target and no bound is negative. The sum of the targets and each bound are at most `MOST_VALUE`. If a
+/// weight isn't 1, there are at most `MOST_WEIGHTED_WINNERS` coordinates, and the sum and each bound are at most
 /// `MOST_WEIGHTED_VALUE`. The only error is out of memory.
 ///
-/// The rule is that of Day and Cramton (Quadratic core-selecting payment rules for combinatorial auctions, Operations
-/// Research 60, 2012).
+/// The rule is by Day and Cramton (Quadratic core-selecting payment rules for combinatorial auctions, Operations Research 60,
+/// 2012).
 pub fn nearest(
     alloc: Global,
     target: &[i128],
@@ -94,7 +94,7 @@ fn guess_or_search(
     }
 }
 
-// The point by parts, by the search alone. `systems` counts the systems that are solved.
+// The point by parts, only by the search. `systems` counts the systems that are solved.
 fn search_all(
     alloc: Global,
     target: &[i128],

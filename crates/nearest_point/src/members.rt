@@ -13,7 +13,7 @@ fn is_member(members: u16, j: usize) -> bool
     (members >> j) & 1 == 1
 }
 
-// The number where `j` is a member, and else 0.
+// The number if `j` is a member, and else 0.
 pub(crate) fn member_part(members: u16, j: usize, x: i128) -> i128
     requires { j < 16 }
     ensures value { result ≡ holds members j *ℤ x }

@@ -71,7 +71,7 @@ pub(crate) fn settle(
     }
 }
 
-/// The point nearest to the lowered target with equality in the forced rows, or None where these aren't independent.
+/// The point nearest to the lowered target with equality in the forced rows, or None if these aren't independent.
 pub(crate) fn settle_if_independent(
     alloc: Global,
     target: &[i128],
@@ -153,7 +153,7 @@ pub(crate) fn lowered_target(alloc: Global, weights: &[u32]) -> Result<Vec<i128>
     Ok(out)
 }
 
-// The multipliers with which the point meets the forced rows with equality, or None where these aren't independent.
+// The multipliers with which the point meets the forced rows with equality, or None if these aren't independent.
 fn solve_forced(
     alloc: Global,
     target: &[i128],

@@ -250,7 +250,7 @@ fn points_of_three_coordinates(rt: HostRuntime) -> Result<(), Fail> {
     Ok(())
 }
 
-// What is above the target is shared by the weights, where no other row asks for more.
+// What is above the target is shared by the weights, if no other row asks for more.
 #[test]
 fn points_by_weights(rt: HostRuntime) -> Result<(), Fail> {
     let table: [(&[i128], &[u32], &[Row], i128, &[i128]); 4] = [

@@ -58,7 +58,7 @@ fn mixed(n: u128, d: u128) -> Fraction
     }
 }
 
-/// Adds a fraction: `W`, or `W+R/D` where it isn't whole. The only error is out of memory.
+/// Adds a fraction: `W`, or `W+R/D` if it isn't whole. The only error is out of memory.
 pub fn add_fraction(text: &mut Text, fraction: Fraction) -> Result<(), AllocError>
     ensures { OnOk result (text.new ≡ text.old ++ fraction_text fraction) }
 {

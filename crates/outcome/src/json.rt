@@ -24,9 +24,9 @@ use serde_json::{Map, Value, put};
 use std::alloc::{AllocError, Global};
 use wide_num::Text;
 
-/// The JSON of the outcome that a certificate of a book shows, from its facts: one object on one line, with a line feed. Its keys are
-/// `net`, `revenue`, `rounds` where turns are given, with the line of each turn, and `winners`, and those of a winner `bid`, `name`,
-/// `package`, `pays` and `vickrey`. What is printed is gross, except for the lines of turns.
+/// The JSON of the outcome that a certificate of a book shows, from its facts: one object on one line, with a line feed. Its
+/// keys are `net`, `revenue`, `rounds` if turns are given, with the line of each turn, and `winners`, and those of a winner
+/// `bid`, `name`, `package`, `pays` and `vickrey`. What is printed is gross, except for the lines of turns.
 ///
 /// The only error is out of memory.
 pub fn outcome_json(

@@ -1,5 +1,5 @@
-//! The printed texts: the winners of an auction, and where it is priced their prices and the turns that led to them, in lines or as JSON; and
-//! a review of a book.
+//! The printed texts: the winners of an auction and, if it is priced, their prices and the turns that led to them, in lines or
+//! as JSON. Also the text of a review of a book.
 //!
 //! Prices are kept net of reserve and are printed gross: the reserve of a winner's package is added.
 #![tactic(auto)]

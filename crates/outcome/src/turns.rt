@@ -19,7 +19,7 @@ use wide_num::Text;
 
 /// The lines of the turns of a pricing run: for each its point, and what blocks it.
 ///
-/// `winners` is the choice that is priced. Payments, bounds and excesses are net of reserve. The only error is want of
+/// `winners` is the choice that is priced. Payments, bounds and excesses are net of reserve. The only error is out of
 /// memory.
 pub fn rounds_text(alloc: Global, winners: &Choice, turns: &[Turn]) -> Result<Text, AllocError>
     requires turns { AllByRecursion (CanPrintTurn winners.now) turns.now }

@@ -101,7 +101,7 @@ fn pricing_of(alloc: Global, slots: &Slots, whole: &Found<Grid>) -> Result<Prici
     Ok(Pricing { parts, priced })
 }
 
-/// The prices of the winners where all bidders weigh 1. At most six bidders are in slots, so never too many win.
+/// The prices of the winners if all bidders weigh 1. At most six bidders are in slots, so never too many win.
 fn priced_alike(
     alloc: Global,
     chooser: &SlotChooser,

@@ -1,9 +1,9 @@
-//! Placement certificates: what they hold, and their text.
+//! Placement certificates: their content and their text.
 //!
-//! A placement certificate shows that a choice of slots in a band is a greatest one and that the prices of its winners are the core
-//! outcome. It holds what a certificate of a book holds, with an order of the bidders beside each choice and with tables over sets of
-//! bidders. Its text is the text of a certificate with another first line, a line `order` before each line `choice`, and tables of one
-//! line.
+//! A placement certificate shows that a choice of slots in a band is a greatest one and that the prices of its winners are the
+//! core outcome. It contains what a certificate of a book contains, with an order of the bidders for each choice and with
+//! tables over sets of bidders. Its text is the text of a certificate with another first line, a line `order` before each line
+//! `choice`, and tables of one line.
 #![tactic(auto)]
 
 mod certificate;

@@ -21,8 +21,8 @@ use std::alloc::Global;
 
 /// The placement certificate that the bytes are the text of, for that many bidders.
 ///
-/// Errors: `Form` and `Range` with the byte where the first faulty line begins, the first where its form is wrong, the second
-/// where its form is right and a number in it is out of range; `Memory` when out of memory.
+/// Errors: `Form` and `Range` with the byte where the first faulty line begins, the first if its form is wrong, the second if
+/// its form is right and a number in it is out of range; `Memory` when out of memory.
 pub fn read_places(alloc: Global, bytes: &[u8], bidders: u16) -> Result<PlaceCertificate, CertStop>
     requires { bidders ≤ MOST_PLACED }
     ensures says { IfOk result (λ c. PlaceCertSays bidders bytes.now (stated (place_cert_value c))) }

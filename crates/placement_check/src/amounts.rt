@@ -7,7 +7,7 @@ ghost use Rattle.slot_places.specs.Slots.{amount_of};
 
 use slot_places::Slots;
 
-/// The amount of bid `i` of bidder `j`, and 0 where it has no such bid.
+/// The amount of bid `i` of bidder `j`, and 0 if it has no such bid.
 pub(crate) fn amount(slots: &Slots, j: u16, i: u16) -> i128
     requires { (0 < j) × (j ≤ length slots.now.bidders) }
     ensures amount { result ≡ amount_of slots.now j i }

@@ -19,7 +19,7 @@ use slot_places::Slots;
 
 /// Tests a placement certificate of slots.
 ///
-/// `Yes` comes exactly where all nine tests hold, and then the order places the choice, which is one of the greatest, and with the
+/// `Yes` comes exactly if all nine tests hold, and then the order places the choice, which is one of the greatest, and with the
 /// payments it is the core outcome. Else the answer is the first test that fails, with the first place at which it does. The
 /// certificate is for as many bidders as the slots have. It takes no memory.
 pub fn check_places(slots: &Slots, cert: &PlaceCertificate) -> Verdict

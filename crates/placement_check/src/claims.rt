@@ -107,7 +107,7 @@ pub(crate) fn least_holds(slots: &Slots, cert: &PlaceCertificate, place: usize) 
     is_least(slots, cert, (place - count) as u16)
 }
 
-/// Whether the first multipliers of the rows that hold bidder `j` come to the denominator, where it wins.
+/// Whether the first multipliers of the rows that hold bidder `j` come to the denominator, if it wins.
 fn is_least(slots: &Slots, cert: &PlaceCertificate, j: u16) -> bool
     requires shape { IsFor slots.now cert.now }
     requires bidder { (0 < j) × (j ≤ length slots.now.bidders) }
@@ -141,7 +141,8 @@ pub(crate) fn nearest_holds(slots: &Slots, cert: &PlaceCertificate, place: usize
     is_nearest(slots, cert, (place - count) as u16)
 }
 
-/// Whether what bidder `j` pays above its Vickrey price is the sum of the second multipliers of the rows that hold it, where it wins.
+/// Whether what bidder `j` pays above its Vickrey price is the sum of the second multipliers of the rows that hold it, if it
+/// wins.
 fn is_nearest(slots: &Slots, cert: &PlaceCertificate, j: u16) -> bool
     requires shape { IsFor slots.now cert.now }
     requires bidder { (0 < j) × (j ≤ length slots.now.bidders) }

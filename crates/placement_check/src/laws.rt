@@ -39,9 +39,9 @@ pub fn one_place_verdict()
         → FailsFirst slots p t place → ⊥ }
 {}
 
-/// Exact tables over sets obey the rules that the tests ask of a table: that of the amounts, that of the amounts where a bidder has no
-/// bids, and, where nobody pays more than its bid and losers pay nothing, that of the worths which are lowered by what each bidder
-/// gains.
+/// Exact tables over sets obey the rules that the tests ask of a table: that of the amounts, that of the amounts if a bidder
+/// has no bids, and, if nobody pays more than its bid and losers pay nothing, that of the worths which are lowered by what each
+/// bidder gains.
 pub fn exact_set_tables()
     ensures plain { (slots : SlotList) (table : List (List ℤ)) → IsSetTable (board_of slots) (amount_of slots) table
         → ObeysSets (board_of slots) (amount_of slots) table }
@@ -78,9 +78,9 @@ pub fn first_entries()
         → IsGreatestValue (allowed_without (market_of_slots slots) j) (sum_after counts 0) (entry_at table 0 0) }
 {}
 
-/// Choices that are greatest, with exact tables, pass the tests of tables: the head's choice with its order, value and table the second and
-/// the third, a best part its part of the fourth, and the exact table of the worths lowered by what each bidder gains the ninth, where
-/// no allowed choice counts more by these than all that is paid.
+/// Choices that are greatest, with exact tables, pass the tests of tables: the head's choice with its order, value and table
+/// the second and the third, a best part its part of the fourth, and the exact table of the worths lowered by what each bidder
+/// gains the ninth, if no allowed choice counts more by these than all that is paid.
 pub fn exact_tests()
     ensures head { (slots : SlotList) (p : PlaceCertValue)
         → IsGreatest (market_of_slots slots).allowed (value_of (market_of_slots slots)) p.cert.choice

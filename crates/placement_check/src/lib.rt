@@ -1,12 +1,13 @@
-//! The certificates of placements in a band: what each test of one asks, what a yes says, and the checker. It takes no memory.
+//! The certificates of placements in a band: what each test asks, what acceptance shows, and the checker. It takes no memory.
 //!
-//! A placement certificate says which bidders are given their bids for a start in a band, in which order all bidders are laid side by
-//! side, what the winners pay, and why. It is a certificate whose tables go over sets of bidders: the entry of a set is what the
-//! bidders outside it can still come to, where those of the set are placed first (Held and Karp, A dynamic programming approach to
-//! sequencing problems, Journal of the Society for Industrial and Applied Mathematics 10, 1962). Beside each choice stands an order
-//! that allows it. So the tests P1 to P9 need no search, and they ask that the choice is one of the greatest, not the first of them.
+//! A placement certificate shows which bidders win their bids for a start in a band, the order that places all bidders side by
+//! side, what the winners pay, and why. It is a certificate whose tables go over sets of bidders: the entry of a set is the
+//! greatest worth of the bidders outside it, if the bidders of the set are placed first (Held and Karp, A dynamic programming
+//! approach to sequencing problems, Journal of the Society for Industrial and Applied Mathematics 10, 1962). Each choice has an
+//! order that allows it. So the tests P1 to P9 need no search, and they ask that the choice is one of the greatest, not the
+//! first of them.
 //!
-//! The nine tests, in their order, and who makes each at a place:
+//! The nine tests, in their order, and the function that runs each at a place:
 //!
 //! - P1: the denominator and the value are of the right size: `heads::sizes_hold`;
 //! - P2: each number names a bid, the order allows the choice, and its worth is the value: `heads::choice_holds`;
@@ -14,8 +15,8 @@
 //! - P4: each winner's part shows a best choice without it: `parts::part_holds`;
 //! - P5: a winner pays no more than it bids, and a loser nothing: `claims::payment_holds`;
 //! - P6: the members of a row win, and pay just what they have to pay together: `claims::row_holds`;
-//! - P7: the first multipliers of the rows show that no core payments come to less: `claims::least_holds`;
-//! - P8: the second ones show that of those of the least sum these are nearest to the Vickrey prices: `claims::nearest_holds`;
+//! - P7: the first multipliers of the rows show that no core payments have a smaller sum: `claims::least_holds`;
+//! - P8: the second ones show that these are nearest to the Vickrey prices among those of least sum: `claims::nearest_holds`;
 //! - P9: the lowered table shows that no set of bidders blocks the payments: `heads::lowered_holds`.
 #![tactic(auto)]
 

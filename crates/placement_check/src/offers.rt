@@ -48,7 +48,7 @@ impl<'a> TestedBids<'a> {
     }
 }
 
-/// What an amount counts where its bidder gains that much.
+/// What an amount counts if its bidder gains that much.
 fn lowered(den: i128, amount: i128, gain: i128) -> i128
     requires product { unsigned_abs (den *ℤ amount) < 2 ^ 120 }
     requires gain { unsigned_abs gain < 2 ^ 120 }

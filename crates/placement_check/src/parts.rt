@@ -67,7 +67,7 @@ fn shows_best(slots: &Slots, part: &PlaceWithout, j: u16) -> bool
     obeys_without(slots, part, j)
 }
 
-/// Whether the table of a part obeys the rules for the amounts where bidder `j` has no bid.
+/// Whether the table of a part obeys the rules for the amounts if bidder `j` has no bid.
 fn obeys_without(slots: &Slots, part: &PlaceWithout, j: u16) -> bool
     requires bidder { (0 < j) × (j ≤ length slots.now.bidders) }
     requires table { HasSets (length slots.now.bidders) part.now.table }

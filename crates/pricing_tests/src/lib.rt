@@ -1,4 +1,5 @@
-//! Tests of certificates: the texts of those of books and of placements, their check whole and in pieces, and the prices that they state.
+//! Tests of certificates of books and of placements: their texts, their check whole and in pieces, and the prices that they
+//! state.
 #![tactic(auto)]
 
 #[cfg(test)]

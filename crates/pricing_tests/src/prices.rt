@@ -10,7 +10,7 @@ use std::alloc::{AllocError, Global};
 use std::process::Abort;
 use value_table::{BookChooser, TurnTable, win};
 
-/// The prices where all bidders weigh 1.
+/// The prices if all bidders weigh 1.
 fn priced_alike(alloc: Global, book: &BidBook) -> Result<PricedBook, PriceStop> {
     let weights = vec![in alloc; 1u32; book.bidders()]?;
     price_book(alloc, book, &weights)
@@ -69,7 +69,7 @@ fn are_payments(paid: &[i128]) -> bool
     true
 }
 
-/// What blocks a point at which the winners pay that much and losers nothing, where these can be payments.
+/// What blocks a point at which the winners pay that much and losers nothing, if these can be payments.
 fn look(
     rt: &impl Abort,
     alloc: Global,

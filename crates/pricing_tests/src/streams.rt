@@ -44,7 +44,7 @@ fn fed<'a>(
     checker
 }
 
-/// What a checker says of a text in such pieces, where all bidders weigh 1.
+/// What a checker says of a text in such pieces, if all bidders weigh 1.
 pub(crate) fn verdict_of(
     alloc: Global,
     book: &BidBook,
@@ -57,7 +57,7 @@ pub(crate) fn verdict_of(
     Ok(checker.finish(&room))
 }
 
-// The facts that it says, where it says yes.
+// The facts that it says, if it says yes.
 fn facts_of(
     alloc: Global,
     book: &BidBook,

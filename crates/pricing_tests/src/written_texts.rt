@@ -19,7 +19,7 @@ fn single(alloc: Global, number: u16) -> Result<Numbers, AllocError>
     Ok(list)
 }
 
-// The line of a table of two states: nothing where nothing is left, and that much where the lot is.
+// The line of a table of two states: nothing if nothing is left, and that much if the lot is.
 fn line_of(alloc: Global, worth: i128) -> Result<NumList, AllocError>
     ensures { IfOk result (λ line. line ≡ pos 0 ∷ worth ∷ []) }
 {

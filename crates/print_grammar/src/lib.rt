@@ -1,7 +1,6 @@
 //! What is printed of prices and of a pricing run, as definitions, and the laws that each text is the only one.
 //!
-//! A text of a fraction is said by a relation, so that it depends on the fraction alone and not on the denominator over which it
-//! is kept.
+//! A relation defines the text of a fraction, so the text depends only on the fraction and not on its stored denominator.
 #![tactic(auto)]
 
 ghost use Rattle.std.specs.Prelude.{◌≡◌, ℕ, ◌<◌, ◌≤◌, List, Option, Some, None, length, ℤ, pos, ◌*ℤ◌, ◌≤ℤ◌};
@@ -24,7 +23,7 @@ pub fn one_fraction()
         → IsFractionText m e u → t ≡ u }
 {}
 
-/// The text of prices depends on the points and the Vickrey prices alone. The choice has a number for each bidder.
+/// The text of prices depends only on the points and the Vickrey prices. The choice has a number for each bidder.
 pub fn one_price_text()
     ensures { (book : Book) (z : List ℕ) (v w : ℕ → ℤ) (p q : Point) (t u : List ℕ)
         → length z ≡ (market_of book).bidders → pos 1 ≤ℤ p.den → pos 1 ≤ℤ q.den
@@ -33,8 +32,8 @@ pub fn one_price_text()
         → IsPriceText book z w q u → t ≡ u }
 {}
 
-/// The turns of pricing depend on the market, the weights and the winning choice alone: all pricing runs have the same lines, and end with
-/// the same point.
+/// The turns of pricing depend only on the market, the weights and the winning choice: all pricing runs have the same lines,
+/// and end with the same point.
 pub fn one_run_text()
     ensures lines { (m : Market) (w : ℕ → ℕ) (z : List ℕ) (runs others : List BidderTurn) (t u : List ℕ) → IsMarket m
         → IsPricingRun m w z runs → IsPricingRun m w z others
@@ -46,8 +45,8 @@ pub fn one_run_text()
     vickrey_prices();
 }
 
-/// An outcome has one JSON text: without turns it depends on the points and the Vickrey prices alone, and with the turns of pricing on
-/// the market, the weights and the winning choice beside them.
+/// An outcome has one JSON text: without turns it depends only on the points and the Vickrey prices, and with the turns of
+/// pricing also on the market, the weights and the winning choice.
 pub fn one_outcome_json()
     ensures plain { (book : Book) (z : List ℕ) (v w : ℕ → ℤ) (p q : Point) (t u : List ℕ)
         → length z ≡ (market_of book).bidders → pos 1 ≤ℤ p.den → pos 1 ≤ℤ q.den

@@ -25,7 +25,7 @@ const PRICES: &str =
 const ACCEPTED: &str =
     "yes\nwinner b1 1 0 bid 28 vickrey 14 pays 17\nwinner b2 0 1 bid 20 vickrey 12 pays 15\nnet 48\nrevenue 32\n";
 
-// What the files of the words hold before a run, and how many bytes go into each of them and into the output.
+// The content of the named files before a run, and how many bytes go into each of them and into the output.
 #[derive(Clone, Copy)]
 struct Setting<'a> {
     first: &'a [u8],
@@ -35,14 +35,14 @@ struct Setting<'a> {
     width: u64,
 }
 
-// What a run answers and prints.
+// What a run returns and prints.
 #[derive(Drop)]
 struct Answer {
     status: Status,
     printed: Vec<u8>,
 }
 
-// Empty files that know the words, each with room for that many bytes.
+// Empty files that know the arguments, each with room for that many bytes.
 fn clean_files(alloc: Global, words: &[String], room: u64) -> Result<CleanFiles, AllocError>
     ensures { IfOk result (λ files. All (λ w. IsTrue ((⟦<CleanFiles as Files>⟧.folder files).knows w))
         (map string_bytes words.now)) }
@@ -67,7 +67,7 @@ fn give(
     Ok(())
 }
 
-// Puts these bytes into the file that the word at this place names, where there is such a word.
+// Puts these bytes into the file that the word at this place names, if there is such a word.
 fn fill(
     files: &mut CleanFiles,
     words: &[String],
@@ -84,7 +84,7 @@ fn fill(
     }
 }
 
-// Files that know the words, with what they hold before the run.
+// Files that know the arguments, with their content before the run.
 fn files_of(alloc: Global, words: &[String], setting: Setting<'_>) -> Result<CleanFiles, Fail>
     ensures { IfOk result (λ files. All (λ w. IsTrue ((⟦<CleanFiles as Files>⟧.folder files).knows w))
         (map string_bytes words.now)) }
@@ -157,7 +157,7 @@ fn prints_as_over_files_that_grow(rt: HostRuntime) -> Result<(), Fail> {
     prints(&rt, alloc, AWARD, award, log, LOWERED_OUTCOME)
 }
 
-// The book of a run that prices it, where each file has that much room and the output that much.
+// The book of a run that prices it, if each file has that much room and the output that much.
 fn priced_within(alloc: Global, room: u64, width: u64) -> Result<Answer, Fail> {
     let setting = Setting {
         first: DAY_CRAMTON.as_bytes(),

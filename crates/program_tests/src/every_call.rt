@@ -13,7 +13,7 @@ use std::alloc::{AllocError, Global};
 use std::process::Abort;
 use std::test::Fail;
 
-// What the files that the words at the places 1, 2 and 3 name hold.
+// The content of the files that arguments 1, 2 and 3 name.
 #[derive(Clone, Copy)]
 struct Held<'a> {
     first: Option<&'a [u8]>,
@@ -48,7 +48,7 @@ struct Ended {
     puts: u64,
 }
 
-// A run in which at most 100 bytes of a file and 5 of the output go in one call.
+// A run whose calls take at most 100 bytes of a file and 5 of the output.
 fn run_failing(
     alloc: Global,
     words: &[&str],
@@ -58,7 +58,7 @@ fn run_failing(
     run_in_bites(alloc, words, held, 100, failing)
 }
 
-// A run in which at most that many bytes of a file and 5 of the output go in one call.
+// A run whose calls take at most that many bytes of a file and 5 of the output.
 fn run_in_bites(
     alloc: Global,
     words: &[&str],
@@ -75,7 +75,7 @@ fn run_in_bites(
     ended_of(alloc, status, &files, &out)
 }
 
-// Files that know the words, with what they hold. At most that many bytes go in one call.
+// Files that know the arguments, with their content. A call takes at most that many bytes.
 fn files_of(
     alloc: Global,
     words: &[String],
@@ -120,20 +120,21 @@ fn holds(left: &Option<Vec<u8>>, bytes: Option<&[u8]>) -> bool {
     left.as_deref() == bytes
 }
 
-// Asserts the status and what was printed. What is asserted is beside nothing that is owned, which would make each assert dearer to check.
+// Asserts the status and what was printed. It has no owned values, since these make each assert slower to check.
 fn ends(rt: &impl Abort, ended: &Ended, status: Status, printed: &[u8]) {
     assert_eq!(rt; ended.status, status);
     assert_eq!(rt; ended.printed.as_slice(), printed);
 }
 
-// Asserts that the files hold what they held.
+// Asserts that the files are unchanged.
 fn leaves(rt: &impl Abort, ended: &Ended, held: Held<'_>) {
     assert!(rt; holds(&ended.first, held.first));
     assert!(rt; holds(&ended.second, held.second));
     assert!(rt; holds(&ended.third, held.third));
 }
 
-// The loads of these numbers are of a file of this kind: where one of them fails, its line alone is printed and no file has changed.
+// The loads of these numbers are of a file of this kind: if one of them fails, only its line is printed and no file has
+// changed.
 fn loads_fail(
     rt: &impl Abort,
     alloc: Global,
@@ -190,8 +191,8 @@ fn puts_fail(
     Ok(())
 }
 
-// Where the append of any number fails, the line of the fault alone is printed, and the last file holds a prefix of the clean text, 100 bytes
-// for each append before.
+// If the append of any number fails, only the line of the fault is printed, and the last file has a prefix of the clean text,
+// 100 bytes for each append before.
 fn appends_fail(
     rt: &impl Abort,
     alloc: Global,
@@ -223,7 +224,7 @@ fn appends_fail(
     Ok(())
 }
 
-// What the file that the last of these words names holds; nothing where it is missing.
+// The content of the file that the last argument names, and nothing if it is missing.
 fn last_of<'a>(ended: &'a Ended, words: &[&str]) -> &'a [u8] {
     let last = if words.len() > 3 {
         &ended.third
@@ -476,7 +477,7 @@ fn review_stands_each_fault(rt: HostRuntime) -> Result<(), Fail> {
     puts_fail(&rt, alloc, REVIEW, held, 31)
 }
 
-// What stands after a run of `auction` whose book is appended to in bites of 40 bytes, and whose append of this number fails.
+// What is left after a run of `auction` whose book is appended in pieces of 40 bytes, and whose append of this number fails.
 fn leaves_a_front(
     rt: &impl Abort,
     alloc: Global,

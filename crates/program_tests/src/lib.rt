@@ -1,5 +1,5 @@
-//! Tests of the top call over files in memory: each fault of a file and of the output, and rooms that are taken beforehand; and the winning
-//! choice beside a listing of all choices.
+//! Tests of the top call over files in memory: each fault of a file and of the output, and rooms that are taken beforehand. The
+//! winning choice is compared with a listing of all choices.
 #![tactic(auto)]
 
 #[cfg(test)]

@@ -1,4 +1,5 @@
-// The winning choice beside a listing of all choices, and a table without a bidder.
+// The winning choice against a listing of all choices, and a table without a
+// bidder.
 use crate::samples::{AT_RESERVE, DAY_CRAMTON, EQUALS, NOBODY, TIE, TWO_GLOBALS};
 use bid_book::{BidBook, read_book};
 use choices::first_by_listing;

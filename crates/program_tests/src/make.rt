@@ -35,7 +35,7 @@ const AWARD_REST: &str =
 const LOG_START: &str =
     "bid,b1,1 0 4 4,\nbid,b2,2 1 2 0,\nbid,b3,2 1 5 3,\nbid,b4,1 0 5 2,\nbid,b5,2 0 6 0,\nbid,b6,1 1 7 3,\nbid,";
 
-/// The bytes of the file that the word at this place names; none where it is missing.
+/// The bytes of the file that the word at this place names; none if it is missing.
 fn bytes_at(alloc: Global, files: &MemFiles, place: usize) -> Result<Vec<u8>, AllocError> {
     match left_at(alloc, files, place)? {
         Some(bytes) => Ok(bytes),
@@ -43,7 +43,7 @@ fn bytes_at(alloc: Global, files: &MemFiles, place: usize) -> Result<Vec<u8>, Al
     }
 }
 
-/// A run of `make` over missing files, in which the append and the put of these numbers fail; 0 for none.
+/// A run of `make` over missing files, where the append and the put of these numbers fail, 0 for none.
 fn run_make(
     alloc: Global,
     words: &[&str],

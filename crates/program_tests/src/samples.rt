@@ -25,10 +25,10 @@ pub(crate) const TWO_GLOBALS: &str =
     "book 1\nsupply 1 1 1\nreserve 0 0 0\nbidder l1\nbid 1 0 0 10\nbidder l2\nbid 0 1 0 10\nbidder l3\nbid 0 0 1 10\n\
     bidder g1\nbid 1 1 0 8\nbidder g2\nbid 0 1 1 8\nend\n";
 
-/// The words of a run that prices a book.
+/// The arguments of a run that prices a book.
 pub(crate) const PRICE: &[&str] = &["price", "BOOK", "CERT"];
 
-/// The words of a run that tests a certificate.
+/// The arguments of a run that tests a certificate.
 pub(crate) const CHECK: &[&str] = &["check", "BOOK", "CERT"];
 
 /// The first 200 bytes of the certificate of two winners.
@@ -46,17 +46,17 @@ pub(crate) const DAY_CRAMTON_CERT: &[&str] = &[
     t 0 12 14 32\nt 0 12 14 26\nt 0 12 0 12\nt 0 0 0 0\nend\n",
 ];
 
-/// The words of a run that prices a book by weights.
+/// The arguments of a run that prices a book by weights.
 pub(crate) const WEIGH: &[&str] = &["weigh", "BOOK", "WEIGHTS", "CERT"];
 
-/// The words of a run that tests a certificate by weights.
+/// The arguments of a run that tests a certificate by weights.
 pub(crate) const WEIGH_CHECK: &[&str] = &["weigh-check", "BOOK", "WEIGHTS", "CERT"];
 
 /// Weights of 1 for all bidders of the example.
 pub(crate) const ALL_ALIKE: &str =
     "weights 1\nweight b1 1\nweight b2 1\nweight b3 1\nweight b4 1\nweight b5 1\nend\n";
 
-/// An award of one category, for which two bidders are eligible together for more than there is.
+/// An award of one category. Two bidders are together eligible for more than its supply.
 pub(crate) const SAMPLE: &str =
     "version = 1\ntick = 1\n\n[[category]]\nname = \"lot\"\nsupply = 3\npoints = 1\nreserve = 10\n\n[[bidder]]\n\
     name = \"east\"\neligibility = 3\n\n[[bidder]]\nname = \"west\"\neligibility = 2\n\n[[step]]\nexcess = 1\n\
@@ -67,17 +67,17 @@ pub(crate) const LOWERED: &str =
     "bid,east,3,\nbid,west,2,\nclose,,,\nbid,east,1,\nbid,west,2,\nclose,,,\ndraft,east,1,20\ndraft,east,3,45\n\
     submit,east,,\ndraft,east,3,44\nsubmit,east,,\nclose,,,\n";
 
-/// The words of a run that prices the book of a log.
+/// The arguments of a run that prices the book of a log.
 pub(crate) const AWARD: &[&str] = &["award", "AWARD", "LOG", "CERT"];
 
 /// What pricing the log of the lowered draft prints.
 pub(crate) const LOWERED_OUTCOME: &str =
     "winner east 1 bid 20 vickrey 10 pays 10\nwinner west 2 bid 24 vickrey 24 pays 24\nnet 14\nrevenue 34\n";
 
-/// The words of a run that places bidders.
+/// The arguments of a run that places bidders.
 pub(crate) const PLACE: &[&str] = &["place", "SLOTS", "CERT"];
 
-/// The words of a run that tests the certificate of a placement.
+/// The arguments of a run that tests the certificate of a placement.
 pub(crate) const PLACE_CHECK: &[&str] = &["place-check", "SLOTS", "CERT"];
 
 /// Three bidders fill a band of four slots; two of them win.
@@ -91,7 +91,7 @@ pub(crate) const SLOTS_CERT: &str =
     t 12 0 12 0 0 0 0 0\npay 7 5 0\nrows 1\nrow 1 2\nmult 1 3\norder 2 3 1\nchoice 0 0 1\nlowered\n\
     t 12 5 12 0 5 5 0 0\nend\n";
 
-/// The words of a run that edits a book.
+/// The arguments of a run that edits a book.
 pub(crate) const REVIEW: &[&str] = &["review", "BOOK", "EDITS"];
 
 /// Edits of the example; the last is of a bidder that it doesn't have.

@@ -7,12 +7,12 @@ use cca_base::{MemFiles, MemSink};
 use cca_run::{CertKind, FileKind, Status, run};
 use std::alloc::{AllocError, Global};
 
-/// What the files hold before a run, and the load, the append and the put that fail; 0 for none.
+/// The content of the files before a run, and the load, the append and the put that fail, 0 for none.
 #[derive(Clone, Copy, Debug)]
 pub(crate) struct Setting<'a> {
-    /// The bytes of the file that the second word names.
+    /// The bytes of the file that the second argument names.
     pub book: Option<&'a [u8]>,
-    /// The bytes of the file that the third word names.
+    /// The bytes of the file that the third argument names.
     pub cert: Option<&'a [u8]>,
     pub fail_load: u64,
     pub fail_append: u64,
@@ -27,7 +27,7 @@ pub(crate) struct Ended {
     pub cert: Option<Vec<u8>>,
 }
 
-/// These words.
+/// These arguments.
 pub(crate) fn words_of(alloc: Global, words: &[&str]) -> Result<Vec<String>, AllocError> {
     let mut list = Vec::new(alloc);
     for word in words {
@@ -36,7 +36,7 @@ pub(crate) fn words_of(alloc: Global, words: &[&str]) -> Result<Vec<String>, All
     Ok(list)
 }
 
-/// Files that know the words, and are all missing. At most 100 bytes go in one call.
+/// Files that know the arguments, and are all missing. A call takes at most 100 bytes.
 pub(crate) fn no_files(alloc: Global, words: &[String]) -> Result<MemFiles, AllocError>
     ensures { IfOk result
         (λ files. All (λ w. IsTrue ((mem_folder files.files.items).knows w)) (map string_bytes words.now)) }
@@ -44,7 +44,7 @@ pub(crate) fn no_files(alloc: Global, words: &[String]) -> Result<MemFiles, Allo
     no_files_in(alloc, words, 100)
 }
 
-/// Files that know the words, and are all missing. At most that many bytes go in one call.
+/// Files that know the arguments, and are all missing. A call takes at most that many bytes.
 pub(crate) fn no_files_in(
     alloc: Global,
     words: &[String],
@@ -58,7 +58,7 @@ pub(crate) fn no_files_in(
     Ok(files)
 }
 
-// Gives the file that the word at this place names these bytes.
+// Sets the file that the argument at this place names to these bytes.
 fn set_at(
     files: &mut MemFiles,
     words: &[String],
@@ -74,7 +74,8 @@ fn set_at(
     Ok(())
 }
 
-/// Gives the file that the word at this place names these bytes, where there are such a word and bytes.
+/// Sets the file that the argument at this place names to these bytes, if there are such an argument and
+/// bytes.
 pub(crate) fn fill(
     files: &mut MemFiles,
     words: &[String],
@@ -91,7 +92,8 @@ pub(crate) fn fill(
     }
 }
 
-// Files that know the words, with the bytes of the book and of the certificate, and with the calls that fail.
+// Files that know the arguments, with the bytes of the book and of the certificate, and with the calls that
+// fail.
 fn files_of(alloc: Global, words: &[String], setting: &Setting<'_>) -> Result<MemFiles, AllocError>
     ensures { IfOk result
         (λ files. All (λ w. IsTrue ((mem_folder files.files.items).knows w)) (map string_bytes words.now)) }
@@ -104,7 +106,7 @@ fn files_of(alloc: Global, words: &[String], setting: &Setting<'_>) -> Result<Me
     Ok(files)
 }
 
-/// An output that takes at most 5 bytes in one call, and of which the put of this number fails; 0 for none.
+/// An output that takes at most 5 bytes in one call, and whose put of this number fails, 0 for none.
 pub(crate) fn sink_of(alloc: Global, fail_put: u64) -> Result<MemSink, AllocError> {
     let mut out = MemSink::new(alloc, 5);
     out.fail_puts.push(fail_put)?;

@@ -16,7 +16,8 @@ ghost use Rattle.std.specs.Prelude.{pos, ℕ, ℤ, ◌≤ℤ◌};
 /// such point of the same sum is farther from the target. Square distances are divided by weights: a share of a
 /// coordinate times its weight is the same number `l` everywhere.
 ///
-/// Where the first multipliers of a coordinate have another sum, both hold among the points that are the same there.
+/// If the first multipliers of a coordinate have another sum, both are true among the points with the same value
+/// there.
 pub fn multipliers()
     ensures least { (m r : ℕ) (a : ℕ → ℕ → ℤ) (bound : ℕ → ℤ)
         (d : ℤ) (n first : ℕ → ℤ) → AreFirst m r a bound d n first → SumsTo m r a d first

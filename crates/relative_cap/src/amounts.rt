@@ -12,7 +12,7 @@ use crate::packages::{is_before, is_same};
 use clock_stage::History;
 use lots::{Bid, Package};
 
-/// The amount of the clock bid of bidder `j` in round `r` where it is for the package, and else 0.
+/// The amount of the clock bid of bidder `j` in round `r` if it is for the package, and else 0.
 fn clock_amount(history: &History, j: u16, r: u32, package: &Package) -> u64
     requires bidder { IsBidderOf history.now j }
     requires round { (1 ≤ r) × (r ≤ length history.now) }

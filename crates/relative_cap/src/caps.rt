@@ -48,9 +48,10 @@ fn cap_by(history: &History, j: u16, r: u32, list: &[Bid], package: &Package) ->
 }
 
 /// The cap of a package for bidder `j` over a list, in whole units of money: the highest amount for what the bidder held in the
-/// constraining round, and the price of the difference at the prices of that round. With a final cap it is the lesser of this and
-/// the same by the final round, which is the last of the history. What the bidder held in the final round has no cap. The list is
-/// in the order of packages. It takes no memory. It is for a single package; lists are tested by `list_fault` or a `ListTester`.
+/// constraining round, and the price of the difference at the prices of that round. With a final cap it is the lesser of this
+/// and the cap by the final round, which is the last of the history. What the bidder held in the final round has no cap. The
+/// list is in the order of packages. It takes no memory. It is for a single package; lists are tested by `list_fault` or a
+/// `ListTester`.
 pub fn cap(
     history: &History,
     points: &[u32],
@@ -81,7 +82,7 @@ pub fn cap(
     }
 }
 
-/// The cap, where the amount is above it.
+/// The cap, if the amount is above it.
 pub fn excess(cap: Cap, amount: u64) -> Option<u64>
     ensures { result ≡ excess_cap (cap_value cap) amount }
 {
@@ -91,7 +92,7 @@ pub fn excess(cap: Cap, amount: u64) -> Option<u64>
     }
 }
 
-/// What the package may cost by round `r`, where the greatest clock bids for what bidder `j` held are given.
+/// What the package may cost by round `r`, if the greatest clock bids for what bidder `j` held are given.
 fn level_cap_by(
     history: &History,
     j: u16,
@@ -114,7 +115,7 @@ fn level_cap_by(
     cap_from(history, j, r, high, package)
 }
 
-/// The cap of a package over the list, where the levels of bidder `j` are given.
+/// The cap of a package over the list, if the levels of bidder `j` are given.
 fn level_cap(
     history: &History,
     points: &[u32],
@@ -147,7 +148,7 @@ fn level_cap(
     }
 }
 
-/// The first entry above its cap over the list, where the levels of bidder `j` are given.
+/// The first entry above its cap over the list, if the levels of bidder `j` are given.
 fn first_fault(
     history: &History,
     points: &[u32],

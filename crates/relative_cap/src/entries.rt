@@ -13,16 +13,16 @@ use clock_stage::History;
 use lots::{Bid, Package};
 use std::alloc::AllocError;
 
-/// An entry of a list with what the closed rounds say of the cap of its package.
+/// An entry of a list with the closed rounds' terms for the cap of its package.
 #[derive(Drop)]
 pub struct TestedEntry {
     /// The entry.
     pub bid: Bid,
-    /// What the rounds say.
+    /// The terms of the rounds.
     pub terms: PackageTerms,
 }
 
-/// A copy of an entry of bidder `j` with what the closed rounds say of its package.
+/// A copy of an entry of bidder `j` with the closed rounds' terms for its package.
 fn entry_for(history: &History, points: &[u32], j: u16, peaks: &[u64], bid: &Bid) -> TestedEntry
     requires bidder { IsBidderOf history.now j }
     requires points { ArePoints history.now points.now }
@@ -94,8 +94,8 @@ fn put_among(
     Ok(())
 }
 
-/// Puts an entry of bidder `j` at the place, as `put_among` does. Most lists differ from the last one in few entries, so it is asked
-/// first whether the entry there is one for the package.
+/// Puts an entry of bidder `j` at the place, just like `put_among`. Most lists differ from the last one in few entries, so it
+/// is asked first whether the entry there is one for the package.
 fn put_at(
     history: &History,
     points: &[u32],
@@ -123,8 +123,8 @@ fn put_at(
     put_among(history, points, j, peaks, bid, place, entries)
 }
 
-/// Makes the entries those of the list of bidder `j`. What the rounds say of a package is computed only where the entries don't have
-/// it yet. If memory runs out, they are those of another list.
+/// Replaces the entries with the list of bidder `j`. The rounds' terms for a package are computed only if the entries don't
+/// have them yet. If memory runs out, the entries are another list's.
 pub fn follow(
     history: &History,
     points: &[u32],

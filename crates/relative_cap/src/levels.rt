@@ -1,4 +1,4 @@
-// What the closed rounds say of the caps of a bidder, whatever its list is.
+// The closed rounds' part in the caps of a bidder, whatever its list is.
 ghost use Rattle.std.specs.Prelude.{◌≡◌, ◌+◌, ◌-◌, ◌≤◌, ◌<◌, ◌^◌, [], All, length, map, slice_index};
 ghost use Rattle.auction_model.specs.PackageTests.{InOrder};
 ghost use Rattle.clock_stage.specs.Kept.{categories_in};
@@ -18,8 +18,8 @@ pub struct RoundLevels<'a> {
     pub highs: &'a [u64],
 }
 
-/// Works out the levels of bidder `j`, from the last round to the first: the greatest eligibility from each round on, and for each
-/// round the greatest clock bid for what the bidder held in it.
+/// Computes the levels of bidder `j`, from the last round to the first: the greatest eligibility from each round on, and for
+/// each round the greatest clock bid for what the bidder held in it.
 pub fn fill_levels(history: &History, rounds: u32, j: u16, peaks: &mut [u64], highs: &mut [u64])
     requires bidder { IsBidderOf history.now j }
     requires rounds { rounds ≡ length history.now }
@@ -38,7 +38,7 @@ pub fn fill_levels(history: &History, rounds: u32, j: u16, peaks: &mut [u64], hi
     }
 }
 
-/// The highest amount for what bidder `j` held in round `r` among its clock bids, for which it is given, and the list.
+/// The highest amount for what bidder `j` held in round `r` among its clock bids, whose highest is given, and the list.
 pub fn high_over(history: &History, j: u16, r: u32, list: &[Bid], clock: u64) -> u64
     requires bidder { IsBidderOf history.now j }
     requires round { (1 ≤ r) × (r ≤ length history.now) }

@@ -1,8 +1,8 @@
 //! Relative caps: what a bidder may offer for a package in the sealed round, by what it did in the clock.
 //!
-//! A list is tested by one of two ways, with the same answer. The functions compute one package, amount or list from the history, and
-//! take no memory: they are for single questions. A `ListTester` is for a bidder's lists one after another, as a desk gets them: it
-//! keeps what the rounds say of the packages that it has tested.
+//! A list is tested in one of two ways, with the same result. The functions compute one package, amount or list from the
+//! history, and take no memory: they are for single questions. A `ListTester` is for a bidder's lists one after another, as a
+//! desk gets them: it keeps the rounds' results for the packages that it has tested.
 #![tactic(auto)]
 
 mod amounts;

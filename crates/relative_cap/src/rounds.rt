@@ -9,7 +9,7 @@ ghost use Rattle.relative_cap.specs.OwnRounds.{IsConstraining, eligibility_in, r
 use clock_stage::History;
 use lots::Package;
 
-/// The last round in which bidder `j` was eligible for that many points at its start, where it was so in round 1.
+/// The last round at whose start bidder `j` was eligible for that many points, if it was in round 1.
 pub fn last_enough(history: &History, j: u16, needed: u64) -> u32
     requires bidder { IsBidderOf history.now j }
     requires eligible { needed ≤ eligibility_in history.now j 1 }

@@ -1,4 +1,4 @@
-// What the closed rounds say of the cap of one package.
+// The closed rounds' terms for the cap of one package.
 ghost use Rattle.std.specs.Prelude.{◌≡◌, ◌≤◌, length};
 ghost use Rattle.auction_model.specs.Package.{cost_of};
 ghost use Rattle.clock_stage.specs.Kept.{IsHeld, categories_in};
@@ -12,32 +12,32 @@ use crate::packages::is_same;
 use clock_stage::History;
 use lots::Package;
 
-/// What one round says of the cap of a package, in whole units of money.
+/// One round's terms for the cap of a package, in whole units of money.
 #[derive(Clone, Copy)]
 pub struct RoundTerms {
-    /// The place of the first round in which the bidder held what it held in this one, counted from 0.
+    /// The place of the first round with the bidder's holdings of this one, counted from 0.
     pub place: u32,
     /// The price of the package at the prices of the round.
     pub price: u64,
-    /// The price of what was held in the round at its prices.
+    /// The price of the bidder's holdings in the round, at its prices.
     pub held: u64,
 }
 
-/// What the closed rounds say of the cap of a package of one bidder, whatever its list is.
+/// The closed rounds' terms for the cap of a package of one bidder, whatever its list is.
 #[derive(Clone, Copy)]
 pub struct PackageTerms {
-    /// The place of the first round in which the bidder held the package, and the number of rounds if there is none or the
-    /// package is empty.
+    /// The place of the first round where the bidder held the package, or the number of rounds if there is none or the package
+    /// is empty.
     pub own: u32,
     /// Whether the bidder held the package in the final round.
     pub is_final: bool,
-    /// What the constraining round says.
+    /// The constraining round's terms.
     pub constraining: RoundTerms,
-    /// What the final round says.
+    /// The final round's terms.
     pub last: RoundTerms,
 }
 
-/// The place of the first round in which bidder `j` held the package, counted from 0, and the number of rounds if there is none.
+/// The place of the first round where bidder `j` held the package, counted from 0, or the number of rounds if there is none.
 fn first_place(history: &History, j: u16, package: &Package) -> u32
     requires bidder { IsBidderOf history.now j }
     requires categories { IsHeld (categories_in history.now) «package».now }
@@ -52,7 +52,7 @@ fn first_place(history: &History, j: u16, package: &Package) -> u32
     rounds
 }
 
-/// The place of the first round in which the bidder held a package that isn't empty, and the number of rounds for the empty one.
+/// The place of the first round where the bidder held a package that isn't empty, and the number of rounds for the empty one.
 fn own_place(history: &History, j: u16, package: &Package) -> u32
     requires bidder { IsBidderOf history.now j }
     requires categories { IsHeld (categories_in history.now) «package».now }
@@ -64,7 +64,7 @@ fn own_place(history: &History, j: u16, package: &Package) -> u32
     first_place(history, j, package)
 }
 
-/// What round `r` says of the cap of a package of bidder `j`.
+/// Round `r`'s terms for the cap of a package of bidder `j`.
 fn round_terms(history: &History, j: u16, r: u32, package: &Package) -> RoundTerms
     requires bidder { IsBidderOf history.now j }
     requires round { (1 ≤ r) × (r ≤ length history.now) }
@@ -80,7 +80,7 @@ fn round_terms(history: &History, j: u16, r: u32, package: &Package) -> RoundTer
     }
 }
 
-/// What the closed rounds say of the cap of a package of bidder `j`, whose greatest eligibility from each round on is given.
+/// The closed rounds' terms for the cap of a package of bidder `j`, whose greatest eligibility from each round on is given.
 pub fn package_terms(
     history: &History,
     points: &[u32],

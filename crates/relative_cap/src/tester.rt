@@ -20,11 +20,11 @@ use lots::Bid;
 use std::alloc::{AllocError, Global};
 use std::marker::Model;
 
-/// Tests the lists of one bidder, one after another, against their caps over the closed rounds, which don't change any more. It is what a
-/// desk uses; for a single list `list_fault` gives the same answer without memory.
+/// Tests the lists of one bidder, one after another, against their caps over the closed rounds, which don't change any more. A
+/// desk uses it. For a single list `list_fault` has the same result without memory.
 ///
-/// It keeps what the rounds say: of each round, and of the package of each entry of the list that it tested last. So a list that
-/// differs from that one in a few packages is tested in one pass over its entries.
+/// It keeps the rounds' terms: for each round, and for the package of each entry of the list that it tested last. So a list
+/// that differs from that one in a few packages is tested in one pass over its entries.
 #[derive(Drop)]
 pub struct ListTester {
     peaks: Vec<u64>,
@@ -57,9 +57,9 @@ impl ListTester {
         })
     }
 
-    /// The first entry of the list of bidder `j` whose amount is above its cap over the list, if there is one: its number, counted
-    /// from 1, with its cap. The list is in the order of packages. History and bidder are those that the tester is for, and the
-    /// points are the same in all its tests. The only error is out of memory; the tester serves further tests then.
+    /// The first entry of the list of bidder `j` whose amount is above its cap over the list, if there is one: its number,
+    /// counted from 1, with its cap. The list is in the order of packages. History and bidder are those that the tester is for,
+    /// and the points are the same in all its tests. The only error is out of memory, after which the tester can be used again.
     pub fn list_fault(
         &mut self,
         alloc: Global,
@@ -87,7 +87,7 @@ impl ListTester {
     }
 }
 
-/// Raises the amount at the place to this one, where there is a place.
+/// Raises the amount at the place to this one, if there is a place.
 fn raise(highs: &mut Vec<u64>, place: u32, amount: u64)
     ensures { highs.new.items ≡ raised place amount highs.old.items }
 {
@@ -97,8 +97,8 @@ fn raise(highs: &mut Vec<u64>, place: u32, amount: u64)
     }
 }
 
-/// The highest amounts over the clock and the entries: at the first of the rounds in which a package was held stands what is
-/// highest for it. Those over the clock alone are given.
+/// The highest amounts over the clock and the entries: at the first round where a package was held is the highest amount for
+/// it. The highest amounts over only the clock are given.
 fn highs_over(alloc: Global, clock: &[u64], entries: &[TestedEntry]) -> Result<Vec<u64>, AllocError>
     ensures { (history : List Round) (points : List ℕ) (j : ℕ) → AreHighs history j [] clock.now
         → All (IsTested history points j) entries.now

@@ -52,7 +52,7 @@ pub fn change(
     }
 }
 
-/// Puts a bid for a package for which the bidder has none into a book.
+/// Puts a bid for a package without a bid of the bidder into a book.
 fn add(
     alloc: Global,
     book: &mut BidBook,
@@ -80,7 +80,7 @@ fn add(
     Ok(())
 }
 
-/// Puts a greater amount for a package for which the bidder has a bid into a book.
+/// Puts a greater amount for a package with a bid of the bidder into a book.
 fn raise(
     alloc: Global,
     book: &mut BidBook,
@@ -106,7 +106,7 @@ fn raise(
     Ok(())
 }
 
-/// Whether the winning choice stays where a bid has a greater amount: it uses the bid, or each choice that uses it is worth less.
+/// Whether the winning choice stays if a bid has a greater amount: it uses the bid, or each choice that uses it is worth less.
 fn stays_raised(
     alloc: Global,
     book: &BidBook,

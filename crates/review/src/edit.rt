@@ -1,16 +1,16 @@
-// Edits of a book, and what they are answered.
+// Edits of a book, and the replies to them.
 use lots::Package;
 
 /// A change of one bid of a book. Bidder 0 is one that the book doesn't have.
 #[derive(Drop)]
 pub enum Edit {
-    /// A bid for a package for which the bidder has none.
+    /// A bid for a package without a bid of the bidder.
     Add {
         bidder: u16,
         package: Package,
         amount: u64,
     },
-    /// A greater amount for a package for which the bidder has a bid.
+    /// A greater amount for a package with a bid of the bidder.
     Raise {
         bidder: u16,
         package: Package,
@@ -23,7 +23,7 @@ pub enum Edit {
     },
 }
 
-/// The answer to an edit: the first of these, in this order after `Ok`, whose condition holds.
+/// The reply to an edit: the first of these, in this order after `Ok`, whose condition is true.
 #[derive(Clone, Copy, Debug, PartialEq, Eq)]
 pub enum EditReply {
     /// The book has the edit.
@@ -44,8 +44,8 @@ pub enum EditReply {
     BelowReserve(u64),
     /// The amount is above this greatest one.
     AmountTop(u64),
-    /// The bidder has this many bids, so there is no room for one more.
+    /// The bidder has this many bids, and no room for one more.
     Full(u64),
-    /// There was no memory.
+    /// Out of memory.
     Memory,
 }

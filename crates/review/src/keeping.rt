@@ -1,4 +1,4 @@
-// Whether the winning choice stays where a bid is put in, and its numbers then.
+// Whether the winning choice stays when a bid is inserted, and its numbers then.
 ghost use Rattle.std.specs.Prelude.{◌≡◌, ℕ, ◌^◌, ◌-◌, ◌≤◌, ◌<◌, IsTrue, length, pos, slice_index_or, slice_set, ◌-ℤ◌, unsigned_abs};
 ghost use Rattle.auction_model.specs.Book.{market_of, menu_of};
 ghost use Rattle.auction_model.specs.Market.{number_of, value_of};
@@ -43,7 +43,7 @@ pub fn is_beaten(
     )
 }
 
-/// What the bidders beside one with such a bid have to reach, so that all are together worth what the choice is.
+/// What the bidders other than one with such a bid have to reach, so that all are together worth what the choice is.
 fn limit_beside(book: &BidBook, choice: &Choice, package: &Package, amount: u64) -> i128
     requires known { IsTrue (is_known_after (menu_of book.now) 0 choice.now) }
     requires categories { length «package».now ≡ length book.now.supply }
@@ -55,7 +55,7 @@ fn limit_beside(book: &BidBook, choice: &Choice, package: &Package, amount: u64)
     value(book, choice) - net
 }
 
-/// Whether at each place where the package fits the numbers of both lines beside it are together below the limit.
+/// Whether at each place where the package fits the numbers of both lines around it are together below the limit.
 fn are_below(
     supply: &Supply,
     package: &Package,
@@ -80,7 +80,8 @@ fn are_below(
     true
 }
 
-/// Whether the bid is below the limit at one place. The package has place `first`. It is tested for fit only where both numbers reach the limit.
+/// Whether the bid is below the limit at one place. The package has place `first`. It is tested for fit only if both numbers
+/// reach the limit.
 fn is_below_at(
     supply: &Supply,
     package: &Package,
@@ -106,7 +107,7 @@ fn is_below_at(
     supply.minus(place, package).is_none()
 }
 
-/// Gives the choice the number that its bid of bidder `j` has where bid `put` was put in.
+/// Changes the choice to the number of its bid of bidder `j` after bid `put` was inserted.
 pub fn move_up(choice: &mut Choice, j: u16, put: u16)
     requires bidder { (0 < j) × (j ≤ length choice.old) }
     requires few { number_of choice.old j < 2 ^ 16 - 1 }
@@ -117,7 +118,7 @@ pub fn move_up(choice: &mut Choice, j: u16, put: u16)
     choice.set(j, moved);
 }
 
-/// Gives the choice the number that its bid of bidder `j` has where bid `gone` was taken out.
+/// Changes the choice to the number of its bid of bidder `j` after bid `gone` was removed.
 pub fn move_down(choice: &mut Choice, j: u16, gone: u16)
     requires bidder { (0 < j) × (j ≤ length choice.old) }
     ensures { choice.new ≡ slice_set choice.old (j - 1) (moved_down gone (number_of choice.old j)) }

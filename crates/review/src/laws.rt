@@ -1,4 +1,4 @@
-// What holds of edited books.
+// What is true for edited books.
 ghost use Rattle.std.specs.Prelude.{◌≡◌, ◌≢◌, ℕ, ◌<◌, List};
 ghost use Rattle.auction_model.specs.Book.{Book, bidder_of, bids_of};
 ghost use Rattle.review.specs.declared.edit.Edit.{Edit};
@@ -6,8 +6,8 @@ ghost use Rattle.review.specs.Edits.{amount_for, edit_amount, edit_bidder, edit_
 
 use crate::edit::EditReply;
 
-/// In the book after an edit that it can have, the bidder's bid for the package has the new amount, or there is none where it was taken
-/// out; every other package of the bidder has the bid that it had, or none; and every other bidder is as it was.
+/// In the book after an edit that it can have, the bidder's bid for the package has the new amount, or there is none if it was
+/// removed. Every other package of the bidder keeps its bid, or has none. Every other bidder is unchanged.
 pub fn edited_amounts()
     ensures own { (book : Book) → (edit : Edit) → edit_reply book edit ≡ EditReply.Ok
         → amount_for (edit_lots edit) (bids_of (edited book edit) (edit_bidder edit)) ≡ edit_amount edit }

@@ -1,4 +1,5 @@
-//! Reviews: what a book would give with other bids. Edits change a copy of a book, of which the winning choice is kept.
+//! Reviews: the outcome of a book with other bids. Edits change a copy of a book, and the copy's winning choice is
+//! kept.
 #![tactic(auto)]
 
 mod changes;

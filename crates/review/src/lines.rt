@@ -12,23 +12,23 @@ use std::alloc::{AllocError, Global};
 use std::mem;
 use value_table::{LineBuffers, narrow_left_line, narrow_right_line};
 
-/// The lines of both sides of a book. An edit makes some of them stale, and these are computed again only where they are needed.
+/// The lines of both sides of a book. An edit makes some of them stale, and these are computed again only when needed.
 #[derive(Drop)]
 pub struct SideLines {
-    /// Line `k` is that of the bidders after `k`.
+    /// Line `k` is for the bidders after `k`.
     pub right: Vec<Vec<i128>>,
-    /// The lines of the right side are those of the book from this one on.
+    /// The lines of the right side match the book from this one on.
     pub right_from: usize,
-    /// Line `k` is that of the bidders up to `k`.
+    /// Line `k` is for the bidders up to `k`.
     pub left: Vec<Vec<i128>>,
-    /// The lines of the left side are those of the book up to this one.
+    /// The lines of the left side match the book up to this one.
     pub left_to: usize,
-    /// Buffers in which a line is computed.
+    /// Buffers to compute a line.
     pub buffers: LineBuffers,
 }
 
 impl SideLines {
-    /// The lines of a book, of which all but the one of no bidder on each side are stale.
+    /// The lines of a book. All but the line of no bidder on each side are stale.
     pub fn new(alloc: Global, book: &BidBook) -> Result<SideLines, AllocError>
         ensures { IfOk result (λ lines. AreSideLines book.now lines) }
     {
@@ -46,7 +46,7 @@ impl SideLines {
         })
     }
 
-    /// Works out the stale lines of the right side from line `k` on.
+    /// Computes the stale lines of the right side from line `k` on.
     pub fn renew_right(&mut self, alloc: Global, book: &BidBook, k: usize)
         requires known { k ≤ length book.now.bidders }
         requires lines { AreSideLines book.now self.old }
@@ -67,7 +67,7 @@ impl SideLines {
         }
     }
 
-    /// Works out the stale lines of the left side up to line `k`.
+    /// Computes the stale lines of the left side up to line `k`.
     pub fn renew_left(&mut self, alloc: Global, book: &BidBook, k: usize)
         requires known { k ≤ length book.now.bidders }
         requires lines { AreSideLines book.now self.old }
@@ -87,7 +87,7 @@ impl SideLines {
         }
     }
 
-    /// Marks the lines as stale in which bidder `j` counts: the others are those of each book in which it has other bids.
+    /// Marks the lines that include bidder `j` as stale. The other lines match each book where it has other bids.
     pub fn mark(&mut self, j: u16)
         requires { 0 < j }
         ensures { (book : Book) → (bids : List BookBid) → AreSideLines book self.old → j ≤ length book.bidders
@@ -117,8 +117,8 @@ fn zero_line(alloc: Global, states: usize) -> Result<Vec<i128>, AllocError>
     vec![in alloc; 0i128; states]
 }
 
-/// Works out the lines from line `bottom` to the one below line `top` again, each from the one after it, in place. Line `k` is that of
-/// the bidders after `k`.
+/// Computes the lines from line `bottom` to the one below line `top` again, each from the one after it, in place. Line `k` is
+/// for the bidders after `k`.
 fn renew_right(
     alloc: Global,
     book: &BidBook,
@@ -139,7 +139,7 @@ fn renew_right(
     }
 }
 
-/// Works out line `k` from line `k + 1`.
+/// Computes line `k` from line `k + 1`.
 fn renew_right_line(
     alloc: Global,
     book: &BidBook,
@@ -159,7 +159,7 @@ fn renew_right_line(
     lines[k] = line;
 }
 
-/// Works out the lines after line `bottom` up to line `top` again, each from the one before it, in place. Line `k` is that of the
+/// Computes the lines after line `bottom` up to line `top` again, each from the one before it, in place. Line `k` is for the
 /// bidders up to `k`.
 fn renew_left(
     alloc: Global,
@@ -181,7 +181,7 @@ fn renew_left(
     }
 }
 
-/// Works out line `k` from line `k - 1`.
+/// Computes line `k` from line `k - 1`.
 fn renew_left_line(
     alloc: Global,
     book: &BidBook,

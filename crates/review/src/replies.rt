@@ -1,4 +1,4 @@
-// What edits are answered. Nothing here takes memory.
+// The replies to edits. Nothing here takes memory.
 ghost use Rattle.std.specs.Prelude.{◌≡◌, ◌≤◌, ◌<◌, length, IfNone, IfSome, Some, None};
 ghost use Rattle.auction_model.specs.Book.{bid_of, bids_of};
 ghost use Rattle.bid_book.specs.Changes.{IsBidFor};
@@ -9,7 +9,7 @@ use bid_book::BidBook;
 use limits::{MOST_AMOUNT, MOST_BIDS};
 use lots::Package;
 
-/// What an edit is answered, where there is memory: `Ok` where the book can have it.
+/// The reply to an edit, if there is memory: `Ok` if the book can have it.
 pub fn reply_to(book: &BidBook, edit: &Edit) -> EditReply
     requires { length (edit_lots edit.now) ≡ length book.now.supply }
     ensures { result ≡ edit_reply book.now edit.now }

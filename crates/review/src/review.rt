@@ -16,8 +16,8 @@ use choices::{Choice, Numbers, value};
 use std::alloc::{AllocError, Global};
 use std::marker::Model;
 
-/// A book with its winning choice, which are kept through edits of single bids. An edit that can't change the winners computes no line
-/// that isn't stale where its own bidder stands; another one computes the stale lines of the bidders after each.
+/// A book with its winning choice, which are kept through edits of single bids. An edit that can't change the winners computes
+/// only lines that are stale at its own bidder. Any other edit computes the stale lines of the bidders after each.
 #[derive(Drop)]
 pub struct Review {
     book: BidBook,
@@ -51,8 +51,8 @@ impl Review {
         })
     }
 
-    /// Takes an edit, whose package has as many categories as the book, and answers `Ok`; or answers the first condition that refuses
-    /// it, or out of memory, which leave the review as it is. Taking a bid out needs no memory.
+    /// Takes an edit, whose package has as many categories as the book, and returns `Ok`. Or it returns the first condition
+    /// that refuses the edit, or out of memory, and leaves the review unchanged. Removing a bid needs no memory.
     pub fn edit(&mut self, alloc: Global, edit: &Edit) -> EditReply
         requires { length (edit_lots edit.now) ≡ length self.old.book.supply }
         ensures reply { (result ≡ edit_reply self.old.book edit.now)

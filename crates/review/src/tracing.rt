@@ -13,7 +13,7 @@ use choices::{Choice, place_after};
 use std::alloc::Global;
 use value_table::right_number;
 
-/// Makes a choice of as many numbers the winning one, from lines of which some may be stale.
+/// Makes a choice of as many numbers the winning one, from lines that may be stale.
 pub fn retrace(alloc: Global, book: &BidBook, lines: &mut SideLines, choice: &mut Choice)
     requires lines { AreSideLines book.now lines.old }
     requires count { length choice.old ≡ length book.now.bidders }

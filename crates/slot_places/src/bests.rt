@@ -36,7 +36,7 @@ fn comes_first(c: &[u16], d: &[u16]) -> bool
     false
 }
 
-/// The better one: by the sum, and where sums are equal, by the order of ties.
+/// The better one: by the sum, and if sums are equal, by the order of ties.
 fn better(search: &Search, set: usize, best: Best, next: Best) -> Best
     requires best { IsHeld search.now set best }
     requires next { IsHeld search.now set next }

@@ -14,7 +14,7 @@ pub fn slot_market()
     ensures { (slots : SlotList) → length slots.bidders < 2 ^ 16 → IsMarket (market_of_slots slots) }
 {}
 
-/// A choice is allowed exactly where some order of all bidders allows it.
+/// A choice is allowed exactly if some order of all bidders allows it.
 pub fn slot_orders()
     ensures some { (slots : SlotList) (c : List ℕ) → IsTrue ((market_of_slots slots).allowed c)
         → (order : List ℕ) × IsTrue (allows slots order c) }
@@ -23,7 +23,7 @@ pub fn slot_orders()
 {}
 
 /// Bytes say one thing of slots: slots, where the first faulty line begins, or what exceeds its limit first. So each answer of
-/// `read_slots` comes exactly where the bytes say so. And slots within the limits have one text.
+/// `read_slots` comes exactly if the bytes say so. And slots within the limits have one text.
 pub fn one_slots()
     ensures one { (bytes : List ℕ) (x y : Said SlotList Excess) → Says IsSlotText slot_lines bytes x
         → Says IsSlotText slot_lines bytes y → x ≡ y }

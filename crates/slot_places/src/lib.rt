@@ -18,13 +18,13 @@ pub use read::read_slots;
 pub use slot_chooser::{SlotChooser, place_best, place_win};
 pub use slots::{Place, Slots};
 
-/// Why bytes are no slots.
+/// Why bytes aren't slots.
 #[derive(Clone, Copy, Debug, PartialEq, Eq)]
 pub enum SlotStop {
     /// The byte where the first faulty line begins, counted from 0.
     Form(u64),
     /// A quantity that exceeds its limit, at the first line where one does, with its count.
     Limit(LimitKind, u64),
-    /// There was no memory.
+    /// Out of memory.
     Memory,
 }

@@ -35,8 +35,8 @@ impl Slots {
         true
     }
 
-    /// The first order that allows the choice, compared entry by entry, the smaller bidder number first, and None exactly where the
-    /// choice isn't allowed. The only error is out of memory.
+    /// The first order that allows the choice, compared entry by entry, the smaller bidder number first, and None exactly if
+    /// the choice isn't allowed. The only error is out of memory.
     pub fn order_of(&self, alloc: Global, choice: &Choice) -> Result<Option<Numbers>, AllocError>
         ensures some { IfOk result (λ found. IfSome found (λ order. IsPlacement self.now choice.now order)) }
         ensures none { IfOk result (λ found. IfNone found (IsFalse ((market_of_slots self.now).allowed choice.now))) }

@@ -63,7 +63,7 @@ fn zeros(alloc: Global, count: usize) -> Result<Vec<i128>, AllocError>
     vec![in alloc; 0i128; count]
 }
 
-/// The first of the greatest placed choices in which bidder `skip` has no bids, or any bidder has where `skip` is 0.
+/// The first of the greatest placed choices in which bidder `skip` has no bids, or any bidder has if `skip` is 0.
 fn plain_search(alloc: Global, slots: &Slots, skip: u16) -> Result<Found<Grid>, AllocError>
     ensures choice { IfOk result
         (λ f. IsFirstGreatest (is_placed (board_without slots.now skip))

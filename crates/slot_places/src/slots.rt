@@ -130,7 +130,7 @@ impl Slots {
     pub fn kept(&self)
         ensures { AreSlots self.now }
     {
-        // The rules of a type are known where a field of it is used.
+        // The rules of a type are known once its field is used.
         let _ = &self.bidders;
     }
 

@@ -23,7 +23,7 @@ pub(crate) struct LineContext<'a> {
     pub(crate) late: Option<u64>,
     /// How many members the row has that is read.
     pub(crate) members: usize,
-    /// Whether the line before it, where both are lines of one table, is known never to fall.
+    /// Whether the line before it, if both are lines of one table, is known never to fall.
     pub(crate) grows: bool,
     pub(crate) totals: &'a RowTotals,
     pub ghost sized: { length room.now ≡ room_size (bidders_of book.now) (states book.now) },

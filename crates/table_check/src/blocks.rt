@@ -1,6 +1,6 @@
 // Whether a line is seen to keep the rule of a bid, in 64 bits and block by block. In one category, block `q` of a line has the
-// places with `q` lots of that category left, and what a bid of `count` lots asks there it reads in block `q - count` of the line
-// below. A block is left out where its corners show that the rule holds in all of it.
+// places with `q` lots of that category left, and what a bid of `count` lots asks there it reads in block `q - count` of the
+// line below. A block is left out if its corners show that the rule holds in all of it.
 ghost use Rattle.std.specs.Prelude.{◌≡◌, ◌↔◌, ℕ, ◌-◌, ◌≤◌, ◌<◌, ◌^◌, IsTrue, length, ◌+ℤ◌, ◌≤ℤ◌, unsigned_abs};
 ghost use Rattle.auction_model.specs.Place.{states_of};
 ghost use Rattle.wide_num.specs.Sums.{nth};
@@ -17,7 +17,7 @@ const MARK: u64 = 1 << 62;
 /// The highest bit of 64.
 const HIGHEST: u64 = 1 << 63;
 
-/// A number with the bit of `MARK` where an entry is at least the worth and the entry below.
+/// A number with the bit of `MARK` if an entry is at least the worth and the entry below.
 fn mark(here: i64, below: i64, worth: i64) -> u64
     requires here { unsigned_abs here ≤ 2 ^ 60 }
     requires below { unsigned_abs below ≤ 2 ^ 60 }
@@ -27,7 +27,7 @@ fn mark(here: i64, below: i64, worth: i64) -> u64
     (MARK as i64 - worth + (here - below)) as u64
 }
 
-/// Whether each number is at least the worth and that of the line below. It goes on where one isn't, so that it takes several
+/// Whether each number is at least the worth and that of the line below. It goes on if one isn't, so that it takes several
 /// numbers at a time.
 pub fn covers_all(line: &[i64], below: &[i64], worth: i64) -> bool
     requires places { length below.now ≡ length line.now }
@@ -43,7 +43,7 @@ pub fn covers_all(line: &[i64], below: &[i64], worth: i64) -> bool
     marks >= MARK
 }
 
-/// The bits of what a number is above another one, with the highest of them where it is below it.
+/// The bits of what a number is above another one, with the highest of them if it is below it.
 fn gap(here: i64, below: i64) -> u64
     requires here { unsigned_abs here ≤ 2 ^ 60 }
     requires below { unsigned_abs below ≤ 2 ^ 60 }

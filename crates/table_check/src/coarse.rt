@@ -1,6 +1,6 @@
-// Whether a line is seen to keep the rule of a bid in 16 bits: both lines are counted in one unit, the line rounded down, and the
-// line below and the worth rounded up. A block of the last few categories is tested in one run, with a mask of the places at which
-// the package fits. A yes is a yes of the exact numbers; where units are too coarse to tell, 64 bits are.
+// Whether a line is seen to keep the rule of a bid in 16 bits: both lines are counted in one unit, the line rounded down, and
+// the line below and the worth rounded up. A block of the last few categories is tested in one run, with a mask of the places
+// at which the package fits. A yes is a yes of the exact numbers; if units are too coarse to tell, 64 bits are.
 ghost use Rattle.std.specs.Prelude.{◌≡◌, ◌*◌, ◌^◌, ◌<◌, IsTrue, true, length, pos, ◌≤ℤ◌};
 ghost use Rattle.auction_model.specs.Place.{states_of};
 ghost use Rattle.table_check.specs.Corners.{KeepsBlock, BothGrow};
@@ -81,7 +81,7 @@ pub fn shift_of(line: &[i64]) -> u32
     shift_for(line[line.len() - 1].unsigned_abs())
 }
 
-/// Whether a block is seen to keep the rule of a bid, with a mask of its package: in 16 bits where the worth is in these too.
+/// Whether a block is seen to keep the rule of a bid, with a mask of its package: in 16 bits if the worth is in these too.
 fn masked_holds(rule: &NarrowRule, block: &Block, lines: &CoarseLines) -> bool
     requires places { length lines.now.narrow.line.now ≡ states_of block.now.supply.now }
     requires grow { BothGrow block.now.supply.now rule.now.grow lines.now.narrow.line.now lines.now.narrow.below.now }
@@ -106,7 +106,7 @@ fn masked_holds(rule: &NarrowRule, block: &Block, lines: &CoarseLines) -> bool
     coarse_holds(rule, &coarse, block, lines)
 }
 
-/// Whether a block of all places of the lines is seen to keep the rule of a bid: in 16 bits where the lines are in these too.
+/// Whether a block of all places of the lines is seen to keep the rule of a bid: in 16 bits if the lines are in these too.
 pub fn rule_holds(rule: &NarrowRule, block: &Block, lines: &LinePair) -> bool
     requires narrow { lines.now.is_narrow ≡ true }
     requires places { length lines.now.line.now ≡ states_of block.now.supply.now }

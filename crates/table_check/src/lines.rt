@@ -179,7 +179,7 @@ fn both_grow(supply: &Supply, lines: &LinePair, grows: bool, known: bool) -> boo
     is_growing_narrow(supply.counts(), supply.widths(), lines.narrow_line)
 }
 
-/// What the line of bidder `j` shows, which is known to grow where `known` says so.
+/// What the line of bidder `j` shows, which is known to grow if `known` says so.
 fn pair_fault(offers: &TestedBids, j: u16, lines: &LinePair, known: bool) -> LineFault
     requires bidder { (0 < j) × (j ≤ bidders_of offers.now.book.now) }
     requires line { length lines.now.line.now ≡ states offers.now.book.now }
@@ -214,8 +214,8 @@ fn last_bits(bits: u128) -> i64
     ((bits & LAST_BITS) as u64).cast_signed()
 }
 
-/// The numbers of a line in 64 bits each, and whether all are so small that no sum of four leaves these, and none is below 0. It goes
-/// on where one isn't, and looks at the bits of all at the end, so that no number costs a test.
+/// The numbers of a line in 64 bits each, and whether all are so small that no sum of four leaves these, and none is below 0.
+/// It goes on if one isn't, and looks at the bits of all at the end, so that no number costs a test.
 fn narrow_into(numbers: &mut [i64], line: &[i128]) -> bool
     requires places { length numbers.old ≡ length line.now }
     ensures same { IsTrue result → numbers.new ≡ line.now }
@@ -273,8 +273,8 @@ fn line_fault_sized<const N: usize>(
     pair_fault(offers, j, &lines, known)
 }
 
-/// What the line of bidder `j` shows, which is known to grow where `known` says so. A short line gets little room, since all of it is
-/// set to 0 for each line.
+/// What the line of bidder `j` shows, which is known to grow if `known` says so. A short line gets little room, since all of it
+/// is set to 0 for each line.
 fn line_fault(offers: &TestedBids, j: u16, line: &[i128], below: &[i128], known: bool) -> LineFault
     requires bidder { (0 < j) × (j ≤ bidders_of offers.now.book.now) }
     requires line { length line.now ≡ states offers.now.book.now }

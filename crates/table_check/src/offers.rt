@@ -6,8 +6,8 @@ ghost use Rattle.table_check.specs.Worths.{HasSmallWorths};
 
 use bid_book::BidBook;
 
-/// The bids that a table is tested for. Bidder `skip` has none, and 0 skips nobody. A bid is worth the denominator times its net
-/// amount, less what its bidder gains: its net amount where the denominator is 1 and nobody gains.
+/// The bids that a table is tested for. Bidder `skip` has none, and 0 skips nobody. A bid is worth the denominator times its
+/// net amount, less what its bidder gains: its net amount if the denominator is 1 and nobody gains.
 #[derive(Drop)]
 pub struct TestedBids<'a> {
     pub book: &'a BidBook,

@@ -5,8 +5,8 @@ ghost use Rattle.table_check.specs.Narrow.{AreNarrow};
 
 use crate::narrow::{CoarseLines, NarrowLines};
 
-/// A line of a table and the line below it. Where `is_narrow` says so both are in 64 bits too, and so small that no sum of four
-/// numbers leaves these. Where `is_coarse` says so they are in 16 bits as well, in units of `2^shift`.
+/// A line of a table and the line below it. If `is_narrow` says so both are in 64 bits too, and so small that no sum of four
+/// numbers leaves these. If `is_coarse` says so they are in 16 bits as well, in units of `2^shift`.
 #[derive(Drop)]
 pub struct LinePair<'a> {
     pub line: &'a [i128],

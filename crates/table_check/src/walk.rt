@@ -1,5 +1,5 @@
 // Going through the places of a line where a package fits. In one category, block `q` of a line has the places with `q` lots of
-// that category left. Where the package fits, the place of the rest is lower by the place of the package. So after the last
+// that category left. If the package fits, the place of the rest is lower by the place of the package. So after the last
 // category of which the package has some, the places are one run.
 ghost use Rattle.std.specs.Prelude.{◌≡◌, ◌↔◌, ℕ, ◌+◌, ◌^◌, ◌≤◌, ◌<◌, length, ◌+ℤ◌, ◌≤ℤ◌, unsigned_abs, IsTrue};
 ghost use Rattle.auction_model.specs.Place.{states_of};
@@ -62,7 +62,7 @@ fn two_fault(rule: &LineRule, block: &Block, base: usize, until: usize) -> usize
 }
 
 /// The first place of a block that begins at `base`, below `until`, at which the package fits and the line breaks the rule, and
-/// `until` where there is none.
+/// `until` if there is none.
 pub fn block_fault(rule: &LineRule, block: &Block, base: usize, until: usize) -> usize
     requires most { length rule.now.line.now < 2 ^ 40 }
     requires room { base + states_of block.now.supply.now ≤ length rule.now.line.now }

@@ -18,7 +18,7 @@ pub struct Block<'a> {
 }
 
 impl<'a> Block<'a> {
-    /// All places of a supply, for a package in it, of which the last categories are left out where it has none of them.
+    /// All places of a supply, for a package in it, of which the last categories are left out if it has none of them.
     pub fn whole(supply: &'a Supply, lots: &'a Package) -> Block<'a>
         requires categories { length lots.now ≡ length supply.now }
         requires fits { IsTrue (is_within lots.now supply.now) }

@@ -12,8 +12,8 @@ pub struct WidthBuffers<C> {
     pub line: Vec<C>,
 }
 
-/// Buffers in which a line is computed from the one after it, in 32 bits where both are so small and else in 64, and in which both may
-/// be put in 16 bits.
+/// Buffers in which a line is computed from the one after it, in 32 bits if both are so small and else in 64, and in which both
+/// may be put in 16 bits.
 #[derive(Drop)]
 pub struct LineBuffers {
     pub short: WidthBuffers<u32>,

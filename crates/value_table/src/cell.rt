@@ -41,7 +41,7 @@ pub trait Cell: Copy {
             → slice_index_or (map number line.new) s (pos 0)
             ≡ slice_index_or (map number line.old) s (pos 0) +ℤ number amount };
 
-    /// Raises each number of `line` to that of `below` with the worth, where it is smaller.
+    /// Raises each number of `line` to that of `below` with the worth, if it is smaller.
     fn raise_run(line: &mut [Self], below: &[Self], worth: Self)
         requires places { length line.old ≡ length below.now }
         requires worth { unsigned_abs (number worth) ≤ most }
@@ -74,7 +74,7 @@ pub trait Cell: Copy {
         ensures ceiling { IsTrue result → IsCeiling (2 ^ shift) (map number line.now) high.new }
         ensures places { length high.new ≡ length line.now };
 
-    /// A worth in units of `2^shift`, rounded up, or 0 where it has none.
+    /// A worth in units of `2^shift`, rounded up, or 0 if it has none.
     fn worth_units(worth: Self, shift: u32) -> u16
         requires { shift < 64 }
         ensures small { result < 2 ^ 15 }

@@ -17,7 +17,7 @@ use choices::Grid;
 use std::alloc::{AllocError, Global};
 use wide_num::NumList;
 
-/// Adds what bidder `j` counts where it isn't used to each number of line `j`.
+/// Adds what bidder `j` counts if it isn't used to each number of line `j`.
 fn add_idle<C: Cell>(lowered: &LoweredBids, j: u16, line: &mut [C])
     requires range { IsLineWithin lowered.now C.most j (map C.number line.old) }
     requires bidder { (0 < j) × (j ≤ length lowered.now.book.now.bidders) }
@@ -163,7 +163,7 @@ pub fn lines_down<C: Cell>(
     Ok(lines)
 }
 
-/// Adds a line at the end of a grid, which keeps it in 32 bits where it has these, and else in 128. It is as long as the others.
+/// Adds a line at the end of a grid, which keeps it in 32 bits if it has these, and else in 128. It is as long as the others.
 fn push_line<C: Cell>(alloc: Global, grid: &mut Grid, line: &[C]) -> Result<(), AllocError>
     requires few { length line.now ≤ MOST_STATES }
     requires width { 0 < length grid.old → length line.now ≡ width_of grid.old }

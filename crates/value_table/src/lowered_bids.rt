@@ -96,7 +96,7 @@ impl<'a> LoweredBids<'a> {
         lowered_worth(self.den, net, self.surplus[j as usize - 1])
     }
 
-    /// What bidder `j` counts where it isn't used.
+    /// What bidder `j` counts if it isn't used.
     pub fn idle(&self, j: u16) -> i128
         requires { (0 < j) × (j ≤ length self.now.book.now.bidders) }
         ensures worth { result ≡ counted self.now j 0 }

@@ -1,5 +1,5 @@
-// Counting one bid in a line, run by run. A bid of `count` lots of a category raises block `q` of this category from block
-// `q - count` of the line below. A block is left out where its corners show that the bid changes nothing in it.
+// Counting one bid in a line, run by run. A bid of `count` lots of a category raises block `q` of this category from block `q -
+// count` of the line below. A block is left out if its corners show that the bid changes nothing in it.
 ghost use Rattle.std.specs.Prelude.{◌≡◌, ◌-◌, ◌<◌, ◌↔◌, IsTrue, length, slice_index_or, pos, ◌+ℤ◌, ◌≤ℤ◌, map};
 ghost use Rattle.auction_model.specs.Place.{states_of};
 ghost use Rattle.value_table.specs.Growing.{BothGrow};

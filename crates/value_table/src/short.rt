@@ -36,7 +36,7 @@ pub fn is_short<C: Cell>(lowered: &LoweredBids, j: u16, below: &[C]) -> bool
     number_at(below, below.len() - 1) <= SHORT as i128 && has_short_worths(lowered, j)
 }
 
-/// The lines from line 0 to line `top`, which is given, or None where one of them needs more bits.
+/// The lines from line 0 to line `top`, which is given, or None if one of them needs more bits.
 pub fn short_lines_down(
     alloc: Global,
     lowered: &LoweredBids,

@@ -18,7 +18,7 @@ fn units(number: u32, shift: u32) -> u32
     number >> shift
 }
 
-/// The last 15 bits of a number in units of `2^shift`, rounded down. They are all where the unit is large enough.
+/// The last 15 bits of a number in units of `2^shift`, rounded down. They are all if the unit is large enough.
 fn low_units(number: u32, shift: u32) -> u16
     requires { shift < 32 }
     ensures { result * 2 ^ shift ≤ number }
@@ -79,7 +79,7 @@ pub fn put_high(high: &mut [u16], line: &[u32], shift: u32) -> bool
     true
 }
 
-/// A worth in units of `2^shift`, rounded up, or 0 where it has too many.
+/// A worth in units of `2^shift`, rounded up, or 0 if it has too many.
 pub fn worth_units(worth: u32, shift: u32) -> u16
     ensures small { result < 2 ^ 15 }
     ensures size { 0 < result → pos worth ≤ℤ pos (result * 2 ^ shift) }

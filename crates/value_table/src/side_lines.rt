@@ -17,9 +17,9 @@ use crate::tracing::first_number;
 use bid_book::BidBook;
 use limits::MOST_BIDDERS;
 
-/// Makes `line` the line of the bidders after `k - 1` from that of the bidders after `k`: line `k - 1` of the exact table of the net
-/// amounts from line `k`. Each has one number for each place of the supply. It is computed in 32 bits, or where these are too few in
-/// 64, in lists of room as long as a line, and takes no memory.
+/// Makes `line` the line of the bidders after `k - 1` from that of the bidders after `k`: line `k - 1` of the exact table of
+/// the net amounts from line `k`. Each has one number for each place of the supply. It is computed in 32 bits, or if these are
+/// too few in 64, in lists of room as long as a line, and takes no memory.
 pub fn narrow_right_line(
     book: &BidBook,
     k: u16,
@@ -135,7 +135,7 @@ fn side_line(
     }
 }
 
-/// The first number of bidder `k` that reaches the entry, where no bidder has a surplus.
+/// The first number of bidder `k` that reaches the entry, if no bidder has a surplus.
 fn plain_number(
     book: &BidBook,
     surplus: &[i128],

@@ -1,5 +1,6 @@
-// Counting one bid in a line. Where the line and the line below it are in 16 bits too, a block of the last few categories of the bid
-// is tested in these first, with a mask of the places where it fits. Each function returns how many blocks these tests left out.
+// Counting one bid in a line. If the line and the line below it are in 16 bits too, a block of the last few categories of the
+// bid is tested in these first, with a mask of the places where it fits. Each function returns how many blocks these tests left
+// out.
 ghost use Rattle.std.specs.Prelude.{◌≡◌, ◌*◌, ◌^◌, ◌<◌, IsTrue, length, pos, ◌≤ℤ◌, map};
 ghost use Rattle.choices.specs.Coarse.{HasMask};
 ghost use Rattle.auction_model.specs.Package.{is_within};
@@ -13,7 +14,7 @@ use crate::runs::{is_reached, raise_block};
 use choices::coarse::{CoarseBid, MASK_ROOM, is_covered, put_deep_mask};
 use lots::{Package, Supply};
 
-/// Counts one more bid in a block, where no mask for just these categories shows that it changes nothing there.
+/// Counts one more bid in a block, if no mask for just these categories shows that it changes nothing there.
 fn raise_unless_covered<C: Cell>(
     coarse: &CoarseBid,
     block: &Block,
@@ -120,7 +121,7 @@ fn raise_in_units<C: Cell>(
     raise_coarse(&coarse, block, line, below, low, high, worth)
 }
 
-/// Counts one more bid in a block, in units where there is a shift.
+/// Counts one more bid in a block, in units if there is a shift.
 fn raise_lots<C: Cell>(
     shift: Option<u32>,
     block: &Block,

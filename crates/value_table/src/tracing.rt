@@ -14,7 +14,7 @@ use crate::lowered_bids::LoweredBids;
 use choices::{Grid, LineNumbers, Numbers, place_after};
 use std::alloc::{AllocError, Global};
 
-/// What bid `i` of bidder `j` and the bidders after it count at a place, or None where the package of the bid doesn't fit.
+/// What bid `i` of bidder `j` and the bidders after it count at a place, or None if the package of the bid doesn't fit.
 fn sum_at<C: Cell>(lowered: &LoweredBids, j: u16, i: u16, place: usize, below: &[C]) -> Option<i128>
     requires bidder { (0 < j) × (j ≤ length lowered.now.book.now.bidders) }
     requires bid { (0 < i) × (i ≤ (counted_bids lowered.now).bids j) }

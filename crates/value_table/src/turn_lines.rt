@@ -18,7 +18,7 @@ use crate::widths::{narrow_into, widen_into};
 use choices::{Grid, LineNumbers, Numbers};
 use std::alloc::{AllocError, Global};
 
-/// The lines of an exact table, of 32 bits or of 64 where no sum is larger.
+/// The lines of an exact table, of 32 bits or of 64 if no sum is larger.
 #[derive(Drop)]
 pub enum TurnLines {
     Short(Vec<Vec<u32>>),
@@ -92,8 +92,8 @@ impl TurnLines {
     }
 }
 
-/// The lines from line 0 to line `top`, whose numbers are given. The width of a table is chosen here alone: 32 bits where line `top` is
-/// kept in these and no line needs more, else 64 where no sum is larger, and else 128.
+/// The lines from line 0 to line `top`, whose numbers are given. The width of a table is chosen here alone: 32 bits if line
+/// `top` is kept in these and no line needs more, else 64 if no sum is larger, and else 128.
 pub fn lines_from(
     alloc: Global,
     lowered: &LoweredBids,

@@ -1,4 +1,4 @@
-// Lines in 16 bits, where they are so long, and that many bids count in them, that tests in these may save time. They do where the
+// Lines in 16 bits, if they are so long, and that many bids count in them, that tests in these may save time. They do if the
 // first bids already leave out blocks; with few blocks, or with equal sums, they cost more than they save.
 ghost use Rattle.std.specs.Prelude.{◌≡◌, ◌≤◌, ◌<◌, length, IfSome, Some};
 ghost use Rattle.value_table.specs.Raising.{MayBeInUnits};
@@ -20,7 +20,8 @@ const FIRST_BIDS: u32 = 64;
 /// How many blocks are enough.
 const ENOUGH_BLOCKS: u32 = 32;
 
-/// The shift for the bids after the first `bids`, in which `covered` blocks were left out: None from there on where these are too few.
+/// The shift for the bids after the first `bids`, in which `covered` blocks were left out: None from there on if these are too
+/// few.
 pub fn shift_after(shift: Option<u32>, bids: u32, covered: u32) -> Option<u32>
     ensures { IfSome result (λ k. shift ≡ Some k) }
 {
@@ -54,7 +55,7 @@ fn most_worth(lowered: &LoweredBids, j: u16) -> i128
     most
 }
 
-/// A shift with which the numbers of line `j - 1` have at most 15 bits, where there is one. Nothing but time rests on it.
+/// A shift with which the numbers of line `j - 1` have at most 15 bits, if there is one. Nothing but time rests on it.
 fn line_shift<C: Cell>(lowered: &LoweredBids, j: u16, below: &[C]) -> u32
     requires bidder { (0 < j) × (j ≤ length lowered.now.book.now.bidders) }
     requires some { 0 < length below.now }
@@ -65,8 +66,8 @@ fn line_shift<C: Cell>(lowered: &LoweredBids, j: u16, below: &[C]) -> u32
     shift_for(most.min(u64::MAX as u128) as u64)
 }
 
-/// Puts line `j - 1`, which counts no bid of bidder `j` yet, and line `j` below it in 16 bits, where they are long, many bids count
-/// in them and there is room for them, and gives the shift of their units.
+/// Puts line `j - 1`, which counts no bid of bidder `j` yet, and line `j` below it in 16 bits, if they are long, many bids
+/// count in them and there is room for them, and gives the shift of their units.
 pub fn put_units<C: Cell>(
     lowered: &LoweredBids,
     j: u16,

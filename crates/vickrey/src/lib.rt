@@ -1,4 +1,4 @@
-//! Vickrey prices: the winners of a book, each alone.
+//! The Vickrey prices of the winners of a book.
 #![tactic(auto)]
 
 mod pricing;

@@ -67,7 +67,7 @@ pub fn vickrey(alloc: Global, book: &BidBook, winners: &Choice) -> Result<Vickre
     Ok(alone)
 }
 
-/// The winners of a book, each alone, as `vickrey` gives them, from the table of all bids that the caller has already. Where the
+/// The winners of a book, each alone, as `vickrey` gives them, from the table of all bids that the caller has already. If the
 /// tables without the winners are wanted anyway, it takes less time than with the sides.
 pub fn vickrey_from(
     alloc: Global,

@@ -5,8 +5,8 @@ ghost use Rattle.book_grammar.specs.BookForm.{IsBook};
 ghost use Rattle.line_format.specs.LineText.{Said, stated};
 ghost use Rattle.weights_file.specs.WeightsForm.{WeightsSay};
 
-/// Bytes say one thing of the weights of a book: a list, or where the first faulty line begins. So each answer of `read_weights` comes
-/// exactly where the bytes say so.
+/// Bytes say one thing of the weights of a book: a list, or where the first faulty line begins. So each answer of
+/// `read_weights` comes exactly if the bytes say so.
 pub fn one_weighing()
     ensures { (book : Book) (bytes : List ℕ) (x y : Said (List ℕ) ⊥) → IsBook book → WeightsSay book bytes x
         → WeightsSay book bytes y → x ≡ y }

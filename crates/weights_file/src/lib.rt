@@ -19,7 +19,7 @@ pub use weights::Weights;
 pub enum WeightStop {
     /// The byte where the first faulty line begins, counted from 0.
     Form(u64),
-    /// There was no memory.
+    /// Out of memory.
     Memory,
 }
 

@@ -10,7 +10,7 @@ const SHORT: u128 = 1 << 64;
 // The least size that doesn't fit 64 bits with a sign.
 const SIGNED_SHORT: u128 = 1 << 63;
 
-// The exact result where it is in the range.
+// The exact result if it is in the range.
 fn in_range(op: Op, left: i128, right: i128, exact: i128) -> Result<i128, Wide>
     ensures { IsExact op left right exact result }
 {

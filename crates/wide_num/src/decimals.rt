@@ -5,7 +5,7 @@ ghost use Rattle.wide_num.specs.Range.{InRange};
 use crate::{EDGE, Text};
 use std::alloc::{AllocError, Global};
 
-/// The decimal digits of a number without a leading zero, after a `-` where it is negative.
+/// The decimal digits of a number without a leading zero, after a `-` if it is negative.
 pub fn digits(alloc: Global, n: i128) -> Result<Text, AllocError>
     ensures { IfOk result (λ text. text ≡ signed_decimal n) }
 {

@@ -25,7 +25,7 @@ impl Text {
         }
     }
 
-    /// The empty text, with room for that many bytes, so that it need not grow before it has more. The only error is want of
+    /// The empty text, with room for that many bytes, so that it need not grow before it has more. The only error is out of
     /// memory.
     pub fn with_capacity(alloc: Global, bytes: usize) -> Result<Self, AllocError>
         ensures { IfOk result (λ text. text ≡ []) }
@@ -80,7 +80,7 @@ impl NumList {
         }
     }
 
-    /// The empty list, with room for that many numbers, so that it need not grow before it has more. The only error is want of
+    /// The empty list, with room for that many numbers, so that it need not grow before it has more. The only error is out of
     /// memory.
     pub fn with_capacity(alloc: Global, numbers: usize) -> Result<Self, AllocError>
         ensures { IfOk result (λ list. list ≡ []) }

@@ -23,7 +23,7 @@ const BIDDER_KEYS: [&str; 3] = ["name", "eligibility", "holding"];
 /// The most lots of a category that a bidder holds already.
 const MOST_HOLDING: u16 = MOST_COUNT as u16;
 
-/// Reads the bidders that a table states, where there are that many categories.
+/// Reads the bidders that a table states, if there are that many categories.
 pub fn read_bidders(alloc: Global, table: &Table, categories: usize) -> Result<Entrants, AwardStop>
     ensures ok { IfOk result
         (λ bidders. (walk.bidders_fault categories (table_view table.now) ≡ None)
@@ -88,7 +88,7 @@ fn take_bidder(
     Ok(())
 }
 
-/// What the bidder of a table holds already of each category: no lots where the key is missing.
+/// What the bidder of a table holds already of each category: no lots if the key is missing.
 fn holding_at(
     alloc: Global,
     table: &Table,

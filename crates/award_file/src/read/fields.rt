@@ -15,7 +15,7 @@ use std::alloc::{AllocError, Global};
 use toml::Value;
 use toml::value::Table;
 
-/// The number, where it is from `low` to `high`.
+/// The number, if it is from `low` to `high`.
 fn in_range(number: i64, low: u64, high: u64) -> Option<u64>
     ensures { result ≡ spec.in_range low high number }
 {
@@ -84,7 +84,7 @@ pub fn name_at(table: &Table) -> Option<&str>
     }
 }
 
-/// The whole numbers of an array, where none is above `high`.
+/// The whole numbers of an array, if none is above `high`.
 fn numbers_of(alloc: Global, values: &[Value], high: u16) -> Result<Option<Vec<u16>>, AllocError>
     ensures { IfOk result (λ r. option_map (λ v. v.items) r ≡ spec.numbers_of high (items_view values.now)) }
 {
@@ -98,7 +98,7 @@ fn numbers_of(alloc: Global, values: &[Value], high: u16) -> Result<Option<Vec<u
     Ok(Some(numbers))
 }
 
-/// That many whole numbers, where a value is an array of these and none is above `high`.
+/// That many whole numbers, if a value is an array of these and none is above `high`.
 pub fn row_of(
     alloc: Global,
     value: &Value,
@@ -140,7 +140,7 @@ fn tables_of(value: &Value) -> Option<&[Value]>
     if are_tables(array) { Some(array) } else { None }
 }
 
-/// The tables that a key states: none where it is missing. `None` where it states anything else than an array of tables.
+/// The tables that a key states: none if it is missing. `None` if it states anything else than an array of tables.
 pub fn list_at<'a>(table: &'a Table, key: &str) -> Option<&'a [Value]>
     ensures tables { option_map (λ values. spec.tables_of (items_view values.now)) result
         ≡ spec.list_of (get_member key.now (table_view table.now)) }

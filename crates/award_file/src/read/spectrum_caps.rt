@@ -19,7 +19,7 @@ use toml::value::Table;
 /// The keys of a cap.
 const CAP_KEYS: [&str; 2] = ["weight", "limit"];
 
-/// Reads the caps that a table states, where there are that many categories.
+/// Reads the caps that a table states, if there are that many categories.
 pub fn read_caps(
     alloc: Global,
     table: &Table,

@@ -5,7 +5,7 @@ ghost use Rattle.bid_book.specs.Better.{BeatsAmong};
 
 use crate::book::Entry;
 
-/// The rival, where it is one of these bids and makes the entry needless: it is no larger in any category and worth at least as
+/// The rival, if it is one of these bids and makes the entry needless: it is no larger in any category and worth at least as
 /// much. Else 0. Bids are numbered from 1.
 pub fn better_among(bids: &[Entry], entry: &Entry, rival: u16) -> u16
     ensures { BeatsAmong bids.now entry.now result }

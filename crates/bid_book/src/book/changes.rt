@@ -53,7 +53,7 @@ pub fn remove_entry(bids: &mut Vec<Entry>, place: usize)
     settle(bids, Change::TakenOut(number_at(place), gone.better));
 }
 
-/// How many bids come before those for the package, where they are in order.
+/// How many bids come before those for the package, if they are in order.
 fn place_of(bids: &[Entry], wanted: &Package) -> usize
     requires { All (λ e. length e.bid.package ≡ length wanted.now) bids.now }
     ensures { IsPlaceIn (map bid_value bids.now) wanted.now result }
@@ -113,7 +113,7 @@ fn settle(bids: &mut [Entry], change: Change)
     }
 }
 
-/// The rival, where it makes the bid at a place needless, and else 0.
+/// The rival, if it makes the bid at a place needless, and else 0.
 fn better_at(bids: &[Entry], place: usize, rival: u16) -> u16
     requires { place < length bids.now }
     ensures { (e : Entry) → e ≡ slice_index_or bids.now place e → BeatsAmong (take place bids.now) e result }
@@ -134,7 +134,7 @@ fn rival_after(change: Change, better: u16) -> u16 {
     }
 }
 
-/// The number that was changed, where none was there, and else the other.
+/// The number that was changed, if none was there, and else the other.
 fn guess(better: u16, changed: u16, other: u16) -> u16 {
     if better == 0 { changed } else { other }
 }

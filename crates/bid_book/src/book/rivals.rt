@@ -6,7 +6,7 @@ use limits::MOST_CATEGORIES;
 use lots::{Package, Supply};
 use std::alloc::{AllocError, Global};
 
-/// How many places a block has at least, where the supply has as many: that many are worth the work that each block takes.
+/// How many places a block has at least, if the supply has as many: that many are worth the work that each block takes.
 const SOME_PLACES: usize = 4;
 
 /// The bids of one bidder so far. They come in the order of their places. A block is the places that differ in the last few
@@ -59,8 +59,8 @@ impl Rivals {
         Ok(number_of(self.put(supply, inner, place, own)))
     }
 
-    /// Works out the next block: what a place has one lot less than is worth most of it. Along the inner categories nothing is left to
-    /// do, since the offers of the blocks before rise along these.
+    /// Computes the next block: what a place has one lot less than is worth most of it. Along the inner categories nothing is
+    /// left to do, since the offers of the blocks before rise along these.
     fn raise_block(&mut self, supply: &Supply, inner: usize) -> Result<(), AllocError>
         requires { self.old.reached < states_of supply.now }
         ensures { OnOk result (self.old.reached < self.new.reached) }
@@ -130,7 +130,7 @@ fn block_len(widths: &[usize], inner: usize, most: usize) -> usize
     widths[inner - 1].min(most)
 }
 
-/// A net amount and the number of its bid in one number, which is greater where the amount is.
+/// A net amount and the number of its bid in one number, which is greater if the amount is.
 fn offer(net: i128, number: u16) -> i64 {
     i64::try_from(net).unwrap_or(0) << 16 | number as i64
 }
@@ -140,7 +140,7 @@ fn number_of(offer: i64) -> u16 {
     (offer & 0xffff) as u16
 }
 
-/// The place of the counts, where they fit the supply.
+/// The place of the counts, if they fit the supply.
 fn place_among(supply: &[u16], counts: &[u16]) -> usize {
     let mut place = 0usize;
     for i in 0..supply.len().min(counts.len()) {

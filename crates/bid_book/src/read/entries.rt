@@ -59,7 +59,7 @@ fn take_bidder(alloc: Global, book: &mut BidBook, name: &[u8]) -> Result<(), Lin
     Ok(())
 }
 
-/// The text of the bytes, where they are a name: 1 to 20 bytes of `a` to `z`, `0` to `9` and `_`, a letter first.
+/// The text of the bytes, if they are a name: 1 to 20 bytes of `a` to `z`, `0` to `9` and `_`, a letter first.
 pub fn name_text(name: &[u8]) -> Option<&str>
     ensures some { IfSome result (λ text. (text.now ≡ name.now) × IsName name.now) }
     ensures none { IfNone result (IsName name.now → ⊥) }
@@ -106,7 +106,7 @@ fn take_bid(
     Ok(())
 }
 
-/// The bid that a line states, with its net amount, where it may follow the bids of the last bidder.
+/// The bid that a line states, with its net amount, if it may follow the bids of the last bidder.
 fn read_bid(alloc: Global, book: &BidBook, line: &[u8]) -> Result<Entry, LineStop<Excess>>
     requires { 0 < length book.now.bidders }
     ensures ok { IfOk result
@@ -138,7 +138,7 @@ fn read_bid(alloc: Global, book: &BidBook, line: &[u8]) -> Result<Entry, LineSto
     })
 }
 
-/// The package of these counts, where it has the categories of the supply and fits in it.
+/// The package of these counts, if it has the categories of the supply and fits in it.
 fn read_package(supply: &Supply, numbers: &[u64]) -> Result<Package, LineStop<Excess>>
     ensures ok { IfOk result
         (λ p. (p ≡ numbers.now) × (length numbers.now ≡ length supply.now)

@@ -67,7 +67,7 @@ pub(crate) fn bytes_of<'a>(files: &'a [CleanFile], name: &str) -> &'a [u8]
     files[place_of(files, name)].buffer.held()
 }
 
-// Adds the whole piece to the file of this name, and fails exactly where it is longer than the room.
+// Adds the whole piece to the file of this name, and fails exactly if it is longer than the room.
 fn add_bytes(files: &mut [CleanFile], name: &str, piece: &[u8]) -> Result<(), Failed>
     requires { IsTrue ((clean_folder files.old).knows name.now) }
     ensures added { OnOk result
@@ -84,7 +84,7 @@ fn add_bytes(files: &mut [CleanFile], name: &str, piece: &[u8]) -> Result<(), Fa
     Ok(())
 }
 
-// Adds a piece as `add_bytes` does, and counts a failed append where that fails.
+// Adds a piece as `add_bytes` does, and counts a failed append if that fails.
 pub(crate) fn add_to(files: &mut [CleanFile], name: &str, piece: &[u8]) -> Result<(), Failed>
     requires { IsTrue ((clean_folder files.old).knows name.now) }
     ensures added { OnOk result

@@ -113,7 +113,7 @@ impl Files for CleanFiles {
         ensures counted { OnErr result ((clean_folder self.new.files.items).append_faults name.now
             ≡ one_more ((clean_folder self.old.files.items).append_faults name.now)) }
 
-        // The whole piece, or a failure exactly where it is longer than the room.
+        // The whole piece, or a failure exactly if it is longer than the room.
         ensures bytes { IfOk result
             (λ n. Appends name.now (with_gave (clean_folder self.old.files.items) self.old.gave.calls)
             (with_gave (clean_folder self.new.files.items) self.new.gave.calls) piece.now n × (n ≡ length piece.now)) }

@@ -49,7 +49,7 @@ impl Sink for CleanSink {
         ensures cause { OnErr result (Rose self.old.faults self.new.faults) }
         ensures counted { OnErr result (self.new.faults ≡ one_more self.old.faults) }
 
-        // The whole piece, or a failure exactly where it is longer than the room.
+        // The whole piece, or a failure exactly if it is longer than the room.
         ensures bytes { IfOk result
             (λ n. (n ≡ length piece.now) × (held self.new.buffer ≡ held self.old.buffer ++ piece.now)) }
         ensures room { OnOk result (left self.new.buffer + length piece.now ≡ left self.old.buffer) }

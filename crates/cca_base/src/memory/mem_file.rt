@@ -9,7 +9,7 @@ use crate::Failed;
 use crate::named::{Named, count_append_fault, place_of};
 use std::alloc::{AllocError, Global};
 
-/// A file of a known name. Its `bytes` are `None` exactly where it is missing.
+/// A file of a known name. Its `bytes` are `None` exactly if it is missing.
 #[derive(Drop)]
 pub struct MemFile {
     pub name: String,
@@ -69,7 +69,7 @@ pub(crate) fn bytes_of<'a>(files: &'a [MemFile], name: &str) -> Option<&'a [u8]>
     }
 }
 
-// Adds bytes to the end of a file, which is made where it is missing.
+// Adds bytes to the end of a file, which is made if it is missing.
 fn extend(alloc: Global, bytes: &mut Option<Vec<u8>>, piece: &[u8]) -> Result<(), AllocError>
     ensures added { OnOk result (bytes_in bytes.new ≡ Some (unwrap_or (bytes_in bytes.old) [] ++ piece.now)) }
     ensures kept { OnErr result (bytes_in bytes.new ≡ bytes_in bytes.old) }
@@ -83,7 +83,7 @@ fn extend(alloc: Global, bytes: &mut Option<Vec<u8>>, piece: &[u8]) -> Result<()
     }
 }
 
-// Adds a piece to the file of this name, which is made where it is missing.
+// Adds a piece to the file of this name, which is made if it is missing.
 fn add_bytes(
     alloc: Global,
     files: &mut [MemFile],
@@ -104,7 +104,7 @@ fn add_bytes(
     Ok(())
 }
 
-// Adds a piece as `add_bytes` does, and counts a failed append where that fails.
+// Adds a piece as `add_bytes` does, and counts a failed append if that fails.
 pub(crate) fn add_to(
     alloc: Global,
     files: &mut [MemFile],

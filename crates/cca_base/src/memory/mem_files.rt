@@ -18,10 +18,10 @@ use std::alloc::{AllocError, Global};
 
 /// Files in memory. At most `bite` bytes go in one call.
 ///
-/// The loads and the appends are counted from 1 over all names, and the counts stop at the last value
-/// of their type. A load fails exactly where its number is listed in `fail_loads` or its file is
-/// missing. An append fails exactly where its number is listed in `fail_appends` or `refused` rose in
-/// that call, which it does when out of memory.
+/// The loads and the appends are counted from 1 over all names, and the counts stop at the last value of
+/// their type. A load fails exactly where its number is listed in `fail_loads` or its file is missing. An
+/// append fails exactly if its number is listed in `fail_appends` or `refused` rose in that call, which it
+/// does when out of memory.
 #[derive(Drop)]
 pub struct MemFiles {
     alloc: Global,
@@ -96,7 +96,7 @@ impl MemFiles {
         Ok(())
     }
 
-    /// The bytes of the file of this known name, `None` exactly where it is missing.
+    /// The bytes of the file of this known name, `None` exactly if it is missing.
     pub fn bytes(&self, name: &str) -> Option<&[u8]>
         requires { IsTrue ((mem_folder self.now.files.items).knows name.now) }
         ensures { option_map (λ b. b.now) result ≡ (mem_folder self.now.files.items).file name.now }
@@ -187,7 +187,7 @@ impl Files for MemFiles {
         ensures counted { OnErr result ((mem_folder self.new.files.items).append_faults name.now
             ≡ one_more ((mem_folder self.old.files.items).append_faults name.now)) }
 
-        // Exactly where the number of the append is listed or `refused` rose.
+        // Exactly if the number of the append is listed or `refused` rose.
         ensures number { self.new.appends ≡ min (self.old.appends + 1) (2 ^ 64 - 1) }
         ensures listed { Contains self.old.fail_appends.items self.new.appends
             → IsErr result × (self.new.refused ≡ self.old.refused) }

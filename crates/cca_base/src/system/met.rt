@@ -72,8 +72,8 @@ pub(crate) fn is_met(met: &[Met], place: usize) -> bool
     met.iter().any(|m| m.place == place)
 }
 
-// Where a plain read of a file begins that was opened just now: at its first byte, where nothing was met under its name before. Else
-// nobody knows, since what a pipe gave once is gone.
+// Where a plain read of a file begins that was opened just now: at its first byte, if nothing was met under its name before.
+// Else nobody knows, since what a pipe gave once is gone.
 pub(crate) fn first_position(met: &[Met], place: usize) -> Option<u64>
     ensures new { result ≡ Some 0 → Any (λ m. m.place ≡ place) met.now → ⊥ }
     ensures old { result ≢ Some 0 → (result ≡ None) × Any (λ m. m.place ≡ place) met.now }

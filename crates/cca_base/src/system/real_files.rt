@@ -55,15 +55,15 @@ impl<C: FileCalls> Files for CountedFiles<C> {
 
 /// Files of the system.
 ///
-/// The file of the last load stays open for the next one, until another name is loaded, a load fails or
-/// anything is appended, so a pipe can be loaded from in order. The file of the last append stays open, and locked where it is a regular
-/// one, until another name is appended to, an append fails or anything is loaded.
+/// The file of the last load stays open for the next one, until another name is loaded, a load fails or anything is appended,
+/// so a pipe can be loaded from in order. The file of the last append stays open, and locked if it is a regular one, until
+/// another name is appended to, an append fails or anything is loaded.
 ///
-/// What was appended to a regular file is on its disk when `append` answers, and so is the name of a file that was made; the name means that
-/// file still. Where a sync fails, or the name means another file then, the piece counts as not taken, though the file may hold it. An append
-/// fails, and takes nothing, where its file was loaded from or appended to under another name, whatever link or spelling that is, where the
-/// standard output goes to it, and where someone else has locked it. Each fault of the system raises the count of its kind and name, and so does a
-/// call that takes nothing of a piece that isn't empty.
+/// What was appended to a regular file is on its disk when `append` answers, and so is the name of a file that was made; the
+/// name means that file still. If a sync fails, or the name means another file then, the piece counts as not taken, though the
+/// file may hold it. An append fails, and takes nothing, if its file was loaded from or appended to under another name,
+/// whatever link or spelling that is, if the standard output goes to it, and if someone else has locked it. Each fault of the
+/// system raises the count of its kind and name, and so does a call that takes nothing of a piece that isn't empty.
 #[derive(Drop)]
 pub struct RealFiles<R: Drop> {
     counted: CountedFiles<SystemFiles<System<R>>>,

@@ -37,8 +37,8 @@ pub struct RealSink<R: Print + Drop> {
 }
 
 impl<R: Print + rt::Files<File = File> + rt::Env + Alloc + Drop> RealSink<R> {
-    /// The standard output of this runtime, which has taken nothing and has no fault yet. Where it goes to a regular file that a word after
-    /// the command names, each put fails and takes nothing.
+    /// The standard output of this runtime, which has taken nothing and has no fault yet. If it goes to a regular file that a
+    /// word after the command names, each put fails and takes nothing.
     pub fn new(rt: R) -> Self
         ensures empty { (⟦<RealSink<R> as Sink>⟧.output result).bytes ≡ [] }
         ensures faults { (⟦<RealSink<R> as Sink>⟧.output result).faults ≡ 0 }

@@ -35,7 +35,7 @@ pub(crate) trait FileCalls: Drop {
     ///
     /// # Errors
     ///
-    /// `Failed`, where the system fails, and where the place can't be reached. No file stays open then.
+    /// `Failed`, if the system fails or the place can't be reached. No file stays open then.
     fn read_at(
         &mut self,
         known: &[KnownFile],
@@ -51,15 +51,15 @@ pub(crate) trait FileCalls: Drop {
         ensures read { IfOk result (λ n. IsRead name.now at (take n buf.new) (made self.old) (made self.new)) }
         ensures took { took self.new ≡ took self.old };
 
-    /// Adds a prefix of the piece to the end of the file of a known name, which is made where it is missing. The file stays open, and
-    /// locked, for the next append to this name. What a regular file took is on its disk, and the name of a file that was made; the name means
-    /// that file still.
+    /// Adds a prefix of the piece to the end of the file of a known name, which is made if it is missing. The file stays open,
+    /// and locked, for the next append to this name. What a regular file took is on its disk, and the name of a file that was
+    /// made; the name means that file still.
     ///
     /// # Errors
     ///
-    /// `Failed`, where the system fails, or takes nothing of a piece that isn't empty, where the file was read or appended to under
-    /// another name, where the standard output goes to it, where a regular file is locked by someone else, and where the name means another
-    /// file once that one is synced. No file stays open then.
+    /// `Failed`, if the system fails, or takes nothing of a piece that isn't empty, if the file was read or appended to under
+    /// another name, if the standard output goes to it, if a regular file is locked by someone else, and if the name means
+    /// another file after the sync. No file stays open then.
     fn append(&mut self, known: &[KnownFile], name: &str, piece: &[u8]) -> Result<usize, Failed>
         requires { IsTrue ((real_folder known.now).knows name.now) }
         ensures some { IfOk result (λ n. (n ≤ length piece.now) × (0 < length piece.now → 0 < n)) }
@@ -75,7 +75,7 @@ pub(crate) trait FileCalls: Drop {
 pub(crate) struct SystemFiles<S: Drop> {
     alloc: Global,
     system: S,
-    // The regular file that the standard output goes to, where it goes to one.
+    // The regular file that the standard output goes to, if it goes to one.
     output: Option<FileIdentity>,
     met: Vec<Met>,
     reading: Option<Reading>,
@@ -84,7 +84,7 @@ pub(crate) struct SystemFiles<S: Drop> {
     took: Trace,
 }
 
-// The regular file that the standard output goes to, where it goes to one. It is looked at by a name, so nothing is opened.
+// The regular file that the standard output goes to, if it goes to one. It is looked at by a name, so nothing is opened.
 pub(crate) fn output_file<S: SystemCalls>(system: &mut S) -> Option<FileIdentity>
     ensures { IsOutput result (S.made system.old) (S.made system.new) }
 {
@@ -114,7 +114,7 @@ impl<S: SystemCalls> SystemFiles<S> {
         })
     }
 
-    // The file of the name at this place to read from: the one that is open, where it is that one.
+    // The file of the name at this place to read from: the one that is open, if it is that one.
     fn reading_at(&mut self, place: usize, name: &str) -> Result<Reading, Failed>
         ensures place { IfOk result (λ opened. opened.place ≡ place) }
         ensures ready { IfOk result (λ opened. IsReadyToRead name.now (file_raw_fd opened.file)
@@ -133,7 +133,7 @@ impl<S: SystemCalls> SystemFiles<S> {
         }
     }
 
-    // The file of the name at this place to append to: the one that is open, where it is that one.
+    // The file of the name at this place to append to: the one that is open, if it is that one.
     fn appending_at(&mut self, place: usize, name: &str) -> Result<Appending, Failed>
         ensures gave { self.new.gave ≡ self.old.gave }
         ensures took { self.new.took ≡ self.old.took }

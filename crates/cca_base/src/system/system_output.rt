@@ -28,8 +28,8 @@ pub(crate) trait OutputCalls: Drop {
     ///
     /// # Errors
     ///
-    /// `Failed`, where the system fails, or takes nothing of a piece that isn't empty, and where the output goes to a file that the words
-    /// name.
+    /// `Failed`, if the system fails, or takes nothing of a piece that isn't empty, or if the output goes to a file that the
+    /// arguments name.
     fn put(&mut self, piece: &[u8]) -> Result<usize, Failed>
         ensures some { IfOk result (λ n. (n ≤ length piece.now) × (0 < length piece.now → 0 < n)) }
         ensures took { IfOk result (λ n. took self.new

@@ -45,7 +45,7 @@ pub fn is_between(low: i128, amount: i128, high: i128) -> bool
     low <= amount && amount <= high
 }
 
-/// The amount where the test passes, else 0.
+/// The amount if the test passes, else 0.
 pub fn counted(passes: bool, amount: i128) -> i128
     ensures { result ≡ (if passes then amount else pos 0) }
 {

@@ -12,7 +12,7 @@ use crate::judging::number;
 use bid_book::BidBook;
 use choices::{place_after, worth};
 
-/// Whether bid `i` of bidder `j`, where it fits what the place `rest` leaves, stays below `bound` with the line's entry for what
+/// Whether bid `i` of bidder `j`, if it fits what the place `rest` leaves, stays below `bound` with the line's entry for what
 /// is left then.
 fn stays_below(book: &BidBook, j: u16, line: &[i128], rest: usize, bound: i128, i: u16) -> bool
     requires bidder { (0 < j) × (j ≤ bidders_of book.now) }

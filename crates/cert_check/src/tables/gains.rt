@@ -11,7 +11,7 @@ use bid_book::BidBook;
 use table_check::scaled_less;
 
 /// What bidder `j` gains at the payments, times the denominator: what its bid in the choice is worth less what it pays, and
-/// nothing where it loses.
+/// nothing if it loses.
 fn gain(book: &BidBook, den: i128, choice: &[u16], pay: &[i128], j: u16) -> i128
     requires bidder { (0 < j) × (j ≤ bidders_of book.now) }
     requires lower { CanLower book.now den choice.now pay.now }

@@ -12,7 +12,7 @@ use crate::tables::STATE_ROOM;
 use choices::Grid;
 use table_check::{LineFault, TestedBids, last_line_fault, two_lines_found};
 
-/// What line `k` shows, which is known to grow where `known` says so.
+/// What line `k` shows, which is known to grow if `known` says so.
 fn rule_fault(offers: &TestedBids, table: &Grid, k: usize, known: bool) -> LineFault
     requires table { IsTable (bidders_of offers.now.book.now) (states offers.now.book.now) table.now }
     requires line { k ≤ bidders_of offers.now.book.now }
@@ -29,7 +29,7 @@ fn rule_fault(offers: &TestedBids, table: &Grid, k: usize, known: bool) -> LineF
     inner_fault(offers, table, k as u16, known)
 }
 
-/// What line `k`, which isn't the last, shows: it is known to grow where `known` says so.
+/// What line `k`, which isn't the last, shows: it is known to grow if `known` says so.
 fn inner_fault(offers: &TestedBids, table: &Grid, k: u16, known: bool) -> LineFault
     requires table { IsTable (bidders_of offers.now.book.now) (states offers.now.book.now) table.now }
     requires line { k < bidders_of offers.now.book.now }
@@ -86,7 +86,7 @@ fn table_fault(offers: &TestedBids, table: &Grid) -> Option<u64>
     None
 }
 
-/// The first number at which a table breaks a rule, or the number after all of these where line 0 has more than `most` for the
+/// The first number at which a table breaks a rule, or the number after all of these if line 0 has more than `most` for the
 /// whole supply.
 pub(crate) fn table_test(offers: &TestedBids, table: &Grid, most: i128) -> Option<u64>
     requires table { IsTable (bidders_of offers.now.book.now) (states offers.now.book.now) table.now }

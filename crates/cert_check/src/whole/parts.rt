@@ -87,7 +87,7 @@ pub(crate) fn put_values(claim: &Claim, parts: &[WithoutPart], values: &mut [i12
     }
 }
 
-/// The value of the choice without bidder `j`, and 0 where it loses.
+/// The value of the choice without bidder `j`, and 0 if it loses.
 fn part_value(claim: &Claim, parts: &[WithoutPart], j: u16) -> i128
     requires parts { (i : ℕ) → 0 < i → i ≤ bidders_of claim.now.book.now → IsTrue (uses claim.now.choice.now i)
         → IsPart claim.now.book.now i (part_of (map without_value parts.now) i) }

@@ -240,7 +240,7 @@ pub fn take_count(
     }
 }
 
-/// The one number, where it is a count of rows.
+/// The one number, if it is a count of rows.
 fn row_count(bidders: u16, numbers: &[u16]) -> Option<usize>
     ensures { MatchOption result (IsNoCount bidders numbers.now) (IsCount bidders numbers.now) }
 {

@@ -79,7 +79,7 @@ pub(crate) fn add_winners(
     }
 }
 
-// Adds the line of bidder `j`, where it wins.
+// Adds the line of bidder `j`, if it wins.
 fn add_line_of(
     text: &mut Text,
     slots: &Slots,

@@ -56,7 +56,7 @@ pub(crate) fn take_parts(
     Ok(PartsRead { parts, next })
 }
 
-/// Reads the part without the bidder, where its number in the choice isn't 0.
+/// Reads the part without the bidder, if its number in the choice isn't 0.
 fn add_part(
     alloc: Global,
     bytes: &[u8],

@@ -45,7 +45,7 @@ fn take_bidder(alloc: Global, slots: &mut Slots, fields: &[u8]) -> Result<(), Li
     Ok(())
 }
 
-/// The name and the width that the fields state, where such a bidder may follow those of the slots.
+/// The name and the width that the fields state, if such a bidder may follow those of the slots.
 fn read_bidder<'a>(slots: &Slots, fields: &'a [u8]) -> Option<(&'a str, u16)>
     ensures found { IfSome result (λ e. IsEntrant slots.now fields.now e.0.now e.1) }
     ensures none { IfNone result ((name : List ℕ) (width : ℕ) → IsEntrant slots.now fields.now name width → ⊥) }
@@ -77,7 +77,7 @@ fn take_place(slots: &mut Slots, line: &[u8]) -> Result<(), LineStop<Excess>>
     Ok(())
 }
 
-/// The bid that the line states, where it may follow the bids of the last bidder.
+/// The bid that the line states, if it may follow the bids of the last bidder.
 fn read_place(slots: &Slots, line: &[u8]) -> Option<Place>
     requires { 0 < length slots.now.bidders }
     ensures found { IfSome result (λ place. IsNextPlace slots.now line.now (bid_value place)) }

@@ -17,7 +17,7 @@ pub fn two_fields(text: &[u8]) -> Option<(&[u8], &[u8])>
     Some((first, second))
 }
 
-/// The number from `least` to `most` that a field spells, and None exactly where it spells none.
+/// The number from `least` to `most` that a field spells, and None exactly if it spells none.
 pub fn read_within(field: &[u8], least: u64, most: u64) -> Option<u64>
     ensures found { IfSome result (λ n. ((least ≤ n) × (n ≤ most)) × (field.now ≡ decimal n)) }
     ensures none { IfNone result ((n : ℕ) → least ≤ n → n ≤ most → field.now ≡ decimal n → ⊥) }

@@ -118,7 +118,7 @@ fn part_values(at: &LineContext, claim: &Claim) -> [i128; BIDDER_ROOM]
     values
 }
 
-/// The value of the choice without bidder `j`, and 0 where it loses.
+/// The value of the choice without bidder `j`, and 0 if it loses.
 fn part_value(at: &LineContext, claim: &Claim, j: u16) -> i128
     requires some { IsPossible at.now }
     requires claim { IsClaimOf at.now claim.now }

@@ -21,7 +21,7 @@ pub(crate) struct RulesFound {
     pub(crate) grows: bool,
 }
 
-/// What line `k` shows: the line before it is tested with it, and it is tested alone where it is the last. Where `known` says so, the
+/// What line `k` shows: the line before it is tested with it, and it is tested alone if it is the last. If `known` says so, the
 /// line before it was seen never to fall when it came.
 pub(crate) fn rules_found(
     offers: &TestedBids,
@@ -84,7 +84,7 @@ fn before_found(offers: &TestedBids, table: Table, k: u16, room: &[i128], known:
     }
 }
 
-/// The first of line `k` itself, where it is the last.
+/// The first of line `k` itself, if it is the last.
 fn last_line_place(offers: &TestedBids, table: Table, k: u16, room: &[i128]) -> Option<u64>
     requires table { IsTableOf (bidders_of offers.now.book.now) table }
     requires line { k ≤ bidders_of offers.now.book.now }
@@ -102,7 +102,7 @@ fn last_line_place(offers: &TestedBids, table: Table, k: u16, room: &[i128]) -> 
     place_of(k, fault, offers.book.supply().states())
 }
 
-/// The number of a line and a place in it, where it is one of the line's.
+/// The number of a line and a place in it, if it is one of the line's.
 fn place_of(k: u16, fault: usize, states: usize) -> Option<u64>
     requires states { states ≤ 16384 }
     ensures fault { fault < states → result ≡ Some (k * states + fault) }
