@@ -13,7 +13,8 @@ use std::alloc::Global;
 use std::process::Abort;
 use std::test::Fail;
 
-/// Rounds at 10 and 12, in which the first bidder, eligible for three lots, holds two lots and then one. So in round 2 it is eligible for two.
+/// Rounds at 10 and 12. The first bidder, eligible for three lots, holds two lots and then one. So in round 2 it is eligible
+/// for two.
 fn take_rounds(
     rt: &impl Abort,
     alloc: Global,
@@ -53,7 +54,7 @@ fn entry(lots: u16, amount: u64) -> Bid
     }
 }
 
-/// The cap of three lots for the first bidder, over a list in which it offers this amount for two lots.
+/// The cap of three lots for the first bidder, over a list with this amount for two lots.
 fn cap_of_three(history: &History, final_cap: bool, amount: u64) -> Cap
     requires rounds { length history.now ≡ 2 }
     requires bidders { 0 < bidders_in history.now }
@@ -72,7 +73,7 @@ fn cap_of_three(history: &History, final_cap: bool, amount: u64) -> Cap
     )
 }
 
-/// The first fault of a list of the first bidder, in which it offers this amount for two lots.
+/// The first fault of a list of the first bidder with this amount for two lots.
 fn fault_of_two(history: &History, amount: u64) -> Option<OverCap>
     requires rounds { length history.now ≡ 2 }
     requires bidders { 0 < bidders_in history.now }
@@ -109,7 +110,7 @@ fn shows_the_caps(rt: &impl Abort, history: &History)
     );
 }
 
-/// Asserts of which bidders and rounds the history is, and then the caps.
+/// Asserts the bidders and rounds of the history, and then the caps.
 fn check_caps(rt: &impl Abort, history: &History)
     requires bidders { 0 < bidders_in history.now }
     requires categories { categories_in history.now ≡ 1 }

@@ -63,7 +63,7 @@ fn is_listed_first(
 
 #[test]
 fn listing_takes_the_first_of_the_greatest(rt: HostRuntime) -> Result<(), AllocError> {
-    // East alone counts as much as both together, with its second bid.
+    // East's second bid is worth as much as both bidders together.
     let text =
         "book 1\nsupply 2\nreserve 0\nbidder east\nbid 1 5\nbid 2 9\nbidder west\nbid 1 4\nend\n";
     let book = book_of(&rt, rt.alloc(), text);

@@ -15,7 +15,7 @@ pub(crate) const AWARD: &str = "version = 1\ntick = 1\n\
     bidder = [{ name = \"east\", eligibility = 3 }, { name = \"west\", eligibility = 2 }]\n\
     step = [{ excess = 1, permille = 200 }]\n";
 
-/// Bids for that many lots of the one category, by these bidders in turn. Each is answered by its reply.
+/// Bids for that many lots of the one category, by these bidders in turn. Each has its reply.
 pub(crate) fn take_bids(
     rt: &impl Abort,
     alloc: Global,
@@ -62,7 +62,7 @@ pub(crate) fn close(rt: &impl Abort, alloc: Global, clock: &mut Clock, award: &A
     clock.close(alloc, award)
 }
 
-/// The history of rounds at 10 and 12, in which the first bidder held three lots and then one.
+/// The history of rounds at 10 and 12. The first bidder held three lots and then one.
 fn check_history(rt: &impl Abort, history: &History)
     requires { 0 < bidders_in history.now }
 {
@@ -73,7 +73,7 @@ fn check_history(rt: &impl Abort, history: &History)
     assert!(rt; history.package(2, 1).counts() == [1].as_slice());
 }
 
-/// Two rounds of bids, in the second of which demand is no more than supply.
+/// Two rounds of bids. In the second one demand is at most supply.
 fn take_rounds(
     rt: &impl Abort,
     alloc: Global,

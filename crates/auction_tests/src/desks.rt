@@ -30,8 +30,8 @@ fn take_once(rt: &impl Abort, alloc: Global, desk: &mut Desk, event: &Event) -> 
     desk.take(alloc, event)
 }
 
-/// The reply to a line. One that is answered with out of memory is handed in once more, so the replies are those of a desk that never had to
-/// refuse it.
+/// The reply to a line. After the reply out of memory it is taken once more, so the replies are a desk's that never ran out of
+/// memory.
 fn take(rt: &impl Abort, alloc: Global, desk: &mut Desk, event: &Event) -> Reply {
     let reply = take_once(rt, alloc, desk, event);
     if reply == Reply::Memory {
@@ -64,7 +64,7 @@ fn replay_on(
     Ok(text)
 }
 
-/// The reply to a line, and after a close where the desk is.
+/// The reply to a line, and after a close the desk's state.
 fn add_reply(
     rt: &impl Abort,
     text: &mut String,
@@ -81,7 +81,7 @@ fn add_reply(
     Ok(())
 }
 
-/// Where the desk is: its stage, its round and its prices.
+/// The desk's state: its stage, its round and its prices.
 fn add_place(text: &mut String, alloc: Global, desk: &Desk) -> Result<(), Fail> {
     let stage = desk.stage();
     let place = format!(in alloc; " {stage:?} {} {:?}", desk.round(), desk.prices())?;

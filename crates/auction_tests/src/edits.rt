@@ -1,4 +1,4 @@
-// Edits of bidders that the book doesn't have: a review says the same of each, whatever it adds.
+// Edits of bidders that the book doesn't have: a review has one reply to each, whatever it adds.
 use crate::samples::{DAY_CRAMTON, book_of};
 use edits_file::read_edits;
 use review::Edit;

@@ -1,4 +1,4 @@
-// A review of a small book: the values and choices after edits are those of the edited book.
+// A review of a small book: the values and choices after edits match the edited book.
 ghost use Rattle.std.specs.Prelude.{◌≡◌, length};
 ghost use Rattle.review.specs.Edits.{edit_lots};
 
@@ -66,7 +66,7 @@ fn edit_by(alloc: Global, number: u32) -> Result<Edit, LotStop> {
     }
 }
 
-// Whether the value and the choice are those of the book as it is now.
+// Whether the value and the choice match the present book.
 fn is_right(alloc: Global, review: &Review) -> Result<bool, AllocError> {
     let book = review.book();
     let winners = win(alloc, book)?;

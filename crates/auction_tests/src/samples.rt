@@ -1,5 +1,5 @@
-// What several tests share. A test owns few values and lends them to functions that assert: each assert and each `?` beside a value that is owned
-// makes its check dearer.
+// What several tests share. A test owns few values and lends them to functions that assert: each assert and each `?` next to an
+// owned value makes its proof slower.
 ghost use Rattle.std.specs.Prelude.{◌≡◌, IfOk};
 
 use award_file::{Award, read_award};

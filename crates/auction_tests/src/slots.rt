@@ -9,7 +9,7 @@ use std::alloc::{AllocError, Global};
 use std::process::Abort;
 use std::test::Fail;
 
-/// The bids of x and y fit together, and that of z with neither.
+/// The bids of x and y fit together, and z's bid fits with neither.
 const THREE: &str =
     "slots 1\nband 4\nbidder x 2\nplace 1 10\nbidder y 1\nplace 4 8\nbidder z 1\nplace 2 12\nend\n";
 
@@ -130,7 +130,7 @@ fn first_two_win(rt: &impl Abort, chooser: &SlotChooser) {
     assert_eq!(rt; chooser.winner_value(3), 0);
 }
 
-// If x pays 15 for its bid of 10, its surplus is -5, and it counts 5 beside z, which leaves it without a bid.
+// If x pays 15 for its bid of 10, its surplus is -5, and it counts 5 next to z, which leaves it without a bid.
 fn searches(rt: &impl Abort, alloc: Global, chooser: &SlotChooser) -> Result<(), AllocError> {
     let paid = [12i128, 2, 12, 0, 2, 2, 0, 0];
     lowered_is(rt, alloc, chooser, &[6, 6, 0], &[0, 0, 1], 12, &paid)?;

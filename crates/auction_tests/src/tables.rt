@@ -70,7 +70,7 @@ fn a_chooser_searches_at_surpluses(rt: HostRuntime) -> Result<(), AllocError> {
 }
 
 // If a pays 15 for its bid of 10, its surplus is -5, and b's is 9 if it pays 1. So a and b together count 15 and 1, and c
-// alone counts 12 beside the 5 of a that isn't used.
+// counts 12 together with the 5 of a, which isn't used.
 #[test]
 fn a_bidder_that_pays_more_than_its_bid_counts_where_it_is_not_used(
     rt: HostRuntime,
@@ -103,7 +103,7 @@ fn are_values_without(book: &BidBook, sides: &Sides, values: &[i128]) -> bool
     true
 }
 
-// Asserts what a side holds for the first bidders of five and for the last, and the table without the first.
+// Asserts the content of a side for the first bidders of five and for the last, and the table without the first.
 fn are_sides(
     rt: &impl Abort,
     alloc: Global,

@@ -77,7 +77,7 @@ impl Award {
         self.version
     }
 
-    /// Whether the caps of sealed bids count the final cap too, as in an award of version 2.
+    /// Whether the caps of sealed bids include the final cap, which an award of version 2 has.
     pub fn final_cap(&self) -> bool
         ensures { result ≡ final_cap self.now }
     {
@@ -108,7 +108,7 @@ impl Award {
         &self.reserves
     }
 
-    /// The tick, of which each raise of a price is a multiple.
+    /// The tick. Each raise of a price is a multiple of it.
     pub fn tick(&self) -> u64
         ensures tick { result ≡ self.now.tick }
         ensures kept { IsAward self.now }
@@ -153,7 +153,7 @@ impl Award {
         self.bidders.number_of(name)
     }
 
-    /// The points for which bidder `j` is eligible in round 1.
+    /// The eligibility of bidder `j` in round 1, in points.
     pub fn eligibility(&self, j: u16) -> u64
         requires { (1 ≤ j) × (j ≤ length self.now.bidders) }
         ensures eligibility { result ≡ (entrant self.now j).eligibility }

@@ -7,7 +7,7 @@ use indexmap::IndexMap;
 use std::alloc::{AllocError, Global};
 use std::marker::Model;
 
-/// What an award says of a bidder, beside its name.
+/// What an award states for a bidder, without its name.
 #[derive(Drop)]
 pub struct Entrant {
     eligibility: u64,
@@ -113,7 +113,7 @@ impl Entrants {
         self.entry(j).0.as_str()
     }
 
-    /// The points for which bidder `j` is eligible in round 1.
+    /// The eligibility of bidder `j` in round 1, in points.
     pub fn eligibility(&self, j: u16) -> u64
         requires { (1 ≤ j) × (j ≤ length self.now) }
         ensures { result ≡ (bidder_at self.now j).eligibility }

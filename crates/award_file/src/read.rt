@@ -44,7 +44,7 @@ const LAST_VERSION: u64 = 2;
 /// The greatest tick.
 const MOST_TICK: u64 = MOST_PRICE;
 
-/// Why bytes are no award.
+/// Why bytes aren't an award.
 #[derive(Clone, Copy, Debug, PartialEq, Eq)]
 pub enum AwardStop {
     /// They aren't TOML.
@@ -132,7 +132,7 @@ pub fn read_award(alloc: Global, bytes: &[u8]) -> Result<Award, AwardStop>
     }
 }
 
-/// Why bytes are no award for which the reader of TOML has this error. It takes no memory.
+/// Why bytes aren't an award, from this error of the reader of TOML. It takes no memory.
 fn stop_of(error: &Error) -> AwardStop
     ensures { ((result ≡ AwardStop.Memory) × IsMemory error.now)
         ⊎ ((result ≡ AwardStop.Text) × (IsMemory error.now → ⊥)) }

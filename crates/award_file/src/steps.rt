@@ -6,8 +6,8 @@ ghost use Rattle.award_file.specs.Award.{IsSteps, steps_with};
 use std::alloc::{AllocError, Global};
 use std::marker::Model;
 
-/// By how much prices rise: a tick, of which each raise is a multiple, and the thresholds. From a threshold's excess demand on
-/// a price rises by at least its permille, until the next threshold is reached.
+/// By how much prices rise: a tick, whose multiples are the raises, and the thresholds. From a threshold's excess demand on a
+/// price rises by at least its permille, until the next threshold is reached.
 #[derive(Drop)]
 pub struct StepTable {
     tick: u64,

@@ -1,4 +1,4 @@
-// Lists of bidders with their bids, from which a book is made.
+// Lists of bidders with their bids, to make a book.
 ghost use Rattle.std.specs.Prelude.{◌≡◌, ◌∷◌, ◌++◌, [], OnErr, OnOk, map};
 ghost use Rattle.bid_book.specs.Listed.{bidder_of};
 

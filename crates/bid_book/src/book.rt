@@ -121,7 +121,7 @@ impl BidBook {
         Ok(())
     }
 
-    /// Puts a bid after those of the last bidder. The rival is a number that may make it needless, or any other number.
+    /// Puts a bid after the bids of the last bidder. The rival is a number that may make it needless, or any other number.
     pub(crate) fn add_bid(&mut self, entry: Entry, rival: u16) -> Result<(), AllocError>
         requires some { 0 < length self.old.bidders }
         requires kept { IsBookWithinLimits (with_bid self.old (bid_value entry)) }
@@ -135,9 +135,9 @@ impl BidBook {
         Ok(())
     }
 
-    /// Sets the amount of bidder `j` for a package: that of its bid for the package, which keeps its number, or else that of one bid
-    /// more, which is put in the order of packages, so that the later ones move one number up. The condition is that the rules of a
-    /// book then hold. It takes memory only for one bid more, and for want of it the book stays as it is.
+    /// Sets the amount of bidder `j` for a package. Its bid for the package keeps its number. If there is none, a bid is
+    /// inserted in the order of packages, and the later ones move one number up. The condition is that the book then keeps its
+    /// rules. Only a new bid takes memory, and if there is none the book is unchanged.
     pub fn put_bid(&mut self, j: u16, bid: Bid) -> Result<(), AllocError>
         requires bidder { (0 < j) × (j ≤ length self.old.bidders) }
         requires kept { IsBookWithinLimits (with_put self.old j (put_value bid)) }

@@ -1,4 +1,4 @@
-// What holds of the form of a book, regardless of who reads it.
+// What is true for the form of a book, regardless of who reads it.
 ghost use Rattle.std.specs.Prelude.{◌≡◌, ℕ, List};
 ghost use Rattle.line_format.specs.LineText.{Said, Says, stated};
 ghost use Rattle.auction_model.specs.Book.{Book, BookBid};
@@ -6,8 +6,8 @@ ghost use Rattle.book_grammar.specs.BookForm.{IsBook};
 ghost use Rattle.book_grammar.specs.BookLines.{Excess, IsBookWithinLimits, book_lines};
 ghost use Rattle.bid_book.specs.Changes.{CanPut, with_put};
 
-/// Bytes say one thing of a book: a book, where the first faulty line begins, or what exceeds its limit first. So each
-/// answer of `read_book` comes exactly if the bytes say so.
+/// Bytes have one reading as a book: a book, the place of the first faulty line, or what exceeds its limit first. So
+/// `read_book` returns each result exactly if the bytes have this reading.
 pub fn one_book()
     ensures { (bytes : List ℕ) (x y : Said Book Excess) → Says IsBook book_lines bytes x → Says IsBook book_lines bytes y
         → x ≡ y }
@@ -26,7 +26,7 @@ pub fn one_text()
         → Says IsBook book_lines bytes (stated other) → book ≡ other }
 {}
 
-/// The rules of a book go on to hold if a bid that keeps them is put in.
+/// A book keeps its rules if a bid that keeps them is inserted.
 pub fn rules_with_bid()
     ensures { (book : Book) (j : ℕ) (bid : BookBid) → IsBookWithinLimits book → CanPut book j bid
         → IsBookWithinLimits (with_put book j bid) }

@@ -1,4 +1,4 @@
-// Lists of bids and of reserves, from which a book is made.
+// Lists of bids and of reserves, to make a book.
 ghost use Rattle.std.specs.Prelude.{◌≡◌, ◌∷◌, ◌++◌, [], OnErr, OnOk, map};
 ghost use Rattle.bid_book.specs.Lists.{bid_of};
 

@@ -23,13 +23,13 @@ use std::marker::Model;
 /// What the lines so far say.
 #[derive(Drop)]
 pub enum Stage {
-    /// There is no line yet.
+    /// No line so far.
     Start,
     /// The first line.
     Headed,
     /// The first two lines: what is sold.
     Supplied(Supply),
-    /// The first three lines, and those of some bidders with bids.
+    /// The first three lines, and the lines of some bidders with bids.
     Listing(OpenBook),
     /// All lines, the last one too.
     Ended(BidBook),

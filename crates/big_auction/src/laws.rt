@@ -1,4 +1,4 @@
-// What holds of each made auction.
+// What is true for each made auction.
 ghost use Rattle.std.specs.Prelude.{◌≡◌, ◌≤◌, ℕ, IsTrue, List, reverse, true};
 ghost use Rattle.auction_model.specs.Book.{market_of};
 ghost use Rattle.auction_rules.specs.BookOfLog.{book_of_log, is_complete};
@@ -31,7 +31,7 @@ pub fn stated_log()
     written_log();
 }
 
-/// Each line of the log of any number is answered Ok, and the log is complete.
+/// The reply to each line of the log of any number is Ok, and the log is complete.
 pub fn answered_log()
     ensures answered { (number : ℕ) → AreAnsweredOk made_terms (reverse (made_log number)) }
     ensures complete { (number : ℕ) → is_complete made_terms (reverse (made_log number)) ≡ true }

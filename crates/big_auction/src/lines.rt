@@ -86,7 +86,7 @@ pub fn add_close(text: &mut Text) -> Result<(), AllocError>
     Ok(())
 }
 
-/// Adds the lines in which the bidders from the first on bid these packages, one each.
+/// Adds the clock bids of the bidders from the first on for these packages, one each.
 pub fn add_bids(text: &mut Text, packages: &[Lots]) -> Result<(), AllocError>
     requires { length packages.now ≤ 1000 }
     ensures { OnOk result

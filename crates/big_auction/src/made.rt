@@ -33,9 +33,9 @@ pub struct Made {
     pub lines: u64,
 }
 
-/// The auction of a number: the bytes of its award and of its log, each a function of the number alone. The award is lawful and read as
-/// its terms, the log is read as its lines, each of them is answered Ok, the log is complete, and at most four bidders can win. The only
-/// error is out of memory.
+/// The auction of a number: the bytes of its award and of its log, each a function of only the number. The award is lawful and
+/// read as its terms, the log is read as its lines, the reply to each is Ok, the log is complete, and at most four bidders can
+/// win. The only error is out of memory.
 pub fn make(alloc: Global, number: u32) -> Result<Made, AllocError>
     ensures award { IfOk result (λ made. made.award ≡ made_award_text) }
     ensures log { IfOk result (λ made. made.log ≡ log_text (made_log number)) }
@@ -77,7 +77,7 @@ fn draw_packages(alloc: Global, draws: &mut Draws) -> Result<Vec<Lots>, AllocErr
     Ok(packages)
 }
 
-/// Adds the lines of the rounds in which all bidders bid.
+/// Adds the lines of the rounds with bids of all bidders.
 fn add_full_rounds(text: &mut Text, packages: &[Lots]) -> Result<(), AllocError>
     requires { length packages.now ≡ made_bidders }
     ensures { OnOk result (text.new ≡ text.old ++ log_text (full_rounds_for (map counts_of packages.now) full_rounds)) }

@@ -1,4 +1,4 @@
-// What holds of every book.
+// What is true for every book.
 ghost use Rattle.std.specs.Prelude.{IsTrue, List, pos, ℕ, ◌*◌, ◌^◌, ◌≤ℤ◌, ◌≤◌};
 ghost use Rattle.auction_model.specs.Book.{Book, market_of};
 ghost use Rattle.auction_model.specs.Market.{value_of};

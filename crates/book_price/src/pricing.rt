@@ -32,7 +32,7 @@ pub struct PricedBook {
 
 /// The core-selecting prices of the winners of a book, with the certificate that shows them.
 ///
-/// All nine tests of a certificate hold for it, its choices are the first of the greatest, and its tables are exact. It is in
+/// It passes all nine tests of a certificate, its choices are the first of the greatest, and its tables are exact. It is in
 /// lowest terms, and has at most one row for each winner, each with multipliers that aren't both 0.
 ///
 /// `weights` has one weight of 1 to 20 for each bidder.
@@ -56,8 +56,8 @@ pub fn price_book(alloc: Global, book: &BidBook, weights: &[u32]) -> Result<Pric
     priced_book(alloc, book, winners, &whole, weights)
 }
 
-// Takes much room and gives it back untouched. An allocator that goes by what it was given back then keeps smaller
-// pieces, so that a turn's table has the pages of the last one's. If there is no room, nothing is lost.
+// Takes much room and frees it untouched. An allocator that adapts to freed sizes then keeps smaller pieces, so a turn's
+// table reuses the last table's pages. If there is no room, nothing is lost.
 fn keep_pages(alloc: Global) {
     let _room: Result<Vec<u8>, AllocError> = Vec::with_capacity(alloc, ROOM);
 }

@@ -4,7 +4,7 @@ ghost use Rattle.std.specs.Prelude.{◌≡◌, ◌+◌, ◌-◌, ◌++◌, ◌�
 use crate::Failed;
 use std::alloc::{AllocError, Global};
 
-// The first `used` of these bytes are held, and the others are free.
+// The first `used` of these bytes are in use, and the others are free.
 #[derive(Drop)]
 pub(crate) struct Buffer {
     bytes: Vec<u8>,

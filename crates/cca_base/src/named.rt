@@ -35,7 +35,7 @@ pub(crate) trait Named: Drop {
         ensures set { (seen self.new).append_faults ≡ count }
         ensures kept { KeepsButAppends (seen self.old) (seen self.new) };
 
-    // A file on which no call was made. The room is reserved now, if the type reserves one.
+    // A file before its first call. The room is reserved now, if the type reserves one.
     fn with_name(alloc: Global, name: String, room: usize) -> Result<Self, AllocError>
         ensures name { IfOk result (λ file. (seen file).name ≡ string_bytes name) }
         ensures fresh { IfOk result (λ file. seen file ≡ first_seen (string_bytes name) room) };

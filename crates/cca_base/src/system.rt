@@ -1,6 +1,6 @@
-// Files and the output of the system. `calls.rt` and `interrupted.rt` make its calls and are trusted. What follows from the answers is proved:
-// which file a name means (`met.rt`), how a file is opened (`opening.rt`), and what is on the disk before a piece counts as taken
-// (`settling.rt`).
+// Files and the output of the system. `calls.rt` and `interrupted.rt` make its calls and are trusted. What follows from their
+// results is proved: which file a name means (`met.rt`), how a file is opened (`opening.rt`), and what is on the disk before a
+// piece is reported as taken (`settling.rt`).
 
 pub(crate) mod calls;
 pub(crate) mod event;

@@ -1,4 +1,4 @@
-// Calls that were answered, as clauses see them. They take no memory.
+// Calls that returned, as clauses see them. They take no memory.
 ghost use Rattle.std.specs.Prelude.{◌≡◌, List, [], ◌∷◌};
 ghost use Rattle.std.specs.Borrow.{ftrue};
 ghost use Rattle.cca_base.specs.Given.{Given};
@@ -15,7 +15,7 @@ impl Model for Trace {
     ghost also_owns = { λ _. ftrue };
 }
 
-// A call that was answered: its name and place, the length of its buffer, and the bytes that it gave.
+// A call that returned: its name and place, the length of its buffer, and its bytes.
 #[derive(Clone, Copy, Drop)]
 pub(crate) struct Call<'a> {
     pub name: &'a str,

@@ -49,7 +49,7 @@ enum FeedStop {
     TooLong,
 }
 
-// A checker to which the whole file was fed, one piece with each load. A file with more bytes than a certificate may have is too long,
+// A checker after the whole file, one piece with each load. A file with more bytes than a certificate may have is too long,
 // whatever its first bytes say.
 fn feed_file<'a, F: Files>(
     files: &mut F,
@@ -109,7 +109,7 @@ fn status_of_feed(stop: FeedStop) -> Status
     }
 }
 
-// The status of a text that is no certificate.
+// The status of a text that isn't a certificate.
 fn status_of_text(stop: TextStop) -> Status
     ensures { result ≡ text_status stop }
 {
@@ -122,7 +122,7 @@ fn status_of_text(stop: TextStop) -> Status
     }
 }
 
-// Why the text that was fed isn't a certificate for which all tests hold, and nothing if it is. It takes no memory.
+// Why the text that was fed isn't a certificate that passes all tests, and nothing if it is. It takes no memory.
 fn test_cert(checker: &StreamCheck<'_>, room: &[i128]) -> Result<(), Status>
     requires room { length room.now ≡ room_size (bidders_of checker.now.book.now) (states checker.now.book.now) }
     requires stands { (text : List ℕ) × HasTaken checker.now room.now text }
@@ -142,7 +142,7 @@ fn test_cert(checker: &StreamCheck<'_>, room: &[i128]) -> Result<(), Status>
     }
 }
 
-// What the checker answers to which a certificate was fed. Memory is asked for only after all tests hold.
+// The result of the checker for the certificate that was fed. Memory is taken only after all tests pass.
 fn judge_cert(alloc: Global, checker: &StreamCheck<'_>, room: &[i128]) -> Result<CertFacts, Status>
     requires room { length room.now ≡ room_size (bidders_of checker.now.book.now) (states checker.now.book.now) }
     requires stands { (text : List ℕ) × HasTaken checker.now room.now text }
@@ -161,7 +161,7 @@ fn judge_cert(alloc: Global, checker: &StreamCheck<'_>, room: &[i128]) -> Result
     }
 }
 
-// What the file of a certificate shows for whose checker there is room. Memory is asked for only after all tests hold.
+// What the file of a certificate shows, if there is room for its checker. Memory is taken only after all tests pass.
 fn check_file<F: Files>(
     alloc: Global,
     files: &mut F,
@@ -190,9 +190,9 @@ fn check_file<F: Files>(
     }
 }
 
-/// The facts of the certificate that is the file of this known name, checked by the weights from pieces of at most 4,096 bytes, so that no
-/// memory grows with it. Then all tests hold for the certificate that the file states, and its choice and its payments are the core
-/// outcome.
+/// The facts of the certificate that is the file of this known name, checked by the weights from pieces of at most 4,096 bytes,
+/// so that no memory grows with it. Then all tests pass for the certificate that the file states, and its choice and its
+/// payments are the core outcome.
 ///
 /// # Errors
 ///

@@ -39,7 +39,7 @@ fn rounds_part(
     }
 }
 
-/// These lines, after those of the turns if they are asked for.
+/// These lines, after the lines of the turns if they are asked for.
 pub fn after_rounds(
     alloc: Global,
     winners: &Choice,

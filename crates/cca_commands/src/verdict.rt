@@ -1,4 +1,4 @@
-// What a certificate gives for which all tests hold.
+// The output for a certificate that passes all tests.
 ghost use Rattle.std.specs.Prelude.{◌≡◌, ◌++◌, List, ℕ, [], IfOk, codes};
 ghost use Rattle.auction_model.specs.Prices.{weight_of};
 ghost use Rattle.cert_summary.specs.Facts.{AreFacts};
@@ -33,7 +33,8 @@ fn yes_text(alloc: Global, book: &BidBook, facts: &CertFacts) -> Result<Text, Al
     after_yes(alloc, &outcome)
 }
 
-/// What a certificate with these facts gives for which all tests hold.
+/// The output for a certificate with these facts that passes all
+/// tests.
 pub fn accepted(alloc: Global, book: &BidBook, facts: &CertFacts) -> Result<Work, Stop>
     requires { (c : CertValue) × AreFacts book.now c facts.now }
     ensures { (weights : List ℕ) (c : CertValue) → Holds book.now (weight_of weights) c

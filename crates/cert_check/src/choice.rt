@@ -10,7 +10,7 @@ use crate::judging::number;
 use bid_book::BidBook;
 use choices::{are_within, value_among};
 
-/// The first place at which C2 fails of a certificate with this choice and this value.
+/// The first place where C2 fails for a certificate with this choice and this value.
 pub fn choice_test(book: &BidBook, choice: &[u16], claimed: i128) -> Option<u64>
     requires count { length choice.now ≡ bidders_of book.now }
     ensures { (c : CertValue) → c.choice ≡ choice.now → c.value ≡ claimed → IsFirstFailing (C2 book.now c) result }
@@ -23,7 +23,7 @@ pub fn choice_test(book: &BidBook, choice: &[u16], claimed: i128) -> Option<u64>
     None
 }
 
-/// Whether C2 holds at a place: a bidder's number, the package of all, the value.
+/// Whether C2 is true at a place: a bidder's number, the package of all, the value.
 fn choice_holds(book: &BidBook, choice: &[u16], claimed: i128, place: u16) -> bool
     requires count { length choice.now ≡ bidders_of book.now }
     requires place { (0 < place) × (place ≤ bidders_of book.now + 2) }

@@ -6,7 +6,8 @@ ghost use Rattle.cert_check.specs.Head.{IsHead};
 use crate::judging::number;
 use bid_book::BidBook;
 
-/// The denominator, the value and the choice of a certificate of a book whose first three tests hold.
+/// The denominator, the value and the choice of a certificate of a book that passes the first three
+/// tests.
 #[derive(Drop)]
 pub struct Claim<'a> {
     pub book: &'a BidBook,

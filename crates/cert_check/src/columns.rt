@@ -13,11 +13,11 @@ use crate::sums::members::is_among;
 pub struct MultiplierColumn<'a> {
     /// The multiplier of each row.
     pub numbers: &'a [i128],
-    /// For each bidder the sum over the rows that hold it.
+    /// For each bidder the sum over the rows that contain it.
     pub sums: &'a [i128],
 }
 
-/// Adds a multiplier of one more row to the sums of its members. Each sum is that of fewer than 16 rows.
+/// Adds a multiplier of one more row to the sums of its members. Each sum is over fewer than 16 rows.
 pub fn add_row(sums: &mut [i128], members: &[u16], multiplier: i128)
     requires room { length sums.old ≤ MOST_BIDDERS }
     requires sizes { (k : ℕ) → unsigned_abs (nth sums.old k) ≤ 15 * 2 ^ 120 }

@@ -9,7 +9,7 @@ ghost use Rattle.cert_check.specs.Verdicts.{IsVerdict};
 
 use crate::Verdict;
 
-/// The first test that fails, and the first place at which it does.
+/// The first test that fails, and the first place where it does.
 #[derive(Clone, Copy, Debug, PartialEq, Eq)]
 pub struct Failure {
     /// The number of the test.
@@ -18,8 +18,7 @@ pub struct Failure {
     pub place: u64,
 }
 
-/// What fails first after a test, of which this is the first place at which it fails: the test at this place, and nothing if
-/// there is none.
+/// The failure of a test with this first failing place: the test at this place, and nothing if there is none.
 pub fn failure_of(test: u8, found: Option<u64>) -> Option<Failure>
     requires test { test < 10 }
     ensures judged { (book : Book) (w : ℕ → ℕ) (c : CertValue) → HoldsTo book w c test 0

@@ -1,4 +1,4 @@
-// What a book says of the numbers of a choice, bidder by bidder.
+// Whether the numbers of a choice are a book's, bidder by bidder.
 ghost use Rattle.std.specs.Prelude.{◌≡◌, ◌≤◌, ◌<◌, length, IsTrue, ◌↔◌};
 ghost use Rattle.auction_model.specs.Market.{number_of};
 ghost use Rattle.auction_model.specs.Book.{market_of};

@@ -16,7 +16,7 @@ use crate::claim::Claim;
 use crate::columns::MultiplierColumn;
 use crate::sums::amounts::{is_equal, times, won};
 
-/// The first place at which C7 fails of a certificate with these first multipliers.
+/// The first place where C7 fails for a certificate with these first multipliers.
 pub fn first_test(claim: &Claim, first: &MultiplierColumn) -> Option<u64>
     requires few { length first.now.numbers.now ≤ 10 }
     requires sums { bidders_of claim.now.book.now ≤ length first.now.sums.now }
@@ -32,7 +32,7 @@ pub fn first_test(claim: &Claim, first: &MultiplierColumn) -> Option<u64>
     None
 }
 
-/// Whether C7 holds at a place: a row's sign, or a winner's sum.
+/// Whether C7 is true at a place: a row's sign, or a winner's sum.
 fn first_holds(claim: &Claim, first: &MultiplierColumn, place: u16) -> bool
     requires few { length first.now.numbers.now ≤ 10 }
     requires sums { bidders_of claim.now.book.now ≤ length first.now.sums.now }
@@ -57,7 +57,7 @@ pub fn is_first(first: i128) -> bool
     first >= 0
 }
 
-/// Whether the sum of the first multipliers of the rows that hold bidder `j` is the denominator, if it wins.
+/// Whether the sum of the first multipliers of the rows that contain bidder `j` is the denominator, if it wins.
 pub(crate) fn is_least(claim: &Claim, sum: i128, j: u16) -> bool
     requires { (0 < j) × (j ≤ bidders_of claim.now.book.now) }
     ensures { IsTrue result ↔ (IsTrue (uses claim.now.choice.now j) → sum ≡ claim.now.den) }
@@ -68,7 +68,7 @@ pub(crate) fn is_least(claim: &Claim, sum: i128, j: u16) -> bool
     is_equal(sum, claim.den)
 }
 
-/// The first place at which C8 fails of a certificate with these payments and multipliers, if the choices without the winners
+/// The first place where C8 fails for a certificate with these payments and multipliers, if the choices without the winners
 /// have these values.
 pub fn second_test(
     claim: &Claim,
@@ -99,7 +99,7 @@ pub fn second_test(
     None
 }
 
-/// Whether C8 holds at a place: a row's sign, or a winner's sum.
+/// Whether C8 is true at a place: a row's sign, or a winner's sum.
 fn second_holds(
     claim: &Claim,
     pay: &[i128],
@@ -144,7 +144,7 @@ pub fn is_signed(first: i128, second: i128) -> bool
 }
 
 /// Whether what bidder `j` pays above its Vickrey price is its weight times the sum of the second multipliers of the rows that
-/// hold it, if it wins. The choice without it has this value.
+/// contain it, if it wins. The choice without it has this value.
 pub(crate) fn is_nearest(
     claim: &Claim,
     payment: i128,

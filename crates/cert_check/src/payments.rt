@@ -8,7 +8,7 @@ ghost use Rattle.cert_soundness.specs.Tests.{C5, bidders_of};
 use crate::claim::Claim;
 use crate::sums::amounts::{is_between, times, won};
 
-/// The first place at which C5 fails of a certificate with these payments.
+/// The first place where C5 fails for a certificate with these payments.
 pub fn payments_test(claim: &Claim, pay: &[i128]) -> Option<u64>
     requires count { length pay.now ≡ bidders_of claim.now.book.now }
     ensures { (c : CertValue) → IsOf claim.now c → c.pay ≡ pay.now → IsFirstFailing (C5 claim.now.book.now c) result }

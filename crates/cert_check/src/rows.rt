@@ -27,7 +27,7 @@ pub fn row_holds(claim: &Claim, pay: &[i128], members: &[u16], choice: &[u16]) -
     pays_tightly(claim, pay, members, choice)
 }
 
-/// Whether the row holds, for the certificate and the row of these numbers alone.
+/// Whether the test is true for the row, for the certificate and the row of only these numbers.
 fn pays_tightly(claim: &Claim, pay: &[i128], members: &[u16], choice: &[u16]) -> bool
     requires pay { (length pay.now ≡ bidders_of claim.now.book.now) × AllInRange pay.now }
     requires members { AreMembers (bidders_of claim.now.book.now) 0 members.now }

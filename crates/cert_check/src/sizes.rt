@@ -5,14 +5,14 @@ ghost use Rattle.cert_grammar.specs.Certificate.{CertValue};
 ghost use Rattle.cert_soundness.specs.Tests.{C1};
 ghost use Rattle.cert_check.specs.Fields.{cert_of};
 
-/// The first place at which C1 fails of a certificate with this denominator and this value.
+/// The first place where C1 fails for a certificate with this denominator and this value.
 pub fn sizes_test(den: i128, value: i128) -> Option<u64>
     ensures { (c : CertValue) → c.den ≡ den → c.value ≡ value → IsFirstFailing (C1 c) result }
 {
     size_fault(den, value)
 }
 
-/// Where the sizes fail their test, for the certificate of these numbers alone.
+/// The place where the sizes fail their test, for the certificate of only these numbers.
 fn size_fault(den: i128, value: i128) -> Option<u64>
     ensures { IsFirstFailing (C1 (cert_of den value [] [] [] [])) result }
 {

@@ -3,8 +3,8 @@
 /// Whether a certificate shows what it says.
 #[derive(Clone, Copy, Debug, PartialEq, Eq)]
 pub enum Verdict {
-    /// All tests hold.
+    /// All tests pass.
     Yes,
-    /// This test, of 1 to 9, is the first that fails, and this is the first of its places at which it does.
+    /// This test, of 1 to 9, is the first that fails, and this is the first place where it does.
     No { test: u8, place: u64 },
 }

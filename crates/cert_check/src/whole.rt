@@ -1,4 +1,4 @@
-//! `check`: the nine tests over a certificate that is held.
+//! `check`: the nine tests over a certificate in memory.
 ghost use Rattle.std.specs.Prelude.{◌≡◌, ◌<◌, ◌≤◌, ℕ};
 ghost use Rattle.cert_check.specs.Fields.{IsOf};
 ghost use Rattle.cert_check.specs.Head.{HoldsUpTo};
@@ -36,9 +36,9 @@ use limits::MOST_ROWS;
 
 /// Tests a certificate of a book.
 ///
-/// `Yes` comes exactly if all nine tests hold, and then the choice is the winning one, and with the payments it is the core
-/// outcome for these weights. Else the answer is the first test that fails, with the first place at which it does. There is one
-/// weight of 1 to 20 for each bidder, and the certificate is for as many bidders and states as the book has. It takes no
+/// `Yes` is returned exactly if all nine tests pass, and then the choice is the winning one, and with the payments it is the
+/// core outcome for these weights. Else the result is the first test that fails, with the first place where it does. There is
+/// one weight of 1 to 20 for each bidder, and the certificate is for as many bidders and states as the book has. It takes no
 /// memory.
 pub fn check(book: &BidBook, cert: &Certificate, weights: &[u32]) -> Verdict
     requires shape { IsFor (bidders_of book.now) (states book.now) cert.now }
@@ -55,7 +55,7 @@ pub fn check(book: &BidBook, cert: &Certificate, weights: &[u32]) -> Verdict
     Verdict::Yes
 }
 
-/// The first place at which a test of 1 to 9 fails, once those before it hold.
+/// The first place where a test of 1 to 9 fails, once the tests before it pass.
 fn first_failing(book: &BidBook, cert: &Certificate, weights: &[u32], test: u8) -> Option<u64>
     requires shape { IsFor (bidders_of book.now) (states book.now) cert.now }
     requires weights { AreWeights (bidders_of book.now) weights.now }
@@ -71,7 +71,7 @@ fn first_failing(book: &BidBook, cert: &Certificate, weights: &[u32], test: u8) 
     }
 }
 
-/// The place at which a test after the third fails.
+/// The place where a test after the third fails.
 fn claim_failing(book: &BidBook, cert: &Certificate, weights: &[u32], test: u8) -> Option<u64>
     requires shape { IsFor (bidders_of book.now) (states book.now) cert.now }
     requires weights { AreWeights (bidders_of book.now) weights.now }
@@ -89,7 +89,7 @@ fn claim_failing(book: &BidBook, cert: &Certificate, weights: &[u32], test: u8) 
     later_failing(&claim, cert, weights, test)
 }
 
-/// The place at which a test after the third fails, for the claim of the certificate.
+/// The place where a test after the third fails, for the claim of the certificate.
 fn later_failing(claim: &Claim, cert: &Certificate, weights: &[u32], test: u8) -> Option<u64>
     requires shape { IsFor (bidders_of claim.now.book.now) (states claim.now.book.now) cert.now }
     requires claim { IsOf claim.now (cert_value cert.now) }
@@ -110,7 +110,7 @@ fn later_failing(claim: &Claim, cert: &Certificate, weights: &[u32], test: u8) -
     }
 }
 
-/// The first place at which C7 fails.
+/// The first place where C7 fails.
 fn least_failing(claim: &Claim, cert: &Certificate) -> Option<u64>
     requires shape { IsFor (bidders_of claim.now.book.now) (states claim.now.book.now) cert.now }
     requires claim { IsOf claim.now (cert_value cert.now) }
@@ -130,7 +130,7 @@ fn least_failing(claim: &Claim, cert: &Certificate) -> Option<u64>
     first_test(claim, &first)
 }
 
-/// The first place at which C8 fails.
+/// The first place where C8 fails.
 fn nearest_failing(claim: &Claim, cert: &Certificate, weights: &[u32]) -> Option<u64>
     requires shape { IsFor (bidders_of claim.now.book.now) (states claim.now.book.now) cert.now }
     requires claim { IsOf claim.now (cert_value cert.now) }

@@ -52,7 +52,7 @@ fn long_cert(alloc: Global, cert: &Certificate) -> Result<LongText, AllocError>
     Ok(long)
 }
 
-// Turns the empty text into that of a certificate.
+// Fills the empty text with the text of a certificate.
 fn add_cert(alloc: Global, long: &mut LongText, cert: &Certificate) -> Result<(), AllocError>
     requires { long.old ≡ [] }
     ensures { OnOk result (long.new ≡ cert_text (cert_value cert.now)) }
@@ -66,7 +66,7 @@ fn add_cert(alloc: Global, long: &mut LongText, cert: &Certificate) -> Result<()
     Ok(())
 }
 
-// The lines up to those of the table.
+// The lines up to the table's lines.
 fn add_opening(alloc: Global, long: &mut LongText, cert: &Certificate) -> Result<(), AllocError>
     ensures { OnOk result (AddsLines long.old long.new (lines_to_table cert.now)) }
 {
@@ -116,7 +116,7 @@ fn add_part(alloc: Global, long: &mut LongText, part: &WithoutPart) -> Result<()
     Ok(())
 }
 
-// The lines of a part up to those of its table.
+// The lines of a part up to its table's lines.
 fn part_text(alloc: Global, part: &WithoutPart) -> Result<Text, AllocError>
     ensures { IfOk result (λ text. text ≡ bytes_of (lines_to_part_table part.now)) }
 {
@@ -127,7 +127,7 @@ fn part_text(alloc: Global, part: &WithoutPart) -> Result<Text, AllocError>
     Ok(text)
 }
 
-// The lines between the parts and those of the lowered table.
+// The lines between the parts and the lowered table's lines.
 fn add_between(alloc: Global, long: &mut LongText, cert: &Certificate) -> Result<(), AllocError>
     ensures { OnOk result (AddsLines long.old long.new (lines_to_lowered cert.now)) }
 {

@@ -1,4 +1,4 @@
-// Texts that are held as parts.
+// Texts that are kept as parts.
 ghost use Rattle.std.specs.Prelude.{◌≡◌, ◌++◌, [], IfOk, OnOk};
 ghost use Rattle.cert_grammar.specs.CertText.{table_lines};
 ghost use Rattle.cert_text.specs.Written.{bytes_of, IsTableInRange};
@@ -10,7 +10,7 @@ use std::alloc::{AllocError, Global};
 use std::marker::Model;
 use wide_num::Text;
 
-/// A text that is held as parts, and as its bytes only if it is short.
+/// A text that is kept as parts, and as its bytes only if it is short.
 #[derive(Drop)]
 pub struct LongText {
     parts: Vec<Part>,
@@ -37,7 +37,7 @@ impl LongText {
         }
     }
 
-    /// The long text that holds these bytes. The only error is out of memory.
+    /// The long text of these bytes. The only error is out of memory.
     pub fn from_text(alloc: Global, text: Text) -> Result<LongText, AllocError>
         ensures { IfOk result (λ long. long ≡ text) }
     {

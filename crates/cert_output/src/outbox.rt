@@ -6,8 +6,8 @@ use crate::CutShort;
 use crate::room::put_at;
 use cca_base::{Files, write_file};
 
-/// Adds bytes after the first `waiting` ones of the room, and says how many wait there now. If there is no place for them, those
-/// that wait are appended before.
+/// Adds bytes after the first `waiting` ones of the room, and returns how many wait there now. If they don't fit, the waiting
+/// bytes are appended first.
 pub(crate) fn add_bytes<F: Files>(
     files: &mut F,
     name: &str,

@@ -66,7 +66,7 @@ fn spell_wide(room: &mut [u8], numbers: &[i128]) -> usize
     start
 }
 
-/// Puts a number after one space before what stands from `end` on, and says where the space is.
+/// Puts a number after one space before the bytes from `end` on, and returns the place of the space.
 fn put_natural(room: &mut [u8], end: usize, number: u64) -> usize
     requires { (21 ≤ end) × (end ≤ length room.old) }
     ensures start { (result < end) × (end ≤ result + 21) }
@@ -77,7 +77,7 @@ fn put_natural(room: &mut [u8], end: usize, number: u64) -> usize
     start
 }
 
-/// Spells a number of the range, with its sign, before `end`. Gives where it begins.
+/// Spells a number of the range, with its sign, before `end`. Returns where it begins.
 fn put_number(room: &mut [u8], end: usize, number: i128) -> usize
     requires end { (41 ≤ end) × (end ≤ length room.old) }
     requires range { InRange number }
@@ -90,7 +90,7 @@ fn put_number(room: &mut [u8], end: usize, number: i128) -> usize
     }
 }
 
-/// Spells any number, with its sign, before `end`. Gives where it begins.
+/// Spells any number, with its sign, before `end`. Returns where it begins.
 fn put_signed(room: &mut [u8], end: usize, number: i128) -> usize
     requires { (41 ≤ end) × (end ≤ length room.old) }
     ensures start { (result < end) × (end ≤ result + 41) }

@@ -20,8 +20,7 @@ pub struct CutShort;
 // That many bytes are appended at once, if there are as many.
 const ROOM: usize = 262_144;
 
-/// Adds the whole text to the end of the file of this known name, and a missing file counts as empty.
-/// Takes no memory.
+/// Adds the whole text to the end of the file of this known name. A missing file is treated as empty. Takes no memory.
 ///
 /// # Errors
 ///
@@ -98,7 +97,7 @@ fn write_through<F: Files>(
     }
 }
 
-/// Adds the parts to a room in which none wait, and says how many bytes wait there then.
+/// Adds the parts to a room without waiting bytes, and returns how many bytes wait there then.
 fn add_parts<F: Files>(
     files: &mut F,
     name: &str,

@@ -3,11 +3,11 @@
 /// One of the tables of a certificate.
 #[derive(Clone, Copy, Debug, PartialEq, Eq)]
 pub enum Table {
-    /// That of the winning choice.
+    /// The table of the winning choice.
     Head,
-    /// That without this winner.
+    /// The table without this winner.
     Part(u16),
-    /// That of the lowered worths.
+    /// The table of the lowered worths.
     Lowered,
 }
 
@@ -16,7 +16,7 @@ pub enum Table {
 pub enum NextLine {
     /// The number of the version.
     Version,
-    /// How many bidders and states there may be, in the second version alone.
+    /// How many bidders and states there may be, only in the second version.
     Limits,
     /// The denominator.
     Den,
@@ -40,7 +40,7 @@ pub enum NextLine {
     Members(u16),
     /// The two multipliers of a row.
     Multipliers(u16),
-    /// The choice that gives the bound of a row.
+    /// The choice that determines the bound of a row.
     RowChoice(u16),
     /// The last line.
     End,

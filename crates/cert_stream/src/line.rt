@@ -36,12 +36,12 @@ pub(crate) enum Outcome {
     Open,
     /// It is whole.
     Whole,
-    /// It is no line of its kind.
+    /// It isn't a line of its kind.
     Fault,
 }
 
 impl LinePart {
-    /// A line of which nothing was read.
+    /// A line before its first byte.
     pub(crate) fn new() -> LinePart
         ensures { (word : List ℕ) (form : Form) (out : List ℤ) → IsPart word form result out [] }
     {
@@ -109,7 +109,8 @@ impl LinePart {
         true
     }
 
-    /// Takes what is at the start of a piece and needs no step for each byte: whole numbers, and then digits. Gives where they end.
+    /// Takes what is at the start of a piece and needs no step for each byte: whole numbers, and then digits. Returns where
+    /// they end.
     pub(crate) fn take_front(
         &mut self,
         form: Form,
@@ -130,7 +131,8 @@ impl LinePart {
         self.take_digits(piece, mid)
     }
 
-    /// Takes the whole numbers at the start of a piece, where one has to begin in a line of signed ones. Gives where they end.
+    /// Takes the whole numbers at the start of a piece, where one has to begin in a line of signed ones. Returns where they
+    /// end.
     fn take_fields(&mut self, form: Form, out: &mut [i128], piece: &[u8], at: usize) -> usize
         requires room { room_for form ≤ length out.old }
         requires at { at ≤ length piece.now }
@@ -152,7 +154,7 @@ impl LinePart {
         fields.end
     }
 
-    /// Takes the digits at the start of a piece, if the line is in a number. Gives where they end.
+    /// Takes the digits at the start of a piece, if the line is in a number. Returns where they end.
     pub(crate) fn take_digits(&mut self, piece: &[u8], at: usize) -> usize
         requires { at ≤ length piece.now }
         ensures from { at ≤ result }
@@ -177,7 +179,7 @@ impl LinePart {
     }
 }
 
-/// A line after more bytes: what it is then, and where the byte stands that made it whole or wrong, or where the piece ends.
+/// A line after more bytes: what it is then, and the place of the byte that made it whole or wrong, or the end of the piece.
 #[derive(Clone, Copy)]
 pub(crate) struct LineRead {
     pub(crate) part: LinePart,
@@ -224,7 +226,7 @@ pub(crate) fn read_line(
     }
 }
 
-/// Puts a number at a place. Gives the next place.
+/// Puts a number at a place. Returns the next place.
 fn store(out: &mut [i128], at: usize, number: i128) -> usize
     requires { at < length out.old }
     ensures next { result ≡ at + 1 }

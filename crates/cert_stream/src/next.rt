@@ -87,7 +87,7 @@ fn next_entries(shape: Shape, choice: &[i128], table: Table, k: u16) -> NextLine
     after_table_line(shape, choice, table)
 }
 
-/// The first line after the parts of the first `from` bidders: that of the next part, or the payments.
+/// The first line after the parts of the first `from` bidders: the next part's line, or the payments.
 fn next_part(shape: Shape, choice: &[i128], from: u16) -> NextLine
     requires from { from ≤ shape.bidders }
     requires choice { length choice.now ≡ shape.bidders }

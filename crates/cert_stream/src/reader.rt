@@ -24,7 +24,7 @@ use cert_text::Shape;
 pub struct Reader {
     /// For how many bidders and states it is.
     pub shape: Shape,
-    /// The line that is to come, or of which a part came.
+    /// The line that is to come, or has come in part.
     pub due: NextLine,
     /// How far that line has come.
     pub(crate) part: LinePart,
@@ -48,7 +48,7 @@ pub enum Progress {
 impl Reader {
     ghost use Rattle.cert_stream.specs.Standing.{StandsFor, StandsBehind, EndsBehind};
 
-    /// A reader to which nothing was fed. It leaves the room as it is.
+    /// A reader before its first piece. It leaves the room unchanged.
     pub fn start(shape: Shape) -> Reader
         ensures stands { (room : List ℤ) → StandsFor result room [] }
         ensures fresh { (room : List ℤ) → StandsBehind result room [] [] }
@@ -84,8 +84,8 @@ impl Reader {
         }
     }
 
-    /// Whether the text for which the reader stands is the text of a certificate. Errors: `Form` and `Range` with the byte where the
-    /// first faulty line begins, as `read_cert` says them of the whole text.
+    /// Whether the text that was fed to the reader is the text of a certificate. Errors: `Form` and `Range` with the byte where
+    /// the first faulty line begins, as for `read_cert` on the whole text.
     pub fn finish(&self) -> Result<(), TextStop>
         ensures says { (room : List ℤ) (text : List ℕ) → StandsFor self.now room text
             → OnOk result ((c : CertValue) × CertSays self.now.shape.bidders self.now.shape.states text (stated c)) }
@@ -102,7 +102,7 @@ impl Reader {
         Ok(())
     }
 
-    /// Feeds the bytes of a piece from a place on, up to the end of the line at most. Gives the place after them.
+    /// Feeds the bytes of a piece from a place on, up to the end of the line at most. Returns the place after them.
     fn feed_line(&mut self, room: &mut [i128], piece: &[u8], at: usize) -> usize
         requires room { length room.old ≡ room_size self.old.shape.bidders self.old.shape.states }
         requires stands { (text : List ℕ) × StandsFor self.old room.old text
@@ -125,8 +125,8 @@ impl Reader {
         }
     }
 
-    /// Reads on in the line that is due, from a place of a piece on, up to the end of the line at most. A line that came whole is
-    /// left to `end_line`. The room keeps all numbers but those of the line.
+    /// Reads on in the line that is due, from a place of a piece on, up to the end of the line at most. A line that came whole
+    /// is left to `end_line`. The room keeps all numbers except the line's.
     pub fn read_on(&mut self, room: &mut [i128], piece: &[u8], at: usize) -> Progress
         requires room { length room.old ≡ room_size self.old.shape.bidders self.old.shape.states }
         requires stands { (text : List ℕ) × StandsFor self.old room.old text

@@ -1,4 +1,4 @@
-// Where the numbers of a line are in the room.
+// The places of the numbers of a line in the room.
 ghost use Rattle.std.specs.Prelude.{◌≡◌, ◌≢◌, ◌≤◌, ◌<◌, ◌+◌, ◌^◌, ℕ, List, length, take, drop};
 ghost use Rattle.cert_grammar.specs.Lines.{is_first_version};
 ghost use Rattle.cert_stream.specs.Dues.{word_of, title_of, version_number, IsDue};
@@ -99,7 +99,7 @@ fn entries_start(bidders: usize, states: usize, k: u16) -> usize
     bidders * bidders + 4 * bidders + 34 + (k as usize % 2) * states
 }
 
-/// Where the numbers of the rows begin, 30 that the reader leaves alone.
+/// Where the numbers of the rows begin, 30 that the reader doesn't use.
 pub fn rows_start(shape: Shape) -> usize
     ensures { result ≡ rows_start shape.bidders }
 {
@@ -116,7 +116,7 @@ pub struct Span {
     pub end: usize,
 }
 
-/// Where the numbers of a line stand, as many as it may have.
+/// The places of the numbers of a line, as many as it may have.
 pub fn numbers_span(due: NextLine, shape: Shape) -> Span
     requires { IsDue shape.bidders due }
     ensures start { result.start ≡ start_due shape.bidders shape.states due }

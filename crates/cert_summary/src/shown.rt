@@ -22,13 +22,13 @@ pub struct CertFacts {
     pub value: i128,
     /// The winning choice, one number for each bidder.
     pub choice: Choice,
-    /// Each winner alone, in order: its Vickrey price by the part without it, and the choice of that part.
+    /// The single winners, in order: the Vickrey price by the part without the winner, and this part's choice.
     pub singles: Singles,
     /// What each bidder pays, times the denominator.
     pub pay: NumList,
 }
 
-/// The facts of a certificate of the book. Of its tests those hold on which they rest: the sizes, the choice, the parts without each
+/// The facts of a certificate of the book. It passes the tests that they rest on: the sizes, the choice, the parts without each
 /// winner, and the payments. The only error is out of memory.
 pub fn facts(alloc: Global, book: &BidBook, cert: &Certificate) -> Result<CertFacts, AllocError>
     requires has { HasFacts book.now (cert_value cert.now) }
@@ -43,7 +43,7 @@ pub fn facts(alloc: Global, book: &BidBook, cert: &Certificate) -> Result<CertFa
     })
 }
 
-// The winner of each part alone, in order.
+// The single winner of each part, in order.
 fn singles(alloc: Global, book: &BidBook, cert: &Certificate) -> Result<Singles, AllocError>
     requires { HasFacts book.now (cert_value cert.now) }
     ensures { IfOk result
@@ -56,7 +56,7 @@ fn singles(alloc: Global, book: &BidBook, cert: &Certificate) -> Result<Singles,
     Ok(singles)
 }
 
-// The winner of this part alone.
+// The single winner of this part.
 fn single(
     alloc: Global,
     book: &BidBook,

@@ -1,6 +1,6 @@
-// Lists of winners, each alone.
+// Lists of single winners.
 use choices::Single;
 use wide_num::ItemList;
 
-/// The winners of a choice, each alone, in order.
+/// The single winners of a choice, in order.
 pub type Singles = ItemList<Single>;

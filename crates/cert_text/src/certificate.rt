@@ -1,4 +1,4 @@
-// What a certificate holds.
+// The content of a certificate.
 ghost use Rattle.std.specs.Prelude.{◌≡◌, ◌≢◌, length, map, IfSome, IfNone};
 ghost use Rattle.std.specs.List.{AllByRecursion};
 ghost use Rattle.auction_model.specs.Place.{states_of};
@@ -55,7 +55,7 @@ pub struct CertRow {
     pub first: i128,
     /// The multiplier that shows the nearest point, times the denominator.
     pub second: i128,
-    /// The choice that gives the sum.
+    /// The choice with this sum.
     pub choice: Choice,
 }
 
@@ -77,7 +77,7 @@ pub struct Certificate {
     pub pay: NumList,
     /// The rows.
     pub rows: CertRows,
-    /// The table of the net amounts times the denominator, those of each winner lowered by what it gains.
+    /// The table of the net amounts times the denominator, each winner's lowered by its surplus.
     pub lowered: Grid,
     pub ghost rules: { IsCertificate (length choice) (width_of table)
         (cert_from den value choice table withouts pay rows lowered) } by { IsCertificate-prop (length choice)

@@ -64,8 +64,8 @@ fn add_piece(text: &mut Text, numbers: &[i128]) -> Result<(), AllocError>
     }
 }
 
-/// Puts numbers at the end of a room, each after one space, and says where they begin; None if one is below 0 or has
-/// more than 64 bits.
+/// Puts numbers at the end of a room, each after one space, and returns where they begin, or None if one is below 0 or
+/// has more than 64 bits.
 fn put_fields(room: &mut [u8], numbers: &[i128]) -> Option<usize>
     requires { 21 * length numbers.now ≤ length room.old }
     ensures within { IfSome result (λ start. start ≤ length room.old) }
@@ -87,7 +87,7 @@ fn short(number: i128) -> Option<u64>
     u64::try_from(number).ok()
 }
 
-/// Puts a number after one space before what stands from `end` on, and says where the space is.
+/// Puts a number after one space before the bytes from `end` on, and returns the place of the space.
 fn put_field(room: &mut [u8], end: usize, number: u64) -> usize
     requires { (21 ≤ end) × (end ≤ length room.old) }
     ensures start { (result < end) × (end ≤ result + 21) }

@@ -93,8 +93,9 @@ fn add_known_table(
     Ok(())
 }
 
-/// Which line of the table of all bids is that of the table without a winner: from its own on each is the same, and the
-/// one before has its bids left out. Before that none is.
+/// The line of the table of all bids that equals this line of the table without a winner. Each line from the winner's
+/// own on equals the line of its number. The line before leaves the winner's bids out, so it equals the winner's own.
+/// No earlier line is equal.
 fn same_place(winner: usize, line: usize) -> usize {
     if line >= winner {
         line

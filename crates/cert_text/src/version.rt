@@ -15,7 +15,7 @@ pub fn has_first_version(bidders: usize, states: usize) -> bool
     bidders <= FIRST_VERSION_BIDDERS && states as u64 <= FIRST_VERSION_STATES
 }
 
-/// Reads the lines that give the version. Gives the place of the next line.
+/// Reads the lines that state the version. Returns the place of the next line.
 pub(crate) fn take_version(alloc: Global, bytes: &[u8], shape: Shape) -> Result<usize, CertStop>
     ensures leads { IfOk result
         (λ next. Leads bytes.now 0 (version_plan shape.bidders shape.states) next []
@@ -31,7 +31,7 @@ pub(crate) fn take_version(alloc: Global, bytes: &[u8], shape: Shape) -> Result<
     Ok(next)
 }
 
-/// Reads the lines that give the second version and its limits.
+/// Reads the lines that state the second version and its limits.
 fn take_second_version(alloc: Global, bytes: &[u8]) -> Result<usize, CertStop>
     ensures leads { IfOk result
         (λ next. Leads bytes.now 0 (map just_line (version_of false)) next [] (version_of false)) }

@@ -20,7 +20,7 @@ use line_format::add_numbers;
 use std::alloc::{AllocError, Global};
 use wide_num::Text;
 
-// That many bytes are enough for all lines but those of tables.
+// That many bytes are enough for all lines except the tables' lines.
 const SHORT_LINES: usize = 16_384;
 
 /// The one text of a certificate. The only error is out of memory.

@@ -62,7 +62,7 @@ impl Numbers {
         Ok(())
     }
 
-    /// Sets the number at a place, which is counted from 0. It takes no memory.
+    /// Sets the number at a place, counted from 0. It takes no memory.
     pub fn set(&mut self, place: usize, item: u16)
         requires { place < length self.old }
         ensures { self.new ≡ slice_set self.old place item }

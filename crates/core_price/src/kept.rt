@@ -8,7 +8,7 @@ use crate::{PricedRow, RowList};
 use nearest_point::Nearest;
 use std::alloc::{AllocError, Global};
 
-/// The rows whose multipliers aren't both 0, in the order in which they came.
+/// The rows whose multipliers aren't both 0, in the order of their arrival.
 pub(crate) fn kept_rows(
     alloc: Global,
     asked: &Constraints,

@@ -9,13 +9,13 @@ use far_num::Row;
 use std::alloc::AllocError;
 use wide_num::NumList;
 
-/// A row with the choice that gives it, and its multipliers at the last point.
+/// A row with its choice, and its multipliers at the last point.
 #[derive(Drop)]
 pub struct PricedRow {
     /// The winners of the row, and the least that they have to pay together, net. Bit `i` stands for the winner `i + 1` in
     /// order.
     pub row: Row,
-    /// A choice that uses none of them and gives the row its bound.
+    /// A choice that uses none of them and determines the row's bound.
     pub choice: Choice,
     /// The multiplier that shows the least sum, times the denominator.
     pub first: i128,
@@ -41,7 +41,7 @@ pub struct Priced<T> {
     pub den: i128,
     /// One net payment for each winner in order, times the denominator.
     pub at: NumList,
-    /// The rows whose multipliers aren't both 0, in the order in which they came.
+    /// The rows whose multipliers aren't both 0, in the order of their arrival.
     pub rows: RowList,
     /// The greatest lowered sum at this point, times the denominator, with its choice and its table.
     pub last: Found<T>,

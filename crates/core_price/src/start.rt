@@ -8,7 +8,7 @@ use choices::{Choice, Single};
 use far_num::Row;
 use std::alloc::{AllocError, Global};
 
-/// The rows so far, each with the choice that gives it.
+/// The rows so far, each with its choice.
 #[derive(Drop)]
 pub(crate) struct Constraints {
     pub(crate) rows: Vec<Row>,
@@ -26,7 +26,8 @@ pub(crate) fn prices_of(alloc: Global, singles: &[Single]) -> Result<Vec<i128>, 
     Ok(prices)
 }
 
-/// Each winner alone, with its Vickrey price as bound.
+/// The single winners, each with its Vickrey price as
+/// bound.
 pub(crate) fn first_rows(alloc: Global, singles: &[Single]) -> Result<Constraints, AllocError>
     requires { length singles.now ≤ MOST_WINNERS }
     ensures rows { IfOk result (λ a. a.rows.items ≡ single_bits 0 singles.now) }

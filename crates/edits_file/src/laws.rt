@@ -1,4 +1,4 @@
-// What holds of the form of a file of edits, regardless of who reads it.
+// What is true for the form of a file of edits, regardless of who reads it.
 ghost use Rattle.std.specs.Prelude.{◌≡◌, ℕ, List, length};
 ghost use Rattle.std.specs.List.{AllByRecursion};
 ghost use Rattle.auction_model.specs.Book.{Book};
@@ -7,8 +7,8 @@ ghost use Rattle.line_format.specs.LineText.{Said, stated};
 ghost use Rattle.review.specs.Edits.{edit_lots};
 ghost use Rattle.edits_file.specs.EditsForm.{EditsSay, NamedEdit, edits_of};
 
-/// Bytes say one thing of the edits of a book: edits, where the first faulty line begins, or that there are too many. So each
-/// answer of `read_edits` comes exactly if the bytes say so.
+/// Bytes have one reading as edits of a book: edits, the place of the first faulty line, or that there are too many. So
+/// `read_edits` returns each result exactly if the bytes have this reading.
 pub fn one_edits()
     ensures { (categories : ℕ) (bytes : List ℕ) (x y : Said (List NamedEdit) Excess) → EditsSay categories bytes x
         → EditsSay categories bytes y → x ≡ y }

@@ -18,9 +18,9 @@ use std::alloc::Global;
 /// What the lines so far say.
 #[derive(Drop)]
 pub enum Stage {
-    /// There is no line yet.
+    /// No line so far.
     Start,
-    /// The first line, and those of some edits.
+    /// The first line, and the lines of some edits.
     Listing(Edits),
     /// All lines, the last one too.
     Ended(Edits),

@@ -40,8 +40,8 @@ pub fn times(a: Far, k: i128) -> Result<Far, Wide>
     Ok(Far { far, near })
 }
 
-/// The sum of the entries whose bits are set in `members`, taken in the order of the bits. The error is the first
-/// step at which a part of the sum leaves the range, the far part first.
+/// The sum of the entries whose bits are set in `members`, taken in the order of the bits. The error is the first step
+/// where a part of the sum leaves the range, the far part first.
 pub fn dot01(members: u16, list: &[Far]) -> Result<Far, Wide>
     requires entries { All (λ x. IsInRange x) list.now }
     requires within { members < 2 ^ length list.now }

@@ -39,7 +39,7 @@ fn one_solution(
     Ok(Solved::One { den, values })
 }
 
-/// The answer for a system whose limits leave room. By each limit of the system the answer is small.
+/// The solution of a system whose limits leave room. By each limit of the system the solution is small.
 fn solve_within(
     alloc: Global,
     lines: &[NumList],
@@ -82,7 +82,7 @@ fn near_parts(alloc: Global, right: &[Far]) -> Result<NumList, AllocError>
 /// If the only row that the matrix sends to 0 is 0 itself, the answer is the only solution, and else a row other
 /// than 0 that the matrix sends to 0. The method and its bounds are reported at the head of this crate.
 ///
-/// The entries aren't negative. The system is that of at most `MOST_WINNERS` winners who all weigh 1, or of at most
+/// The entries aren't negative. The system is for at most `MOST_WINNERS` winners with weights of 1, or for at most
 /// `MOST_WEIGHTED_WINNERS` winners with any weights. `limits` lists how large its numbers are.
 pub fn solve(alloc: Global, matrix: &Square, right: &[Far]) -> Result<Solved, AllocError>
     requires long { length right.now ≡ length matrix.now }

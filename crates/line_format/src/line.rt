@@ -5,7 +5,7 @@ ghost use Rattle.line_format.specs.Fields.{HasLine};
 
 use crate::numbers::{NumbersStop, read_numbers};
 
-/// Appends to an empty list the numbers after the word of a line, as `read_numbers` does. The line stands without its line feed.
+/// Appends to an empty list the numbers after the word of a line, just like `read_numbers`. The line has no line feed.
 pub fn numbers_after(line: &[u8], word: &[u8], out: &mut Vec<i128>) -> Result<bool, NumbersStop>
     requires { out.old.items ≡ [] }
     ensures ok { IfOk result (HasLine line.now word.now out.new.items) }

@@ -56,7 +56,7 @@ const SHORT: u64 = 1 << 60;
 /// Appends to an empty list the numbers of a text, each after one space, to its end. Each number may have any length. Says whether
 /// one isn't strictly between -2^120 and 2^120, and then the list has as many numbers as the text, and says no more of them.
 ///
-/// Errors: `Form` if the text is no such text, and `Memory` when out of memory; what the list holds then is not said.
+/// Errors: `Form` if it isn't such a text, and `Memory` when out of memory. The list's content is then unspecified.
 pub fn read_numbers(text: &[u8], out: &mut Vec<i128>) -> Result<bool, NumbersStop>
     requires { out.old.items ≡ [] }
     ensures ok { IfOk result (λ beyond. HasNumbers text.now out.new.items beyond) }
@@ -156,8 +156,8 @@ fn read_short(text: &[u8]) -> Option<Natural>
 }
 
 /// The natural number at the start of the text, up to a space or to its end, and where it ends. It is a fast way for numbers of
-/// few digits: it gives the number if it is below 2^60, and may give a greater one. If it gives none, no number below 2^60
-/// stands there as a field.
+/// few digits: it returns the number if it is below 2^60, and may return a greater one. If it returns none, the text has no
+/// number below 2^60 there as a field.
 pub fn short_field(text: &[u8]) -> Option<(u64, usize)>
     ensures found { IfSome result (λ field. IsField text.now field.0 field.1) }
     ensures none { IfNone result ((n stop : ℕ) → IsField text.now n stop → 2 ^ 60 ≤ n) }

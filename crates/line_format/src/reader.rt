@@ -26,7 +26,7 @@ pub trait LineReader {
     /// The stage after the last line of a text that states this value.
     ghost ended: { Self → Self.Value → Self.Stage };
 
-    /// Takes the next line, which stands without its line feed.
+    /// Takes the next line, without its line feed.
     ///
     /// # Errors
     ///

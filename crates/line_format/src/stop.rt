@@ -1,4 +1,4 @@
-// Why a line is not taken, and why bytes are no text.
+// Why a line isn't taken, and why bytes aren't a text.
 ghost use Rattle.std.specs.Prelude.{◌≡◌};
 ghost use Rattle.line_format.specs.Stops.{text_stop};
 ghost use Rattle.line_format.specs.declared.stop.LineStop.TheVariants.{Memory};
@@ -45,7 +45,7 @@ impl<L: Drop, T: Drop> From<AllocFailed<T>> for LineStop<L> {
     }
 }
 
-/// Why bytes are no text of a form.
+/// Why bytes aren't a text of a form.
 #[derive(Drop)]
 pub enum TextStop<L> {
     /// The byte where the first faulty line begins, counted from 0.

@@ -15,7 +15,7 @@ use lots::Package;
 /// The counts of a package.
 type Counts = ArrayVec<u16, MOST_CATEGORIES>;
 
-/// The number of the bidder that a field names, 0 for a stranger, and None if the field is no name.
+/// The number of the bidder that a field names, 0 for a stranger, and None if the field isn't a name.
 pub fn read_bidder(award: &Award, field: &[u8]) -> Option<u16>
     ensures found { IfSome result (λ k. IsNameOf award.now k field.now) }
     ensures none { IfNone result (IsName field.now → ⊥) }

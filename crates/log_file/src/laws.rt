@@ -9,8 +9,8 @@ ghost use Rattle.log_file.specs.LogForm.{States};
 ghost use Rattle.log_file.specs.LogReading.{AreLog, AreTooMany, IsFirstFault, log_records};
 ghost use Rattle.log_file.specs.LogText.{IsStatable, log_text};
 
-/// Records have one reading: a record states at most one event, and of being a log of these events, having this first faulty
-/// record and being too many only one holds, with one value.
+/// Records have one reading: a record states at most one event, and records are either a log of these events, or have this
+/// first faulty record, or are too many, with one value.
 pub fn one_reading()
     ensures event { (terms : Terms) (fields : List (List ℕ)) (e f : Event) → States terms fields e
         → States terms fields f → e ≡ f }

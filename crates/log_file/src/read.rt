@@ -37,9 +37,9 @@ impl From<RecordFault> for LogStop {
     }
 }
 
-/// Reads a log: records of comma-separated fields, each of which states an event by the names and the categories of the award.
-/// Records are counted from 1, and blank lines are none. The reader stops at the first record that states no event, at the
-/// record after the greatest number of them, or when out of memory. A name that the award doesn't have is a stranger's.
+/// Reads a log: records of comma-separated fields. Each states an event by the names and the categories of the award. Records
+/// are counted from 1, without blank lines. The reader stops at the first record that states no event, at the record after the
+/// greatest number of them, or when out of memory. A name that the award doesn't have is a stranger's.
 pub fn read_log(alloc: Global, bytes: &[u8], award: &Award) -> Result<Events, LogStop>
     ensures ok { IfOk result (AreLog award.now (log_records bytes.now)) }
     ensures err { IfErr result (IsStop award.now (log_records bytes.now)) }
@@ -106,7 +106,7 @@ fn event_after(before: u64, award: &Award, row: &ByteRecord) -> Result<Event, Re
     }
 }
 
-/// The number of the record that follows those of these events.
+/// The number of the record that follows the records of these events.
 fn number_after(events: &Events) -> u64
     ensures { result ≡ suc (length events.now) }
 {
@@ -132,7 +132,7 @@ fn take_record(
     }
 }
 
-/// What an error says of the record of this number. Reading a slice never fails, but no clause says so.
+/// Why an error stops the reader at the record of this number. Reading a slice never fails, but no clause states it.
 fn stop_of(error: &Error, number: u64) -> LogStop
     ensures { result ≡ (if stops_reader (error_kind error.now) then LogStop.Memory else LogStop.Form number) }
 {

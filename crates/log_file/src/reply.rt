@@ -10,7 +10,7 @@ use line_format::{add_decimal, add_number};
 use std::alloc::{AllocError, Global};
 use wide_num::Text;
 
-/// The line of the reply to the record of this number, as `add_reply_line` adds it. The only error is out of memory.
+/// The line that `add_reply_line` adds for the reply to the record of this number. The only error is out of memory.
 pub fn reply_line(
     alloc: Global,
     number: u64,
@@ -27,8 +27,8 @@ pub fn reply_line(
 
 /// Adds the line of the reply to the record of this number, counted from 1.
 ///
-/// `done` says what the close did if the record is a close that was admitted, and is None else. `prices` are those that are
-/// posted after the record, by categories, and are printed of a new round alone. The only error is out of memory.
+/// `done` is the effect of the close if the record is an admitted close, and else None. `prices` are the posted prices
+/// after the record, by categories. Only a new round's are printed. The only error is out of memory.
 pub fn add_reply_line(
     text: &mut Text,
     number: u64,

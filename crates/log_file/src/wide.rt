@@ -6,7 +6,7 @@ ghost use Rattle.csv.specs.declared.parser.State.{State};
 ghost use Rattle.csv.specs.declared.parser.State.TheVariants as state;
 ghost use Rattle.log_file.specs.WideRecords.{At, Ends, ReadsAlike, count_after};
 
-/// Where the reader of csv is among the fields of a record.
+/// The position of the reader of csv among the fields of a record.
 #[derive(Clone, Copy)]
 enum Place {
     /// After a record, or before the first one.
@@ -38,7 +38,7 @@ struct Effect {
 
 const FIELDS: u8 = 4;
 
-/// The text up to the first record that has a fifth field, and no further than to where that begins; all of it, if no record
+/// The text up to the first record that has a fifth field, and no further than to the field's start, or all of it if no record
 /// has one.
 pub(crate) fn up_to_wide_record(bytes: &[u8]) -> &[u8]
     ensures { ReadsAlike (records default_config (strip_bom result.now)) (records default_config (strip_bom bytes.now)) }

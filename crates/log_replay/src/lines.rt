@@ -16,7 +16,7 @@ use log_file::{CloseDone, add_reply_line};
 use std::alloc::{AllocError, Global};
 use wide_num::Text;
 
-/// How far a replay is: the desk, the lines of the replies, and the first limit for which a close was refused.
+/// The state of a replay: the desk, the lines of the replies, and the first limit that refused a close.
 #[derive(Drop)]
 pub struct ReplayState {
     pub desk: Desk,
@@ -24,7 +24,7 @@ pub struct ReplayState {
     pub stop: Option<ReplayStop>,
 }
 
-/// The replay of an award at which no line has been taken.
+/// The replay of an award before its first line.
 pub fn start(alloc: Global, award: Award) -> Result<ReplayState, AllocError>
     ensures { IfOk result (IsCourse award []) }
 {
@@ -92,7 +92,7 @@ fn close_result(desk: &Desk) -> CloseDone
     }
 }
 
-/// The limit for which the line was refused, if it is a close.
+/// The limit that refused the line, if it is a close.
 fn refusal_of(line: &Event, reply: Reply) -> Option<ReplayStop>
     ensures { result ≡ refusal_of line.now reply }
 {

@@ -18,8 +18,8 @@ use std::alloc::{AllocError, Global};
 
 /// Replays a log of this award, whose packages have the award's number of categories.
 ///
-/// Each line is answered by the rules, also those after a close that is refused for a limit; the first such limit is why there
-/// is no book then, even if a later close completes the log. The only error is out of memory.
+/// Each line has the rules' reply, also after a close that is refused for a limit. After the first such limit there is no
+/// book, even if a later close completes the log. The only error is out of memory.
 pub fn replay(alloc: Global, award: Award, log: &Events) -> Result<Replay, AllocError>
     requires { AllByRecursion (HasCategories award) log.now }
     ensures replies { IfOk result (λ replay. replay.replies ≡ reply_lines award (reverse log.now)) }

@@ -80,7 +80,7 @@ pub fn have_none(counts: &[u16]) -> bool
     counts.iter().all(|count| *count == 0)
 }
 
-/// Whether no count is above that of the supply.
+/// Whether no count is above the supply's.
 pub fn are_within(counts: &[u16], supply: &[u16]) -> bool
     requires { length counts.now ≡ length supply.now }
     ensures { result ≡ is_within counts.now supply.now }
@@ -93,7 +93,7 @@ pub fn are_within(counts: &[u16], supply: &[u16]) -> bool
     true
 }
 
-/// The first category whose count is above that of the supply, counted from 1.
+/// The first category whose count is above the supply's, counted from 1.
 pub fn first_above(counts: &[u16], supply: &[u16]) -> Option<u16>
     requires categories { length counts.now ≡ length supply.now }
     requires few { length supply.now ≤ MOST_CATEGORIES }
@@ -135,7 +135,7 @@ pub fn points_among(points: &[u32], counts: &[u16]) -> u64
     sum
 }
 
-/// How many categories there are up to the last of which a package has some, and at least one.
+/// The number of categories up to the last one with lots in a package, at least one.
 pub fn used_categories(counts: &[u16]) -> usize
     requires { 0 < length counts.now }
     ensures some { 0 < result }

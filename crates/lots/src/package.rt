@@ -13,10 +13,10 @@ use limits::{MOST_CATEGORIES, MOST_COUNT};
 use std::alloc::Global;
 use std::marker::Model;
 
-/// A count of lots for each of 1 to 6 categories. It holds them itself, so it takes no memory.
+/// A count of lots for each of 1 to 6 categories. It contains them inline, so it takes no memory.
 #[derive(Drop)]
 pub struct Package {
-    /// The counts, category by category, and then nothing that counts.
+    /// The counts, category by category, and then unused ones.
     counts: [u16; MOST_CATEGORIES],
     categories: u8,
 }
@@ -49,7 +49,7 @@ impl Package {
         Ok(Package::of_counts(counts))
     }
 
-    /// The package of these counts, of which there are 1 to 6, or None if one is above 999.
+    /// The package of these 1 to 6 counts, or None if one is above 999.
     pub fn from_numbers(numbers: &[u64]) -> Option<Package>
         requires { IsPackage numbers.now }
         ensures made { IfSome result (λ p. p ≡ numbers.now) }
@@ -106,7 +106,7 @@ impl Package {
         self.categories as usize
     }
 
-    /// The count of a category, which is counted from 0.
+    /// The count of a category, counted from 0.
     pub fn units(&self, category: usize) -> u16
         requires { category < length self.now }
         ensures { result ≡ slice_index self.now category }
@@ -154,7 +154,7 @@ impl Package {
         cost_among(prices, self.held())
     }
 
-    /// Whether no count is above that of the supply.
+    /// Whether no count is above the supply's.
     pub fn fits(&self, supply: &Supply) -> bool
         requires { length self.now ≡ length supply.now }
         ensures { result ≡ is_within self.now supply.now }
@@ -162,7 +162,7 @@ impl Package {
         are_within(self.held(), supply.counts())
     }
 
-    /// The first category, counted from 1, whose count is above that of the supply.
+    /// The first category, counted from 1, whose count is above the supply's.
     pub fn first_over(&self, supply: &Supply) -> Option<u16>
         requires { length self.now ≡ length supply.now }
         ensures { result ≡ first_over 1 self.now supply.now }

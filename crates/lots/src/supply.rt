@@ -67,7 +67,7 @@ impl Supply {
         self.counts.len()
     }
 
-    /// The count of a category, which is counted from 0.
+    /// The count of a category, counted from 0.
     pub fn units(&self, category: usize) -> u16
         requires { category < length self.now }
         ensures { result ≡ slice_index self.now category }
@@ -99,7 +99,7 @@ impl Supply {
         self.states
     }
 
-    /// The place of a package that fits: `package_at` gives the package of this place back. The whole supply has the last place,
+    /// The place of a package that fits: `package_at` returns the package of this place. The whole supply has the last place,
     /// `states - 1`.
     pub fn place(&self, package: &Package) -> usize
         requires categories { length «package».now ≡ length self.now }

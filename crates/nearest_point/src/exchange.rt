@@ -53,7 +53,7 @@ fn without_positive(
     Ok(kept)
 }
 
-// The factors with which the forced rows make row `k`, or come nearest to it, over some denominator.
+// The factors whose combination of the forced rows is row `k`, or nearest to it, over some denominator.
 fn factors(
     alloc: Global,
     target: &[i128],

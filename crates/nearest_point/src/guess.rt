@@ -18,7 +18,7 @@ const MOST_TRIES: u32 = 64;
 /// A set gives the point that meets its rows with equality. That point is the nearest of all if no multiplier is below 0 and
 /// no row is violated, so nothing has to be known of how the sets are chosen. The first has the last rows that are
 /// independent. The next set is made without the rows whose multipliers are below 0, or with the row that is violated most,
-/// instead of another one if it depends on the others. `systems` counts the sets for which systems are solved.
+/// instead of another one if it depends on the others. `systems` counts the systems that are solved.
 pub(crate) fn guess(
     alloc: Global,
     target: &[i128],
@@ -64,7 +64,7 @@ fn last_independent(alloc: Global, rows: &[Row]) -> Result<Vec<usize>, AllocErro
     Ok(places)
 }
 
-// The least that the members come to by exclusive or with those of the basis.
+// The least value of the members by exclusive or with elements of the basis.
 fn without(members: u16, basis: &[u16]) -> u16 {
     let mut rest = members;
     for other in basis {

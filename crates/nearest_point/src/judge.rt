@@ -8,10 +8,10 @@ use crate::settle::{Held, is_violated};
 use far_num::Row;
 use std::alloc::{AllocError, Global};
 
-/// The set to be tried after that of the point, or None if the point passes the test: no multiplier is below 0, and it meets
+/// The set to be tried after the point's set, or None if the point passes the test: no multiplier is below 0, and it meets
 /// all rows.
 ///
-/// The next set is that of the point without the rows whose multipliers are below 0. If there are none, it has the row that
+/// The next set is the point's set without the rows whose multipliers are below 0. If there are none, it has the row that
 /// the point violates most too, as its last one, and the others are in the order of their multipliers.
 pub(crate) fn next_set(
     alloc: Global,
@@ -59,7 +59,7 @@ fn rows_with_signs(alloc: Global, held: &Held) -> Result<Vec<usize>, AllocError>
     Ok(kept)
 }
 
-// The rows, those of lesser multipliers first.
+// The rows, in the order of their multipliers.
 fn rows_by_multiplier(alloc: Global, held: &Held) -> Result<Vec<usize>, AllocError>
     requires { IsSized held.now }
 {
@@ -95,7 +95,7 @@ fn meets_all(held: &Held, rows: &[Row]) -> bool
     true
 }
 
-// The row of which the sum is the farthest below its bound.
+// The row whose sum is the farthest below its bound.
 fn most_violated(held: &Held, rows: &[Row]) -> usize
     requires sized { IsSized held.now }
     requires bounds { AreBounds rows.now }

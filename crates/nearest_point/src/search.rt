@@ -9,7 +9,7 @@ use std::alloc::{AllocError, Global};
 /// The nearest point with equality in the forced rows that meets the rows from `from` on.
 ///
 /// The rows are taken from the last one down. One that the point violates is forced, and the rows after it are taken
-/// again beside it. `systems` counts the systems that are solved.
+/// again with it. `systems` counts the systems that are solved.
 #[cycle(search)]
 pub(crate) fn search_from(
     alloc: Global,

@@ -153,7 +153,7 @@ pub(crate) fn lowered_target(alloc: Global, weights: &[u32]) -> Result<Vec<i128>
     Ok(out)
 }
 
-// The multipliers with which the point meets the forced rows with equality, or None if these aren't independent.
+// The multipliers that make the point meet the forced rows with equality, or None if these aren't independent.
 fn solve_forced(
     alloc: Global,
     target: &[i128],

@@ -113,7 +113,7 @@ fn have_singles(size: usize, rows: &[Row]) -> bool
     true
 }
 
-// A weight of 1 for each coordinate, with which the conditions of the search are tested.
+// A weight of 1 for each coordinate, after a test of the conditions of the search.
 fn tested_ones(
     rt: &impl Abort,
     alloc: Global,
@@ -318,7 +318,7 @@ fn systems_solved(
     Ok(systems)
 }
 
-// A row for each set of six coordinates, sets of fewer members first. Its bound is that of its number of members.
+// A row for each set of six coordinates, sets of fewer members first. Its bound depends on its number of members.
 fn all_rows(alloc: Global, bounds: [i128; 7]) -> Result<Vec<Row>, AllocError> {
     let mut rows = Vec::new(alloc);
     for size in 1u32..7 {

@@ -1,5 +1,5 @@
-// Real files where links, other writers, pipes and devices get in the way. What owns names or files lends them at once: each step beside a
-// value that is owned makes a check dearer.
+// Real files where links, other writers, pipes and devices get in the way. An owner of names or files lends them at once: each
+// step next to an owned value makes a proof slower.
 ghost use Rattle.std.specs.Prelude.{IfOk, IsTrue};
 
 use cca_base::{Files, RealFiles, write_file};
@@ -37,13 +37,13 @@ pub(crate) fn real_files<R: rt::Files<File = File> + Drop>(
     Ok(files)
 }
 
-// Whether an append to this name alone is done.
+// Whether a single append to this name is done.
 fn appends(rt: HostRuntime, name: &str) -> Result<bool, Fail> {
     let mut files = real_files(rt.alloc(), &rt, name, name)?;
     Ok(write_file(&mut files, name, b"abc").is_ok())
 }
 
-// Whether a load of this name alone is done.
+// Whether a single load of this name is done.
 fn loads(rt: HostRuntime, name: &str) -> Result<bool, Fail> {
     let mut files = real_files(rt.alloc(), &rt, name, name)?;
     let mut piece = [0u8; 8];
@@ -68,7 +68,7 @@ fn faults_once_read<F: Files>(files: &mut F, read: &str, other: &str) -> Result<
     Ok(faults(files, other))
 }
 
-// The same of real files.
+// `faults_once_read` over real files.
 fn faults_after_reading(rt: HostRuntime, read: &str, other: &str) -> Result<u64, Fail> {
     let mut files = real_files(rt.alloc(), &rt, read, other)?;
     faults_once_read(&mut files, read, other)
@@ -83,7 +83,7 @@ fn faults_once_appended<F: Files>(files: &mut F, first: &str, second: &str) -> R
     Ok(faults(files, second))
 }
 
-// The same of real files.
+// `faults_once_appended` over real files.
 fn faults_after_appending(rt: HostRuntime, first: &str, second: &str) -> Result<u64, Fail> {
     let mut files = real_files(rt.alloc(), &rt, first, second)?;
     faults_once_appended(&mut files, first, second)
@@ -134,7 +134,7 @@ fn takes_nothing(
     remove_files(rt, &[hard, link, file])
 }
 
-// The same, with a second spelling of the name made here.
+// `takes_nothing`, with a second spelling of the name made here.
 fn takes_nothing_by_links(
     abort: &impl Abort,
     rt: HostRuntime,
@@ -180,7 +180,7 @@ fn appends_nothing_to_a_file_that_is_locked(rt: HostRuntime) -> Result<(), Fail>
     appends_after_a_lock(&rt, rt, name.as_str())
 }
 
-// Whether someone holds the lock of this file.
+// Whether someone has locked this file.
 fn is_locked(rt: HostRuntime, name: &str) -> Result<bool, Fail> {
     let file = File::open(&rt, name)?;
     match file.try_lock() {
@@ -207,13 +207,13 @@ fn locks_in_turn<F: Files>(
     Ok((between, is_locked(rt, first)?))
 }
 
-// The same of real files.
+// `locks_in_turn` over real files.
 fn locks(rt: HostRuntime, first: &str, second: &str) -> Result<(bool, bool), Fail> {
     let mut files = real_files(rt.alloc(), &rt, first, second)?;
     locks_in_turn(rt, &mut files, first, second)
 }
 
-// Asserts that the lock of the first file is held until the second one is appended to.
+// Asserts that the first file stays locked until the second one is appended to.
 fn holds_a_lock(
     abort: &impl Abort,
     rt: HostRuntime,
@@ -243,7 +243,7 @@ fn three_loads<F: Files>(files: &mut F, name: &str) -> [Option<usize>; 3]
     [first, next, again]
 }
 
-// The same of a real file.
+// `three_loads` over a real file.
 fn loads_in_order(rt: HostRuntime, name: &str) -> Result<[Option<usize>; 3], Fail> {
     let mut files = real_files(rt.alloc(), &rt, name, name)?;
     Ok(three_loads(&mut files, name))
@@ -265,7 +265,7 @@ fn loads_around_one<F: Files>(
     Ok([before, behind])
 }
 
-// The same of real files.
+// `loads_around_one` over real files.
 fn loads_around(rt: HostRuntime, name: &str, other: &str) -> Result<[Option<usize>; 2], Fail> {
     let mut files = real_files(rt.alloc(), &rt, name, other)?;
     loads_around_one(&mut files, name, other)
@@ -328,7 +328,7 @@ fn read_appended(
     Ok(Some(reader.read(&mut piece)?))
 }
 
-// The same of a new pipe.
+// `read_appended` over a new pipe.
 fn appends_to_a_pipe(rt: HostRuntime) -> Result<Option<usize>, Fail> {
     let (mut reader, writer) = io::pipe(&rt)?;
     read_appended(rt, &mut reader, writer.as_raw_fd())

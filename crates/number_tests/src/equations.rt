@@ -138,7 +138,7 @@ fn assert_depends(rt: &impl Abort, entries: &[i128], numbers: &[i128]) {
     assert!(rt; next.next().is_none());
 }
 
-// The matrix is dependent, and the answer gives a dependence.
+// The matrix is dependent, and the result shows a dependence.
 fn assert_dependent(rt: &impl Abort, solved: &Solved, size: usize, entries: &[i128]) {
     match solved {
         Solved::One { den, .. } => panic!(rt; "a dependent matrix of size {size} with den {den}"),

@@ -1,5 +1,5 @@
-// Calls with ample memory, with answers found by hand. A test owns files, and what lends them asserts: each assert beside a value that is
-// owned makes its check dearer.
+// Calls with ample memory, with results found by hand. A test owns files and lends them to functions that assert: each assert
+// next to an owned value makes its proof slower.
 ghost use Rattle.std.specs.Prelude.{IfOk, IsTrue, ◌<◌, ◌^◌};
 ghost use Rattle.cca_base.specs.Files.{KeepsFiles};
 ghost use Rattle.cca_base.specs.CleanFiles.{clean_folder};

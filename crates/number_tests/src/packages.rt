@@ -105,7 +105,7 @@ fn fits(rt: &impl Abort, package: &Package, supply: &Supply) -> bool {
     package.fits(supply)
 }
 
-/// Asserts that a copy of a package has its counts, and takes over those of another one.
+/// Asserts that a copy of a package has its counts, and takes over another one's counts.
 fn is_copied(rt: &impl Abort, package: &Package, other: &Package) {
     let mut copy = package.copied();
     assert!(rt; copy.counts() == package.counts());

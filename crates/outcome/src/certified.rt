@@ -30,7 +30,7 @@ pub fn outcome_text(alloc: Global, book: &BidBook, facts: &CertFacts) -> Result<
     printed(alloc, book, facts)
 }
 
-// The printed text of facts of which only what the text needs is known. Their Vickrey prices are v.
+// The printed text of facts, from only what the text needs. Their Vickrey prices are v.
 pub(crate) fn printed(alloc: Global, book: &BidBook, facts: &CertFacts) -> Result<Text, AllocError>
     requires { IsPrintable book.now facts.now }
     ensures { IfOk result

@@ -25,7 +25,7 @@ use std::alloc::{AllocError, Global};
 use wide_num::Text;
 
 /// The JSON of the outcome that a certificate of a book shows, from its facts: one object on one line, with a line feed. Its
-/// keys are `net`, `revenue`, `rounds` if turns are given, with the line of each turn, and `winners`, and those of a winner
+/// keys are `net`, `revenue`, `rounds` if turns are given, with the line of each turn, and `winners`. A winner's keys are
 /// `bid`, `name`, `package`, `pays` and `vickrey`. What is printed is gross, except for the lines of turns.
 ///
 /// The only error is out of memory.
@@ -45,7 +45,7 @@ pub fn outcome_json(
     json_line(alloc, book, facts, turns)
 }
 
-// The JSON line of facts of which only what the text needs is known. Their Vickrey prices are v.
+// The JSON line of facts, from only what the text needs. Their Vickrey prices are v.
 pub(crate) fn json_line(
     alloc: Global,
     book: &BidBook,

@@ -108,7 +108,7 @@ fn put_bid(
     put(members, alloc, "package", package_value(alloc, counts)?)
 }
 
-// Puts the members of the prices after those of the bid.
+// Puts the members of the prices after the members of the bid.
 fn put_prices(
     alloc: Global,
     members: &mut Map<String, Value>,

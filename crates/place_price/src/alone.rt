@@ -1,4 +1,4 @@
-// The winners, each alone.
+// The single winners.
 ghost use Rattle.std.specs.Prelude.{◌≡◌, ◌≤◌, ◌<◌, ◌++◌, ◌∷◌, [], IfOk, OnOk, IsTrue, length};
 ghost use Rattle.auction_model.specs.Market.{uses, value_of};
 ghost use Rattle.choices.specs.Singles.{AreSingles, IsSingle};
@@ -13,21 +13,21 @@ use placement_cert::{PlaceWithout, PlaceWithouts};
 use slot_places::SlotChooser;
 use std::alloc::{AllocError, Global};
 
-/// All winners in order, each alone, with the parts of the certificate without each of them.
+/// The single winners in order, with the parts of the certificate without each of them.
 #[derive(Drop)]
 pub struct WithoutEach {
     pub singles: Vec<Single>,
     pub parts: PlaceWithouts,
 }
 
-/// A winner alone, with the part of the certificate without it.
+/// A single winner, with the part of the certificate without it.
 #[derive(Drop)]
 struct One {
     single: Single,
     part: PlaceWithout,
 }
 
-/// The winners, each alone. The winning choice has the worth `value`.
+/// The single winners. The winning choice has the worth `value`.
 pub(crate) fn each_winner(
     alloc: Global,
     chooser: &SlotChooser,
@@ -50,7 +50,7 @@ pub(crate) fn each_winner(
     Ok(alone)
 }
 
-/// Adds winner `j` alone.
+/// Adds the single winner `j`.
 fn add_winner(
     alloc: Global,
     chooser: &SlotChooser,
@@ -74,7 +74,8 @@ fn add_winner(
     Ok(())
 }
 
-/// Winner `j` alone. Its price is what the others reach without it, less what they win with.
+/// The single winner `j`. Its price is what the others reach without it, less their worth in
+/// the winning choice.
 fn without_winner(
     alloc: Global,
     chooser: &SlotChooser,

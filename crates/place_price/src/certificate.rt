@@ -24,7 +24,8 @@ use slot_places::Slots;
 use std::alloc::{AllocError, Global};
 use wide_num::NumList;
 
-/// What the certificate has beside what was found: the placement of its choice, what each bidder pays, and its rows.
+/// What the certificate has as well as what was found: the placement of its choice, what each bidder pays, and its
+/// rows.
 #[derive(Drop)]
 struct Added {
     order: Numbers,

@@ -42,8 +42,8 @@ pub struct PricedPlaces {
 
 /// The core-selecting prices of the winners of slots, with the certificate that shows them.
 ///
-/// All nine tests of a placement certificate hold for it, its choices are the first of the greatest, its orders their placements, and
-/// its tables exact. All bidders weigh 1. The only error is out of memory: no more bidders are in slots than can be priced.
+/// It passes all nine tests of a placement certificate, its choices are the first of the greatest, its orders their placements,
+/// and its tables exact. All bidders weigh 1. The only error is out of memory: no more bidders are in slots than can be priced.
 pub fn priced_places(alloc: Global, slots: &Slots) -> Result<PricedPlaces, AllocError>
     ensures shape { IfOk result (λ p. length p.cert.choice ≡ length slots.now.bidders) }
     ensures cert { IfOk result (λ p. IsPricedPlaceCert slots.now (place_cert_value p.cert)) }
@@ -59,7 +59,7 @@ pub fn priced_places(alloc: Global, slots: &Slots) -> Result<PricedPlaces, Alloc
     Ok(priced)
 }
 
-/// The certificate of the prices of slots, as `priced_places` gives it. The only error is out of memory.
+/// The certificate of the prices of slots that `priced_places` returns. The only error is out of memory.
 pub fn price_places(alloc: Global, slots: &Slots) -> Result<PlaceCertificate, AllocError>
     ensures shape { IfOk result (λ c. length c.choice ≡ length slots.now.bidders) }
     ensures cert { IfOk result (λ c. IsPricedPlaceCert slots.now (place_cert_value c)) }

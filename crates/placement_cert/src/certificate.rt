@@ -1,4 +1,4 @@
-// What a placement certificate holds.
+// The content of a placement certificate.
 ghost use Rattle.std.specs.Prelude.{length};
 ghost use Rattle.placement_cert.specs.OneProof.{IsPlaceCertificate-prop};
 ghost use Rattle.placement_cert.specs.Parts.{place_cert_from};
@@ -32,7 +32,7 @@ pub struct PlaceRow {
     pub first: i128,
     /// The multiplier that shows the nearest point, times the denominator.
     pub second: i128,
-    /// The choice that gives the sum.
+    /// The choice with this sum.
     pub choice: Choice,
     /// An order that allows the choice: one number of at most 65,535 for each bidder.
     pub order: Numbers,
@@ -61,7 +61,7 @@ pub struct PlaceCertificate {
     pub pay: NumList,
     /// The rows.
     pub rows: PlaceRows,
-    /// The table of the amounts times the denominator, those of each winner lowered by what it gains.
+    /// The table of the amounts times the denominator, each winner's lowered by its surplus.
     pub lowered: Grid,
     pub ghost rules: { IsPlaceCertificate (length choice)
         (place_cert_from den value choice order table withouts pay rows lowered) } by { IsPlaceCertificate-prop

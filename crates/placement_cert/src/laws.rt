@@ -6,8 +6,8 @@ ghost use Rattle.limits.specs.declared.TheConstants.{CERT_BYTES, MOST_PLACED};
 ghost use Rattle.placement_cert.specs.PlaceText.{IsPlaceCertificate};
 ghost use Rattle.placement_cert.specs.PlaceSays.{place_text, PlaceCertSays};
 
-/// Bytes say at most one thing of a placement certificate: a certificate, where the first faulty line begins, or where the first
-/// line begins that is of right form and has a number out of range.
+/// Bytes have at most one reading: a placement certificate, the place of the first faulty line, or the place of the first line
+/// of right form with a number out of range.
 pub fn one_place_cert()
     ensures { (bidders : ℕ) (bytes : List ℕ) (x y : Said PlaceCertValue ℕ) → PlaceCertSays bidders bytes x
         → PlaceCertSays bidders bytes y → x ≡ y }

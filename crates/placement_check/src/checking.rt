@@ -19,9 +19,9 @@ use slot_places::Slots;
 
 /// Tests a placement certificate of slots.
 ///
-/// `Yes` comes exactly if all nine tests hold, and then the order places the choice, which is one of the greatest, and with the
-/// payments it is the core outcome. Else the answer is the first test that fails, with the first place at which it does. The
-/// certificate is for as many bidders as the slots have. It takes no memory.
+/// `Yes` is returned exactly if all nine tests pass, and then the order places the choice, which is one of the greatest, and
+/// with the payments it is the core outcome. Else the result is the first test that fails, with the first place where it does.
+/// The certificate is for as many bidders as the slots have. It takes no memory.
 pub fn check_places(slots: &Slots, cert: &PlaceCertificate) -> Verdict
     requires { IsFor slots.now cert.now }
     ensures verdict { IsPlaceVerdict slots.now (place_cert_value cert.now) result }
@@ -38,7 +38,7 @@ pub fn check_places(slots: &Slots, cert: &PlaceCertificate) -> Verdict
     Verdict::Yes
 }
 
-/// The first place at which a test of 1 to 9 fails, once those before it hold.
+/// The first place where a test of 1 to 9 fails, once the tests before it pass.
 fn first_failing(slots: &Slots, cert: &PlaceCertificate, test: u8) -> Option<u64>
     requires shape { IsFor slots.now cert.now }
     requires test { (0 < test) × (test ≤ 9) }
@@ -70,7 +70,7 @@ fn places(slots: &Slots, cert: &PlaceCertificate, test: u8) -> usize
     }
 }
 
-/// Whether a test holds at a place, once all before it hold.
+/// Whether a test passes at a place, once all before it pass.
 fn test_holds(slots: &Slots, cert: &PlaceCertificate, test: u8, place: usize) -> bool
     requires shape { IsFor slots.now cert.now }
     requires test { (0 < test) × (test ≤ 9) }

@@ -22,7 +22,7 @@ use cert_check::{is_first, is_signed};
 use placement_cert::{PlaceCertificate, PlaceRow};
 use slot_places::Slots;
 
-/// Whether P5 holds at a place: a winner pays no more than it bids, and a loser nothing.
+/// Whether P5 is true at a place: a winner pays no more than it bids, and a loser nothing.
 pub(crate) fn payment_holds(slots: &Slots, cert: &PlaceCertificate, place: usize) -> bool
     requires shape { IsFor slots.now cert.now }
     requires small { HasSmallProducts slots.now (place_cert_value cert.now) }
@@ -40,7 +40,7 @@ pub(crate) fn payment_holds(slots: &Slots, cert: &PlaceCertificate, place: usize
     is_between(0, payment, cert.den * won(slots, &cert.choice, j))
 }
 
-/// Whether P6 holds at a place, that of a row.
+/// Whether P6 is true at the place of a row.
 pub(crate) fn row_holds(slots: &Slots, cert: &PlaceCertificate, place: usize) -> bool
     requires shape { IsFor slots.now cert.now }
     ensures { IsTrue result ↔ P6 slots.now (place_cert_value cert.now) place }
@@ -91,7 +91,7 @@ fn pays_just(slots: &Slots, cert: &PlaceCertificate, row: &PlaceRow) -> bool
     is_product(paid_by(cert.pay.items(), members), cert.den, rest)
 }
 
-/// Whether P7 holds at a place: a row's sign, or a winner's sum.
+/// Whether P7 is true at a place: a row's sign, or a winner's sum.
 pub(crate) fn least_holds(slots: &Slots, cert: &PlaceCertificate, place: usize) -> bool
     requires shape { IsFor slots.now cert.now }
     ensures { IsTrue result ↔ P7 slots.now (place_cert_value cert.now) place }
@@ -107,7 +107,7 @@ pub(crate) fn least_holds(slots: &Slots, cert: &PlaceCertificate, place: usize) 
     is_least(slots, cert, (place - count) as u16)
 }
 
-/// Whether the first multipliers of the rows that hold bidder `j` come to the denominator, if it wins.
+/// Whether the sum of the first multipliers of the rows that contain bidder `j` is the denominator, if it wins.
 fn is_least(slots: &Slots, cert: &PlaceCertificate, j: u16) -> bool
     requires shape { IsFor slots.now cert.now }
     requires bidder { (0 < j) × (j ≤ length slots.now.bidders) }
@@ -124,7 +124,7 @@ fn is_least(slots: &Slots, cert: &PlaceCertificate, j: u16) -> bool
     is_equal(sums.firsts[j as usize - 1], cert.den)
 }
 
-/// Whether P8 holds at a place: a row's sign, or a winner's sum.
+/// Whether P8 is true at a place: a row's sign, or a winner's sum.
 pub(crate) fn nearest_holds(slots: &Slots, cert: &PlaceCertificate, place: usize) -> bool
     requires shape { IsFor slots.now cert.now }
     ensures { IsTrue result ↔ P8 slots.now (place_cert_value cert.now) place }
@@ -141,7 +141,7 @@ pub(crate) fn nearest_holds(slots: &Slots, cert: &PlaceCertificate, place: usize
     is_nearest(slots, cert, (place - count) as u16)
 }
 
-/// Whether what bidder `j` pays above its Vickrey price is the sum of the second multipliers of the rows that hold it, if it
+/// Whether what bidder `j` pays above its Vickrey price is the sum of the second multipliers of the rows that contain it, if it
 /// wins.
 fn is_nearest(slots: &Slots, cert: &PlaceCertificate, j: u16) -> bool
     requires shape { IsFor slots.now cert.now }

@@ -18,7 +18,7 @@ use cert_check::{is_small, sum_paid};
 use placement_cert::PlaceCertificate;
 use slot_places::{MOST_PLACED, Slots};
 
-/// Whether P1 holds at a place: the denominator, the value, and their product.
+/// Whether P1 is true at a place: the denominator, the value, and their product.
 pub(crate) fn sizes_hold(cert: &PlaceCertificate, place: usize) -> bool
     requires before { HoldsBefore (P1 (place_cert_value cert.now)) place }
     ensures { IsTrue result ↔ P1 (place_cert_value cert.now) place }
@@ -31,7 +31,7 @@ pub(crate) fn sizes_hold(cert: &PlaceCertificate, place: usize) -> bool
     }
 }
 
-/// Whether P2 holds at a place: a bidder's number, the order, the value.
+/// Whether P2 is true at a place: a bidder's number, the order, the value.
 pub(crate) fn choice_holds(slots: &Slots, cert: &PlaceCertificate, place: usize) -> bool
     requires shape { IsFor slots.now cert.now }
     ensures { IsTrue result ↔ P2 slots.now (place_cert_value cert.now) place }
@@ -49,7 +49,7 @@ pub(crate) fn choice_holds(slots: &Slots, cert: &PlaceCertificate, place: usize)
     is_equal(worth(slots, cert.choice.numbers()), cert.value)
 }
 
-/// Whether P3 holds at a place: the rules at a set, or what the entry of nobody may be.
+/// Whether P3 is true at a place: the rules at a set, or what the entry of nobody may be.
 pub(crate) fn amounts_hold(slots: &Slots, cert: &PlaceCertificate, place: usize) -> bool
     requires shape { IsFor slots.now cert.now }
     ensures { IsTrue result ↔ P3 slots.now (place_cert_value cert.now) place }
@@ -65,7 +65,8 @@ pub(crate) fn amounts_hold(slots: &Slots, cert: &PlaceCertificate, place: usize)
     table_holds(&offers, &cert.table, cert.value, place)
 }
 
-/// Whether P9 holds at a place: the rules for the lowered worths at a set, or what the entry of nobody may be.
+/// Whether P9 is true at a place: the rules for the lowered worths at a set, or what the entry of nobody may
+/// be.
 pub(crate) fn lowered_holds(slots: &Slots, cert: &PlaceCertificate, place: usize) -> bool
     requires shape { IsFor slots.now cert.now }
     requires lower { CanLower slots.now (place_cert_value cert.now) }

@@ -1,4 +1,4 @@
-//! Why a yes to a placement certificate is right, and what exact tables over sets pass. It has no code.
+//! Why accepting a placement certificate is sound, and the tests that exact tables over sets pass. It has no code.
 ghost use Rattle.std.specs.Prelude.{◌≡◌, ◌<◌, ◌≤◌, ◌^◌, ℕ, IsTrue, IsFalse, List, ℤ, pos, ◌≤ℤ◌, length};
 ghost use Rattle.auction_model.specs.Greatest.{IsGreatest, IsGreatestValue};
 ghost use Rattle.auction_model.specs.Lowered.{lowered};
@@ -19,8 +19,8 @@ ghost use Rattle.placement_check.specs.PlaceSound.{IsPlaceSound};
 ghost use Rattle.placement_check.specs.PlaceTests.{ObeysSets, P2, P3, IsPlacedPart, P5, P9, PlacementHolds, FailsFirst};
 ghost use Rattle.cert_soundness.specs.MarketPrices.{lowered_in};
 
-/// A placement certificate that passes all tests is sound: its order places its choice, which is one of the greatest, its value is
-/// the value of that choice, its parts give the Vickrey prices, and its choice and payments are the core outcome.
+/// A placement certificate that passes all tests is sound: its order places its choice, which is one of the greatest, its value
+/// is the value of this choice, its parts show the Vickrey prices, and its choice and payments are the core outcome.
 ///
 /// A table over sets that obeys the rules of dynamic programming bounds each allowed choice, whatever the order that allows it
 /// (Bellman, The theory of dynamic programming, Bulletin of the American Mathematical Society 60, 1954), and multipliers show a least
@@ -30,8 +30,7 @@ pub fn sound_places()
         → IsPlaceSound slots p }
 {}
 
-/// A placement certificate has at most one verdict: not both that all tests hold and that one fails first, and at most one place of
-/// one test at which it fails first.
+/// A placement certificate has at most one verdict: all tests pass, or one test fails first at one place, not both.
 pub fn one_place_verdict()
     ensures one { (slots : SlotList) (p : PlaceCertValue) (t place u q : ℕ) → FailsFirst slots p t place
         → FailsFirst slots p u q → (t ≡ u) × (place ≡ q) }
@@ -39,9 +38,9 @@ pub fn one_place_verdict()
         → FailsFirst slots p t place → ⊥ }
 {}
 
-/// Exact tables over sets obey the rules that the tests ask of a table: that of the amounts, that of the amounts if a bidder
-/// has no bids, and, if nobody pays more than its bid and losers pay nothing, that of the worths which are lowered by what each
-/// bidder gains.
+/// Exact tables over sets obey the rules that the tests ask of a table: the table of the amounts, the table without a bidder's
+/// bids, and, if nobody pays more than its bid and losers pay nothing, the table of the worths lowered by each bidder's
+/// surplus.
 pub fn exact_set_tables()
     ensures plain { (slots : SlotList) (table : List (List ℤ)) → IsSetTable (board_of slots) (amount_of slots) table
         → ObeysSets (board_of slots) (amount_of slots) table }
@@ -67,8 +66,8 @@ pub fn set_sizes()
         → worth j i ≤ℤ entry_at table 0 0 }
 {}
 
-/// The first entry of an exact table, that of nobody, is the greatest sum of an allowed choice, and where a bidder has no bids the
-/// greatest sum of an allowed choice that doesn't use it.
+/// The first entry of an exact table, the empty set's, is the greatest sum of an allowed choice. If a bidder has no bids, it is
+/// the greatest sum of an allowed choice that doesn't use this bidder.
 pub fn first_entries()
     ensures whole { (slots : SlotList) (counts : ℕ → ℕ → ℤ) (table : List (List ℤ))
         → IsSetTable (board_of slots) counts table

@@ -17,7 +17,7 @@ use crate::tables::{is_at_most, obeys_sets};
 use placement_cert::{PlaceCertificate, PlaceWithout};
 use slot_places::{MOST_PLACED, Slots};
 
-/// Whether P4 holds at a place: the part of a winner shows the best choice without it.
+/// Whether P4 is true at a place: the part of a winner shows the best choice without it.
 pub(crate) fn part_holds(slots: &Slots, cert: &PlaceCertificate, place: usize) -> bool
     requires shape { IsFor slots.now cert.now }
     ensures { IsTrue result ↔ P4 slots.now (place_cert_value cert.now) place }

@@ -44,7 +44,7 @@ pub(crate) fn won_beside(slots: &Slots, choice: &Choice, members: &[u16]) -> i12
     sum
 }
 
-/// For each bidder the sums of both multipliers over the rows that hold it.
+/// For each bidder the sums of both multipliers over the rows that contain it.
 #[derive(Clone, Copy)]
 pub(crate) struct RowSums {
     /// The sums of the first multipliers.

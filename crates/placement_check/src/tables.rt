@@ -11,7 +11,7 @@ use crate::offers::TestedBids;
 use choices::Grid;
 use slot_places::sets::{is_in, weight};
 
-/// Whether the rules hold at a place of a table, which is a set, or after all sets the most that the entry of nobody may be.
+/// Whether a table obeys the rules at a place: a set, or after all sets the upper limit of the empty set's entry.
 pub(crate) fn table_holds(offers: &TestedBids, table: &Grid, most: i128, place: usize) -> bool
     requires shape { HasSets (length offers.now.slots.now.bidders) table.now }
     ensures { IsTrue result
@@ -34,7 +34,7 @@ pub(crate) fn is_at_most(entry: i128, most: i128) -> bool
     entry <= most
 }
 
-/// Whether the rules hold at all sets.
+/// Whether the table obeys the rules at all sets.
 pub(crate) fn obeys_sets(offers: &TestedBids, table: &Grid) -> bool
     requires shape { HasSets (length offers.now.slots.now.bidders) table.now }
     ensures { IsTrue result
@@ -50,7 +50,7 @@ pub(crate) fn obeys_sets(offers: &TestedBids, table: &Grid) -> bool
     true
 }
 
-/// Whether the rules hold at a set.
+/// Whether the table obeys the rules at a set.
 fn obeys_set(offers: &TestedBids, table: &Grid, set: usize) -> bool
     requires shape { HasSets (length offers.now.slots.now.bidders) table.now }
     requires set { set < 2 ^ length offers.now.slots.now.bidders }
@@ -137,7 +137,7 @@ fn starts_after(offers: &TestedBids, set: usize, j: u16, i: u16) -> bool
     place.start == offers.slots.start_after(set)
 }
 
-/// Whether a bid and an entry come to no more than another entry.
+/// Whether the sum of a bid and an entry is at most another entry.
 fn covers(worth: i128, behind: i128, entry: i128) -> bool
     requires worth { unsigned_abs worth < 2 ^ 121 }
     requires behind { unsigned_abs behind < 2 ^ 120 }

@@ -1,4 +1,4 @@
-// The checker of a certificate that is held.
+// The checker of a certificate in memory.
 use crate::samples::{DAY_CRAMTON_CERT, day_cramton, edited};
 use bid_book::BidBook;
 use cert_check::{Verdict, check};
@@ -6,7 +6,7 @@ use cert_text::{Shape, read_cert};
 use std::alloc::{AllocError, Global};
 use std::test::Fail;
 
-/// What the checker says of the certificate in the text, if all bidders weigh 1, and `None` if the text has no certificate.
+/// The checker's verdict on the certificate in the text, if all bidders weigh 1, and `None` if the text has no certificate.
 fn verdict_of(alloc: Global, book: &BidBook, text: &[u8]) -> Result<Option<Verdict>, AllocError> {
     let weights = vec![in alloc; 1u32; book.bidders()]?;
     match read_cert(alloc, text, Shape::of(book)) {

@@ -17,7 +17,7 @@ const THIRTEEN: Shape = Shape {
     states: 1,
 };
 
-// What a reader says of a text of which each piece has that many bytes after its first, as far as a file may go.
+// A reader's result for a text in pieces of that many bytes after the first one, as far as a file may go.
 fn in_pieces(
     alloc: Global,
     shape: Shape,
@@ -67,7 +67,7 @@ fn says(
     Ok(())
 }
 
-// Asserts the same of a table that begins with this line, in short and in long pieces.
+// Asserts the stop in a table that begins with this line, in short and in long pieces.
 fn table_says(
     rt: &impl Abort,
     alloc: Global,

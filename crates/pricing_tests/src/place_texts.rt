@@ -42,7 +42,7 @@ fn sample(rt: &impl Abort, alloc: Global) -> PlaceCertificate {
     cert
 }
 
-// Asserts what a part without a winner holds.
+// Asserts the content of a part without a winner.
 fn part_is(rt: &impl Abort, part: &PlaceWithout, winner: u16, entries: &[i128; 8]) {
     assert_eq!(rt; part.winner, winner);
     assert!(rt; part.choice.numbers() == [0, 0, 1].as_slice());
@@ -59,7 +59,7 @@ fn is_table(rt: &impl Abort, table: &Grid, entries: &[i128; 8]) {
     assert!(rt; line == *entries);
 }
 
-// Asserts what the row of the sample holds.
+// Asserts the content of the sample's row.
 fn row_is(rt: &impl Abort, row: &PlaceRow) {
     assert!(rt; row.members.items() == [1, 2].as_slice());
     assert_eq!(rt; (row.first, row.second), (1, 3));

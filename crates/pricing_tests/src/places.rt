@@ -1,12 +1,12 @@
-// The prices of the bidders of a band, and the turns in which they are found.
+// The prices of the bidders of a band, and the turns of their search.
 use core_price::Turn;
 use place_price::{PlaceCertificate, place_rounds, price_places};
 use slot_places::{Slots, read_slots};
 use std::alloc::{AllocError, Global};
 use std::process::Abort;
 
-/// A band of four slots: x bids 10 for slots 1 and 2, y 8 for slot 4, and z 12 for slot 2. So x and y win, and z blocks their Vickrey prices
-/// of 4 and 2 by 6, of which each pays a half.
+/// A band of four slots: x bids 10 for slots 1 and 2, y 8 for slot 4, and z 12 for slot 2. So x and y win, and z blocks their
+/// Vickrey prices of 4 and 2 by 6. Each pays half of it.
 const SLOTS: &str =
     "slots 1\nband 4\nbidder x 2\nplace 1 10\nbidder y 1\nplace 4 8\nbidder z 1\nplace 2 12\nend\n";
 
@@ -17,7 +17,7 @@ fn band(rt: &impl Abort, alloc: Global) -> Slots {
     slots
 }
 
-/// Asserts who wins, in which order the bidders are placed, and what they pay.
+/// Asserts who wins, the order of the placed bidders, and what they pay.
 fn shows_the_prices(rt: &impl Abort, cert: &PlaceCertificate) {
     assert_eq!(rt; cert.value, 18);
     assert!(rt; cert.choice.numbers() == [1, 1, 0].as_slice());

@@ -35,7 +35,7 @@ fn shows_the_prices(rt: &impl Abort, priced: &PricedBook) {
     assert_eq!(rt; priced.turns.items().len(), 2);
 }
 
-/// Asserts that its text is that of the sample.
+/// Asserts that its text is the sample's text.
 fn is_written_as_sample(
     rt: &impl Abort,
     alloc: Global,
@@ -69,7 +69,7 @@ fn are_payments(paid: &[i128]) -> bool
     true
 }
 
-/// What blocks a point at which the winners pay that much and losers nothing, if these can be payments.
+/// What blocks the point where the winners pay that much and losers nothing, if these can be payments.
 fn look(
     rt: &impl Abort,
     alloc: Global,
@@ -92,7 +92,7 @@ fn is_block_of_b3(rt: &impl Abort, block: &Block) {
     assert_eq!(rt; block.row.bound, 32);
 }
 
-/// Asserts that b3 blocks the prices of each winner alone.
+/// Asserts that b3 blocks the prices of the single winners.
 fn b3_blocks(rt: &impl Abort, alloc: Global, chooser: &BookChooser) -> Result<(), AllocError> {
     match look(rt, alloc, chooser, &[14, 12])? {
         Looked::Free(_) => panic!(rt; "b3 offers more"),

@@ -159,8 +159,8 @@ fn writes_back_what_was_read(rt: HostRuntime) -> Result<(), AllocError> {
     is_written_back(&rt, rt.alloc(), DAY_CRAMTON_CERT, DAY_CRAMTON_SHAPE)
 }
 
-/// The lines before a faulty one, it and those after it, and where it stops the reader. Signed numbers alone have a range, and a line of
-/// more fields than it should have is of no form.
+/// The lines before a faulty one, it and those after it, and where it stops the reader. Only signed numbers have a range, and a
+/// line with too many fields has no form.
 const RANGES_AND_FORMS: [(&str, &str, CertStop); 7] = [
     (
         "",

@@ -1,4 +1,4 @@
-// What several tests share: a book and its certificate, that of a placement, and texts with other lines.
+// What several tests share: a book and its certificate, a placement's certificate, and texts with other lines.
 use bid_book::{BidBook, read_book};
 use cert_text::Shape;
 use std::alloc::{AllocError, Global};
@@ -17,7 +17,7 @@ pub(crate) fn day_cramton(rt: &impl Abort, alloc: Global) -> BidBook {
     book
 }
 
-/// Its certificate: 476 bytes, of which the last line has 4.
+/// Its certificate: 476 bytes. The last line has 4 of them.
 pub(crate) const DAY_CRAMTON_CERT: &str = "cert 1\nden 1\nvalue 48\nchoice 1 1 0 0 0\ntable\n\
     t 0 20 28 48\nt 0 20 14 34\nt 0 12 14 32\nt 0 12 14 26\nt 0 12 0 12\nt 0 0 0 0\n\
     without 1\nchoice 0 1 0 1 0\ntable\n\

@@ -19,7 +19,7 @@ use stream_check::StreamCheck;
 
 mod edits;
 
-// A checker to which a text was fed of which each piece has that many bytes after its first, as far as a file may go.
+// A checker after a text in pieces of that many bytes after the first one, as far as a file may go.
 fn fed<'a>(
     book: &'a BidBook,
     weights: &'a [u32],
@@ -44,7 +44,7 @@ fn fed<'a>(
     checker
 }
 
-/// What a checker says of a text in such pieces, if all bidders weigh 1.
+/// A checker's verdict on a text in such pieces, if all bidders weigh 1.
 pub(crate) fn verdict_of(
     alloc: Global,
     book: &BidBook,
@@ -84,7 +84,7 @@ fn told(
     }
 }
 
-// Asserts who wins, at which Vickrey price, and what is chosen without it.
+// Asserts who wins, its Vickrey price, and the choice without it.
 fn is_single(rt: &impl Abort, single: &Single, winner: u16, price: i128, choice: &[u16]) {
     assert_eq!(rt; single.winner, winner);
     assert_eq!(rt; single.price, price);

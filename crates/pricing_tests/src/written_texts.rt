@@ -7,7 +7,8 @@ use std::alloc::{AllocError, Global};
 use std::process::Abort;
 use wide_num::NumList;
 
-// What a helper expects that makes a whole certificate. There a `?` would drop all that is made before it, and its check would be dear.
+// What a helper expects that makes a whole certificate. There a `?` would drop all that is made before it, and its proof would
+// be slow.
 const MEMORY: &str = "there is memory";
 
 // The list of one number.

@@ -1,4 +1,4 @@
-// What holds of all slots.
+// What is true for all slots.
 ghost use Rattle.std.specs.Prelude.{◌≡◌, ℕ, ◌<◌, ◌^◌, IsTrue, List, length};
 ghost use Rattle.auction_model.specs.Lawful.{IsMarket};
 ghost use Rattle.slot_places.specs.Slots.{SlotList};

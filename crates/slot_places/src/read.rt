@@ -20,7 +20,7 @@ use std::alloc::Global;
 /// What the lines so far say.
 #[derive(Drop)]
 pub enum Stage {
-    /// There is no line yet.
+    /// No line so far.
     Start,
     /// The first line.
     Headed,

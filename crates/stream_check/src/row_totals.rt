@@ -7,7 +7,8 @@ ghost use Rattle.stream_check.specs.Totals.{AreTotals};
 use cert_check::{BIDDER_ROOM, add_row};
 use limits::MOST_ROWS;
 
-/// The multipliers of the rows that have come, and for each bidder their sums over the rows that hold it.
+/// The multipliers of the rows that have come, and for each bidder their sums over the rows that contain
+/// it.
 #[derive(Clone, Copy)]
 pub(crate) struct RowTotals {
     /// How many rows have come.

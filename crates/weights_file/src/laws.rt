@@ -1,4 +1,4 @@
-// What holds of the form of a file of weights, regardless of who reads it.
+// What is true for the form of a file of weights, regardless of who reads it.
 ghost use Rattle.std.specs.Prelude.{◌≡◌, ℕ, List};
 ghost use Rattle.auction_model.specs.Book.{Book};
 ghost use Rattle.book_grammar.specs.BookForm.{IsBook};

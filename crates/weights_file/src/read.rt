@@ -15,7 +15,7 @@ use std::convert::Infallible;
 /// What the lines so far say.
 #[derive(Drop)]
 pub enum Stage {
-    /// There is no line yet.
+    /// No line so far.
     Start,
     /// The first line, and those of some bidders.
     Listing(Weights),

@@ -1,4 +1,4 @@
-// The numbers by which a stop names the fields of an award. They are printed, so a number never changes.
+// The numbers of the fields of an award in a stop. They are printed, so a number never changes.
 
 /// The version.
 pub const VERSION: u8 = 1;

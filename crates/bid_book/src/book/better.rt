@@ -23,7 +23,7 @@ pub fn better_among(bids: &[Entry], entry: &Entry, rival: u16) -> u16
     }
 }
 
-/// Whether these are counts of the same categories as the others, and none is above that of the others.
+/// Whether these are counts of the same categories as the others, and none is above the other one.
 fn are_no_more(counts: &[u16], others: &[u16]) -> bool
     ensures { IsTrue result → IsTrue (is_within counts.now others.now) }
 {

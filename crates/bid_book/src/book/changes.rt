@@ -1,4 +1,4 @@
-// Bids that are put into those of a bidder, and taken out.
+// Bids that are inserted into the bids of a bidder, and removed.
 ghost use Rattle.std.specs.Prelude.{◌≡◌, ℕ, ◌<◌, ◌≤◌, ◌↔◌, All, IsOk, IsTrue, OnErr, OnOk, length, map, slice_index_or, slice_set, take};
 ghost use Rattle.std.specs.List.{insert, remove};
 ghost use Rattle.auction_model.specs.Book.{no_bid};

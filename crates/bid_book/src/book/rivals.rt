@@ -9,8 +9,8 @@ use std::alloc::{AllocError, Global};
 /// How many places a block has at least, if the supply has as many: that many are worth the work that each block takes.
 const SOME_PLACES: usize = 4;
 
-/// The bids of one bidder so far. They come in the order of their places. A block is the places that differ in the last few
-/// categories alone, the inner ones.
+/// The bids of one bidder so far. They come in the order of their places. A block is the places that differ only in the last
+/// few categories, the inner ones.
 #[derive(Drop)]
 pub(crate) struct Rivals {
     /// How many bids there are.
@@ -42,7 +42,7 @@ impl Rivals {
         self.outer = [0; MOST_CATEGORIES];
     }
 
-    /// The earlier bid that is worth most of those that are no larger, or 0, and then this bid is one of them.
+    /// The earlier bid of greatest worth that is no larger, or 0. From now on this bid is one of them.
     pub(crate) fn take(
         &mut self,
         supply: &Supply,
@@ -80,7 +80,7 @@ impl Rivals {
         Ok(())
     }
 
-    /// Counts an offer at a place of the last block, and at those after it. Gives the greatest that was there.
+    /// Puts an offer at a place of the last block and the places after it. Returns the greatest that was there.
     fn put(&mut self, supply: &Supply, inner: usize, place: usize, own: i64) -> i64 {
         let end = self.reached.min(self.best.len());
         let begin = end - block_len(supply.widths(), inner, end);
@@ -107,7 +107,7 @@ impl Rivals {
     }
 }
 
-/// The first inner category: the last of those with which a block has some places, or 0.
+/// The first inner category: the last one that gives a block enough places, or 0.
 fn first_inner(counts: &[u16], widths: &[usize]) -> usize {
     let mut inner = counts.len().min(widths.len());
     while 0 < inner {
@@ -151,14 +151,14 @@ fn place_among(supply: &[u16], counts: &[u16]) -> usize {
     place
 }
 
-/// Raises each offer of a block to that of the place which is so far before it.
+/// Raises each offer of a block to the offer of the place that far before it.
 fn raise_from(block: &mut [i64], before: &[i64], width: usize) {
     if width <= before.len() && block.len() <= width {
         raise(block, &before[before.len() - width..][..block.len()]);
     }
 }
 
-/// Raises each offer to the one beside it.
+/// Raises each offer to the other one at its place.
 fn raise(block: &mut [i64], below: &[i64])
     requires { length block.old ≡ length below.now }
 {
@@ -167,7 +167,7 @@ fn raise(block: &mut [i64], below: &[i64])
     }
 }
 
-/// Raises the offers of a block from a place on to those of the places in the block that have a lot less.
+/// Raises the offers of a block from a place on to the offers of the places in the block that have one lot less.
 fn raise_inside(block: &mut [i64], counts: &[u16], widths: &[usize], inner: usize, from: usize) {
     if counts.len() <= inner.saturating_add(1) {
         let from = from.min(block.len());
@@ -179,7 +179,8 @@ fn raise_inside(block: &mut [i64], counts: &[u16], widths: &[usize], inner: usiz
     }
 }
 
-/// Raises the offers of a block from a place on to those of the places that have a lot less in a category of this width and count.
+/// Raises the offers of a block from a place on to the offers of the places that have one lot less in a category of this width
+/// and count.
 fn raise_along(block: &mut [i64], width: usize, count: u16, from: usize) {
     let all = width.wrapping_mul(count as usize + 1);
     if all == 0 {
@@ -206,7 +207,7 @@ fn rise(offers: &mut [i64]) {
     }
 }
 
-/// Raises offers, which rise, to this one. Gives what the first was.
+/// Raises offers, which rise, to this one. Returns the former first one.
 fn put_first(places: &mut [i64], own: i64) -> i64 {
     let first = places.first().copied().unwrap_or(0);
     for offer in places {

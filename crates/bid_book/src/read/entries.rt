@@ -39,7 +39,7 @@ pub fn take_entry(
     }
 }
 
-/// Takes the line of a bidder, of which this is the name.
+/// Takes the line of a bidder with this name.
 fn take_bidder(alloc: Global, book: &mut BidBook, name: &[u8]) -> Result<(), LineStop<Excess>>
     ensures ok { OnOk result (AddsBidder book.old book.new (codes "bidder " ++ name.now) × (last_excess 0 book.new.bidders ≡ None)) }
     ensures form { result ≡ Err LineStop.Form → (new : Book) → AddsBidder book.old new (codes "bidder " ++ name.now) → ⊥ }
@@ -159,7 +159,8 @@ fn read_package(supply: &Supply, numbers: &[u64]) -> Result<Package, LineStop<Ex
     Ok(package)
 }
 
-/// Whether the package comes after that of the last bid of the last bidder, or isn't empty if there is no bid.
+/// Whether the package comes after the package of the last bidder's last bid, or isn't empty if there is no
+/// bid.
 fn comes_next(book: &BidBook, package: &Package) -> bool
     requires some { 0 < length book.now.bidders }
     requires categories { length «package».now ≡ length book.now.supply }

@@ -27,7 +27,7 @@ pub fn naturals_after(alloc: Global, word: &[u8], line: &[u8]) -> Result<Vec<u64
     }
 }
 
-/// The numbers of a text in which one space comes before each.
+/// The numbers of a text, each after one space.
 fn read_naturals(alloc: Global, text: &[u8]) -> Result<Vec<u64>, LineStop<Excess>>
     ensures ok { IfOk result (λ v. AreNumbers v.items × (text.now ≡ decimals_text v.items)) }
     ensures form { result ≡ Err LineStop.Form → (ns : List ℕ) → AreNumbers ns → text.now ≡ decimals_text ns → ⊥ }

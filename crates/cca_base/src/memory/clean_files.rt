@@ -14,7 +14,7 @@ use crate::trace::{Call, Trace};
 use crate::{Failed, Files};
 use std::alloc::{AllocError, Global};
 
-/// Files in memory, each over a buffer that was reserved when it was made. They give the room that is
+/// Files in memory, each over a buffer that was reserved when it was made. They report the room that is
 /// left, in bytes, and no call on them takes memory. No load fails, and no file is missing.
 #[derive(Drop)]
 pub struct CleanFiles {

@@ -7,8 +7,8 @@ use crate::buffer::Buffer;
 use crate::{Failed, Sink};
 use std::alloc::{AllocError, Global};
 
-/// An output in memory, over a buffer that was reserved when it was made. It gives the room that is
-/// left, in bytes, and no call on it takes memory.
+/// An output in memory, over a buffer that was reserved when it was made. It reports the room that
+/// is left, in bytes, and no call on it takes memory.
 #[derive(Drop)]
 pub struct CleanSink {
     buffer: Buffer,

@@ -131,7 +131,7 @@ pub(crate) fn add_to(
     Ok(())
 }
 
-// Gives the file of this name these bytes.
+// Sets the file of this name to these bytes.
 pub(crate) fn set_bytes(files: &mut [MemFile], name: &str, bytes: Vec<u8>)
     requires { IsTrue ((mem_folder files.old).knows name.now) }
     ensures set { Becomes name.now (mem_folder files.old) (mem_folder files.new) (Some bytes.items) [] 0 }

@@ -19,9 +19,9 @@ use std::alloc::{AllocError, Global};
 /// Files in memory. At most `bite` bytes go in one call.
 ///
 /// The loads and the appends are counted from 1 over all names, and the counts stop at the last value of
-/// their type. A load fails exactly where its number is listed in `fail_loads` or its file is missing. An
-/// append fails exactly if its number is listed in `fail_appends` or `refused` rose in that call, which it
-/// does when out of memory.
+/// their type. A load fails exactly if its number is listed in `fail_loads` or its file is missing. An append
+/// fails exactly if its number is listed in `fail_appends` or `refused` rose in that call, which it does when
+/// out of memory.
 #[derive(Drop)]
 pub struct MemFiles {
     alloc: Global,
@@ -73,7 +73,7 @@ impl MemFiles {
         })
     }
 
-    /// Gives the file of this known name these bytes.
+    /// Sets the file of this known name to these bytes.
     ///
     /// # Errors
     ///
@@ -131,7 +131,7 @@ impl Files for MemFiles {
             ≡ one_more ((mem_folder self.old.files.items).load_faults name.now)) }
         ensures missing { (mem_folder self.old.files.items).file name.now ≡ None → IsErr result }
 
-        // Exactly where the number of the load is listed or the file is missing, and exactly that many bytes.
+        // Exactly if the number of the load is listed or the file is missing, and exactly that many bytes.
         ensures number { self.new.loads ≡ min (self.old.loads + 1) (2 ^ 64 - 1) }
         ensures listed { Contains self.old.fail_loads.items self.new.loads → IsErr result }
         ensures failed { IsErr result

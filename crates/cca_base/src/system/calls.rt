@@ -42,7 +42,7 @@ impl<R: Drop> System<R> {
 }
 
 impl<R: rt::Env + Alloc + Drop> System<R> {
-    /// The words of the program, its name before them.
+    /// The program's name and its arguments.
     pub(crate) fn words(&self) -> io::Result<Args<R::A>> {
         env::args(&self.rt)
     }
@@ -81,8 +81,8 @@ fn told_by(answer: io::Result<Metadata>) -> Result<Told, ErrorKind> {
     })
 }
 
-// The open file under a number above those of the standard streams. A stream that the caller closed leaves its number free, and what is
-// printed must not go into a file of the command.
+// The open file under a number above the standard streams' numbers. A stream that the caller closed leaves its number free, and
+// what is printed must not go into a file of the command.
 fn above_streams(opened: io::Result<File>) -> Result<File, ErrorKind> {
     let file = by_kind(opened)?;
     by_kind(tried(|| file.try_clone()))

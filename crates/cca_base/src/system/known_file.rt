@@ -53,8 +53,8 @@ impl Named for KnownFile {
     }
 }
 
-// A file of each name, in the order of the names, on which no call was made. Of files of one name the first counts. No name is looked for
-// among the others, so many words of a command take no more time than to copy them.
+// A file of each name, in the order of the names, before its first call. Of files of one name only the first is used. No name
+// is compared with the others, so a long command line takes only the time to copy it.
 pub(crate) fn known_files(alloc: Global, names: &[String]) -> Result<Vec<KnownFile>, AllocError>
     ensures names { IfOk result (λ files. (name : List ℕ)
         → list_any (λ f. bytes_eq (string_bytes f.name) name) files.items

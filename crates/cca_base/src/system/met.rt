@@ -4,17 +4,17 @@ ghost use Rattle.std.specs.List.{Any};
 
 use std::alloc::AllocError;
 
-// A file of the system, by its device and by its number there. Two names mean one file exactly if these are equal, whatever the names are.
-// That is believed, and no system promises it everywhere: two mounts of one folder may show one file under two devices, and a network file
-// system may renumber its files. Overlayfs gives a file another number when it is first opened for writing, so an append looks at a name
-// both before and after it opens the file.
+// A file of the system, by its device and by its number there. Two names mean one file exactly if these are equal, whatever the
+// names are. That is believed, and no system promises it everywhere: two mounts of one folder may show one file under two
+// devices, and a network file system may renumber its files. Overlayfs changes a file's number when it is first opened for
+// writing, so an append looks at a name both before and after it opens the file.
 #[derive(Clone, Copy, PartialEq, Eq)]
 pub(crate) struct FileIdentity {
     pub device: u64,
     pub inode: u64,
 }
 
-// What the system tells of a file.
+// What the system reports about a file.
 #[derive(Clone, Copy, PartialEq, Eq)]
 pub(crate) struct Told {
     pub file: FileIdentity,
@@ -72,8 +72,8 @@ pub(crate) fn is_met(met: &[Met], place: usize) -> bool
     met.iter().any(|m| m.place == place)
 }
 
-// Where a plain read of a file begins that was opened just now: at its first byte, if nothing was met under its name before.
-// Else nobody knows, since what a pipe gave once is gone.
+// The start of a plain read of a file that was opened just now: its first byte, if nothing was met under its name before. Else
+// it is unknown, since a pipe's bytes can be read only once.
 pub(crate) fn first_position(met: &[Met], place: usize) -> Option<u64>
     ensures new { result ≡ Some 0 → Any (λ m. m.place ≡ place) met.now → ⊥ }
     ensures old { result ≢ Some 0 → (result ≡ None) × Any (λ m. m.place ≡ place) met.now }

@@ -49,7 +49,7 @@ pub(crate) fn file_of<S: SystemCalls>(
     }
 }
 
-// The file of the name at this place, opened anew to read from, and noted.
+// The file of the name at this place, opened again to read from, and noted.
 pub(crate) fn open_to_read<S: SystemCalls>(
     system: &mut S,
     met: &mut Vec<Met>,
@@ -101,8 +101,8 @@ pub(crate) fn read_from<S: SystemCalls>(
     Ok(read)
 }
 
-// The file of the name at this place, opened anew to append to, and noted. Neither this file nor the one that the name meant before was met
-// under another name, or is the one that the standard output goes to.
+// The file of the name at this place, opened again to append to, and noted. This file and the one that the name meant before
+// weren't met under another name, and the standard output doesn't go to them.
 pub(crate) fn open_to_append<S: SystemCalls>(
     system: &mut S,
     output: Option<FileIdentity>,

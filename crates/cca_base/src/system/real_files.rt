@@ -14,7 +14,7 @@ use std::alloc::{AllocError, Global};
 use std::fs::File;
 use std::rt;
 
-// Files over calls of which no more is known than their clauses say. They gave and took what the calls were answered.
+// Files over calls, known only by the calls' clauses. They gave and took what the calls returned.
 #[derive(Drop)]
 struct CountedFiles<C: Drop> {
     calls: C,
@@ -59,11 +59,11 @@ impl<C: FileCalls> Files for CountedFiles<C> {
 /// so a pipe can be loaded from in order. The file of the last append stays open, and locked if it is a regular one, until
 /// another name is appended to, an append fails or anything is loaded.
 ///
-/// What was appended to a regular file is on its disk when `append` answers, and so is the name of a file that was made; the
-/// name means that file still. If a sync fails, or the name means another file then, the piece counts as not taken, though the
-/// file may hold it. An append fails, and takes nothing, if its file was loaded from or appended to under another name,
-/// whatever link or spelling that is, if the standard output goes to it, and if someone else has locked it. Each fault of the
-/// system raises the count of its kind and name, and so does a call that takes nothing of a piece that isn't empty.
+/// What was appended to a regular file is on its disk when `append` returns, and so is the name of a new file. The name still
+/// means this file. If a sync fails, or the name means another file then, the piece is reported as not taken, though the file
+/// may contain it. An append fails, and takes nothing, if its file was loaded from or appended to under another name, whatever
+/// link or spelling that is, if the standard output goes to it, and if someone else has locked it. Each fault of the system
+/// raises the count of its kind and name, and so does a call that takes nothing of a piece that isn't empty.
 #[derive(Drop)]
 pub struct RealFiles<R: Drop> {
     counted: CountedFiles<SystemFiles<System<R>>>,

@@ -7,7 +7,7 @@ use crate::{Failed, Sink};
 use std::fs::File;
 use std::rt;
 
-// An output over calls of which no more is known than their clauses say. It took what the calls were answered.
+// An output over calls, known only by the calls' clauses. It took what the calls returned.
 #[derive(Drop)]
 struct CountedSink<C: Drop> {
     calls: C,

@@ -1,4 +1,4 @@
-// What is appended, and on the disk before it counts as taken.
+// What is appended, and on the disk before it is reported as taken.
 ghost use Rattle.std.specs.Fd.{file_raw_fd};
 ghost use Rattle.std.specs.Prelude.{◌≡◌, ◌≤◌, ◌∷◌, ◌++◌, false, Ok, length, take, IfOk, IsTrue, OnOk, OnErr};
 ghost use Rattle.cca_base.specs.Made.{tells};
@@ -23,7 +23,7 @@ fn must_mean<S: SystemCalls>(system: &mut S, name: &str, file: FileIdentity) -> 
     }
 }
 
-// The folder in which the system looks for a name: all before the last slash.
+// The folder where the system looks for a name: all before the last slash.
 fn folder_of(name: &str) -> &str
     ensures { IsFolderOf name.now result.now }
 {
@@ -33,7 +33,7 @@ fn folder_of(name: &str) -> &str
     }
 }
 
-// Waits until the disk has what this folder holds.
+// Waits until the disk has the entries of this folder.
 fn sync_folder<S: SystemCalls>(system: &mut S, folder: &str) -> Result<(), Failed>
     ensures { OnOk result (IsSynced folder.now (S.made system.old) (S.made system.new)) }
 {

@@ -21,10 +21,10 @@ use std::alloc::{AllocError, Global};
 
 /// Reads and appends of files, as the system takes them.
 pub(crate) trait FileCalls: Drop {
-    /// The reads that were answered, the last one first.
+    /// The reads that returned, the last one first.
     ghost gave: { Self → List Given };
 
-    /// The appends that were answered, the last one first.
+    /// The appends that returned, the last one first.
     ghost took: { Self → List Given };
 
     /// The calls of the system that were made for them, the last one first.

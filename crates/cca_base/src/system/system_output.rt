@@ -18,7 +18,7 @@ use std::{io, rt};
 
 /// Writes to standard output, as the system takes them.
 pub(crate) trait OutputCalls: Drop {
-    /// The writes that were answered, the last one first.
+    /// The writes that returned, the last one first.
     ghost took: { Self → List Given };
 
     /// Whether nothing may be printed.
@@ -43,7 +43,7 @@ pub(crate) trait OutputCalls: Drop {
 #[derive(Drop)]
 pub(crate) struct SystemOutput<R: Drop> {
     system: System<R>,
-    // Whether it goes to a regular file that the words name, into which nothing is printed.
+    // Whether it goes to a regular file that the arguments name. Nothing is printed into such a file.
     is_barred: bool,
     took: Trace,
 }
@@ -58,7 +58,7 @@ fn means<S: SystemCalls>(system: &mut S, name: &str, file: FileIdentity) -> bool
     }
 }
 
-// The words after the command's.
+// The arguments after the command's name.
 fn after_command<A: Allocator>(mut words: Args<A>) -> Args<A>
     ensures { into_iter_items result ≡ drop 2 (into_iter_items words) }
 {
@@ -67,7 +67,7 @@ fn after_command<A: Allocator>(mut words: Args<A>) -> Args<A>
     words
 }
 
-// Whether one of the words means this file.
+// Whether one of the arguments means this file.
 fn is_among<S: SystemCalls, A: Allocator>(
     system: &mut S,
     words: Args<A>,
@@ -83,8 +83,8 @@ fn is_among<S: SystemCalls, A: Allocator>(
     false
 }
 
-// Whether the output goes to a regular file that a word after the command's means, or the words can't be had. A line that says of a fault must
-// not go into a file that isn't opened yet either.
+// Whether the output goes to a regular file that an argument after the command's name means, or the arguments are unavailable.
+// The line of a fault must not go into a file that isn't opened yet either.
 fn is_barred<S: SystemCalls, A: Allocator>(system: &mut S, words: io::Result<Args<A>>) -> bool
     ensures known { IfOk words (λ all. result ≡ false → IsFree (drop 2 (map string_bytes (into_iter_items all))) true
         (S.made system.old) (S.made system.new)) }

@@ -1,4 +1,4 @@
-// The bids that come before those of the choice in the order of ties: none of them may reach the value.
+// The bids that come before the choice's bids in the order of ties: none of them may reach the value.
 ghost use Rattle.std.specs.Prelude.{◌≡◌, ◌↔◌, ℕ, ◌-◌, ◌^◌, ◌<◌, ◌≤◌, [], length, slice_index_or, pos, ◌+ℤ◌, ◌<ℤ◌, IsTrue, unsigned_abs};
 ghost use Rattle.auction_model.specs.Package.{is_within, less};
 ghost use Rattle.auction_model.specs.Place.{left_at, place_of};
@@ -79,7 +79,7 @@ fn all_stay_below(
     true
 }
 
-/// The place of what bid `i` of bidder `j`, which fits, leaves of a place. Number 0 is no bid.
+/// The place of what bid `i` of bidder `j`, which fits, leaves of a place. Number 0 means no bid.
 fn rest_after(book: &BidBook, j: u16, i: u16, rest: usize) -> usize
     requires bidder { (0 < j) × (j ≤ bidders_of book.now) }
     requires bid { i ≤ length (bids_of book.now j) }

@@ -22,7 +22,8 @@ pub(crate) fn put_multipliers(rows: &[CertRow], which: Multiplier, numbers: &mut
     }
 }
 
-/// Writes for each bidder the sum of a multiplier over the rows that hold it.
+/// Writes for each bidder the sum of a multiplier over the rows that contain
+/// it.
 pub(crate) fn put_sums(rows: &[CertRow], which: Multiplier, sums: &mut [i128])
     requires few { length rows.now ≤ 10 }
     requires rows { (bidders : ℕ) × AreRows bidders (map row_value rows.now) }
@@ -35,7 +36,7 @@ pub(crate) fn put_sums(rows: &[CertRow], which: Multiplier, sums: &mut [i128])
     }
 }
 
-/// The sum of the multipliers of the rows that hold bidder `j`.
+/// The sum of the multipliers of the rows that contain bidder `j`.
 fn sum_of(rows: &[CertRow], j: u16, which: Multiplier) -> i128
     requires count { length rows.now ≤ 10 }
     requires range { (bidders : ℕ) × AreRows bidders (map row_value rows.now) }

@@ -1,4 +1,4 @@
-// The bids that come before those of the choice in the order of ties, over a whole table.
+// The bids that come before the choice's bids in the order of ties, over a whole table.
 ghost use Rattle.std.specs.Prelude.{◌≡◌, ◌↔◌, ◌^◌, ◌<◌, ◌≤◌, IsTrue, unsigned_abs};
 ghost use Rattle.auction_model.specs.Book.{market_of};
 ghost use Rattle.cert_grammar.specs.CertText.{IsTable};

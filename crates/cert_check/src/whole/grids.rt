@@ -47,7 +47,7 @@ fn inner_fault(offers: &TestedBids, table: &Grid, k: u16, known: bool) -> LineFa
     two_lines_found(offers, k, line, below, known)
 }
 
-/// The first place at which the last line breaks a rule, and the number of states if there is none.
+/// The first place where the last line breaks a rule, and the number of states if there is none.
 fn bottom_fault(offers: &TestedBids, table: &Grid) -> usize
     requires { IsTable (bidders_of offers.now.book.now) (states offers.now.book.now) table.now }
     ensures { FirstFault (ObeysIn offers.now table.now (bidders_of offers.now.book.now)) (states offers.now.book.now) result }
@@ -69,7 +69,7 @@ pub(crate) fn put_line(table: &Grid, k: usize, line: &mut [i128])
     table.put_part(k, 0, line);
 }
 
-/// The first number of a line and a place in it at which a table breaks a rule.
+/// The first number of a line and a place in it where a table breaks a rule.
 fn table_fault(offers: &TestedBids, table: &Grid) -> Option<u64>
     requires table { IsTable (bidders_of offers.now.book.now) (states offers.now.book.now) table.now }
     ensures { IsFirstFailing (RulesAt offers.now table.now) result }
@@ -86,7 +86,7 @@ fn table_fault(offers: &TestedBids, table: &Grid) -> Option<u64>
     None
 }
 
-/// The first number at which a table breaks a rule, or the number after all of these if line 0 has more than `most` for the
+/// The first number where a table breaks a rule, or the number after all of these if line 0 has more than `most` for the
 /// whole supply.
 pub(crate) fn table_test(offers: &TestedBids, table: &Grid, most: i128) -> Option<u64>
     requires table { IsTable (bidders_of offers.now.book.now) (states offers.now.book.now) table.now }

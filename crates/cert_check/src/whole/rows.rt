@@ -11,7 +11,7 @@ use crate::claim::Claim;
 use crate::rows::row_holds;
 use cert_text::CertRow;
 
-/// The first place at which C6 fails of a certificate with these payments and rows.
+/// The first place where C6 fails for a certificate with these payments and rows.
 pub(crate) fn rows_test(claim: &Claim, pay: &[i128], rows: &[CertRow]) -> Option<u64>
     requires pay { (length pay.now ≡ bidders_of claim.now.book.now) × AllInRange pay.now }
     requires rows { AreRows (bidders_of claim.now.book.now) (map row_value rows.now) }

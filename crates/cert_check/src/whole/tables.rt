@@ -16,9 +16,9 @@ use bid_book::BidBook;
 use choices::Grid;
 use table_check::TestedBids;
 
-/// The first place at which the table of net amounts doesn't show the choice to be the winning one, once it is known, fits and
-/// has the value. With `S` states and `B` bidders, `k * S + s` is the place of line `k` at place `s` of the supply, `(B + 1) * S`
-/// that of the value, and `(B + 1) * S + j` that of the bids of bidder `j` which come before its number in the choice.
+/// The first place where the table of net amounts doesn't show the choice to be the winning one, once it is known, fits and has
+/// the value. With `S` states and `B` bidders, `k * S + s` is the place of line `k` at place `s` of the supply, `(B + 1) * S`
+/// is the place of the value, and `(B + 1) * S + j` the place of the bids of bidder `j` before its number in the choice.
 pub(crate) fn value_test(book: &BidBook, choice: &[u16], value: i128, table: &Grid) -> Option<u64>
     requires allowed { IsTrue ((market_of book.now).allowed choice.now) }
     requires value { unsigned_abs value < 2 ^ 120 }
@@ -29,7 +29,7 @@ pub(crate) fn value_test(book: &BidBook, choice: &[u16], value: i128, table: &Gr
     value_fault(book, choice, value, table)
 }
 
-/// Where the value fails its test, for the certificate of these numbers alone.
+/// The place where the value fails its test, for the certificate of only these numbers.
 fn value_fault(book: &BidBook, choice: &[u16], value: i128, table: &Grid) -> Option<u64>
     requires allowed { IsTrue ((market_of book.now).allowed choice.now) }
     requires value { unsigned_abs value < 2 ^ 120 }
@@ -52,8 +52,8 @@ fn value_fault(book: &BidBook, choice: &[u16], value: i128, table: &Grid) -> Opt
     Some(last as u64 + bidder)
 }
 
-/// The first place at which the table of lowered amounts doesn't show the payments to be in the core. The places are those of the
-/// table in `value_test`, and `(B + 1) * S` is that of the sum of the payments.
+/// The first place where the table of lowered amounts doesn't show the payments to be in the core. The table's places are as in
+/// `value_test`, and `(B + 1) * S` is the place of the sum of the payments.
 pub(crate) fn lowered_test(claim: &Claim, pay: &[i128], table: &Grid) -> Option<u64>
     requires pay { (length pay.now ≡ bidders_of claim.now.book.now) × AllInRange pay.now }
     requires table { IsTable (bidders_of claim.now.book.now) (states claim.now.book.now) table.now }

@@ -19,7 +19,7 @@ pub(crate) enum Phase {
     Digits { negative: bool, tally: Magnitude },
 }
 
-/// A number. One that is out of range stands as 0.
+/// A number, or 0 if it is out of range.
 #[derive(Clone, Copy, Debug, PartialEq, Eq)]
 pub(crate) struct ReadNumber {
     pub(crate) number: i128,

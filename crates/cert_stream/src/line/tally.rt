@@ -1,7 +1,7 @@
-// The size of a number of which digits were read.
+// The size of a number after some of its digits.
 ghost use Rattle.std.specs.Prelude.{◌^◌, ◌<◌};
 
-/// The size of a number of which digits were read, while it is below 2^120.
+/// The size of a number after some of its digits, while it is below 2^120.
 #[derive(Clone, Copy, Debug, PartialEq, Eq)]
 pub(crate) struct Magnitude {
     pub(crate) size: u128,

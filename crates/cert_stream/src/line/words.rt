@@ -1,4 +1,4 @@
-// Up to eight digits of a piece at once, as one word: each byte less that of 0, the first one lowest.
+// Up to eight digits of a piece at once, as one word: each byte less the byte of 0, the first one lowest.
 ghost use Rattle.std.specs.Prelude.{◌≡◌, ℕ, ◌+◌, ◌*◌, ◌≤◌, ◌<◌, ◌^◌, List, length, take, drop, get_or};
 ghost use Rattle.std.specs.Int.{bit_at};
 ghost use Rattle.wide_num.proofs.Decimal.{AreDigits, IsDigit, read_on};
@@ -15,7 +15,7 @@ const SECOND_PAIRS: u64 = 0x0000_ffff_0000_ffff;
 /// The lower half of a word.
 const LOWER_HALF: u64 = 0xffff_ffff;
 
-/// Which of eight bytes of a piece are digits: the lowest bit says of the first. They are compared at once.
+/// Which of eight bytes of a piece are digits: the lowest bit is for the first. They are compared at once.
 fn digits_at(piece: &[u8], at: usize) -> u64
     requires { at + 8 ≤ length piece.now }
     ensures small { result < 2 ^ 8 }

@@ -57,9 +57,10 @@ pub struct CountRead {
     pub next: usize,
 }
 
-/// Reads a line of the word and just these numbers, all in range. Gives the place of the next line.
+/// Reads a line of the word and just these numbers, all in range. Returns the place of the next
+/// line.
 ///
-/// Errors: those of the line, as in [`read_cert`](crate::read_cert).
+/// Errors: see [`read_cert`](crate::read_cert).
 pub fn take_these(
     alloc: Global,
     bytes: &[u8],
@@ -85,7 +86,7 @@ pub fn take_these(
 
 /// Reads a line of the word and that many signed numbers.
 ///
-/// Errors: those of the line, as in [`read_cert`](crate::read_cert).
+/// Errors: see [`read_cert`](crate::read_cert).
 pub fn take_signed(
     alloc: Global,
     bytes: &[u8],
@@ -126,7 +127,7 @@ fn is_just(line: &LineRead, numbers: &[i128]) -> bool
 
 /// Reads a line of the word and one number of 0 to 65,535 for each bidder.
 ///
-/// Errors: those of the line, as in [`read_cert`](crate::read_cert).
+/// Errors: see [`read_cert`](crate::read_cert).
 pub fn take_each(
     alloc: Global,
     bytes: &[u8],
@@ -150,7 +151,7 @@ pub fn take_each(
 
 /// Reads a line of a choice of that many bidders.
 ///
-/// Errors: those of the line, as in [`read_cert`](crate::read_cert).
+/// Errors: see [`read_cert`](crate::read_cert).
 pub fn take_choice(
     alloc: Global,
     bytes: &[u8],
@@ -172,7 +173,7 @@ pub fn take_choice(
 
 /// Reads the line of a row's members.
 ///
-/// Errors: those of the line, as in [`read_cert`](crate::read_cert).
+/// Errors: see [`read_cert`](crate::read_cert).
 pub fn take_members(
     alloc: Global,
     bytes: &[u8],
@@ -217,7 +218,7 @@ fn rise(bidders: u16, numbers: &[u16]) -> bool
 
 /// Reads the line of the count of rows.
 ///
-/// Errors: those of the line, as in [`read_cert`](crate::read_cert).
+/// Errors: see [`read_cert`](crate::read_cert).
 pub fn take_count(
     alloc: Global,
     bytes: &[u8],

@@ -9,7 +9,7 @@ use line_format::{NumbersStop, line_len, numbers_after};
 use std::alloc::Global;
 use wide_num::NumList;
 
-/// The numbers of a line, and where the next line begins. Where one is out of range the list has only as many numbers.
+/// The numbers of a line, and where the next line begins. If one is out of range, only the count of the list is right.
 #[derive(Drop)]
 pub(crate) struct LineRead {
     pub(crate) numbers: NumList,

@@ -114,9 +114,10 @@ fn take_part(
     })
 }
 
-/// Reads the line that begins the part without the winner. Gives the place of the next line.
+/// Reads the line that begins the part without the winner. Returns the place of the next
+/// line.
 ///
-/// Errors: those of the line, as in [`read_cert`](crate::read_cert).
+/// Errors: see [`read_cert`](crate::read_cert).
 pub fn take_winner(
     alloc: Global,
     bytes: &[u8],

@@ -116,7 +116,7 @@ pub(crate) fn take_number(
 
 /// Reads a line of the word and two signed numbers.
 ///
-/// Errors: those of the line, as in [`read_cert`](crate::read_cert).
+/// Errors: see [`read_cert`](crate::read_cert).
 pub fn take_pair(
     alloc: Global,
     bytes: &[u8],

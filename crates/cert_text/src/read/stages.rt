@@ -46,7 +46,7 @@ pub(crate) struct Payments {
 
 /// Reads the denominator and the value.
 ///
-/// Errors: those of the lines, as in [`read_cert`](crate::read_cert).
+/// Errors: see [`read_cert`](crate::read_cert).
 pub fn take_opening(alloc: Global, bytes: &[u8], place: usize) -> Result<Opening, CertStop>
     requires { place ≤ length bytes.now }
     ensures leads { IfOk result (λ r. Leads bytes.now place opening_plan r.next [] (opening_lines r.den r.value)) }
@@ -120,7 +120,7 @@ pub(crate) fn take_payments(
 
 /// Reads the table of lowered worths and the last line.
 ///
-/// Errors: those of the lines, as in [`read_cert`](crate::read_cert).
+/// Errors: see [`read_cert`](crate::read_cert).
 pub fn take_closing(
     alloc: Global,
     bytes: &[u8],

@@ -20,7 +20,7 @@ pub struct TableRead {
 
 /// Reads the line that names a table, and the table: one line more than bidders, each with a number for each state.
 ///
-/// Errors: those of the lines, as in [`read_cert`](crate::read_cert).
+/// Errors: see [`read_cert`](crate::read_cert).
 pub fn take_named(
     alloc: Global,
     bytes: &[u8],

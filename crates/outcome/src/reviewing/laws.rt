@@ -1,4 +1,4 @@
-// What holds of the text of a review, regardless of who writes it.
+// What is true for the text of a review, regardless of who writes it.
 ghost use Rattle.std.specs.Prelude.{◌≡◌, ℕ, List, length};
 ghost use Rattle.std.specs.List.{AllByRecursion};
 ghost use Rattle.auction_model.specs.Book.{Book};

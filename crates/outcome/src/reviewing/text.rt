@@ -58,8 +58,8 @@ fn add_edit(
     }
 }
 
-/// Takes an edit, and gives the reply to it. Memory is asked for only if no condition refuses the edit, so out of memory never
-/// hides a refusal; the review is as it was then.
+/// Takes an edit, and returns the reply to it. It takes memory only if no condition refuses the edit, so out of memory never
+/// hides a refusal. The review is then unchanged.
 fn take_edit(alloc: Global, review: &mut Review, edit: &Edit) -> Result<EditReply, AllocError>
     requires { length (edit_lots edit.now) ≡ length review.old.book.supply }
     ensures reply { IfOk result (λ reply. reply ≡ edit_reply review.old.book edit.now) }

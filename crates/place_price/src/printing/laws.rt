@@ -1,4 +1,4 @@
-// What holds of the text of placements. It has no code.
+// What is true for the text of placements. It has no code.
 ghost use Rattle.std.specs.Prelude.{◌≡◌, ℕ, ◌<◌, ◌≤◌, ◌≤ℤ◌, List, ℤ, length, pos};
 ghost use Rattle.auction_model.specs.Prices.{Point, SamePoint};
 ghost use Rattle.slot_places.specs.Board.{market_of_slots};
@@ -7,8 +7,8 @@ ghost use Rattle.place_price.specs.PlaceText.{IsPlaceText};
 
 use print_grammar::one_fraction;
 
-/// The text of a placement depends on the order, the choice, the points and the Vickrey prices alone. The choice has a number for each
-/// bidder.
+/// The text of a placement depends only on the order, the choice, the points and the Vickrey prices. The choice has a number
+/// for each bidder.
 pub fn one_place_text()
     ensures { (slots : SlotList) (order z : List ℕ) (v w : ℕ → ℤ) (p q : Point) (t u : List ℕ)
         → length z ≡ length slots.bidders → pos 1 ≤ℤ p.den → pos 1 ≤ℤ q.den

@@ -19,9 +19,9 @@ use slot_places::Slots;
 use std::alloc::{AllocError, Global};
 use wide_num::Text;
 
-/// The text of the placement and of the prices that a certificate shows for which all nine tests hold: a line for each bidder in the order
-/// of the certificate's choice, with its first slot and its width, then one for each winner in the order of the bidders, with its bid, its
-/// Vickrey price and what it pays, then the value and the revenue.
+/// The text of the placement and of the prices that a certificate shows if it passes all nine tests: a line for each bidder
+/// in the order of the certificate's choice, with its first slot and its width, then one for each winner in the order of the
+/// bidders, with its bid, its Vickrey price and what it pays, then the value and the revenue.
 ///
 /// The only error is out of memory.
 pub fn place_text(alloc: Global, slots: &Slots, cert: &PlaceCertificate) -> Result<Text, AllocError>
@@ -35,7 +35,7 @@ pub fn place_text(alloc: Global, slots: &Slots, cert: &PlaceCertificate) -> Resu
     printed(alloc, slots, cert)
 }
 
-// The printed text of a certificate of which only what the text needs is known.
+// The printed text of a certificate, from only what the text needs.
 fn printed(alloc: Global, slots: &Slots, cert: &PlaceCertificate) -> Result<Text, AllocError>
     requires { CanPrint slots.now cert.now }
     ensures { IfOk result

@@ -20,7 +20,7 @@ pub(crate) struct OrderedRead {
     pub(crate) next: usize,
 }
 
-/// Reads the line of an order and that of a choice.
+/// Reads the line of an order and the line of a choice.
 pub(crate) fn take_ordered(
     alloc: Global,
     bytes: &[u8],

@@ -8,7 +8,7 @@ use std::alloc::{AllocError, Global};
 use std::process::Abort;
 use std::test::Fail;
 
-// Asserts what a checker says of a text in pieces of seven bytes.
+// Asserts a checker's verdict on a text in pieces of seven bytes.
 fn says(
     rt: &impl Abort,
     alloc: Global,
@@ -20,7 +20,7 @@ fn says(
     Ok(())
 }
 
-// Asserts the same of the certificate with other lines instead of these bytes.
+// Asserts it for the certificate with other lines instead of these bytes.
 fn says_of_edit(
     rt: &impl Abort,
     alloc: Global,
