@@ -20,7 +20,7 @@ pub struct Found<T> {
     pub table: T,
 }
 
-/// A winner alone.
+/// A single winner.
 #[derive(Drop)]
 pub struct Single {
     /// The number of the winner.

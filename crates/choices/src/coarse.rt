@@ -1,6 +1,6 @@
 // Lines of tables in 16 bits: two lines are counted in one unit, the line rounded down, and the line below and the worth of a
-// bid rounded up. Then a block of the last few categories is tested in one run, with a mask of the places at which the package
-// fits. A yes is a yes of the exact numbers; if units are too coarse to tell, anyone who asks says by these.
+// bid rounded up. Then a block of the last few categories is tested in one run, with a mask of the places where the package
+// fits. Acceptance is sound for the exact numbers. If units are too coarse to decide, the caller uses the exact numbers.
 ghost use Rattle.std.specs.Prelude.{◌≡◌, ℕ, ◌+◌, ◌-◌, ◌*◌, ◌%◌, ◌^◌, ◌≤◌, ◌<◌, IsTrue, length, slice_index_or, pos, ◌≤ℤ◌};
 ghost use Rattle.auction_model.specs.Place.{states_of, widths_of};
 ghost use Rattle.limits.specs.declared.TheConstants.{MOST_STATES};
@@ -105,8 +105,8 @@ pub fn put_low(low: &mut [u16], line: &[i64], shift: u32)
     }
 }
 
-/// The numbers of a line in units of `2^shift`, rounded up, and whether none has too many. It goes on if one has, as
-/// `put_units` does.
+/// The numbers of a line in units of `2^shift`, rounded up, and whether none has too many. It goes on if one has, just like
+/// `put_units`.
 pub fn put_high(high: &mut [u16], line: &[i64], shift: u32) -> bool
     requires places { length high.old ≡ length line.now }
     requires shift { shift < 64 }
@@ -122,7 +122,7 @@ pub fn put_high(high: &mut [u16], line: &[i64], shift: u32) -> bool
     seen <= MOST_UNITS
 }
 
-/// A shift with which numbers up to this one have at most 15 bits.
+/// A shift that leaves numbers up to this one at most 15 bits.
 pub fn shift_for(most: u64) -> u32
     ensures { result < 64 }
 {

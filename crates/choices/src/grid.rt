@@ -125,7 +125,7 @@ impl Grid {
         own.put_part(from, to);
     }
 
-    /// Whether a line is seen to have the numbers of a line of another grid. Where the two keep them in different sizes it isn't.
+    /// Whether a line is seen to have the numbers of a line of another grid. If the two keep them in different sizes, it isn't.
     pub fn is_line_of(&self, line: usize, other: &Grid, place: usize) -> bool
         requires line { line < length self.now }
         requires place { place < length other.now }

@@ -1,4 +1,4 @@
-// One line of a grid, in the size in which it was made.
+// One line of a grid, in the size that it was made with.
 ghost use Rattle.std.specs.Prelude.{◌≡◌, ◌+◌, ◌<◌, ◌≤◌, length, map, take, drop, slice_index_or, pos, IfOk, IsTrue};
 ghost use Rattle.choices.specs.GridLines.{numbers_in};
 ghost use Rattle.choices.specs.LentLines.{numbers_of};
@@ -15,7 +15,7 @@ pub(crate) enum GridLine {
     Wide(RcSlice<i128>),
 }
 
-/// The numbers of a line, in the size in which the grid keeps them.
+/// The numbers of a line, in the size that the grid keeps.
 #[derive(Clone, Copy)]
 pub enum LineNumbers<'a> {
     /// Numbers of 32 bits, none below 0.

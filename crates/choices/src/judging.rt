@@ -1,4 +1,4 @@
-// What a book says of a choice.
+// How a book judges a choice.
 ghost use Rattle.std.specs.Prelude.{◌≡◌, ◌≤◌, ◌<◌, ◌*◌, pos, ◌≤ℤ◌, length, IsTrue, IsFalse, IfSome, IfNone, unsigned_abs};
 ghost use Rattle.auction_model.specs.Package.{is_within, less};
 ghost use Rattle.auction_model.specs.Place.{left_at, place_of, states_of};
@@ -40,7 +40,7 @@ pub fn fits(book: &BidBook, choice: &Choice) -> bool
     are_within(book, choice.numbers())
 }
 
-/// Whether the sum of the packages of these bids is within the supply. The numbers are those of a known choice, bidder by bidder.
+/// Whether the sum of the packages of these bids is within the supply. The numbers are a known choice's, bidder by bidder.
 pub fn are_within(book: &BidBook, numbers: &[u16]) -> bool
     requires { IsTrue (is_known_after (menu_of book.now) 0 numbers.now) }
     ensures { result ≡ fits_after (menu_of book.now) 0 book.now.supply numbers.now }

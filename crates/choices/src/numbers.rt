@@ -4,7 +4,7 @@ ghost use Rattle.std.specs.Prelude.{◌≡◌, ◌<◌, [], ◌∷◌, ◌++◌,
 use std::alloc::{AllocError, Global};
 use std::marker::Model;
 
-/// A list of numbers, as of those of bids.
+/// A list of numbers, such as bid numbers.
 #[derive(Debug, Drop)]
 pub struct Numbers {
     numbers: Vec<u16>,

@@ -71,10 +71,10 @@ impl Clock {
     }
 
     /// Takes a clock bid: the package that the bidder asks for in the posted round, instead of an earlier one. It takes no
-    /// memory. The clock has to run, and the award has to be that of its start, or one with as many bidders and categories.
+    /// memory. The clock has to run, and the award has to be the one of its start, or have as many bidders and categories.
     ///
     /// The reply is Ok, Unknown, Supply, SpectrumCap or Points; if it isn't Ok, nothing changes. A clock that stands for a log
-    /// answers by the rules, and then stands for the log with this line.
+    /// replies by the rules, and then stands for the log with this line.
     pub fn bid(&mut self, award: &Award, bidder: u16, package: &Package) -> Reply
         requires running { IsTrue self.old.running }
         requires award { IsFor award.now self.old }
@@ -96,10 +96,10 @@ impl Clock {
     }
 
     /// Closes the posted round. If some count of what all bidders ask for is above the supply, the prices of these categories
-    /// rise and the next round is posted, else the clock stage ends. The conditions are those of a bid.
+    /// rise and the next round is posted, else the clock stage ends. The conditions are as for a bid.
     ///
-    /// After a refusal and when out of memory all is as it was. A clock that stands for a log answers by the rules, and then
-    /// stands for the log with this line, unless there was no memory.
+    /// After a refusal and when out of memory nothing changes. A clock that stands for a log replies by the rules, and then
+    /// stands for the log with this line, unless it is out of memory.
     pub fn close(&mut self, alloc: Global, award: &Award) -> Closed
         requires running { IsTrue self.old.running }
         requires award { IsFor award.now self.old }
@@ -135,7 +135,7 @@ impl Clock {
         Closed::NextRound(self.history.rounds() + 1)
     }
 
-    /// Closes the final round, of which this is a copy.
+    /// Closes the final round. This is a copy of it.
     fn end(&mut self, last: ClockRound) -> Closed
         requires { IsClock (clock_with false (self.old.rounds ++ self.old.posted ∷ []) (round_value last)) }
         ensures { ((result ≡ Closed.Memory) × (self.new ≡ self.old))

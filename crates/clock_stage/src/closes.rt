@@ -28,7 +28,7 @@ pub enum Closed {
     Memory,
 }
 
-/// What a close leads to, with all the memory that it takes but that of the history.
+/// The result of a close, with all its memory except the history's.
 #[derive(Drop)]
 pub enum CloseStep {
     /// This round is posted next.
@@ -39,7 +39,7 @@ pub enum CloseStep {
     Refused(Closed),
 }
 
-/// The round that follows one in which these packages are held, at these prices.
+/// The round that follows one with these packages held, at these prices.
 fn round_after(
     alloc: Global,
     award: &Award,

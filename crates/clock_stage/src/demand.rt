@@ -24,7 +24,7 @@ fn add_package(sum: &mut [u64], package: &Package)
     }
 }
 
-/// The sum of the packages of all bidders, of which each has as many categories as the supply.
+/// The sum of the packages of all bidders. Each package has as many categories as the supply.
 pub fn demand_of(alloc: Global, supply: &Supply, held: &[Package]) -> Result<Vec<u64>, AllocError>
     requires few { length held.now ≤ MOST_BIDDERS }
     requires packages { All (IsHeld (length supply.now)) held.now }

@@ -24,8 +24,8 @@ fn permille_of(excess: u64, thresholds: &[(u64, u64)]) -> u64
     permille
 }
 
-/// The price after a round with this excess demand: it rises by the least multiple of the tick that is at least the tick and
-/// at least the thousandths of the price that the excess reaches in the table, those of the greatest threshold that it reaches.
+/// The price after a round with this excess demand: it rises by the least multiple of the tick that is at least the tick and at
+/// least the thousandths of the price in the table for the greatest threshold that the excess reaches.
 pub fn step(price: u64, excess: u64, table: &StepTable) -> u64
     requires { price ≤ MOST_PRICE }
     ensures price { result ≡ stepped table.now.tick table.now.thresholds price excess }

@@ -269,7 +269,7 @@ fn loads_in_turn<F: Files>(
     Ok(([first, second, third], [y, z, piece[0]]))
 }
 
-// The same of real files.
+// `loads_in_turn` over real files.
 fn real_loads_in_turn(
     rt: HostRuntime,
     one: &str,

@@ -1,4 +1,4 @@
-// The best choices after each set of bidders, from the set of all down to that of nobody.
+// The best choices after each set of bidders, from the full set down to the empty set.
 ghost use Rattle.std.specs.Prelude.{◌≡◌, ◌+◌, ◌-◌, ◌^◌, ◌≤◌, ◌<◌, IsTrue, IsFalse, IfOk, List, ℕ, length, replicate, slice_set, ◌≤ℤ◌, ◌<ℤ◌};
 ghost use Rattle.std.specs.List.{All};
 ghost use Rattle.auction_model.specs.Market.{is_earlier, is_number_before, number_of};
@@ -16,7 +16,7 @@ pub struct Best {
     pub sum: i128,
 }
 
-/// Whether number `i` comes before `j` by the order of ties, in which 0 is the last.
+/// Whether number `i` comes before `j` by the order of ties, whose last number is 0.
 fn is_before(i: u16, j: u16) -> bool
     ensures { result ≡ is_number_before i j }
 {
@@ -56,7 +56,7 @@ fn better(search: &Search, set: usize, best: Best, next: Best) -> Best
     best
 }
 
-/// The best choice in which bidder `j` is next after the set with number `i`, from the best choice after the set with `j`.
+/// The best choice with bidder `j` next after the set, with number `i`, from the best choice after the set with `j`.
 fn with_number(
     alloc: Global,
     search: &Search,
@@ -80,7 +80,7 @@ fn with_number(
     Ok(Best { numbers, sum })
 }
 
-/// The better of a choice and the best in which bidder `j` is next after the set.
+/// The better of a choice and the best choice with bidder `j` next after the set.
 fn with_bidder(
     alloc: Global,
     search: &Search,
@@ -113,7 +113,7 @@ fn with_bidder(
     Ok(best)
 }
 
-/// A bidder outside a set that isn't that of all.
+/// A bidder outside a set that isn't the full set.
 fn outside_bidder(search: &Search, set: usize) -> u16
     requires { set + 1 < 2 ^ (searched search.now).bidders }
     ensures bidder { (0 < result) × (result ≤ (searched search.now).bidders) }

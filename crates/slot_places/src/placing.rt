@@ -13,8 +13,8 @@ use choices::{Choice, Numbers};
 use std::alloc::{AllocError, Global};
 
 impl Slots {
-    /// Whether the order lists each bidder once and gives each bidder with a number other than 0 the start of that bid, and the
-    /// choice has one number for each bidder, each that of one of its bids or 0. It takes no memory.
+    /// Whether the order lists each bidder once and places each bidder with a number other than 0 at the start of this bid, and
+    /// the choice has one number for each bidder, each the number of one of its bids or 0. It takes no memory.
     pub fn allows(&self, order: &[u16], choice: &Choice) -> bool
         ensures { result ≡ allows self.now order.now choice.now }
     {
@@ -58,7 +58,7 @@ impl Slots {
         Ok(Some(order))
     }
 
-    /// Whether there is one number for each bidder, each that of one of its bids or 0.
+    /// Whether there is one number for each bidder, each the number of one of its bids or 0.
     fn is_known(&self, numbers: &[u16]) -> bool
         ensures { result ≡ is_known (board_of self.now) numbers.now }
     {

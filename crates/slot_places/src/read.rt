@@ -24,7 +24,7 @@ pub enum Stage {
     Start,
     /// The first line.
     Headed,
-    /// The first two lines, and those of some bidders with bids.
+    /// The first two lines, and the lines of some bidders with bids.
     Listing(Slots),
     /// All lines, the last one too.
     Ended(Slots),

@@ -3,7 +3,7 @@ ghost use Rattle.std.specs.Prelude.{◌≡◌, ◌-◌, ◌≤◌, ◌<◌, ◌^
 ghost use Rattle.slot_places.specs.SetTable.{holds};
 ghost use Rattle.limits.specs.declared.TheConstants.{MOST_PLACED};
 
-/// Whether a set holds bidder `j`.
+/// Whether a set contains bidder `j`.
 pub fn is_in(set: usize, j: u16) -> bool
     requires { (0 < j) × (j ≤ MOST_PLACED) }
     ensures { result ≡ holds set j }

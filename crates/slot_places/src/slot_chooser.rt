@@ -38,8 +38,8 @@ impl<'a> SlotChooser<'a> {
         SlotChooser { slots, winners }
     }
 
-    /// The first of the greatest allowed choices that don't use bidder `j`, its worth, and the table for the amounts in which `j`
-    /// has no bids. The only error is out of memory.
+    /// The first of the greatest allowed choices that don't use bidder `j`, its worth, and the table for the amounts without
+    /// bids of `j`. The only error is out of memory.
     pub fn best_without(&self, alloc: Global, j: u16) -> Result<Found<Grid>, AllocError>
         requires { (0 < j) × (j ≤ length self.now.slots.now.bidders) }
         ensures choice { IfOk result
@@ -63,7 +63,7 @@ fn zeros(alloc: Global, count: usize) -> Result<Vec<i128>, AllocError>
     vec![in alloc; 0i128; count]
 }
 
-/// The first of the greatest placed choices in which bidder `skip` has no bids, or any bidder has if `skip` is 0.
+/// The first of the greatest placed choices without bids of bidder `skip`, or with all bids if `skip` is 0.
 fn plain_search(alloc: Global, slots: &Slots, skip: u16) -> Result<Found<Grid>, AllocError>
     ensures choice { IfOk result
         (λ f. IsFirstGreatest (is_placed (board_without slots.now skip))
@@ -92,7 +92,7 @@ pub fn place_best(alloc: Global, slots: &Slots) -> Result<Found<Grid>, AllocErro
     Ok(found)
 }
 
-/// The winning choice: of the allowed choices the first of those of greatest worth. The only error is out of memory.
+/// The winning choice: the first allowed choice of greatest worth. The only error is out of memory.
 pub fn place_win(alloc: Global, slots: &Slots) -> Result<Choice, AllocError>
     ensures { IfOk result (λ c. IsWinning (market_of_slots slots.now) c) }
 {

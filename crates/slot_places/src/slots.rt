@@ -81,7 +81,7 @@ impl Slots {
         Ok(())
     }
 
-    /// Puts a bid after those of the last bidder.
+    /// Puts a bid after the bids of the last bidder.
     pub(crate) fn add_place(&mut self, place: Place) -> Result<(), AllocError>
         requires some { 0 < length self.old.bidders }
         requires kept { AreSlotsWithinLimits (with_bid self.old (bid_value place)) }

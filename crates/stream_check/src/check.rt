@@ -27,7 +27,7 @@ use cert_summary::CertFacts;
 use cert_text::Shape;
 use std::alloc::{AllocError, Global};
 
-/// Checks a certificate of a book, of which pieces of bytes come.
+/// Checks a certificate of a book from pieces of its bytes.
 #[derive(Drop)]
 pub struct StreamCheck<'a> {
     book: &'a BidBook,
@@ -55,7 +55,7 @@ impl<'a> StreamCheck<'a> {
         room_len(Shape::of(book))
     }
 
-    /// A checker to which nothing was fed, for a weight of 1 to 20 for each bidder. It fills the room with zeros.
+    /// A checker before its first piece, for a weight of 1 to 20 for each bidder. It fills the room with zeros.
     pub fn start(book: &'a BidBook, room: &mut [i128], weights: &'a [u32]) -> StreamCheck<'a>
         requires room { length room.old ≡ room_size (bidders_of book.now) (states book.now) }
         requires weights { AreWeights (bidders_of book.now) weights.now }
@@ -99,11 +99,11 @@ impl<'a> StreamCheck<'a> {
         }
     }
 
-    /// The verdict of the certificate whose text was fed. Errors: `Form` and `Range` with the byte where the first faulty line begins, as
-    /// `read_cert` says them of the whole text.
+    /// The verdict of the certificate whose text was fed. Errors: `Form` and `Range` with the byte where the first faulty line
+    /// begins, as for `read_cert` on the whole text.
     ///
-    /// The verdict is that of `check`: the first test that fails, with the first of its places, and else yes, and then the choice is the
-    /// winning one, and with the payments it is the core outcome for these weights.
+    /// The verdict equals the one of `check`: the first test that fails, with its first place, or else `Yes`. Then the choice
+    /// is the winning one, and with the payments it is the core outcome for these weights.
     pub fn finish(&self, room: &[i128]) -> Result<Verdict, TextStop>
         ensures verdict { (text : List ℕ) → HasTaken self.now room.now text
             → IfOk result (λ v. (c : CertValue)
@@ -120,7 +120,8 @@ impl<'a> StreamCheck<'a> {
         }
     }
 
-    /// The facts of the certificate whose text was fed. The condition is that `finish` answers yes. The only error is out of memory.
+    /// The facts of the certificate whose text was fed. The condition is that `finish` returns `Yes`. The only error is out of
+    /// memory.
     pub fn read_facts(&self, alloc: Global, room: &[i128]) -> Result<CertFacts, AllocError>
         requires room { length room.now ≡ room_size (bidders_of self.now.book.now) (states self.now.book.now) }
         requires yes { (text : List ℕ) × HasTaken self.now room.now text
@@ -136,7 +137,7 @@ impl<'a> StreamCheck<'a> {
         Ok(facts_in(alloc, self.book, room)?)
     }
 
-    /// Feeds the bytes of a piece from a place on, up to the end of the line at most. Gives the place after them.
+    /// Feeds the bytes of a piece from a place on, up to the end of the line at most. Returns the place after them.
     fn feed_line(&mut self, room: &mut [i128], piece: &[u8], at: usize) -> usize
         requires room { length room.old ≡ room_size (bidders_of self.old.book.now) (states self.old.book.now) }
         requires stands { (text : List ℕ) × HasTaken self.old room.old text

@@ -41,7 +41,7 @@ pub(crate) fn facts_in(
     })
 }
 
-/// The winners of the choice, each alone, in order.
+/// The single winners of the choice, in order.
 fn singles_in(
     alloc: Global,
     book: &BidBook,
@@ -65,7 +65,7 @@ fn singles_in(
     Ok(singles)
 }
 
-/// Winner `j` alone, whose bid of this number wins.
+/// The single winner `j`, whose bid of this number wins.
 fn single_in(
     alloc: Global,
     book: &BidBook,
@@ -101,7 +101,7 @@ fn price(book: &BidBook, value: i128, without: &[u16], j: u16, i: u16) -> i128
     value_among(book, without) - value + worth(book, j, i)
 }
 
-/// A copy of the choice whose numbers are in the room as those of a line.
+/// A copy of the choice whose numbers are in the room as a line's numbers.
 fn read_choice(
     alloc: Global,
     book: &BidBook,

@@ -1,4 +1,4 @@
-// What is kept beside the room.
+// What is kept outside the room.
 ghost use Rattle.std.specs.Prelude.{◌≡◌, ◌⊎◌, ℕ};
 ghost use Rattle.cert_stream.specs.LinesLeft.{row_at};
 ghost use Rattle.cert_grammar.specs.Certificate.{CertValue};

@@ -72,7 +72,7 @@ impl BidderNumbers {
     }
 }
 
-/// The choice whose numbers are in the room as those of a line.
+/// The choice whose numbers are in the room as a line's numbers.
 pub(crate) fn choice_in(book: &BidBook, due: NextLine, room: &[i128]) -> BidderNumbers
     requires due { IsDue (bidders_of book.now) due }
     requires room { length room.now ≡ room_size (bidders_of book.now) (states book.now) }

@@ -1,4 +1,4 @@
-// A block of a line: all its places, or those at which given numbers of lots of the first categories are left.
+// A block of a line: all its places, or the places with given numbers of lots of the first categories left.
 ghost use Rattle.std.specs.Prelude.{◌≡◌, ◌+◌, ◌*◌, ◌≤◌, ◌<◌, IsTrue, length, slice_index_or, take, drop};
 ghost use Rattle.table_check.specs.Block.{IsBlock};
 
@@ -19,7 +19,7 @@ impl<'a> Block<'a> {
     ghost use Rattle.auction_model.specs.Package.{IsNothingFrom, is_within};
     ghost use Rattle.auction_model.specs.Place.{states_of};
 
-    /// All places of a supply, with the lots of a package up to the last category of which it has some.
+    /// All places of a supply, with the lots of a package up to its last category with lots.
     pub fn of(supply: &'a Supply, lots: &'a Package) -> Block<'a>
         requires categories { length lots.now ≡ length supply.now }
         requires fits { IsTrue (is_within lots.now supply.now) }

@@ -1,6 +1,6 @@
 // Whether a line is seen to keep the rule of a bid, in 64 bits and block by block. In one category, block `q` of a line has the
 // places with `q` lots of that category left, and what a bid of `count` lots asks there it reads in block `q - count` of the
-// line below. A block is left out if its corners show that the rule holds in all of it.
+// line below. A block is left out if its corners show that it obeys the rule everywhere.
 ghost use Rattle.std.specs.Prelude.{◌≡◌, ◌↔◌, ℕ, ◌-◌, ◌≤◌, ◌<◌, ◌^◌, IsTrue, length, ◌+ℤ◌, ◌≤ℤ◌, unsigned_abs};
 ghost use Rattle.auction_model.specs.Place.{states_of};
 ghost use Rattle.wide_num.specs.Sums.{nth};
@@ -27,8 +27,8 @@ fn mark(here: i64, below: i64, worth: i64) -> u64
     (MARK as i64 - worth + (here - below)) as u64
 }
 
-/// Whether each number is at least the worth and that of the line below. It goes on if one isn't, so that it takes several
-/// numbers at a time.
+/// Whether each number is at least the worth plus the number of the line below. It goes on if one isn't, so that it takes
+/// several numbers at a time.
 pub fn covers_all(line: &[i64], below: &[i64], worth: i64) -> bool
     requires places { length below.now ≡ length line.now }
     requires worth { unsigned_abs worth ≤ 2 ^ 60 }
@@ -52,7 +52,8 @@ fn gap(here: i64, below: i64) -> u64
     (here - below).cast_unsigned()
 }
 
-/// Whether each number is at least that of the line below: `covers_all` for a worth of 0, with a step less for each number.
+/// Whether each number is at least the number of the line below: `covers_all` for a worth of 0, with a step less for each
+/// number.
 pub fn none_below(line: &[i64], below: &[i64]) -> bool
     requires places { length below.now ≡ length line.now }
     requires small { IsSmall line.now }
@@ -116,8 +117,8 @@ fn corner_covers(rule: &NarrowRule, lines: &NarrowLines, first: usize) -> bool
     rule.worth + lines.below[lines.line.len() - 1 - first] <= lines.line[first]
 }
 
-/// Whether the lowest entry of a block at which a package fits, which is at the place of its lots, is at least the worth and the
-/// highest entry of the line below that is read there. Where no line falls the rule then holds in the whole block.
+/// Whether the lowest entry of a block where a package fits, at the place of its lots, is at least the worth plus the highest
+/// entry of the line below that is read there. If no line falls, the whole block then obeys the rule.
 pub fn is_reached(rule: &NarrowRule, block: &Block, lines: &NarrowLines) -> bool
     requires places { length lines.now.line.now ≡ states_of block.now.supply.now }
     requires grow { BothGrow block.now.supply.now rule.now.grow lines.now.line.now lines.now.below.now }

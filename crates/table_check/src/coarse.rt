@@ -1,6 +1,6 @@
 // Whether a line is seen to keep the rule of a bid in 16 bits: both lines are counted in one unit, the line rounded down, and
 // the line below and the worth rounded up. A block of the last few categories is tested in one run, with a mask of the places
-// at which the package fits. A yes is a yes of the exact numbers; if units are too coarse to tell, 64 bits are.
+// where the package fits. Acceptance is sound for the exact numbers. If units are too coarse to decide, 64 bits are used.
 ghost use Rattle.std.specs.Prelude.{◌≡◌, ◌*◌, ◌^◌, ◌<◌, IsTrue, true, length, pos, ◌≤ℤ◌};
 ghost use Rattle.auction_model.specs.Place.{states_of};
 ghost use Rattle.table_check.specs.Corners.{KeepsBlock, BothGrow};
@@ -14,7 +14,7 @@ use choices::coarse::{
     CoarseBid, MASK_ROOM, is_covered, put_deep_mask, put_high, put_low, shift_for, worth_units,
 };
 
-/// Whether a block is seen to keep the rule of a bid: the blocks for which there is a mask are tested in 16 bits, and else in 64.
+/// Whether a block is seen to keep the rule of a bid: blocks with a mask are tested in 16 bits, the others in 64.
 pub fn coarse_holds(
     rule: &NarrowRule,
     coarse: &CoarseBid,
@@ -71,7 +71,7 @@ pub fn put_coarse(
     put_high(high, below, shift)
 }
 
-/// A shift with which the last number of a line has at most 15 bits.
+/// A shift that leaves the last number of a line at most 15 bits.
 pub fn shift_of(line: &[i64]) -> u32
     ensures { result < 64 }
 {

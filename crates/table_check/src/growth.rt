@@ -1,5 +1,5 @@
-// Lines that never fall: where more is left of each category, they have at least as much. On such a line the rule of a bid follows
-// from that of a bid that is no larger and worth at least as much.
+// Lines that never fall: where more is left of each category, they have at least as much. On such a line the rule of a bid
+// follows from the rule of a bid that is no larger and worth at least as much.
 ghost use Rattle.std.specs.Prelude.{◌≡◌, ℕ, ◌+◌, ◌*◌, ◌≤◌, ◌<◌, length, slice_index_or, take, drop, IsTrue};
 ghost use Rattle.auction_model.specs.Place.{states_of, widths_of};
 ghost use Rattle.table_check.specs.Growth.{Grows, RisesBy};

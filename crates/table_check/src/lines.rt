@@ -21,7 +21,7 @@ use crate::walk::{block_fault, run_fault};
 use limits::MOST_STATES;
 use lots::{Package, Supply};
 
-/// The greatest number with which the rules are tested in 64 bits.
+/// The greatest number for tests of the rules in 64 bits.
 const MOST_NARROW: i128 = 1 << 60;
 
 /// The bits of each number of a narrow line are below this.
@@ -36,7 +36,7 @@ const MOST_ROOM: usize = MOST_STATES as usize;
 /// What a line of a table shows.
 #[derive(Clone, Copy)]
 pub struct LineFault {
-    /// The first place at which it breaks a rule, and its length if there is none.
+    /// The first place where it breaks a rule, or its length if there is none.
     pub place: usize,
     /// Whether it is seen that the line below it never falls where more is left.
     pub below_grows: bool,
@@ -49,7 +49,7 @@ fn is_narrow(number: i128) -> bool
     -MOST_NARROW <= number && number <= MOST_NARROW
 }
 
-/// The first place at which the last line is below 0, and its length if there is none.
+/// The first place where the last line is below 0, or its length if there is none.
 fn last_fault(line: &[i128]) -> usize
     ensures { FirstFault (KeepsZero line.now) (length line.now) result }
 {
@@ -71,7 +71,7 @@ fn fast_monotone(lines: &LinePair) -> bool
     none_below(lines.narrow_line, lines.narrow_below)
 }
 
-/// The first place at which a line is below the line below it, and its length if there is none.
+/// The first place where a line is below the line below it, or its length if there is none.
 fn none_fault(lines: &LinePair) -> usize
     ensures { FirstFault (KeepsNone lines.now.line.now lines.now.below.now) (length lines.now.line.now) result }
 {
@@ -87,7 +87,7 @@ fn none_fault(lines: &LinePair) -> usize
     run_fault(&rule, 0, lines.line.len(), lines.line.len())
 }
 
-/// Whether the rule of a bid is seen to hold in 64 bits. Where `grow` says so neither line falls where more is left.
+/// Whether the line is seen to obey the rule of a bid in 64 bits. If `grow` is true, neither line falls where more is left.
 fn fast_bid_rule(supply: &Supply, lots: &Package, lines: &LinePair, grow: bool, worth: i128) -> bool
     requires categories { length lots.now ≡ length supply.now }
     requires fits { IsTrue (is_within lots.now supply.now) }
@@ -109,7 +109,7 @@ fn fast_bid_rule(supply: &Supply, lots: &Package, lines: &LinePair, grow: bool, 
     rule_holds(&rule, &block, lines)
 }
 
-/// The first place, below `until`, at which the line of bidder `j` breaks the rule of its bid `i`, and `until` if there is none,
+/// The first place, below `until`, where the line of bidder `j` breaks the rule of its bid `i`, or `until` if there is none,
 /// place by place.
 fn exact_fault(offers: &TestedBids, j: u16, i: u16, lines: &LinePair, until: usize) -> usize
     requires bidder { (0 < j) × (j ≤ bidders_of offers.now.book.now) }
@@ -130,8 +130,8 @@ fn exact_fault(offers: &TestedBids, j: u16, i: u16, lines: &LinePair, until: usi
     block_fault(&rule, &block, 0, until)
 }
 
-/// Whether the rule of bid `i` of bidder `j` is seen to hold in 64 bits at each place. Where `grow` says so neither line falls where
-/// more is left.
+/// Whether the line is seen to obey the rule of bid `i` of bidder `j` in 64 bits at each place. If `grow` is true, neither line
+/// falls where more is left.
 fn is_bid_kept(offers: &TestedBids, j: u16, i: u16, lines: &LinePair, grow: bool) -> bool
     requires bidder { (0 < j) × (j ≤ bidders_of offers.now.book.now) }
     requires bid { (0 < i) × (i ≤ length (bids_of offers.now.book.now j)) }
@@ -322,7 +322,7 @@ pub fn two_lines_found(
     line_fault(offers, k + 1, line, below, known)
 }
 
-/// The first place at which the last line of a table breaks a rule, and its length if there is none.
+/// The first place where the last line of a table breaks a rule, or its length if there is none.
 pub fn last_line_fault(offers: &TestedBids, line: &[i128]) -> usize
     ensures { (table : List (List ℤ)) → IsTable (bidders_of offers.now.book.now) (states offers.now.book.now) table
         → slice_index_or table (bidders_of offers.now.book.now) [] ≡ line.now

@@ -1,6 +1,6 @@
 // Going through the places of a line where a package fits. In one category, block `q` of a line has the places with `q` lots of
-// that category left. If the package fits, the place of the rest is lower by the place of the package. So after the last
-// category of which the package has some, the places are one run.
+// that category left. If the package fits, the place of the rest is lower by the place of the package. So after the package's
+// last category with lots, the places are one run.
 ghost use Rattle.std.specs.Prelude.{◌≡◌, ◌↔◌, ℕ, ◌+◌, ◌^◌, ◌≤◌, ◌<◌, length, ◌+ℤ◌, ◌≤ℤ◌, unsigned_abs, IsTrue};
 ghost use Rattle.auction_model.specs.Place.{states_of};
 ghost use Rattle.table_check.specs.Faults.{FirstFault, CoversRun, CoversBlock};
@@ -17,7 +17,7 @@ fn covers(here: i128, below: i128, worth: i128) -> bool
     worth + below <= here
 }
 
-/// The first place from `start` on, below `stop` and `until`, at which the line breaks the rule, and `until` if there is none.
+/// The first place from `start` on, below `stop` and `until`, where the line breaks the rule, or `until` if there is none.
 pub fn run_fault(rule: &LineRule, start: usize, stop: usize, until: usize) -> usize
     requires stop { stop ≤ length rule.now.line.now }
     requires shift { rule.now.shift ≤ start }
@@ -61,7 +61,7 @@ fn two_fault(rule: &LineRule, block: &Block, base: usize, until: usize) -> usize
     found
 }
 
-/// The first place of a block that begins at `base`, below `until`, at which the package fits and the line breaks the rule, and
+/// The first place of a block that begins at `base`, below `until`, where the package fits and the line breaks the rule, or
 /// `until` if there is none.
 pub fn block_fault(rule: &LineRule, block: &Block, base: usize, until: usize) -> usize
     requires most { length rule.now.line.now < 2 ^ 40 }

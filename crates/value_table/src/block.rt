@@ -1,4 +1,4 @@
-// The blocks in which a bid is counted. In one category, block `q` of a line has the places with `q` lots of that category left.
+// The blocks that a bid changes. In one category, block `q` of a line has the places with `q` lots of that category left.
 // `table_check` has blocks of its own on purpose: a checker uses no crate that prices.
 ghost use Rattle.std.specs.Prelude.{◌≡◌, ◌<◌, IsTrue, drop, length, take};
 ghost use Rattle.auction_model.specs.Package.{IsNothingFrom, is_within};
@@ -18,7 +18,7 @@ pub struct Block<'a> {
 }
 
 impl<'a> Block<'a> {
-    /// All places of a supply, for a package in it, of which the last categories are left out if it has none of them.
+    /// All places of a supply, for a package in it, without the last categories if the package has no lots of them.
     pub fn whole(supply: &'a Supply, lots: &'a Package) -> Block<'a>
         requires categories { length lots.now ≡ length supply.now }
         requires fits { IsTrue (is_within lots.now supply.now) }

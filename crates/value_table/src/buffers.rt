@@ -1,4 +1,4 @@
-// Buffers in which a line of one side of a book is computed.
+// Buffers to compute a line of one side of a book.
 ghost use Rattle.std.specs.Prelude.{◌≤◌, IfOk};
 ghost use Rattle.limits.specs.declared.TheConstants.{MOST_STATES};
 ghost use Rattle.value_table.specs.LineBuffers.{HasRoom};
@@ -12,8 +12,8 @@ pub struct WidthBuffers<C> {
     pub line: Vec<C>,
 }
 
-/// Buffers in which a line is computed from the one after it, in 32 bits if both are so small and else in 64, and in which both
-/// may be put in 16 bits.
+/// Buffers to compute a line from the one after it, in 32 bits if both are so small and else in 64, with room for both in 16
+/// bits.
 #[derive(Drop)]
 pub struct LineBuffers {
     pub short: WidthBuffers<u32>,

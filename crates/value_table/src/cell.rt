@@ -1,4 +1,4 @@
-// The numbers of a line, in the three sizes in which lines are computed.
+// The numbers of a line, in the three sizes of computed lines.
 ghost use Rattle.std.specs.Prelude.{◌≡◌, ℕ, ◌*◌, ◌^◌, ◌≤◌, ◌<◌, ◌↔◌, IsTrue, IfSome, length, slice_index_or, ℤ, pos, ◌-◌, ◌+ℤ◌, ◌≤ℤ◌, unsigned_abs, map};
 ghost use Rattle.std.specs.Int.{int_max};
 ghost use Rattle.choices.specs.Coarse.{IsCeiling, IsFloor};
@@ -41,7 +41,7 @@ pub trait Cell: Copy {
             → slice_index_or (map number line.new) s (pos 0)
             ≡ slice_index_or (map number line.old) s (pos 0) +ℤ number amount };
 
-    /// Raises each number of `line` to that of `below` with the worth, if it is smaller.
+    /// Raises each number of `line` to the number of `below` plus the worth, if it is smaller.
     fn raise_run(line: &mut [Self], below: &[Self], worth: Self)
         requires places { length line.old ≡ length below.now }
         requires worth { unsigned_abs (number worth) ≤ most }
@@ -67,7 +67,8 @@ pub trait Cell: Copy {
         ensures floor { IsFloor (2 ^ shift) (map number line.now) low.new }
         ensures places { length low.new ≡ length line.now };
 
-    /// The numbers of a line in units of `2^shift`, rounded up, and whether none has too many; those of 128 bits always have.
+    /// The numbers of a line in units of `2^shift`, rounded up, and whether none has too many. Numbers of 128 bits always
+    /// have.
     fn put_high(high: &mut [u16], line: &[Self], shift: u32) -> bool
         requires places { length high.old ≡ length line.now }
         requires shift { shift < 64 }

@@ -33,8 +33,8 @@ fn add_idle<C: Cell>(lowered: &LoweredBids, j: u16, line: &mut [C])
     C::add_to_each(line, C::narrowed(idle));
 }
 
-/// Counts all bids of bidder `j` in a line that counts none, with two lists in which the lines may be put in 16 bits. The last come
-/// first: they are mostly the largest, after which the others change little.
+/// Counts all bids of bidder `j` in a line that counts none, with two lists for the lines in 16 bits. The last come first: they
+/// are mostly the largest, after which the others change little.
 fn count_bids<C: Cell>(
     lowered: &LoweredBids,
     j: u16,
@@ -89,8 +89,8 @@ pub fn turn_line<C: Cell>(
     count_bids(lowered, j, line, below, low, high);
 }
 
-/// Makes `line` line `j - 1`, from line `j`, computed in buffers of one width, with two lists in which the lines may be put in 16 bits.
-/// It takes no memory.
+/// Makes `line` line `j - 1`, from line `j`, computed in buffers of one width, with two lists for the lines in 16 bits. It
+/// takes no memory.
 pub fn put_line<C: Cell>(
     lowered: &LoweredBids,
     j: u16,

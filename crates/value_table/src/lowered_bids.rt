@@ -6,10 +6,10 @@ ghost use Rattle.value_table.specs.Turned.{IsOrderInRange};
 use bid_book::BidBook;
 use lots::Bid;
 
-/// The greatest denominator with which a table is narrow.
+/// The greatest denominator of a narrow table.
 const NARROW_DEN: u128 = 1 << 13;
 
-/// The greatest surplus with which a table is narrow.
+/// The greatest surplus of a narrow table.
 const NARROW_SURPLUS: u128 = 1 << 56;
 
 /// What the bids of a book count in a table. The bidders are numbered as in the book, or turned round: then number 1 is the last.

@@ -8,7 +8,7 @@ use crate::cell::Cell;
 use crate::shape::Rows;
 use std::simd::prelude::*;
 
-/// Raises rows of numbers of 128 bits, each alone.
+/// Raises rows of numbers of 128 bits, one by one.
 pub fn raise_wide(line: &mut [i128], below: &[i128], rows: &Rows, worth: i128)
     requires places { length line.old ≡ length below.now }
     requires rows { HasRows rows.now (length line.old) }
@@ -27,7 +27,7 @@ pub fn raise_wide(line: &mut [i128], below: &[i128], rows: &Rows, worth: i128)
     }
 }
 
-/// Raises rows of numbers of 64 bits, each alone.
+/// Raises rows of numbers of 64 bits, one by one.
 pub fn raise_long(line: &mut [i64], below: &[i64], rows: &Rows, worth: i64)
     requires places { length line.old ≡ length below.now }
     requires rows { HasRows rows.now (length line.old) }
@@ -102,7 +102,7 @@ fn raise_by_fours<const WHOLE: usize>(line: &mut [u32], below: &[u32], rows: &Ro
     }
 }
 
-/// Raises rows of numbers of 32 bits, each alone.
+/// Raises rows of numbers of 32 bits, one by one.
 fn raise_each(line: &mut [u32], below: &[u32], rows: &Rows, worth: u32)
     requires places { length line.old ≡ length below.now }
     requires rows { HasRows rows.now (length line.old) }

@@ -9,7 +9,7 @@ use crate::block::Block;
 use crate::cell::Cell;
 use crate::shape::Rows;
 
-/// Counts one more bid that wants lots of the first of some categories alone: in the places with enough of it, which are one run.
+/// Counts one more bid for lots of only the first of some categories: in the places with enough of it, which are one run.
 fn raise_one<C: Cell>(block: &Block, line: &mut [C], below: &[C], worth: C)
     requires lines { CanRaise C.number C.most (states_of block.now.supply.now) line.old below.now worth }
     requires one { length block.now.counts.now ≡ 1 }

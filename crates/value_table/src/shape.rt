@@ -1,7 +1,8 @@
 // The places that a bid raises in a block of two categories.
 ghost use Rattle.std.specs.Prelude.{◌≤◌, ◌<◌};
 
-/// The places that a bid raises in a block of two categories: of each row of `width` places the first `run`, from that of its lots on.
+/// The places that a bid raises in a block of two categories: of each row of `width` places the first `run`, from the place
+/// of its lots on.
 #[derive(Drop)]
 pub struct Rows {
     pub count: usize,

@@ -1,4 +1,5 @@
-// Lines in numbers of 32 bits, while sums are so small: vectors hold twice as many as in 64, and a whole table takes a quarter less.
+// Lines in numbers of 32 bits, while sums are so small: vectors contain twice as many as in 64, and a whole table takes a
+// quarter less.
 ghost use Rattle.std.specs.Prelude.{◌≡◌, ℕ, suc, ◌-◌, ◌^◌, ◌≤◌, ◌<◌, length, IfOk, IfSome, IsTrue, slice_index_or, map, pos, unsigned_abs};
 ghost use Rattle.value_table.specs.Counted.{counted_bids, counted, IsLineWithin, IsCountedLine, AreCountedLines};
 
@@ -7,7 +8,7 @@ use crate::lines::next_line;
 use crate::lowered_bids::LoweredBids;
 use std::alloc::{AllocError, Global};
 
-/// The greatest number of which a sum of two is one of 32 bits.
+/// The greatest number whose double has 32 bits.
 const SHORT: u128 = (1 << 31) - 1;
 
 /// Whether bidder `j` counts at most that much with each of its numbers.

@@ -17,9 +17,9 @@ use crate::tracing::first_number;
 use bid_book::BidBook;
 use limits::MOST_BIDDERS;
 
-/// Makes `line` the line of the bidders after `k - 1` from that of the bidders after `k`: line `k - 1` of the exact table of
-/// the net amounts from line `k`. Each has one number for each place of the supply. It is computed in 32 bits, or if these are
-/// too few in 64, in lists of room as long as a line, and takes no memory.
+/// Makes `line` the line of the bidders after `k - 1` from the line of the bidders after `k`: line `k - 1` of the exact table
+/// of the net amounts from line `k`. Each has one number for each place of the supply. It is computed in 32 bits, or if these
+/// are too few in 64, in lists of room as long as a line, and takes no memory.
 pub fn narrow_right_line(
     book: &BidBook,
     k: u16,
@@ -46,8 +46,8 @@ pub fn narrow_right_line(
     );
 }
 
-/// Makes `line` the line of the bidders up to `k` from that of the bidders up to `k - 1`, in the same way. Each number is the greatest
-/// net value of a choice of these bidders within what the place leaves.
+/// Makes `line` the line of the bidders up to `k` from the line of the bidders up to `k - 1`, in the same way. Each number is
+/// the greatest net value of a choice of these bidders within what the place leaves.
 pub fn narrow_left_line(
     book: &BidBook,
     k: u16,
@@ -68,8 +68,8 @@ pub fn narrow_left_line(
     side_line(book, true, &zeros[..bidders], turned, before, line, buffers);
 }
 
-/// The first number of bidder `k`, by the order of ties, with which it and the bidders after it reach the entry of a place: the entry
-/// is that of line `k - 1` of the exact table of the net amounts, and `after` is line `k`. It takes no memory.
+/// The first number of bidder `k`, by the order of ties, that lets it and the bidders after it reach the entry of a place: the
+/// entry is in line `k - 1` of the exact table of the net amounts, and `after` is line `k`. It takes no memory.
 pub fn right_number(book: &BidBook, k: u16, place: usize, entry: i128, after: &[i128]) -> u16
     requires bidder { (0 < k) × (k ≤ length book.now.bidders) }
     requires place { place < states_of book.now.supply }

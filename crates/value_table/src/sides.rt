@@ -17,8 +17,8 @@ use choices::Grid;
 use std::alloc::{AllocError, Global};
 use std::marker::Model;
 
-/// The greatest net values from both sides of a book: of the bidders up to one, and of the bidders after it, within each remaining
-/// supply. Together they give the value without any bidder, and the tables without it.
+/// The greatest net values from both sides of a book: of the bidders up to one, and of the bidders after it, within each
+/// remaining supply. Together they determine the value without any bidder, and the tables without it.
 #[derive(Drop)]
 pub struct Sides {
     bidders: usize,
@@ -83,7 +83,7 @@ impl Sides {
         greatest_pair(&self.left, before, self.right.grid(), j as usize)
     }
 
-    /// The exact table of the net amounts without bidder `j`, as `ValueTable::build` gives it. The lines from `j` on are shared
+    /// The exact table of the net amounts without bidder `j` that `ValueTable::build` makes. The lines from `j` on are shared
     /// with the table of all bids, and only those below are computed. The book is the one that the sides were built from.
     pub fn table_without(
         &self,

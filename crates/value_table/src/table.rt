@@ -65,8 +65,8 @@ impl ValueTable {
         })
     }
 
-    /// The exact table of the net amounts without bidder `j`, from that of all bids, as `build` gives it. The lines from `j` on
-    /// are shared with this table, and only those below are computed.
+    /// The exact table of the net amounts without bidder `j`, from the table of all bids that `build` makes. The lines from `j`
+    /// on are shared with this table, and only those below are computed.
     pub fn without(&self, alloc: Global, book: &BidBook, j: u16) -> Result<ValueTable, AllocError>
         requires bidder { (0 < j) × (j ≤ length book.now.bidders) }
         requires whole { IsTableOf book.now self.now }
@@ -154,10 +154,10 @@ pub fn plain_table(alloc: Global, book: &BidBook) -> Result<ValueTable, AllocErr
     Ok(table)
 }
 
-/// The winning choice: of the choices within the supply the first of those of greatest value. This is the winner determination
-/// of a combinatorial auction in which at most one bid of each bidder wins (XOR bids). It goes by dynamic programming over
-/// bidders and remaining supplies, after Rothkopf, Pekeč and Harstad (1998), and takes a time in proportion to the bids times
-/// the states of the supply.
+/// The winning choice: the first choice of greatest value within the supply. This is the winner determination of a
+/// combinatorial auction with XOR bids: at most one bid of each bidder wins. It uses dynamic programming over bidders and
+/// remaining supplies, after Rothkopf, Pekeč and Harstad (1998), and takes a time in proportion to the bids times the states of
+/// the supply.
 pub fn win(alloc: Global, book: &BidBook) -> Result<Choice, AllocError>
     ensures { IfOk result (λ c. IsWinning (market_of book.now) c) }
 {

@@ -40,7 +40,7 @@ fn raise_unless_covered<C: Cell>(
     0
 }
 
-/// Counts one more bid in a block, of which the parts for which there is a mask are tested in 16 bits.
+/// Counts one more bid in a block. Its parts with a mask are tested in 16 bits.
 fn raise_coarse<C: Cell>(
     coarse: &CoarseBid,
     block: &Block,
@@ -153,8 +153,8 @@ pub struct CellBid<'a, C> {
     pub worth: C,
 }
 
-/// Counts one more bid that fits in each entry of the line. Neither line falls where more is left. Where there is a shift both are
-/// in units of `2^shift` too.
+/// Counts one more bid that fits in each entry of the line. Neither line falls where more is left. If there is a shift, both
+/// are in units of `2^shift` too.
 pub fn add_bid<C: Cell>(
     supply: &Supply,
     bid: &CellBid<'_, C>,

@@ -36,7 +36,7 @@ fn sum_at<C: Cell>(lowered: &LoweredBids, j: u16, i: u16, place: usize, below: &
     }
 }
 
-/// The first number of bidder `j`, by the order of ties, with which it and the bidders after it reach the entry of a place.
+/// The first number of bidder `j`, by the order of ties, that lets it and the bidders after it reach the entry of a place.
 pub fn first_number<C: Cell>(
     lowered: &LoweredBids,
     j: u16,
@@ -112,7 +112,7 @@ fn next_step<C: Cell>(
     WalkStep { number, place }
 }
 
-/// One step of the walk over the lines of a table, each in the size in which it is kept.
+/// One step of the walk over the lines of a table, each in its stored size.
 fn grid_step(lowered: &LoweredBids, j: u16, place: usize, lines: &Grid) -> WalkStep
     requires bidder { (0 < j) × (j ≤ length lowered.now.book.now.bidders) }
     requires place { place < states_of lowered.now.book.now.supply }

@@ -92,7 +92,7 @@ impl TurnLines {
     }
 }
 
-/// The lines from line 0 to line `top`, whose numbers are given. The width of a table is chosen here alone: 32 bits if line
+/// The lines from line 0 to line `top`, whose numbers are given. The width of a table is chosen only here: 32 bits if line
 /// `top` is kept in these and no line needs more, else 64 if no sum is larger, and else 128.
 pub fn lines_from(
     alloc: Global,
@@ -169,9 +169,9 @@ pub fn all_lines(alloc: Global, lowered: &LoweredBids) -> Result<Grid, AllocErro
     Ok(grid)
 }
 
-/// The exact table without bidder `skip`, from that of all bids for the same worths. A bidder that isn't there counts
-/// nothing, so the lines from `skip` on are those of all bids, and the one before has the numbers of the first of them:
-/// they are shared.
+/// The exact table without bidder `skip`, from the table of all bids for the same worths. A missing bidder adds nothing, so
+/// the lines from `skip` on are the lines of all bids, and the one before has the numbers of the first of them. They are
+/// shared.
 pub fn lines_without(alloc: Global, lowered: &LoweredBids, whole: &Grid) -> Result<Grid, AllocError>
     requires bidder { (0 < lowered.now.skip) × (lowered.now.skip ≤ length lowered.now.book.now.bidders) }
     requires idle { counted lowered.now lowered.now.skip 0 ≡ pos 0 }

@@ -17,8 +17,8 @@ use choices::{Choice, Grid};
 use std::alloc::{AllocError, Global};
 use std::marker::Model;
 
-/// The exact table of all bids of a book for lowered worths, as `ValueTable::build` gives it. Its lines have 32 or 64 bits if
-/// no sum is larger: a turn of pricing that isn't the last needs no more of it than the greatest sum and its choice.
+/// The exact table of all bids of a book for lowered worths that `ValueTable::build` makes. Its lines have 32 or 64 bits if
+/// no sum is larger: a turn of pricing that isn't the last needs only its greatest sum and its choice.
 #[derive(Drop)]
 pub struct TurnTable {
     den: i128,
@@ -36,7 +36,7 @@ impl Model for TurnTable {
 }
 
 impl TurnTable {
-    /// The exact table of a book, line by line from the last, with its conditions as those of `ValueTable::build`.
+    /// The exact table of a book, line by line from the last, with the conditions of `ValueTable::build`.
     pub fn build(
         alloc: Global,
         book: &BidBook,

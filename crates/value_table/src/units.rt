@@ -20,7 +20,7 @@ const FIRST_BIDS: u32 = 64;
 /// How many blocks are enough.
 const ENOUGH_BLOCKS: u32 = 32;
 
-/// The shift for the bids after the first `bids`, in which `covered` blocks were left out: None from there on if these are too
+/// The shift for the bids after the first `bids`, after `covered` blocks were left out: None from there on if these are too
 /// few.
 pub fn shift_after(shift: Option<u32>, bids: u32, covered: u32) -> Option<u32>
     ensures { IfSome result (λ k. shift ≡ Some k) }
@@ -55,7 +55,7 @@ fn most_worth(lowered: &LoweredBids, j: u16) -> i128
     most
 }
 
-/// A shift with which the numbers of line `j - 1` have at most 15 bits, if there is one. Nothing but time rests on it.
+/// A shift that leaves the numbers of line `j - 1` at most 15 bits, if there is one. Only time depends on it.
 fn line_shift<C: Cell>(lowered: &LoweredBids, j: u16, below: &[C]) -> u32
     requires bidder { (0 < j) × (j ≤ length lowered.now.book.now.bidders) }
     requires some { 0 < length below.now }
@@ -67,7 +67,7 @@ fn line_shift<C: Cell>(lowered: &LoweredBids, j: u16, below: &[C]) -> u32
 }
 
 /// Puts line `j - 1`, which counts no bid of bidder `j` yet, and line `j` below it in 16 bits, if they are long, many bids
-/// count in them and there is room for them, and gives the shift of their units.
+/// count in them and there is room for them, and returns the shift of their units.
 pub fn put_units<C: Cell>(
     lowered: &LoweredBids,
     j: u16,

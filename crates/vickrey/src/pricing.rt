@@ -15,14 +15,14 @@ use choices::{Choice, Single};
 use std::alloc::{AllocError, Global};
 use value_table::{Sides, ValueTable};
 
-/// A winner alone, and the table without it.
+/// A single winner, and the table without it.
 #[derive(Drop)]
 struct WithoutEach {
     single: Single,
     table: ValueTable,
 }
 
-/// Winner `j` alone. Its price is what the others reach without it, less what they win with.
+/// The single winner `j`. Its price is what the others reach without it, less their value in the winning choice.
 fn without_winner(
     alloc: Global,
     book: &BidBook,
@@ -53,10 +53,10 @@ fn without_winner(
     Ok(WithoutEach { single, table })
 }
 
-/// The winners of a book, each alone. A winner's Vickrey price is the greatest value of a choice that doesn't use it, less what
-/// the other winners win with: its net amount less what the value would lose without it. (Vickrey 1961, Clarke 1971, Groves
-/// 1973; Ausubel and Milgrom, The lovely but lonely Vickrey auction, 2006.) The values without each winner come from the sides of
-/// the book, and the tables without each winner share the lines of its table. There are at most 16.
+/// The single winners of a book. A winner's Vickrey price is the greatest value of a choice that doesn't use it, less the other
+/// winners' value in the winning choice: its net amount less what the value would lose without it. (Vickrey 1961, Clarke 1971,
+/// Groves 1973; Ausubel and Milgrom, The lovely but lonely Vickrey auction, 2006.) The values without each winner come from the
+/// sides of the book, and the tables without each winner share the lines of its table. There are at most 16.
 pub fn vickrey(alloc: Global, book: &BidBook, winners: &Choice) -> Result<Vickrey, AllocError>
     requires { IsWinning (market_of book.now) winners.now }
     ensures singles { IfOk result (λ v. AreSingles (market_of book.now) winners.now v.singles) }
@@ -67,8 +67,8 @@ pub fn vickrey(alloc: Global, book: &BidBook, winners: &Choice) -> Result<Vickre
     Ok(alone)
 }
 
-/// The winners of a book, each alone, as `vickrey` gives them, from the table of all bids that the caller has already. If the
-/// tables without the winners are wanted anyway, it takes less time than with the sides.
+/// The single winners that `vickrey` returns, from the table of all bids that the caller already has. If the tables without the
+/// winners are wanted anyway, it takes less time than with the sides.
 pub fn vickrey_from(
     alloc: Global,
     book: &BidBook,

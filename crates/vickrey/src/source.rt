@@ -10,7 +10,7 @@ ghost use Rattle.vickrey.specs.Sources.{IsSourceOf};
 use bid_book::BidBook;
 use value_table::{Sides, ValueTable};
 
-/// What is computed of a book already: its sides, or its table of all bids alone.
+/// What is already computed for a book: its sides, or only its table of all bids.
 #[derive(Drop)]
 pub enum Source<'a> {
     BothSides(&'a Sides),

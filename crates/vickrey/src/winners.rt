@@ -6,8 +6,8 @@ use choices::{Grid, Single};
 use std::marker::Model;
 use value_table::ValueTable;
 
-/// The winners of a book, each alone: in their order each winner, its Vickrey price, the first of the greatest choices without
-/// it, and the exact table without it. They are counted from 0.
+/// The single winners of a book, in order: each winner, its Vickrey price, the first of the greatest choices without it, and
+/// the exact table without it. They are counted from 0.
 #[derive(Drop)]
 pub struct Vickrey {
     singles: Vec<Single>,

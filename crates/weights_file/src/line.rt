@@ -7,7 +7,7 @@ ghost use Rattle.weights_file.specs.WeightsForm.{IsWeight, weight_line};
 use limits::MOST_WEIGHT;
 use wide_num::read_natural;
 
-/// The weight that the line gives the bidder of this name.
+/// The weight in the line of the bidder of this name.
 pub fn line_weight(line: &[u8], name: &str) -> Option<u32>
     ensures found { IfSome result (λ w. IsWeight w × (line.now ≡ (weight_line name.now w).0)) }
     ensures none { IfNone result ((w : ℕ) → IsWeight w → line.now ≡ (weight_line name.now w).0 → ⊥) }

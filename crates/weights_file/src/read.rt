@@ -17,7 +17,7 @@ use std::convert::Infallible;
 pub enum Stage {
     /// No line so far.
     Start,
-    /// The first line, and those of some bidders.
+    /// The first line, and the lines of some bidders.
     Listing(Weights),
     /// All lines, the last one too.
     Ended(Weights),
@@ -103,7 +103,7 @@ fn take_first(alloc: Global, line: &[u8]) -> Option<Stage>
     Some(Stage::Listing(Weights::new(alloc)))
 }
 
-/// Takes the line of the next bidder, or the last line after those of all bidders.
+/// Takes the line of the next bidder, or the last line after the lines of all bidders.
 fn take_listed(weights: Weights, book: &BidBook, line: &[u8]) -> Result<Stage, LineStop<Infallible>>
     ensures ok { IfOk result (λ next. Step book.now (Stage.Listing weights) line.now next) }
     ensures form { result ≡ Err LineStop.Form → (t : Stage) → Step book.now (Stage.Listing weights) line.now t → ⊥ }

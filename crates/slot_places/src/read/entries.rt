@@ -26,7 +26,7 @@ pub fn take_entry(alloc: Global, slots: &mut Slots, line: &[u8]) -> Result<(), L
     }
 }
 
-/// Takes the line of a bidder, of which these are the fields.
+/// Takes the line of a bidder with these fields.
 fn take_bidder(alloc: Global, slots: &mut Slots, fields: &[u8]) -> Result<(), LineStop<Excess>>
     ensures ok { OnOk result (AddsBidder slots.old slots.new (codes "bidder " ++ fields.now) × (excess_of slots.new ≡ None)) }
     ensures form { result ≡ Err LineStop.Form → (new : SlotList) → AddsBidder slots.old new (codes "bidder " ++ fields.now) → ⊥ }
@@ -45,7 +45,8 @@ fn take_bidder(alloc: Global, slots: &mut Slots, fields: &[u8]) -> Result<(), Li
     Ok(())
 }
 
-/// The name and the width that the fields state, if such a bidder may follow those of the slots.
+/// The name and the width that the fields state, if such a bidder may follow the bidders of the
+/// slots.
 fn read_bidder<'a>(slots: &Slots, fields: &'a [u8]) -> Option<(&'a str, u16)>
     ensures found { IfSome result (λ e. IsEntrant slots.now fields.now e.0.now e.1) }
     ensures none { IfNone result ((name : List ℕ) (width : ℕ) → IsEntrant slots.now fields.now name width → ⊥) }

@@ -5,7 +5,7 @@ ghost use Rattle.std.specs.List.{AllByRecursion};
 
 use line_format::{field_len, read_at_most};
 
-/// The two fields of a text, of which the first ends at the first space.
+/// The two fields of a text. The first one ends at the first space.
 pub fn two_fields(text: &[u8]) -> Option<(&[u8], &[u8])>
     ensures found { IfSome result
         (λ parts. AllByRecursion (λ c. c ≢ 32) parts.0.now × (text.now ≡ parts.0.now ++ 32 ∷ parts.1.now)) }

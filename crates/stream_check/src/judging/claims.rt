@@ -28,7 +28,7 @@ pub(crate) enum ClaimLine {
     Payments,
     /// The count of rows.
     Rows,
-    /// The choice of a row, of which that many are to come with it.
+    /// The choice of a row, with that many rows to come, itself included.
     Row(u16),
     /// The line of this number of the lowered table.
     Lowered(u16),
@@ -119,7 +119,7 @@ fn lowered_rules(at: &LineContext, offers: &TestedBids, k: u16) -> RulesJudged
     }
 }
 
-/// What is found early after line `k` of the lowered table: line 0 has no more for the whole supply than the payments come to.
+/// What is found early after line `k` of the lowered table: line 0 has at most the sum of the payments for the whole supply.
 fn late_sum(at: &LineContext, k: u16) -> Option<u64>
     requires due { at.now.due ≡ NextLine.Entries Table.Lowered k }
     requires some { IsPossible at.now }
@@ -133,7 +133,7 @@ fn late_sum(at: &LineContext, k: u16) -> Option<u64>
     merge_early(at.late, 0, keeps_sum(at))
 }
 
-/// Whether line 0 of the lowered table has no more for the whole supply than the payments come to.
+/// Whether line 0 of the lowered table has at most the sum of the payments for the whole supply.
 fn keeps_sum(at: &LineContext) -> bool
     requires due { at.now.due ≡ NextLine.Entries Table.Lowered 0 }
     requires some { IsPossible at.now }

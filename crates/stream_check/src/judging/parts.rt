@@ -27,7 +27,7 @@ pub(crate) fn part_choice(at: &LineContext, j: u16) -> Finding
     part_found(j, is_allowed_without(at.book, choice.as_slice(), j), false)
 }
 
-/// A part whose line keeps what is asked, or doesn't, and of which it is said whether it is seen never to fall.
+/// The finding for a part: whether its line passes, and whether the line is seen never to fall.
 fn part_found(j: u16, holds: bool, grows: bool) -> Finding
     ensures holds { IsTrue holds → (result.failed ≡ None) × (result.late ≡ None) }
     ensures fails { (IsTrue holds → ⊥) → (f : Failure) × (result.failed ≡ Some f) × (f.test ≡ 4) × (f.place ≡ j) }

@@ -33,8 +33,8 @@ pub(crate) fn rows_line(at: &LineContext, claim: &Claim) -> Finding
     Finding::of(last_tests(at, claim))
 }
 
-/// What the choice of a row shows, of which that many are to come with it: the sixth test of this row, and after the last row the tests
-/// of the multipliers.
+/// What the choice of a row shows, with that many rows to come, itself included: the sixth test of this row, and after the last
+/// row the tests of the multipliers.
 pub(crate) fn row_line(at: &LineContext, claim: &Claim, left: u16) -> Finding
     requires due { at.now.due ≡ NextLine.RowChoice left }
     requires some { IsPossible at.now }
@@ -85,7 +85,7 @@ fn last_tests(at: &LineContext, claim: &Claim) -> Option<Failure>
     }
 }
 
-/// The first place at which the eighth test fails.
+/// The first place where the eighth test fails.
 fn nearest(at: &LineContext, claim: &Claim) -> Option<u64>
     requires some { IsPossible at.now }
     requires claim { IsClaimOf at.now claim.now }

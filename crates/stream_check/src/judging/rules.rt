@@ -15,14 +15,14 @@ use cert_stream::{NextLine, Table};
 /// What a line of a table shows of the rules.
 #[derive(Clone, Copy)]
 pub(crate) struct RulesFound {
-    /// The first number of a line and a place in it at which a rule is broken, of those that the line makes known.
+    /// The first number of a line and a place in it with a broken rule, as far as the line shows it.
     pub(crate) fault: Option<u64>,
     /// Whether it is seen that the line never falls where more is left.
     pub(crate) grows: bool,
 }
 
-/// What line `k` shows: the line before it is tested with it, and it is tested alone if it is the last. If `known` says so, the
-/// line before it was seen never to fall when it came.
+/// What line `k` shows: the line before it is tested with it, and it is tested on its own if it is the last. If `known` says
+/// so, the line before it was seen never to fall when it came.
 pub(crate) fn rules_found(
     offers: &TestedBids,
     table: Table,
@@ -55,7 +55,7 @@ pub(crate) fn rules_found(
     }
 }
 
-/// The first failure of the rules of the line before line `k` alone.
+/// The first failure of the rules of only the line before line `k`.
 fn before_found(offers: &TestedBids, table: Table, k: u16, room: &[i128], known: bool) -> RulesFound
     requires table { IsTableOf (bidders_of offers.now.book.now) table }
     requires line { k ≤ bidders_of offers.now.book.now }
