@@ -112,9 +112,11 @@ class Figures:
 
 @dataclass
 class Key:
-    """What the marks of the pictures below mean: the colour, the shape and the words of each."""
+    """What the marks of the pictures below mean: the colour, the shape and the words of each; before them how such a
+    picture is read."""
 
     marks: list[tuple[str, str, str]]
+    reading: str = ""
 
 
 @dataclass

@@ -168,6 +168,8 @@ class Writer:
             pairs = (f"<div><dt>{escape(name)}</dt><dd>{escape(value)}</dd></div>" for name, value in block.pairs)
             yield f'<dl class="figures{" long" * (block.longest > 11)}">{"".join(pairs)}</dl>\n'
         elif isinstance(block, Key):
+            if block.reading:
+                yield f"<p>{marked(block.reading)}</p>\n"
             yield f'<ul class="legend">{"".join(self.mark(*mark) for mark in block.marks)}</ul>\n'
         elif isinstance(block, Table):
             yield from table_texts(block, next(self.numbers))

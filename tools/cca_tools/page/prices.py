@@ -177,10 +177,10 @@ def core_blocks(source: Source) -> list[Block]:
             ("orange", "triangle", "Vickrey prices"),
             ("blue", "dot", "what is paid"),
         ]
-        told = (
-            "Each place of the picture is a price for each of the two winners. Paid is, of the prices of least sum that"
-            " nobody blocks, the nearest to the Vickrey prices. The numbers of an axis are the winner's Vickrey"
-            " price, what it pays, and its bid if that is in the picture."
+        told = "Paid is, of the prices of least sum that nobody blocks, the nearest to the Vickrey prices."
+        reading = (
+            "Each place of the picture is a price for each of the two winners. The numbers of an axis are the winner's"
+            " Vickrey price, what it pays, and its bid if that is in the picture."
         )
     else:
         key = [
@@ -189,12 +189,12 @@ def core_blocks(source: Source) -> list[Block]:
             ("orange", "triangle", "the Vickrey prices, each raised by the same amount"),
             ("blue", "dot", "what is paid"),
         ]
-        told = (
-            f"The least sum that nobody blocks is {total}. A place of the picture is how three winners could share it."
-            " At a corner one of them pays all that is above the Vickrey prices. Paid is the green place nearest to the"
-            " triangle."
+        told = f"The least sum that nobody blocks is {total}."
+        reading = (
+            "A place of the picture is how three winners could share it. At a corner one of them pays all that is above"
+            " the Vickrey prices. Paid is the green place nearest to the triangle."
         )
-    return [Heading("The core"), Words(told), Key(key), Cards([Card("", [core_picture(source)])], size="wide")]
+    return [Heading("The core"), Words(told), Key(key, reading), Cards([Card("", [core_picture(source)])], size="wide")]
 
 
 def section(source: Source) -> Section | None:

@@ -170,11 +170,11 @@ def bands_of(source: Source) -> Iterator[Band]:
         yield Band(name, parts, widths[c] if widths else 1)
 
 
-def bands_key(names: Sequence[str], letters: Sequence[str], has_unsold: bool) -> Key:
-    """What the colours, patterns and letters of the lots mean."""
+def bands_key(names: Sequence[str], letters: Sequence[str], has_unsold: bool, scale: str = "") -> Key:
+    """What the colours, patterns and letters of the lots mean, and how wide a lot is."""
     shapes = [f"w{place % WINNERS + 1}" for place in range(len(names))]
     marks = [(shape, f"lot {shape}", f"{letter}: {name}") for shape, letter, name in zip(shapes, letters, names)]
-    return Key(marks + [("soft", "hatched", "\N{EN DASH}: unsold")] * has_unsold)
+    return Key(marks + [("soft", "hatched", "\N{EN DASH}: unsold")] * has_unsold, scale)
 
 
 def bands_card(source: Source) -> Card:
@@ -195,7 +195,7 @@ def bands_card(source: Source) -> Card:
     if source.places:
         placed = listed(source.names.categories[c] for c in sorted(source.places))
         scale += f" The lots of {placed} are in the order of the band."
-    return Card("", [bands_key(names, letters, any(unsold(source))), Words(scale), picture])
+    return Card("", [bands_key(names, letters, any(unsold(source)), scale), picture])
 
 
 def places_blocks(source: Source) -> list[Block]:
