@@ -24,6 +24,11 @@ from cca_tools.rules.book import Book, book_text, read_book
 ROOT = pathlib.Path(__file__).resolve().parents[2]
 
 
+def take_interrupts() -> None:
+    """Lets a process be ended by Ctrl-C, also if the caller ignores that, as a job in the background does."""
+    signal.signal(signal.SIGINT, signal.SIG_DFL)
+
+
 class Books(unittest.TestCase):
     def need_read(self, book: Book) -> None:
         """A book is within the format and its limits, and its text is read as it was written."""
@@ -167,10 +172,10 @@ class Counts(unittest.TestCase):
         self.assertEqual((status, sum("cca answers ['no C8 2'] and status 1" in line for line in said)), (1, made))
 
     def test_an_interrupt_of_processes(self) -> None:
-        words = ["checks/priced", "many", "--jobs", "2", "--folder", str(self.folder / "cut")]
+        words = [sys.executable, "checks/priced", "many", "60", "--jobs", "2", "--folder", str(self.folder / "cut")]
         environment = {name: value for name, value in os.environ.items() if name != "CCA_PROGRAM"}
         with subprocess.Popen(
-            [sys.executable, *words], cwd=ROOT, env=environment, stdout=subprocess.PIPE, text=True
+            words, cwd=ROOT, env=environment, stdout=subprocess.PIPE, text=True, preexec_fn=take_interrupts
         ) as run:
             while not (self.folder / "cut" / "many.jsonl").exists():
                 time.sleep(0.1)
