@@ -37,8 +37,7 @@ class Call(NamedTuple):
         )
 
     def name(self) -> str:
-        form = f"({self.sent})" if self.sent else ""
-        return " ".join([self.tool, *(word for word in self.words if not word.isupper()), form]).strip()
+        return " ".join([self.tool, *self.words, *([f"({self.sent})"] if self.sent else [])])
 
 
 def of(tool: str, words: str) -> Call:
@@ -151,7 +150,7 @@ NO_ROW = (
     "A name has at most 20 bytes, a number at most 19 digits, and a supply, a lot or a weight is bounded: rows of names"
     " and digits end in a refusal.",
     "Columns and the depth of JSON are of tables of bids and of journals; no other file has either.",
-    "A plan has at most 1,000 cases, and its auctions take one time each, so their rows show a part of the limit.",
+    "tools/journal --check, tools/seal check --journal and tools/publish --journal test a journal by one code.",
 )
 
 
@@ -162,7 +161,6 @@ def samples() -> Mapping[str, bytes]:
         "award": award,
         "log": sample("spectrum.log"),
         "view": b"close,,sealed,\n",
-        "posted": posted_head(award),
         "book": sample("day-cramton.book"),
         "weights": sample("day-cramton.weights"),
         "slots": sample("band.slots"),
@@ -201,7 +199,7 @@ def fitting(call: Call, role: str, text: bytes) -> Mapping[str, bytes]:
         files["values"] = b'values = 1\n[[bidder]]\nmodel = "global"\nlot = [1, 1, 1, 1]\n'
     if role == "cert" and "log" in call.roles():
         files["cert"] = sample("spectrum.cert")
-    return files
+    return {**files, "posted": posted_head(text if role == "award" else files["award"])}
 
 
 def command(call: Call, role: str, program: str) -> list[str]:

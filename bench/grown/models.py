@@ -53,17 +53,17 @@ def table(number: int) -> bytes:
 
 
 def plans() -> Iterator[Grown]:
-    slow = "each auction takes as long as the others"
-    yield Grown("plan", "auctions", 40, lambda n: PLAN + b"auctions = %d\nseed = 1\n" % n, slow)
+    slow = "of 1,000,000, since each auction takes as long as the others"
+    yield Grown("plan", "auctions", 2_000, lambda n: PLAN + b"auctions = %d\nseed = 1\n" % n, slow)
     head = PLAN + b"auctions = 1\nseed = 1\n[vary]\nshare = "
-    yield Grown("plan", "cases", 40, lambda n: head + b"%a\n" % list(range(1, n + 1)), slow)
+    yield Grown("plan", "cases", 1_000, lambda n: head + b"%a\n" % [it % 1_000 + 1 for it in range(n)])
     rest = b"auctions = 1\nseed = 1\n"
-    yield Grown("plan", "files of values", 40, lambda n: HEAD + b"values = %s\n" % files(n) + rest, slow)
+    yield Grown("plan", "files of values", 1_000, lambda n: HEAD + b"values = %s\n" % files(n) + rest)
 
 
 def files(count: int) -> bytes:
     """So many names of one file."""
-    paths = itertools.islice(itertools.product((".//", "./"), repeat=10), count)
+    paths = itertools.islice(itertools.product((".//", "./"), repeat=11), count)
     return b"[" + ", ".join('"{}values"'.format("".join(it)) for it in paths).encode() + b"]"
 
 
