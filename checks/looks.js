@@ -46,6 +46,13 @@
     crossed(svg)
     scales(svg)
   }
+  // a size such as 2.6 GHz or 2 x 5 that a line breaks can be read as two items
+  for (const { node, holder } of parts) for (const size of holder.closest("svg") ? [] : node.data.matchAll(/\d(?:\s[kMG]Hz\b|\sx\s\d)/g)) {
+    const range = document.createRange()
+    range.setStart(node, size.index)
+    range.setEnd(node, size.index + size[0].length)
+    if (new Set([...range.getClientRects()].map(it => Math.round(it.top))).size > 1) say(`a line breaks "${size[0]}" of "${short(node.data)}"`)
+  }
   for (const it of document.querySelectorAll(".details th")) if (getComputedStyle(it, "::before").content.includes("Line")) say(`a head of details is called a line: "${short(it.innerText)}"`)
 
   // lots of one category are equally wide, and all lots where the page says so, or as wide as their MHz; the axes of the core have one scale

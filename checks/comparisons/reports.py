@@ -24,6 +24,7 @@ from checks.cases.limit_books import CCA, OUT, build_cca
 from cca_tools.page import html, plain, source
 from cca_tools.page.document import Page
 from cca_tools.page.report import page
+from cca_tools.page.words import price
 from cca_tools.rules.auction import Auction
 from cca_tools.rules.award import Award, read_award
 from cca_tools.rules.log import read_log
@@ -100,9 +101,11 @@ def winner_lines(made: Page) -> Iterator[str]:
         yield f"winner {name[0]} {won[1]} bid {exactly(bid)} vickrey {exactly(vickrey)} pays {exactly(pays)}"
 
 
-def figures(made: Page) -> dict[str, str]:
-    blocks: list[Any] = [block for section in made.sections for block in section.blocks]
-    return {head: value for block in blocks for head, value in getattr(block, "pairs", ())}
+def sums_of_all_differ(made: Page, net: str, revenue: str) -> bool:
+    """Whether a report's net value, or the revenue in its title, isn't what the program prints."""
+    (title,) = [section.finding for section in made.sections if section.key == "winners"]
+    together = table(made, "winners", "The same net of reserve")[-1]
+    return plainly(together[2][0]) != net or f" {price(source.fraction(revenue))} for " not in title
 
 
 def turns(made: Page) -> list[bool]:
@@ -215,9 +218,7 @@ def book_differs(number: int, rng: random.Random, counts: Counts) -> Iterator[st
 def priced_differs(made: Page, prices: Sequence[str], facts: source.Source) -> Iterator[str]:
     if list(winner_lines(made)) != [line for line in prices if line.startswith("winner ")]:
         yield "winners"
-    shown = figures(made)
-    heads = "net value: bids less reserves", "revenue"
-    if facts.winners and [plainly(shown[head]) for head in heads] != [line.split(" ")[1] for line in prices[-2:]]:
+    if facts.winners and sums_of_all_differ(made, *(line.split(" ")[1] for line in prices[-2:])):
         yield "net value or revenue"
     if sums_differ(made):
         yield "sums of Vickrey prices"

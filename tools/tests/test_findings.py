@@ -14,6 +14,7 @@ from collections.abc import Iterator, Mapping
 from checks.cases.drawn import Drawing
 from cca_tools.rules.types import Choice, Table
 from cca_tools.page import findings, rounds, winners
+from cca_tools.page.document import Words
 from cca_tools.page.source import Source, given
 from cca_tools.page.words import VULGAR, Names
 from cca_tools.rules.book import Book
@@ -181,6 +182,41 @@ class Findings(unittest.TestCase):
             parts = (part.partition(" of ") for part in re.split(r", | and ", found[5] or "") if part)
             said = {category: lots for lots, _, category in parts}
             self.assertEqual(said, {f"c{c}": str(lots) for c, lots in enumerate(left, 1) if lots})
+
+    def test_award(self) -> None:
+        """How many win, what they pay together and for how many lots."""
+        for source in self.each():
+            title, it, book = findings.of_award(source), given(source.certificate), given(source.book)
+            whole, left = sum(book.supply), sum(book.left(it.choice))
+            form = rf"(?:((?i:{COUNT})) winners pay|\w+ pays) ({AMOUNT}) for (?:(\d+) of|all) (\d+) lots"
+            found = given(re.fullmatch(form, title))
+            reserves = sum(book.reserve(book.winning(it.choice, j)[0]) for j in it.winners)
+            self.assertEqual(counted(found[1] or "one"), len(it.winners))
+            self.assertEqual(amount(found[2]), Fraction(sum(it.pay), it.den) + reserves)
+            self.assertEqual((int(found[3] or found[4]), int(found[4])), (whole - left, whole))
+
+    def test_nobody_wins(self) -> None:
+        """A title and a sentence say all of it."""
+        self.drawing, first = 0, self.sources[0]
+        book = dataclasses.replace(given(first.book), bids=[[] for _ in given(first.book).bids])
+        certificate = drawn_certificate(random.Random(1), book)
+        source = Source([], first.names, first.award, first.auction, book=book, certificate=certificate)
+        self.assertEqual(findings.of_award(source), f"Nobody wins, and all {sum(book.supply)} lots stay unsold")
+        reserves = sum(lots * reserve for lots, reserve in zip(book.supply, book.reserves))
+        told = f"There is no bid, so the seller gets nothing. The reserves of the lots come to {reserves:,}."
+        self.assertEqual(winners.result(source), [Words(told)])
+
+    def test_lots_that_stay_have_columns(self) -> None:
+        """How many lots of each category stay and their reserves, if any stay; else the table has no such columns."""
+        kinds = set()
+        for source in self.each():
+            table, book = winners.lots_table(source), given(source.book)
+            left = book.left(given(source.certificate).choice)
+            kinds.add(any(left))
+            shown = [[str(cell) for cell in row[3:]] for row in table.rows]
+            wanted = [[f"{lots:,}", f"{lots * reserve:,}"] for lots, reserve in zip(left, book.reserves)]
+            self.assertEqual(shown, wanted if any(left) else [[]] * len(left))
+        self.assertEqual(kinds, {False, True})
 
     def test_lots_of_many_categories(self) -> None:
         """A title names three categories, and of more it has their number."""

@@ -75,7 +75,7 @@ class Placed(unittest.TestCase):
         text = self.run_tool("report", "--text", *AUCTION)
         rows = re.findall(r"^(tarn|everest|meridian) +(\d to \d|\d) +(\d)$", text, re.M)
         self.assertEqual(rows, [("tarn", "1 to 2", "7"), ("everest", "3", "0"), ("meridian", "4", "5")])
-        self.assertIn("What is paid for places, 12 in all", " ".join(text.split()))
+        self.assertIn("What winners pay for their places in the band, 12 in all, comes on top.", " ".join(text.split()))
 
     def test_frequencies(self) -> None:
         """Lots of 5 MHz from one to the next, from 791 MHz on."""
@@ -119,6 +119,7 @@ class Placed(unittest.TestCase):
         self.run_tool("publish", *AUCTION, str(made))
         index = (made / "index.html").read_text()
         self.assertRegex(index, r"<td>a800: lots 1 to 2\b")
+        self.assertIn("What winners pay for their places in the band, 12 in all, comes on top.</small>", index)
         (command,) = re.findall(r"<code>tools/(check-places [^<]+)</code>", index)
         tool, *files = command.split()
         done = subprocess.run([os.path.join(TOOLS, tool), *files], cwd=made, capture_output=True, text=True)

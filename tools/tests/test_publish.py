@@ -223,7 +223,7 @@ class Publish(Files):
             if name != "index.html":
                 self.assertIn(f'href="{name}"', page)
         self.assertIn("<title>A sample: 800 MHz &amp; 2.6 GHz</title>", page)
-        self.assertIn("<h2>Five winners pay 1,436,700 thousand EUR for all 28 lots.</h2>", page)
+        self.assertIn("<h2>Five winners pay 1,436,700 thousand EUR for all 28 lots</h2>", page)
         self.assertLess(page.index("460,200"), page.index("How to test it"))
         self.assertLess(page.index("How to test it"), page.index("Checksum (SHA-256)"))
         self.assertIn('href="tables/bids.csv">bids</a>', (folder / "report.html").read_text())
@@ -235,7 +235,7 @@ class Publish(Files):
         """Runs the commands of the page that need no program and no bidder's own file."""
         count = 0
         for command in re.findall(r"<dd><code>(.*?)</code>", page):
-            words = command.split()
+            words = re.sub("<.*?>", "", command).split()
             if words[0].startswith("tools/") and not {"NAME", "NOTED"} & {*words}:
                 made = [sys.executable, os.path.join(TOOLS, words[0][6:]), *words[1:]]
                 how = {**os.environ, "CCA_PROGRAM": "/nowhere"}

@@ -17,6 +17,7 @@ from cca_tools.page import core, html, plain, source, words
 from cca_tools.page.document import Block, Cards, Cell, Fold, Page, Picture, Section, Table
 from cca_tools.page.report import page
 from cca_tools.page.source import given as present
+from cca_tools.rules.names import written
 from cca_tools.rules.stops import Stop
 from cca_tools.rules.view import view_text
 
@@ -398,9 +399,9 @@ class OfALog(Told):
                 ("tarn", "500,000", "460,000", "460,200"),
             ],
         )
-        self.assertRegex(
-            self.told, "revenue 1,436,700 bid by winners 1,820,000 .* 78.9 % net value: bids less reserves 559,100"
-        )
+        self.assert_told("Winners pay 78.9 % of what they bid: 1,436,700 of 1,820,000", html.page(self.made))
+        (net,) = tables(self.made, "The same net of reserve")
+        self.assertEqual(net[-1][2], "559,100")
 
     def test_the_result_comes_first(self) -> None:
         """Who won what and pays what, by the lines of the award (README.md), before any other table."""
@@ -468,9 +469,8 @@ class OfALog(Told):
         (lots,) = tables(self.made, "Where the lots went")
         self.assertEqual(
             lots[2],
-            ["c2600", "14", "everest~3, harbour~2, meridian~4, niche~5".replace("~", "\N{NO-BREAK SPACE}"), "0", "0"],
+            ["c2600", "14", "everest~3, harbour~2, meridian~4, niche~5".replace("~", "\N{NO-BREAK SPACE}")],
         )
-        self.assert_told("All lots are sold.", self.told)
 
     def test_a_log_in_progress(self) -> None:
         told = flat(text_of(AWARD, b"".join(LOG.splitlines(True)[:15])))
@@ -491,8 +491,15 @@ class OfALog(Told):
 
     def test_without_bids(self) -> None:
         told = flat(text_of(AWARD, log_of("close,,,", "close,,,")))
+        self.assertEqual(told.count("Nobody has a bid."), 1)
         self.assert_told("The clock ended with round 1", told)
         self.assert_told("The log has 2 lines, and none of them were refused.", told)
+
+    def test_who_has_no_bid(self) -> None:
+        """Only tarn asks for lots: the four others share a sentence, and have no table."""
+        log = log_of("bid,tarn,1 0 0 0,", "close,,,", "close,,,")
+        self.assert_told("everest, harbour, meridian and niche have no bid.", flat(text_of(AWARD, log)))
+        self.assertEqual(tables(page(facts_of(AWARD, log)), "Bids of niche"), [])
 
     def test_without_bidders(self) -> None:
         award = AWARD[: AWARD.index(b"[[bidder]]")] + AWARD[AWARD.index(b"[[step]]") :]
@@ -651,6 +658,10 @@ class OfAPage(Told):
         for tag in ("script", "link", "img", "iframe", "object"):
             self.assertNotIn(tag, self.form.tags)
         self.assertNotRegex(self.text, r"@import|url\((?!#)")
+
+    def test_a_size_is_on_one_line(self) -> None:
+        text = written("<2.6 GHz> at 800 MHz, 2 x 5; 3 lots in round 1").replace("\N{NO-BREAK SPACE}", "~")
+        self.assertEqual(text, "&lt;2.6~GHz&gt; at 800~MHz, 2~x~5; 3 lots in round~1")
 
     def test_names_of_parts_differ(self) -> None:
         self.assertEqual(len(self.form.ids), len(set(self.form.ids)))

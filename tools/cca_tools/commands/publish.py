@@ -262,7 +262,8 @@ def result_of(facts: source.Source) -> Result:
     table = winners.result_table(facts)
     rows = [[parts(cell)[0] for cell in row] for row in table.rows]
     heads = [it.head for it in table.columns]
-    return Result(facts.long.occasion(), facts.amounts(), f"{findings.of_award(facts)}.", heads, rows)
+    amounts = " ".join([facts.amounts(), *places.paid_words(facts)])
+    return Result(facts.long.occasion(), amounts, findings.of_award(facts), heads, rows)
 
 
 def title_of(options: argparse.Namespace) -> str:

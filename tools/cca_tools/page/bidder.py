@@ -140,7 +140,7 @@ def line_section(view: View) -> Section:
     told = f"You sent {count(len(own), 'line')}; {was(refused, 'them')}. A line that is refused changes nothing."
     cards = lines.cards(view.source, [line for line, _ in seen], [reply for _, reply in seen])
     shown = Fold(
-        f"All {count(len(seen), 'line')} (to print them too, open them first)", [Cards(list(cards), size="wide")]
+        f"The {count(len(seen), 'line')} (to print them too, open them first)", [Cards(list(cards), size="wide")]
     )
     return Section("lines", "Your lines", [Words(told), shown])
 

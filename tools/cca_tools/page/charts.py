@@ -310,19 +310,24 @@ def draw_activity(drawing: Drawing, one: Activity, top: float, bottom: float, mo
         before = here
 
 
+# The bidders up to which bars of points are tall, and have their numbers.
+MOST_TALL, MOST_NUMBERED = 8, 12
+
+
 def activities(key: str, title: str, about: str, every: Sequence[Activity], most: int, is_open: bool) -> str:
     """The points and the eligibility of all bidders, a row for each and a column for each round. The last round may be
-    open."""
+    open. Rows of many bidders are lower, so that a sheet has room for all of them."""
     drawing, count = Drawing(key), len(every[0].points)
     widest = max(width_of(f"{points:,}") for one in every for points in one.points)
-    has_numbers = count <= FEW and widest < WIDE / count
-    high = 76 if has_numbers else 60
+    has_numbers = count <= FEW and widest < WIDE / count and len(every) <= MOST_NUMBERED
+    bar = 32 if len(every) <= MOST_TALL else 16
+    high = bar + (44 if has_numbers else 28)
     for row, one in enumerate(every):
         top = row * high + 20
         drawing.text(0, top - 6, shortened(one.name, WIDE), "ink", is_bold=True)
-        draw_activity(drawing, one, top, top + 32, most, is_open)
+        draw_activity(drawing, one, top, top + bar, most, is_open)
         for number, points in enumerate(one.points if has_numbers else (), 1):
-            drawing.text(share((number - 0.5) / count), top + 46, f"{points:,}", "ink", "middle")
+            drawing.text(share((number - 0.5) / count), top + bar + 14, f"{points:,}", "ink", "middle")
     bottom = len(every) * high + 10
     for at, number in enumerate(round_ticks(count, 5)):
         label, place = f"{'' if at else 'round '}{number:,}", (number - 0.5) / count

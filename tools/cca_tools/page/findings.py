@@ -65,13 +65,13 @@ def of_prices(source: Source) -> str:
 
 def of_award(source: Source) -> str:
     """How many win, what they pay together, and for how many lots."""
-    if not source.winners:
-        return "Nobody wins"
     book, many = given(source.book), len(source.winners)
     whole, left = sum(book.supply), sum(book.left(given(source.certificate).choice))
+    every = {1: "the only lot", 2: "both lots"}.get(whole, f"all {number(whole)} lots")
+    if not source.winners:
+        return f"Nobody wins, and {every} stay{'s' if whole == 1 else ''} unsold"
     pays = sum((source.pays(j) for j in source.winners), Fraction(0))
     who = f"{source.names.bidder(source.winners[0])} pays" if many == 1 else f"{capital(spelled(many))} winners pay"
-    every = {1: "the only lot", 2: "both lots"}.get(whole, f"all {number(whole)} lots")
     lots = f"{number(whole - left)} of {number(whole)} lots" if left else every
     return f"{who} {price(pays)}{source.units} for {lots}"
 

@@ -27,6 +27,7 @@ from cca_tools.page.document import (
     Words,
 )
 from cca_tools.page.ink import page_rules, variables
+from cca_tools.rules.names import written
 
 TEMPLATES = pathlib.Path(__file__).parent / "templates"
 
@@ -39,8 +40,8 @@ def kind(block: Block) -> str:
 def marked(text: str) -> str:
     """The text as markup, with what is between two ` in the program's form."""
     if "`" not in text:
-        return escape(text)
-    every = [escape(part) for part in text.split("`")]
+        return written(text)
+    every = [escape(part) if i % 2 else written(part) for i, part in enumerate(text.split("`"))]
     return "".join(f"<code>{part}</code>" if i % 2 else part for i, part in enumerate(every))
 
 
@@ -85,7 +86,7 @@ def stack(table: Table) -> str:
 def details(cell: Cell) -> str:
     """What the words of a cell rest on."""
     rows = (
-        f'<tr><th scope="row">{escape(head)}</th>{"".join(f"<td>{escape(value)}</td>" for value in values)}</tr>'
+        f'<tr><th scope="row">{written(head)}</th>{"".join(f"<td>{written(value)}</td>" for value in values)}</tr>'
         for head, *values in cell.details
     )
     return f'<table class="details" aria-label="how that is worked out"><tbody>{"".join(rows)}</tbody></table>'
@@ -135,7 +136,7 @@ def table_texts(table: Table, number: int) -> Iterator[str]:
     named = f' class="{name}" role="table"' if name else ""
     yield f'<table id="t{number}"{named}{label}>\n'
     if table.title:
-        yield f"<caption>{escape(table.title)}</caption>\n"
+        yield f"<caption>{written(table.title)}</caption>\n"
     heads = (f'<th scope="col"{head} class="{it.kind}">{escape(it.head)}</th>' for it in table.columns)
     yield f"<thead{group}><tr{row}>{''.join(heads)}</tr></thead>\n<tbody{group}>\n"
     yield from row_texts(table, name)
@@ -163,7 +164,7 @@ class Writer:
             yield f"<ul>{''.join(f'<li>{marked(item)}</li>' for item in block.items)}</ul>\n"
         elif isinstance(block, Heading):
             self.card_level = 4
-            yield f"<h3>{escape(block.text)}</h3>\n"
+            yield f"<h3>{written(block.text)}</h3>\n"
         elif isinstance(block, Figures):
             pairs = (f"<div><dt>{escape(name)}</dt><dd>{escape(value)}</dd></div>" for name, value in block.pairs)
             yield f'<dl class="figures{" long" * (block.longest > 11)}">{"".join(pairs)}</dl>\n'
@@ -185,12 +186,12 @@ class Writer:
 
     def mark(self, colour: str, shape: str, words: str) -> str:
         """What a mark of pictures means."""
-        return f'<li><i class="{shape}" style="--mark: var(--{colour})"></i>{escape(words)}</li>'
+        return f'<li><i class="{shape}" style="--mark: var(--{colour})"></i>{written(words)}</li>'
 
     def picture(self, picture: Picture) -> Iterator[str]:
         """A picture, and the table that says the same."""
         number = next(self.numbers)
-        caption = escape(picture.caption or picture.title)
+        caption = written(picture.caption or picture.title)
         yield f'<figure aria-describedby="t{number}">\n<figcaption>{caption}</figcaption>\n{picture.draw()}'
         yield from table_texts(picture.table, number)
         yield "</figure>\n"
@@ -206,8 +207,8 @@ class Writer:
         """A card with its title and its blocks."""
         yield f'<article class="card{" short" * card.is_short}">\n'
         if card.title:
-            note = f" <small>{escape(card.note)}</small>" if card.note else ""
-            yield f"<h{self.card_level}>{escape(card.title)}{note}</h{self.card_level}>\n"
+            note = f" <small>{written(card.note)}</small>" if card.note else ""
+            yield f"<h{self.card_level}>{written(card.title)}{note}</h{self.card_level}>\n"
         for block in card.blocks:
             yield from self.block(block)
         yield "</article>\n"
@@ -215,7 +216,7 @@ class Writer:
     def section(self, section: Section) -> Iterator[str]:
         """A section with its title, and what its numbers say."""
         title, self.card_level = escape(section.title), 3
-        head = f"<small>{title}</small> {escape(section.finding)}" if section.finding else title
+        head = f"<small>{title}</small> {written(section.finding)}" if section.finding else title
         yield f'<section id="{section.key}" aria-labelledby="{section.key}-head">\n'
         yield f'<h2 id="{section.key}-head">{head}</h2>\n'
         for block in section.blocks:
@@ -248,7 +249,7 @@ def page_texts(report: Page) -> Iterator[str]:
     yield '<!DOCTYPE html>\n<html lang="en">\n<head>\n<meta charset="utf-8">\n'
     yield '<meta name="viewport" content="width=device-width, initial-scale=1">\n'
     yield f'<meta name="color-scheme" content="light dark">\n<title>{title}</title>\n'
-    yield f"<style>\n{style(report.foot)}</style>\n</head>\n<body>\n<header>\n<h1>{title}</h1>\n"
+    yield f"<style>\n{style(report.foot)}</style>\n</head>\n<body>\n<header>\n<h1>{written(report.title)}</h1>\n"
     yield f'<p>{marked(report.under)}</p>\n<nav aria-label="Parts of this report"><ul>'
     yield f"{''.join(map(link, report.sections))}</ul></nav>\n</header>\n<main>\n"
     for section in report.sections:

@@ -160,7 +160,7 @@ def section(source: Source) -> Section:
                 " prints it."
             ),
             Fold(
-                f"All {count(len(auction.lines), 'line')} of the log (to print them too, open them first)",
+                f"The {count(len(auction.lines), 'line')} of the log (to print them too, open them first)",
                 [Cards(list(cards(source, auction.lines, auction.replies)), size="wide")],
             ),
         ],

@@ -142,11 +142,13 @@ def total(source: Source) -> Fraction:
     return sum((run.pays for every in source.places.values() for run in every), Fraction(0))
 
 
-def words(source: Source) -> str:
-    """What the tables of bands are, and that their prices aren't in those of the lots."""
+def paid_words(source: Source) -> list[str]:
+    """That what is paid for places isn't in the prices of the lots, if there are places."""
     paid = f"{price(total(source))}{source.units}"
-    return (
-        "Lots are numbered from the lower end of the band. Their places were found by `cca place`, and the certificate"
-        f" of each placement passes all tests. What is paid for places, {paid} in all, comes on top of"
-        " the prices above."
-    )
+    return [f"What winners pay for their places in the band, {paid} in all, comes on top."] if source.places else []
+
+
+WORDS = (
+    "Lots are numbered from the lower end of the band. Their places were found by `cca place`, and the certificate of"
+    " each placement passes all tests."
+)

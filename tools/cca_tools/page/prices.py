@@ -209,10 +209,7 @@ def section(source: Source) -> Section | None:
     ]
     if len(source.winners) in (2, 3) and core.is_known(given(source.book)):
         blocks += core_blocks(source)
-    told = (
-        "What the others would bring more without a winner is its Vickrey price, lots that stay unsold counted at their"
-        " reserve."
-    )
+    told = "Each table is the outcome without one winner. Lots that stay unsold count at their reserve."
     blocks += [
         Heading("Vickrey prices"),
         Words(told),

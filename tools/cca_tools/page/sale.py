@@ -25,7 +25,7 @@ def categories(source: Source) -> Table:
         [name, number(c.supply), number(c.reserve), number(c.points)]
         for name, c in zip(source.names.categories, source.award.categories)
     ]
-    return Table("What is sold", heads, rows)
+    return Table("What is sold", heads, rows, note=" ".join(source.long.lots()))
 
 
 def bidders(award: Award, names: Names) -> Table:

@@ -140,9 +140,9 @@ class Source:
         return f", in {self.long.amounts()}" if self.long.amounts() else ""
 
     def amounts(self) -> str:
-        """What amounts are in, and how wide lots are, in sentences."""
+        """What amounts are in, in sentences."""
         unit = [f"Amounts are in {self.long.amounts()}."] if self.long.amounts() else []
-        return " ".join([*unit, "Amounts include reserves, unless net is said.", *self.long.lots()])
+        return " ".join([*unit, "Amounts include reserves, unless net is said."])
 
     def won(self, j: BidderNumber) -> Bid:
         """The bid with which a winner wins."""

@@ -18,7 +18,6 @@ from cca_tools.page.document import (
     Cell,
     Column,
     Content,
-    Figures,
     Fold,
     Heading,
     Key,
@@ -31,7 +30,7 @@ from cca_tools.page.document import (
     columns,
 )
 from cca_tools.page.source import Source, given
-from cca_tools.page.words import count, listed, number, per_cent, price, price_cell
+from cca_tools.page.words import count, listed, number, per_cent, price, price_cell, result_cell
 from cca_tools.rules.auction import Auction
 from cca_tools.rules.stops import LIMIT
 from cca_tools.rules.ties import DECIDES, differences, how_many, ties_of
@@ -39,16 +38,6 @@ from cca_tools.rules.types import Amount, BidderNumber, Package
 
 MOST_SHOWN = 60  # bids that the book shows at once
 MOST_TIES = 5  # other choices of the same net value that are told one by one
-
-
-def total(source: Source) -> Fraction:
-    """What all winners pay."""
-    return sum((source.pays(j) for j in source.winners), Fraction(0))
-
-
-def bid_total(source: Source) -> Amount:
-    """What all winners bid."""
-    return sum(source.won(j)[1] for j in source.winners)
 
 
 def unsold(source: Source) -> Package:
@@ -72,7 +61,7 @@ def result_table(source: Source) -> Table:
         wide = [price(sum(map(mul, widths, package), Fraction(0)))] if widths else []
         placed = ["; ".join(places.of_winner(source, j))] if where else []
         own = [source.names.bidder(j), source.names.package(package)]
-        rows.append([*own, *placed, *wide, price_cell(source.pays(j), "good")])
+        rows.append([*own, *placed, *wide, result_cell(source.pays(j))])
     return Table("", heads, rows, is_result=True)
 
 
@@ -203,36 +192,22 @@ def places_blocks(source: Source) -> list[Block]:
     if not source.places:
         return []
     cards = [Card("", [table]) for table in places.tables(source)]
-    return [Heading("Where in the band"), Words(places.words(source)), Cards(cards, size="mid")]
+    return [Heading("Where in the band"), Words(places.WORDS), Cards(cards, size="mid")]
 
 
 def lots_table(source: Source) -> Table:
-    """Who won how many lots of each category, and what is left at its reserve."""
-    heads = columns("Category", "Supply #", "Sold to", "Unsold #", f"At reserve{source.unit} #")
-    rows = []
+    """Who won how many lots of each category, and what is left at its reserve if anything is."""
+    left = unsold(source)
+    more = ["Unsold #", f"At reserve{source.unit} #"] if any(left) else []
+    heads = columns("Category", "Supply #", "Sold to", *more)
+    rows = list[list[Content]]()
     for c, name in enumerate(source.names.categories):
         lots = [(source.names.bidder(j), source.won(j)[0][c]) for j in source.winners]
         sold = [f"{winner}\N{NO-BREAK SPACE}{many:,}" for winner, many in lots if many]
-        left = unsold(source)[c]
-        rows.append(
-            [
-                name,
-                number(given(source.book).supply[c]),
-                ", ".join(sold) or "nobody",
-                number(left),
-                number(left * given(source.book).reserves[c]),
-            ]
-        )
-    return Table(
-        "Where the lots went",
-        heads,
-        rows,
-        note=(
-            f"Unsold lots stay with the seller, here at {number(unsold_reserve(source))}{source.units} in reserves."
-            if any(unsold(source))
-            else "All lots are sold."
-        ),
-    )
+        kept = [number(left[c]), number(left[c] * given(source.book).reserves[c])] if more else []
+        rows.append([name, number(given(source.book).supply[c]), ", ".join(sold) or "nobody", *kept])
+    stay = f"Unsold lots stay with the seller, here at {number(unsold_reserve(source))}{source.units} in reserves."
+    return Table("Where the lots went", heads, rows, note=stay if more else "")
 
 
 def origins(auction: Auction, j: BidderNumber) -> dict[Package, str]:
@@ -273,25 +248,18 @@ def won_words(source: Source, j: BidderNumber) -> str:
 
 
 def book_cards(source: Source) -> Iterator[Card]:
-    """A card for each bidder."""
-    book = given(source.book)
-    for j in range(1, book.bidders + 1):
-        blocks: list[Block] = [bids_table(source, j)] if book.bids[j - 1] else [Words("No bid.")]
-        yield Card(source.names.bidder(j), blocks, won_words(source, j))
+    """A card for each bidder that has bids."""
+    for j, bids in enumerate(given(source.book).bids, 1):
+        if bids:
+            yield Card(source.names.bidder(j), [bids_table(source, j)], won_words(source, j))
 
 
-def figures(source: Source) -> Figures:
-    """The numbers that are seen first."""
-    lots = sum(given(source.book).supply)
-    pairs = [
-        ("winners", f"{len(source.winners)} of {given(source.book).bidders}"),
-        ("lots sold", f"{number(lots - sum(unsold(source)))} of {number(lots)}"),
-        (f"revenue{source.unit}", price(total(source))),
-        (f"bid by winners{source.unit}", number(bid_total(source))),
-        ("revenue, of what they bid", per_cent(total(source), bid_total(source))),
-        (f"net value: bids less reserves{source.unit}", number(given(source.certificate).value)),
-    ]
-    return Figures(pairs)
+def silent_words(source: Source) -> list[Block]:
+    """Who has no bid, if anybody."""
+    silent = [source.names.bidder(j) for j, bids in enumerate(given(source.book).bids, 1) if not bids]
+    if len(silent) == given(source.book).bidders:
+        return [Words("Nobody has a bid.")]
+    return [Words(f"{listed(silent)} {'has' if len(silent) == 1 else 'have'} no bid.")] if silent else []
 
 
 def paid_key(source: Source) -> Key:
@@ -321,8 +289,7 @@ def result(source: Source) -> list[Block]:
     if source.has_prices and source.winners:
         return [
             Cards([Card("", [result_table(source)])], size="wide"),
-            figures(source),
-            Words(source.amounts()),
+            Words(" ".join([source.amounts(), *places.paid_words(source)])),
             *tied(source),
             Cards([Card("", [paid_key(source), paid_picture(source)])], size="wide"),
             Cards([bands_card(source)], size="full"),
@@ -330,10 +297,8 @@ def result(source: Source) -> list[Block]:
             Cards([Card("", [net_table(source)])], size="wide"),
         ]
     if source.has_prices:
-        return [
-            Words("There is no bid, so the seller keeps all lots and gets nothing."),
-            Cards([Card("", [lots_table(source)])]),
-        ]
+        kept = f"{number(unsold_reserve(source))}{source.units}"
+        return [Words(f"There is no bid, so the seller gets nothing. The reserves of the lots come to {kept}.")]
     return [Words(missing(source), "bad" if source.fault else "")]
 
 
@@ -360,7 +325,7 @@ def book(source: Source) -> Section | None:
         else "At most one bid of each bidder wins."
     )
     many = sum(map(len, source.book.bids))
-    cards: Block = Cards(list(book_cards(source)))
+    cards: Block = Cards(list(book_cards(source)), size="mid")
     if many > MOST_SHOWN:
-        cards = Fold(f"All {count(many, 'bid')} (to print them too, open them first)", [cards])
-    return Section("book", "The book of bids", [Words(told), cards])
+        cards = Fold(f"The {count(many, 'bid')} (to print them too, open them first)", [cards])
+    return Section("book", "The book of bids", [Words(told), *([cards] if many else []), *silent_words(source)])

@@ -74,6 +74,12 @@ def price_cell(value: Amount | Fraction, tone: Tone = "") -> Cell:
     return Cell(price(value) if rest in VULGAR else rounded, fraction(Fraction(value)), tone)
 
 
+def result_cell(value: Amount | Fraction) -> Cell:
+    """What a winner pays, with the program's form only where people's form is rounded."""
+    cell = price_cell(value, "good")
+    return cell if cell.words != price(value) else Cell(cell.words, tone=cell.tone)
+
+
 def per_cent(part: Amount | Fraction, whole: Amount | Fraction) -> str:
     """To one decimal, halves up; a dash if there is no whole."""
     if whole == 0:

@@ -25,6 +25,8 @@ from __future__ import annotations
 
 import dataclasses
 import functools
+import html
+import re
 import unicodedata
 from collections.abc import Collection, Iterable, Mapping
 from typing import NoReturn
@@ -113,6 +115,13 @@ class LongNames:
 
 
 NO_NAMES = LongNames()
+# The spaces within a size, such as 2.6 GHz and 2 x 5, and before the number of a round: a line isn't broken there.
+SIZE = re.compile(r"(?<=\d) (?=x \d|[kMG]Hz\b)|(?<=\d x) (?=\d)|(?<=\bround) (?=\d)")
+
+
+def written(text: str) -> str:
+    """A text as markup, with each size and each name of a round on one line."""
+    return SIZE.sub("\N{NO-BREAK SPACE}", html.escape(text))
 
 
 def fault(why: str) -> NoReturn:

@@ -14,6 +14,7 @@ import secrets
 import shutil
 from collections.abc import Mapping, Sequence
 
+from cca_tools.rules.names import written
 from cca_tools.rules.printable import printable
 from cca_tools.rules.stops import WRITE_FAULT, Stop
 
@@ -55,7 +56,7 @@ STYLE = (
     "border-bottom:1px solid #ccc}code,pre{font:13px/1.5 ui-monospace,monospace;overflow-wrap:anywhere}"
     "pre{white-space:pre-wrap}.bad{color:#b00020;font-weight:bold}.told{font:13px/1.6 ui-monospace,monospace;padding:0;"
     "list-style:none;overflow-wrap:anywhere}.void,.void b{color:#b00020}"
-    "code,pre{overflow-wrap:anywhere}.winners td,.winners th{padding-right:1.5rem}"
+    "code,pre{overflow-wrap:anywhere}code span{white-space:nowrap}.winners td,.winners th{padding-right:1.5rem}"
     "td.number,th.number{text-align:right;font-variant-numeric:tabular-nums}a.first{font-weight:bold;font-size:1.2rem}"
     "dd{margin:0 0 .6rem}summary{cursor:pointer}h1{font-size:1.6rem;line-height:1.25}h2{font-size:1.25rem}"
     "@media(max-width:34rem){.winners,.winners tbody{display:block}"
@@ -69,7 +70,9 @@ STYLE = (
     "textarea{width:100%;font:13px/1.5 ui-monospace,monospace;box-sizing:border-box}"
     "button,textarea{color:inherit;background:transparent;border:1px solid #888;padding:.4rem .7rem}"
     "@media(prefers-color-scheme:dark){body{color:#eee;background:#111}a{color:#9cf}"
-    ".bad,.void,.void b{color:#ff8a9a}}"
+    "td,th,.winners tr,.wide tr{border-color:#444}.bad,.void,.void b{color:#ff8a9a}}"
+    "@media print{body{margin:0;color:#000;background:#fff}h2,dt{break-after:avoid}tr,dd{break-inside:avoid}"
+    "details:not([open]){display:none}}"
 )
 
 
@@ -174,6 +177,12 @@ def commands(files: Mapping[str, bytes]) -> list[tuple[str, str]]:
     return [*found, (what, f"tools/seal check {how} {KEY} {AWARD} {LOG} NOTED")]
 
 
+def command_text(command: str) -> str:
+    """A command as markup, in which no line breaks an option after its hyphens."""
+    words = map(html.escape, command.split(" "))
+    return " ".join(f"<span>{word}</span>" if word.startswith("--") else word for word in words)
+
+
 def told_text(told: Told) -> str:
     """The posted lines, and what a witness does with those that were noted, as a part of the page."""
     esc = html.escape
@@ -212,11 +221,11 @@ def result_text(result: Result, files: Mapping[str, bytes]) -> str:
     """Who won what and pays what, and where to read more, as the first part of the page."""
     esc = html.escape
     numbers = [" class=number" if head.startswith(("MHz", "Pays")) else "" for head in result.heads]
-    heads = "".join(f"<th scope=col{of}>{esc(head)}" for head, of in zip(result.heads, numbers))
+    heads = "".join(f"<th scope=col{of}>{written(head)}" for head, of in zip(result.heads, numbers))
     rows = [
         "<tr>"
         + "".join(
-            f"<td{of}>{esc(text)}" if at else f"<th scope=row>{esc(text)}"
+            f"<td{of}>{written(text)}" if at else f"<th scope=row>{written(text)}"
             for at, (text, of) in enumerate(zip(row, numbers))
         )
         for row in result.rows
@@ -232,8 +241,8 @@ def result_text(result: Result, files: Mapping[str, bytes]) -> str:
     ]
     more = [f"<p>Tables for a spreadsheet (CSV): {', '.join(sheets)}.\n"] if sheets else []
     more += [f"<p>What each bidder sees: {', '.join(bidders)}.\n"] if bidders else []
-    occasion = f"<p>{esc(result.occasion)}\n" if result.occasion else ""
-    return f"""{occasion}<h2>{esc(result.sentence)}</h2>
+    occasion = f"<p>{written(result.occasion)}\n" if result.occasion else ""
+    return f"""{occasion}<h2>{written(result.sentence)}</h2>
 {table if rows else ""}<p><small>{esc(result.amounts)}</small>
 <p><a class=first href="report.html">Read the report</a>
 {"".join(more)}"""
@@ -247,7 +256,7 @@ def page(title: str, result: Result, files: Mapping[str, bytes], made: Made) -> 
         for name, data in sorted(files.items(), key=lambda it: ("/" in it[0], it[0]))
     ]
     tests = by_browser(files)
-    tests += [f"<dt>{esc(what)}<dd><code>{esc(command)}</code>" for what, command in commands(files)]
+    tests += [f"<dt>{esc(what)}<dd><code>{command_text(command)}</code>" for what, command in commands(files)]
     by = [
         f"<tr><th scope=row>{esc(name)}<td><code{'' if is_right else ' class=bad'}>{esc(text)}</code>"
         for name, text, is_right in made.rows
@@ -258,7 +267,7 @@ def page(title: str, result: Result, files: Mapping[str, bytes], made: Made) -> 
 <meta name="viewport" content="width=device-width, initial-scale=1">
 <title>{esc(title)}</title>
 <style>{STYLE}</style>
-<h1>{esc(title)}</h1>
+<h1>{written(title)}</h1>
 {result_text(result, files)}<h2>How to test it</h2>
 <dl>
 {chr(10).join(tests)}
