@@ -52,7 +52,7 @@ pub record IsBlockOf (m : Market) (z : List ℕ) (p : Point) (b : BidderBlock) :
   pub some : pos 0 <ℤ b.excess
   pub bound : b.row.bound ≡ row_bound m z b.row.members b.choice
 
--- The turns go on from these rows: each has the point of the rows so far. Where no excess is above 0, it is the last; else
+-- The turns go on from these rows: each has the point of the rows so far. If no excess is above 0, it is the last; else
 -- its block gives the next turn one row more.
 abbrev pub GoOn : Market → (ℕ → ℕ) → List ℕ → (ℕ → ℤ) → List BidderRow → List BidderTurn → Type 0
 GoOn m w z v rows [] = ⊥

@@ -6,7 +6,7 @@ use Rattle.auction_model.specs.Market.{is_number_before}
 use Rattle.auction_model.specs.Menu.{Menu}
 use Rattle.auction_model.specs.Place.{place_of, left_at}
 
--- an entry after one more bid: the sum with the bid where it fits and is greater
+-- an entry after one more bid: the sum with the bid if it fits and is greater
 abbrev pub raised : List ℕ → List ℤ → List ℕ → ℤ → ℕ → ℤ → ℤ
 raised supply below lots worth s old =
     if is_within lots (left_at supply s) then (int_max old (worth +ℤ slice_index_or below (place_of supply (less (left_at supply s) lots)) (pos 0))) else old

@@ -58,18 +58,19 @@ greatest lots (b ∷ bids) = max (if is_same b.lots lots then b.amount else 0) (
 abbrev pub highest : List OwnRound → List BookBid → List ℕ → ℕ
 highest rounds list lots = if is_empty lots then 0 else greatest lots (map clock_bid rounds ++ list)
 
--- what a package may cost by the prices of a round: the highest amount for what was held in it, and the price of the difference
+-- what a package may cost by the prices of a round: the highest amount for the package held in it, and the price of the
+-- difference
 abbrev pub cap_by : List OwnRound → List BookBid → OwnRound → List ℕ → ℕ
 cap_by rounds list r lots = highest rounds list r.held + cost_of r.prices lots - cost_of r.prices r.held
 
--- the cap of a package other than what is held in the final round: that by its constraining round, and with a final cap the lesser
--- of this and that by the final round
+-- the cap of a package other than the one held in the final round: the cap by its constraining round, and with a final cap the
+-- lesser of this and the cap by the final round
 abbrev pub cap_among : Bool → List ℕ → List OwnRound → List BookBid → List ℕ → ℕ
 cap_among true points rounds list lots =
     min (cap_by rounds list (constraining (cost_of points lots) rounds) lots) (cap_by rounds list (last_round rounds) lots)
 cap_among false points rounds list lots = cap_by rounds list (constraining (cost_of points lots) rounds) lots
 
--- None for what is held in the final round, which has no cap
+-- None for the package held in the final round, which has no cap
 abbrev pub cap_of : Bool → List ℕ → List OwnRound → List BookBid → List ℕ → Option ℕ
 cap_of final_cap points rounds list lots =
     if is_same lots (last_round rounds).held then None else Some (cap_among final_cap points rounds list lots)
@@ -84,8 +85,8 @@ abbrev pub excess_or : ℕ → Option ℕ → Option (ℕ × ℕ) → Option (�
 excess_or entry None later = later
 excess_or entry (Some cap) later = Some (entry, cap)
 
--- the first entry of the bids that is above its cap: its number, counted from the given one, and the cap. The caps are those of
--- the whole list
+-- the first entry of the bids that is above its cap: its number, counted from the given one, and the cap. The caps are over the
+-- whole list
 abbrev pub first_excess : (List ℕ → Option ℕ) → ℕ → List BookBid → Option (ℕ × ℕ)
 first_excess cap entry [] = None
 first_excess cap entry (b ∷ bids) = excess_or entry (excess_cap (cap b.lots) b.amount) (first_excess cap (suc entry) bids)

@@ -30,7 +30,7 @@ bid_by j (Drop k lots) = None
 bid_by j (Submit k) = None
 bid_by j Close = None
 
--- what the line says of j's draft for a package: Some (Some amount) where it sets it, Some None where it drops it
+-- what the line does to j's draft for a package: Some (Some amount) if it sets it, Some None if it drops it
 abbrev pub draft_word : ℕ → List ℕ → Event → Option (Option ℕ)
 draft_word j lots (Draft k other amount) = if (k == j) && is_same other lots then Some (Some amount) else None
 draft_word j lots (Drop k other) = if (k == j) && is_same other lots then Some None else None
@@ -56,7 +56,7 @@ abbrev pub closes : List Event → ℕ
 closes [] = 0
 closes (e ∷ earlier) = if is_close e then suc (closes earlier) else closes earlier
 
--- the lines of section r: those before which r - 1 closes stand
+-- the lines of section r: the lines after r - 1 closes
 abbrev pub section : ℕ → List Event → List Event
 section r [] = []
 section r (e ∷ earlier) = if suc (closes earlier) == r then e ∷ section r earlier else section r earlier
@@ -65,11 +65,11 @@ section r (e ∷ earlier) = if suc (closes earlier) == r then e ∷ section r ea
 abbrev pub held_in : Terms → List Event → ℕ → ℕ → List ℕ
 held_in terms lines r j = unwrap_or (newest (filter_map (bid_by j) (section r lines))) (no_lots terms)
 
--- the amount of j's draft for a package: that of the newest draft line of it, if no newer line drops it
+-- the amount of j's draft for a package: the amount of its newest draft line, if no newer line drops it
 abbrev pub draft_of : ℕ → List Event → List ℕ → Option ℕ
 draft_of j lines lots = unwrap_or (newest (filter_map (draft_word j lots) lines)) None
 
--- the package set in its place among packages in order, each of which occurs once
+-- the package inserted in its place among packages in order, each once
 abbrev pub placed : List ℕ → List (List ℕ) → List (List ℕ)
 placed lots [] = lots ∷ []
 placed lots (p ∷ rest) = if is_same lots p then p ∷ rest else if is_before lots p then lots ∷ p ∷ rest else p ∷ placed lots rest
@@ -79,12 +79,12 @@ abbrev pub in_order : List (List ℕ) → List (List ℕ)
 in_order [] = []
 in_order (p ∷ rest) = placed p (in_order rest)
 
--- the list with an entry for the package before it, where an amount is given
+-- the list with an entry for the package before it, if an amount is given
 abbrev pub entry_before : List ℕ → Option ℕ → List BookBid → List BookBid
 entry_before lots None rest = rest
 entry_before lots (Some a) rest = record { lots = lots; amount = a } ∷ rest
 
--- the packages to which an amount is given, with it
+-- the packages that have an amount, with it
 abbrev pub priced : (List ℕ → Option ℕ) → List (List ℕ) → List BookBid
 priced amount [] = []
 priced amount (p ∷ rest) = entry_before p (amount p) (priced amount rest)

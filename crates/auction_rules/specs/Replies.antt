@@ -16,9 +16,9 @@ use Rattle.auction_rules.specs.Rounds.{OwnRound, prices_after, eligibility_after
 use Rattle.auction_rules.specs.Caps.{clock_bid, greatest, list_fault}
 use Rattle.auction_rules.specs.Lines.{is_close, line_bidder, closes, held_in, draft_list, submitted_list}
 
--- What the lines of one bidder are answered by: the stage, the closed clock rounds as the bidder has them, the posted prices,
--- the bidder's eligibility and package in the posted round, its draft list and its submitted list. Once the clock has stopped
--- the posted round is the final one.
+-- What the replies to one bidder's lines depend on: the stage, the closed clock rounds as the bidder has them, the posted
+-- prices, the bidder's eligibility and package in the posted round, its draft list and its submitted list. Once the clock has
+-- stopped the posted round is the final one.
 pub record Standing : Type 0 where
   pub stage : Stage
   pub rounds : List OwnRound
@@ -48,7 +48,7 @@ standing_by terms held n j drafts submitted = record {
 abbrev pub standing : Terms → List Event → ℕ → Standing
 standing terms lines j = standing_by terms (held_in terms lines) (closes lines) j (draft_list j lines) (submitted_list j lines)
 
--- the first reply whose condition holds, and Ok where none holds
+-- the first reply whose condition is true, and Ok if none is
 abbrev pub first_reply : List (Option Reply) → Reply
 first_reply [] = reply.Ok
 first_reply (None ∷ rest) = first_reply rest
@@ -106,8 +106,8 @@ has_entry lots (b ∷ bids) = is_same b.lots lots || has_entry lots bids
 abbrev pub drafts_full : List BookBid → List ℕ → Option Reply
 drafts_full drafts lots = when (not (has_entry lots drafts) && nat_le MOST_DRAFTS (length drafts)) (reply.Full MOST_DRAFTS)
 
--- the first of the prices that is above the top, where the first of them is that of the given category
--- (prices that were not raised are not above it, where the reserves are not)
+-- the first of the prices that is above the top, where the first of them is the given category's (prices that were not raised
+-- are not above it, if the reserves are not)
 abbrev pub price_top : ℕ → List ℕ → Option Reply
 price_top category [] = None
 price_top category (p ∷ prices) = if nat_le p MOST_PRICE then price_top (suc category) prices else Some (reply.PriceTop category p)
@@ -122,7 +122,7 @@ bid_reply terms stage eligibility j lots = first_reply (
     ∷ points_above terms lots eligibility
     ∷ [])
 
--- the reply to a line of bidder j, by what bidder j has in view; a close is no line of a bidder
+-- the reply to a line of bidder j, by what bidder j has in view. A close isn't a line of a bidder
 abbrev pub own_reply : Terms → ℕ → Standing → Event → Reply
 own_reply terms j s (Bid k lots) = bid_reply terms s.stage s.eligibility j lots
 own_reply terms j s (Draft k lots amount) = first_reply (
@@ -189,8 +189,8 @@ admitted terms (e ∷ log) = with_line terms (admitted terms log) e
 unfoldable pub reply_to : Terms → List Event → Event → Reply
 reply_to terms log e = reply_after terms (admitted terms log) e
 
--- How far the auction is after a log, and the number of the round and the prices that are posted then. Once the clock has stopped these are
--- those of the final round.
+-- The stage of the auction after a log, and the number of the round and the prices that are posted then. Once the clock has
+-- stopped these are the final round's.
 unfoldable pub log_stage : Terms → List Event → Stage
 log_stage terms log = let lines = admitted terms log in stage_after terms (held_in terms lines) (closes lines)
 

@@ -22,7 +22,7 @@ sum_of none packages (suc n) = together (sum_of none packages n) (packages (suc 
 abbrev pub demand : Terms → (ℕ → ℕ → List ℕ) → ℕ → List ℕ
 demand terms held r = sum_of (no_lots terms) (held r) (length terms.bidders)
 
--- the next prices: each is raised by the step where the demand is above the supply
+-- the next prices: each is raised by the step if the demand is above the supply
 abbrev pub raised_prices : ℕ → List (ℕ × ℕ) → List ℕ → List ℕ → List ℕ → List ℕ
 raised_prices tick thresholds [] d supply = []
 raised_prices tick thresholds (p ∷ prices) [] supply = p ∷ prices
@@ -30,13 +30,13 @@ raised_prices tick thresholds (p ∷ prices) (n ∷ d) [] = p ∷ prices
 raised_prices tick thresholds (p ∷ prices) (n ∷ d) (s ∷ supply) =
     (if nat_le n s then p else stepped tick thresholds p (n - s)) ∷ raised_prices tick thresholds prices d supply
 
--- the prices that are posted after n rounds: those of round n + 1
+-- the prices that are posted after n rounds: the prices of round n + 1
 abbrev pub prices_after : Terms → (ℕ → ℕ → List ℕ) → ℕ → List ℕ
 prices_after terms held zero = terms.reserves
 prices_after terms held (suc n) =
     raised_prices terms.tick terms.thresholds (prices_after terms held n) (demand terms held (suc n)) terms.supply
 
--- the eligibility of bidder j after n rounds: that of round n + 1
+-- the eligibility of bidder j after n rounds: its eligibility in round n + 1
 abbrev pub eligibility_after : Terms → (ℕ → ℕ → List ℕ) → ℕ → ℕ → ℕ
 eligibility_after terms held j zero = (entrant terms j).eligibility
 eligibility_after terms held j (suc n) = cost_of terms.points (held (suc n) j)

@@ -20,7 +20,7 @@ pub record Round : Type 0 where
   pub eligibility : List ℕ
   pub held : List (List ℕ)
 
--- what a desk keeps. Once the clock has stopped, the prices, eligibilities and packages are those of the final round
+-- what a desk keeps. Once the clock has stopped, the prices, eligibilities and packages are the final round's
 pub record DeskState : Type 0 where
   pub terms : Terms
   pub stage : Stage

@@ -19,7 +19,7 @@ pub record Terms : Type 0 where
   pub points : List ℕ
   pub reserves : List ℕ
   pub tick : ℕ
-  -- each an excess, and the thousandths by which a price rises from this excess on
+  -- each an excess, and how many thousandths a price rises from this excess on
   pub thresholds : List (ℕ × ℕ)
   pub caps : List SpectrumCap
   pub bidders : List Entrant

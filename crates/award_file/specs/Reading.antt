@@ -83,7 +83,7 @@ pub record IsStated (terms : Terms) : Type 0 where
   pub passes : award_fault stated ≡ None
   pub is : terms_of stated ≡ terms
 
--- the stop where no supply is made of the counts; categories are numbered from 1
+-- the stop if no supply is made of the counts; categories are numbered from 1
 abbrev pub limit_stop : LotStop → AwardStop
 limit_stop (lots.Categories count) = Limit Categories count
 limit_stop (lots.Zero category) = Field SUPPLY (min category (2 ^ 32 - 1))

@@ -1,4 +1,4 @@
--- What the keys of a table state, each where it follows its rule.
+-- What the keys of a table state, each if it follows its rule.
 use Rattle.std.specs.Prelude.{Bool, List, None, Option, Some, [], codes, false, if◌then◌else◌, length, nat_le, nat_lt, negsuc, not, option_and_then}
 use Rattle.std.specs.Prelude.{option_map, pos, ℕ, ℤ, ◌&&◌, ◌==◌, ◌||◌, ◌∷◌}
 use Rattle.std.specs.List.{list_all, list_any}
@@ -7,13 +7,13 @@ use Rattle.limits.specs.declared.TheConstants.{MOST_NAME_BYTES}
 use Rattle.toml.specs.Data.{Data, array, table, Items, no_items, item, Members, no_members, member, get_member, as_str, as_integer}
 use Rattle.toml.specs.Text.{are_tables}
 
--- the value, where it passes the test
+-- the value, if it passes the test
 abbrev pub where_passes : {A : Type 0} → (A → Bool) → A → Option A
 where_passes test x = if test x then Some x else None
 
 -- ---- whole numbers
 
--- the number, where it is from low to high
+-- the number, if it is from low to high
 abbrev pub in_range : ℕ → ℕ → ℤ → Option ℕ
 in_range low high (pos n) = where_passes (λ m. nat_le low m && nat_le m high) n
 in_range low high (negsuc n) = None
@@ -78,7 +78,7 @@ list_of None = Some []
 list_of (Some (array ds)) = if are_tables ds then Some (tables_of ds) else None
 list_of (Some _) = None
 
--- the tables that a key states, where their number is allowed
+-- the tables that a key states, if their number is allowed
 abbrev pub tables_at : (ℕ → Bool) → List ℕ → Members → Option (List Members)
 tables_at allowed key t = option_and_then (where_passes (λ ts. allowed (length ts))) (list_of (get_member key t))
 

@@ -94,7 +94,7 @@ bidder_keys = codes "name" ∷ codes "eligibility" ∷ codes "holding" ∷ []
 abbrev pub eligibility_at : Members → Option ℕ
 eligibility_at t = number_at 0 MOST_ELIGIBILITY (codes "eligibility") t
 
--- for each category a holding, or no lots at all where the key is missing
+-- for each category a holding, or no lots at all if the key is missing
 abbrev pub holding_in : ℕ → Option Data → Option (List ℕ)
 holding_in categories None = Some (replicate categories 0)
 holding_in categories (Some d) = row_of categories MOST_COUNT d

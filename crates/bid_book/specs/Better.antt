@@ -12,7 +12,7 @@ pub record IsBetter (book : Book) (j i h : ℕ) : Type 0 where
   pub smaller : IsTrue (is_within (lots_of book j h) (lots_of book j i))
   pub worth : net_of book j i ≤ℤ net_of book j h
 
--- the entry with number h among these makes the other needless, where h isn't 0
+-- the entry with number h among these makes the other needless, if h isn't 0
 pub record Beats (bids : List Entry) (entry : Entry) (h : ℕ) : Type 0 where
   pub inside : h ≤ length bids
   pub smaller : (d : Entry) → IsTrue (is_within (slice_index_or bids (h - 1) d).bid.package entry.bid.package)

@@ -36,7 +36,7 @@ pub record IsBidFor (book : Book) (j : ℕ) (lots : List ℕ) (i : ℕ) : Type 0
   pub known : i ≤ length (bids_of book j)
   pub own : lots_of book j i ≡ lots
 
--- what a bid of bidder j has to keep, so that the rules of the book go on to hold where it is put in
+-- what a bid of bidder j has to keep, so that the rules of the book go on to hold if it is put in
 pub record CanPut (book : Book) (j : ℕ) (bid : BookBid) : Type 0 where
   pub some : 0 < j
   pub known : j ≤ length book.bidders

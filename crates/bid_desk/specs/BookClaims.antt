@@ -1,4 +1,5 @@
--- What holds of the book that a desk makes, whichever log led to the desk's state. A list of lines has its newest line first.
+-- What is true for the book that a desk makes, whichever log led to the desk's state. A list of lines has its newest line
+-- first.
 use Rattle.std.specs.Prelude.{◌≡◌, ℕ, ◌≤◌, List, None, length}
 use Rattle.auction_model.specs.Book.{Book, bids_of}
 use Rattle.auction_rules.specs.declared.Event.{Event}
@@ -14,7 +15,7 @@ abbrev pub AreCapped : DeskState → Book → Type 0
 AreCapped desk book = (log : List Event) → desk ≡ state_of desk.terms log → (j : ℕ) → 1 ≤ j → j ≤ length desk.terms.bidders
     → list_fault (final_cap desk.terms) desk.terms.points (standing desk.terms (admitted desk.terms log) j).rounds (bids_of book j) ≡ None
 
--- a bidder's bids depend on what it has seen alone: they are those of the book of any other log of which it has the same view
+-- a bidder's bids depend only on what it has seen: they are in the book of any other log with the same view
 abbrev pub AreOwn : DeskState → Book → Type 0
 AreOwn desk book = (log other : List Event) → desk ≡ state_of desk.terms log → (j : ℕ) → 1 ≤ j → j ≤ length desk.terms.bidders
     → view desk.terms j log ≡ view desk.terms j other → bids_of book j ≡ bids_in_book desk.terms other j

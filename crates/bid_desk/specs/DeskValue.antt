@@ -1,4 +1,4 @@
--- The state that the fields of a desk hold.
+-- The state in the fields of a desk.
 use Rattle.std.specs.Prelude.{Bool, List, map, if◌then◌else◌}
 use Rattle.auction_rules.specs.declared.Stage.{Stage}
 use Rattle.auction_rules.specs.declared.Stage.TheVariants.{Clock, Sealed}

@@ -40,7 +40,7 @@ pub record IsKnown (terms : Terms) (desk : DeskState) (j : ℕ) : Type 0 where
   pub some : is_clock desk.stage ≡ false → 1 ≤ length desk.rounds
   pub eligible : is_clock desk.stage ≡ false → eligibility_in desk.rounds j 1 ≡ (entrant terms j).eligibility
 
--- the reply to a draft of a package for which its bidder is eligible
+-- the reply to a draft of a package within its bidder's eligibility
 abbrev pub amount_reply : Terms → List OwnRound → List BookBid → List ℕ → ℕ → Reply
 amount_reply terms rounds drafts lots amount = first_reply (
     when (is_empty lots) reply.Empty

@@ -18,13 +18,13 @@ pub record IsReached (desk : DeskState) : Type 0 where
   pub categories : AllByRecursion (HasCategories desk.terms) log
   pub stands : desk ≡ state_of desk.terms log
 
--- the line was answered by the rules and changed what it has to
+-- the line had the rules' reply and changed what it has to
 pub record IsTaken (old : DeskState) (line : Event) (answer : Reply) (new : DeskState) : Type 0 where
   pub reply : answer ≡ reply_in old line
   pub state : new ≡ state_with old line
 
--- Out of memory may come in place of this reply of the rules at this stage: never for a clock bid or a drop, for a draft only where it is
--- admitted, for a submission only where the bidder's list is tested, and for a close only while the clock runs.
+-- Out of memory may replace this reply of the rules at this stage: never for a clock bid or a drop, for a draft only if it is
+-- admitted, for a submission only if the bidder's list is tested, and for a close only while the clock runs.
 abbrev pub MayLack : Stage → Event → Reply → Type 0
 MayLack stage (event_kind.Bid k lots) answer = ⊥
 MayLack stage (Drop k lots) answer = ⊥
@@ -32,7 +32,7 @@ MayLack stage (Draft k lots amount) answer = answer ≡ reply.Ok
 MayLack stage (Submit k) answer = (answer ≢ reply.Stage) × (answer ≢ reply.Unknown)
 MayLack stage Close answer = stage ≡ stages.Clock
 
--- there was no memory where it may lack, and nothing changed
+-- out of memory, in a case that allows it, and nothing changed
 pub record IsRefusedMemory (old : DeskState) (line : Event) (answer : Reply) (new : DeskState) : Type 0 where
   pub reply : answer ≡ reply.Memory
   pub same : new ≡ old
@@ -46,12 +46,12 @@ IsBidOrDrop (Draft k lots amount) = ⊥
 IsBidOrDrop (Submit k) = ⊥
 IsBidOrDrop Close = ⊥
 
--- the line was answered and taken, or there was no memory
+-- the line was taken with its reply, or out of memory
 abbrev pub IsTakenOrMemory : DeskState → Event → Reply → DeskState → Type 0
 IsTakenOrMemory old line answer new = IsRefusedMemory old line answer new ⊎ IsTaken old line answer new
 
--- A desk that stood for this log answered the line by the rules and stands for the log with the line; or there was no memory, and it
--- stands for the log as before.
+-- A desk that stood for this log replied to the line by the rules and stands for the log with the line. Or it is out of memory,
+-- and still stands for the log.
 pub record StandsWith (old : DeskState) (log : List Event) (line : Event) (answer : Reply) (new : DeskState) : Type 0 where
   pub reply : answer ≡ reply_to old.terms log line
   pub state : new ≡ state_of old.terms (line ∷ log)
@@ -59,7 +59,7 @@ pub record StandsWith (old : DeskState) (log : List Event) (line : Event) (answe
 abbrev pub StandsNext : DeskState → List Event → Event → Reply → DeskState → Type 0
 StandsNext old log line answer new = IsRefusedMemory old line answer new ⊎ StandsWith old log line answer new
 
--- the line was answered and taken, or there was no memory, for which a clock bid and a drop have no need
+-- the line was taken with its reply, or out of memory, but never for a clock bid or a drop
 pub record Takes (old : DeskState) (line : Event) (answer : Reply) (new : DeskState) : Type 0 where
   pub taken : IsTakenOrMemory old line answer new
   pub sure : IsBidOrDrop line → answer ≢ reply.Memory

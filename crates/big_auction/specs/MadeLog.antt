@@ -63,7 +63,7 @@ clock_lines number = flat_map (round_lines number) (listing (λ r. r) full_round
 
 -- ---- the lines of the sealed round
 
--- The amount of a draft: what the package costs at the prices of round 10, where it is one of the bidder's own two. Else that many
+-- The amount of a draft: what the package costs at the prices of round 10, if it is one of the bidder's own two. Else that many
 -- thousandths of that, but no less than at the reserves.
 abbrev pub amount_of : List ℕ → List ℕ → List ℕ → List ℕ → ℕ → ℕ
 amount_of prices own final lots permille =

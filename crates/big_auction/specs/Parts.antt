@@ -17,7 +17,7 @@ counts_of p = p.a ∷ p.b ∷ p.c ∷ p.e ∷ []
 abbrev pub figures_of : Figures → List ℕ
 figures_of f = f.a ∷ f.b ∷ f.c ∷ f.e ∷ []
 
--- what the bidders have in each round, where each always has the same
+-- what the bidders have in each round, if each always has the same
 abbrev pub held_from : List (List ℕ) → ℕ → ℕ → List ℕ
 held_from packages r k = slice_index_or packages (k - 1) []
 
@@ -30,7 +30,7 @@ abbrev pub lines_for : ℕ → List ℕ → List (List ℕ) → ℕ → List Eve
 lines_for state prices packages k =
     lines_from (advanced state (5 * draft_count * (k - 1) + min staying (k - 1))) prices k (slice_index_or packages (k - 1) []) (last_of k (slice_index_or packages (k - 1) []))
 
--- the lines of the clock, where these packages are bid
+-- the lines of the clock, if these packages are bid
 abbrev pub last_bids_for : List (List ℕ) → ℕ → List Event
 last_bids_for packages n = listing (λ k. Bid k (last_of k (slice_index_or packages (k - 1) []))) n
 

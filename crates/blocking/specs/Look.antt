@@ -27,12 +27,12 @@ pub record CanLook (m : Market) (z : List ℕ) (den : ℤ) (at : List ℤ) : Typ
   pub range : paid m (payments den at) <ℤ pos (2 ^ 120)
   pub lowered : CanLower m z den (surpluses_of m z den at)
 
--- the property of what was found, where the point is free
+-- the property of what was found, if the point is free
 abbrev pub IfFree : {T : Type 0} → Looked T → (Found T → Type 0) → Type 0
 IfFree (Free f) p = p f
 IfFree (Blocked b) p = ⊤
 
--- the property of the block, where one was found
+-- the property of the block, if one was found
 abbrev pub IfBlocked : {T : Type 0} → Looked T → (Block → Type 0) → Type 0
 IfBlocked (Free f) p = ⊤
 IfBlocked (Blocked b) p = p b

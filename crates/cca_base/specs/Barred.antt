@@ -24,7 +24,7 @@ abbrev pub AreOthers : FileIdentity → List (List ℕ) → List Made → List M
 AreOthers file [] old new = new ≡ old
 AreOthers file (name ∷ names) old new = (asked : List Made) × IsAsked name file false old asked × AreOthers file names asked new
 
--- The output goes to no regular file, or the words are known and none of these names means it.
+-- The output goes to no regular file, or the arguments are known and none of these names means it.
 pub record IsFree (names : List (List ℕ)) (is_known : Bool) (old new : List Made) : Type 0 where
   pub file : Option FileIdentity
   pub asked : List Made

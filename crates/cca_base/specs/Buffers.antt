@@ -2,7 +2,7 @@
 use Rattle.std.specs.Prelude.{ℕ, ◌-◌, List, take, length}
 use Rattle.cca_base.specs.declared.buffer.Buffer.{Buffer}
 
--- the bytes that it holds
+-- its bytes in use
 abbrev pub held : Buffer → List ℕ
 held b = take b.used b.bytes.items
 

@@ -33,7 +33,7 @@ folder_of seen told files = record {
 abbrev pub with_calls : Folder → List Given → List Given → Folder
 with_calls folder gave took = record folder { gave = gave; took = bytes_under took }
 
--- files that are reported and gave this: what they took is at the end of what they hold
+-- files that are reported and gave this: what they took is at the end of their bytes
 abbrev pub with_gave : Folder → List Given → Folder
 with_gave folder gave = record folder { gave = gave; took = λ name. unwrap_or (folder.file name) [] }
 
@@ -51,7 +51,7 @@ pub record KeepsButAppends (old new : Seen) : Type 0 where
   pub load_faults : new.load_faults ≡ old.load_faults
   pub room : new.room ≡ old.room
 
--- an entry that gives its room isn't missing
+-- an entry with a reported room isn't missing
 pub roomy_by : {A : Type 0} (seen : A → Seen) → ((f : A) → IsSome (seen f).room → IsSome (seen f).file) → (o : Option A)
     → IsSome (option_and_then (λ f. (seen f).room) o) → IsSome (option_and_then (λ f. (seen f).file) o)
 roomy_by seen by None some = some

@@ -1,4 +1,4 @@
--- Calls that were answered: what loads gave, and what puts took.
+-- Calls that returned: what loads gave, and what puts took.
 use Rattle.std.specs.Prelude.{ℕ, List, [], ◌∷◌, ◌++◌, cond}
 use Rattle.std.specs.Str.{bytes_eq}
 
@@ -14,7 +14,7 @@ abbrev pub all_bytes : List Given → List ℕ
 all_bytes [] = []
 all_bytes (g ∷ before) = all_bytes before ++ g.bytes
 
--- the same of the calls of one name
+-- the bytes of the calls of one name, in this order
 abbrev pub bytes_under : List Given → List ℕ → List ℕ
 bytes_under [] name = []
 bytes_under (g ∷ before) name = bytes_under before name ++ cond (bytes_eq g.name name) g.bytes []

@@ -1,4 +1,4 @@
--- Calls of the system with what they answered.
+-- Calls of the system with their results.
 use Rattle.std.specs.Prelude.{ℕ, ℤ, Bool, Result, Ok, Err, List, take}
 use Rattle.std.specs.declared.io.ErrorKind.{ErrorKind}
 use Rattle.cca_base.specs.declared.system.event.Event.{Event}

@@ -1,4 +1,4 @@
--- What the calls of the system have to be before a piece counts as taken.
+-- What the calls of the system have to be before a piece is reported as taken.
 use Rattle.std.specs.Prelude.{◌≡◌, ◌≢◌, ◌⊎◌, is_none, ℕ, ℤ, Bool, true, false, Result, Ok, Err, List, ◌∷◌, codes, take, Option, Some, None, nat_eq, if◌then◌else◌}
 use Rattle.std.specs.Str.Pattern.{RFindsChar}
 use Rattle.std.specs.declared.io.ErrorKind.{ErrorKind}
@@ -65,7 +65,8 @@ pub record IsOpened (name : List ℕ) (descriptor : ℤ) (before : Option FileId
       → new ≡ locks descriptor true ∷ tells_open descriptor (Ok told) ∷ opens_to_append name (Ok descriptor) ∷ looked
   pub other : is_regular ≡ false → new ≡ tells_open descriptor (Ok told) ∷ opens_to_append name (Ok descriptor) ∷ looked
 
--- The bytes were read at this place of an open file. Where a plain read goes on is known to be there, or the file was moved there first.
+-- The bytes were read at this place of an open file. The position of a plain read is known to be there, or the file was moved
+-- there first.
 pub record IsReadAt (descriptor : ℤ) (position : Option ℕ) (at : ℕ) (bytes : List ℕ) (old new : List Made) : Type 0 where
   pub there : position ≡ Some at → new ≡ reads descriptor (Ok bytes) ∷ old
   pub moved : position ≢ Some at → new ≡ reads descriptor (Ok bytes) ∷ seeks descriptor at true ∷ old

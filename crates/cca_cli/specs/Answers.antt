@@ -107,7 +107,7 @@ abbrev pub PlaceCertAnswers : ℕ → List ℕ → Answer PlaceCertValue → Typ
 PlaceCertAnswers bidders bytes answer = (said : Said PlaceCertValue ℕ) × PlaceCertSays bidders bytes said
     × (answer ≡ place_cert_answer said)
 
--- the edits that a text states are those of the book; a faulty line refuses the file, and too many are reported
+-- the edits that a text states, for the book. A faulty line refuses the file, and too many are reported
 abbrev pub edits_answer : BookValue → Said (List NamedEdit) Excess → Answer (List Edit)
 edits_answer book (stated edits) = value (edits_of book edits)
 edits_answer book (faulty place) = stops (Refused Edits place 0)

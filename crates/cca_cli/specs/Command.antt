@@ -1,4 +1,4 @@
--- The plain form of the words that are given to the program, and the files of each command.
+-- The plain form of the program's arguments, and the files of each command.
 use Rattle.std.specs.Prelude.{ℕ, ◌^◌, Bool, true, false, ◌==◌, ◌&&◌, ◌||◌, nat_lt, not, Option, Some, None, option_map, option_and_then, List, [], ◌∷◌, codes, drop, find, filter, length, map, take, if◌then◌else◌}
 use Rattle.std.specs.Fmt.{decimal}
 use Rattle.std.specs.Str.{bytes_eq}
@@ -14,15 +14,15 @@ use Rattle.cca_cli.specs.declared.status.FileKind.{FileKind}
 use Rattle.cca_cli.specs.declared.status.FileKind.TheVariants.{Log, Book, Cert, Weights, Slots, Edits, Out}
 use Rattle.cca_cli.specs.declared.status.FileKind.TheVariants as file_kind
 
--- A row of the table of commands: the word that names the command, whether a number comes before its files, the part of each file and what
--- is done with it, in the order of the words, and the flags that may come after them.
+-- A row of the table of commands: the word that names the command, whether a number comes before its files, the part of each
+-- file and what is done with it, in the order of the arguments, and the flags that may come after them.
 pub record Row : Type 0 where
   pub word : List ℕ
   pub number : Bool
   pub files : List (FileKind × Use)
   pub flags : Flags
 
--- The table of commands. All else that is said of their words and files follows from it.
+-- The table of commands. All other definitions for their arguments and files follow from it.
 abbrev pub row : Kind → Row
 row Win = record { word = codes "win"; number = false; files = (Book, Reads) ∷ []; flags = flags.None }
 row Price = record { word = codes "price"; number = false; files = (Book, Reads) ∷ (Cert, Appends) ∷ []; flags = flags.Form }
@@ -43,7 +43,7 @@ kinds =
     Win ∷ Price ∷ Check ∷ Weigh ∷ WeighCheck ∷ Auction ∷ Award ∷ Audit ∷ Make ∷ Place ∷ PlaceCheck
     ∷ Review ∷ []
 
--- a command: its kind, the names of its files in the order of the words, the form of what it prints, and its number
+-- a command: its kind, the names of its files in the order of the arguments, the form of what it prints, and its number
 pub record CommandValue : Type 0 where
   pub kind : Kind
   pub names : List (List ℕ)
@@ -152,7 +152,7 @@ one_flag f =
     else if bytes_eq f (codes "--json") then Some (form_with false true)
     else None
 
--- the first is the flag of the rounds, and the second that of JSON
+-- the first is the flag of the rounds, and the second the flag of JSON
 abbrev pub are_both : List ℕ → List ℕ → Bool
 are_both f g = bytes_eq f (codes "--rounds") && bytes_eq g (codes "--json")
 
@@ -160,25 +160,25 @@ are_both f g = bytes_eq f (codes "--rounds") && bytes_eq g (codes "--json")
 abbrev pub two_flags : List ℕ → List ℕ → Option PriceForm
 two_flags f g = if are_both f g || are_both g f then Some (form_with true true) else None
 
--- the form that the words after the files ask for
+-- the form that the arguments after the files ask for
 abbrev pub form_asked : List (List ℕ) → Option PriceForm
 form_asked [] = Some plain
 form_asked (f ∷ []) = one_flag f
 form_asked (f ∷ g ∷ []) = two_flags f g
 form_asked (f ∷ g ∷ h ∷ rest) = None
 
--- the same where they may ask for the turns alone
+-- the form that these arguments ask for, if they may ask only for the turns
 abbrev pub rounds_asked : List (List ℕ) → Option PriceForm
 rounds_asked [] = Some plain
 rounds_asked (f ∷ []) = if bytes_eq f (codes "--rounds") then Some (form_with true false) else None
 rounds_asked (f ∷ g ∷ rest) = None
 
--- where they may ask for nothing
+-- the form that these arguments ask for, if they may ask for nothing
 abbrev pub nothing_asked : List (List ℕ) → Option PriceForm
 nothing_asked [] = Some plain
 nothing_asked (f ∷ rest) = None
 
--- the form that the words after the files ask for, by the flags of a row
+-- the form that the arguments after the files ask for, by the flags of a row
 abbrev pub asked : Flags → List (List ℕ) → Option PriceForm
 asked flags.None words = nothing_asked words
 asked flags.Rounds words = rounds_asked words
@@ -188,7 +188,7 @@ asked flags.Form words = form_asked words
 abbrev pub number_said : List ℕ → Option ℕ
 number_said w = if bytes_eq w (decimal (digits_value 10 w)) && nat_lt (digits_value 10 w) (2 ^ 32) then Some (digits_value 10 w) else None
 
--- words in two parts: that many, and what follows; none where there are fewer
+-- arguments in two parts: that many, and the rest, or None if there are fewer
 abbrev pub parted : ℕ → List (List ℕ) → Option (List (List ℕ) × List (List ℕ))
 parted count words = if nat_lt (length words) count then None else Some (take count words, drop count words)
 
@@ -202,12 +202,12 @@ said_after kind number names words =
 abbrev pub said_with : Kind → ℕ → List (List ℕ) → Option CommandValue
 said_with kind number words = option_and_then (λ parts. said_after kind number parts.0 parts.1) (parted (length (row kind).files) words)
 
--- the same after a number
+-- the command after a number
 abbrev pub said_numbered : Kind → List (List ℕ) → Option CommandValue
 said_numbered kind [] = None
 said_numbered kind (n ∷ words) = option_and_then (λ number. said_with kind number words) (number_said n)
 
--- the command of a kind that the words after its name say; a number is no file, so it may be the same word as one
+-- the command of a kind that the arguments after its name state. A number isn't a file, so it may equal a file's name
 abbrev pub said_by : Kind → List (List ℕ) → Option CommandValue
 said_by kind words = if (row kind).number then said_numbered kind words else said_with kind 0 words
 
@@ -215,7 +215,7 @@ said_by kind words = if (row kind).number then said_numbered kind words else sai
 abbrev pub kind_named : List ℕ → Option Kind
 kind_named w = find (λ kind. bytes_eq w (row kind).word) kinds
 
--- the command that the words say, if they are of the plain form
+-- the command that the arguments state, if they are of the plain form
 abbrev pub command_of : List (List ℕ) → Option CommandValue
 command_of [] = None
 command_of (w ∷ rest) = option_and_then (λ kind. said_by kind rest) (kind_named w)
@@ -242,7 +242,7 @@ is_read Appends = false
 abbrev pub named : FileKind → List FileUse → Option (List ℕ)
 named kind files = option_map (λ f. f.name) (find (λ f. is_kind kind f.kind) files)
 
--- the files that are read, and those that are appended to, in the order of the words
+-- the files that are read, and those that are appended to, in the order of the arguments
 abbrev pub read_files : CommandValue → List FileUse
 read_files command = filter (λ f. is_read f.how) (files_of command)
 
@@ -267,6 +267,6 @@ outputs_of command = map (λ f. f.name) (appended_files command)
 abbrev pub contents_of : CommandValue → (List ℕ → Option (List ℕ)) → FileKind → Option (List ℕ)
 contents_of command file kind = option_and_then file (input_as command kind)
 
--- the same, with the input of this kind missing
+-- these contents, with the input of this kind missing
 abbrev pub missing : FileKind → (FileKind → Option (List ℕ)) → FileKind → Option (List ℕ)
 missing kind contents other = if is_kind kind other then None else contents other

@@ -21,11 +21,11 @@ done text appended = record { status = Done; printed = text; appended = appended
 abbrev pub stopped_after : List ℕ → Status → Outcome
 stopped_after text status = record { status = status; printed = text ++ status_line status; appended = [] }
 
--- the line of the status is printed alone, and nothing is appended
+-- only the line of the status is printed, and nothing is appended
 abbrev pub stopped : Status → Outcome
 stopped status = stopped_after [] status
 
--- what the bytes of an input say: its value, or the status at which the run stops
+-- the reading of an input's bytes: its value, or the status that stops the run
 pub data Answer (V : Type 0) : Type 0 where
   value : V → Answer V
   stops : Status → Answer V
@@ -35,13 +35,13 @@ pub record FileAnswers {V : Type 0} (most : ℕ) (says : List ℕ → Answer V �
   pub text : length bytes ≤ most → says bytes answer
   pub long : most < length bytes → answer ≡ stops (Limit Bytes (most + 1))
 
--- a stop is the outcome, and a value gives what follows
+-- a stop is the outcome, and a value determines what follows
 abbrev pub AnswerGives : {V : Type 0} → Answer V → (V → Outcome → Type 0) → Outcome → Type 0
 AnswerGives (value v) follows outcome = follows v outcome
 AnswerGives (stops status) follows outcome = outcome ≡ stopped status
 
--- What the input of a kind gives, which has at most that many bytes: a missing one can't be read, more bytes than the limit and bytes
--- that state no value stop the run, and a value gives what follows.
+-- The outcome of the input of a kind, with at most that many bytes: a missing one can't be read, more bytes than the limit and
+-- bytes that state no value stop the run, and a value determines what follows.
 abbrev pub InputGives : {V : Type 0} → FileKind → ℕ → (List ℕ → Answer V → Type 0) → Option (List ℕ)
     → (V → Outcome → Type 0) → Outcome → Type 0
 InputGives kind most says None follows outcome = outcome ≡ stopped (ReadFault kind)

@@ -32,7 +32,7 @@ pub record Halts (most : ℕ) (halts : List ℕ → Status → Type 0) (file : O
   pub text : length bytes ≤ most → halts bytes status
   pub long : most < length bytes → status ≡ Limit Bytes (most + 1)
 
--- Why an input has no value: out of memory, a load of it that failed, which none does where its room is reported, or its bytes, in any files
+-- Why an input has no value: out of memory, a failed load of it (never if its room is reported), or its bytes, in any files
 -- that agree with what the loads in between gave.
 abbrev pub InputStops : FileKind → ℕ → (List ℕ → Status → Type 0) → List ℕ → Folder → Folder → Status → Type 0
 InputStops kind most halts name old new status =
@@ -41,7 +41,8 @@ InputStops kind most halts name old new status =
     ⊎ (IsStop status
     × ((files : List ℕ → Option (List ℕ)) → Agrees files old new → Halts most halts (files name) status)))
 
--- No file changed, only the count of failed loads of this name may have risen, and what was given is what some bytes of the name hold.
+-- No file changed, only the count of failed loads of this name may have risen, and what was given is part of some bytes of the
+-- name.
 pub record OnlyLoads (name : List ℕ) (old new : Folder) : Type 0 where
   pub kept : KeepsFiles old new
   pub count : CountsOnly name old.load_faults new.load_faults

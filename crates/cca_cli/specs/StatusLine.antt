@@ -32,7 +32,7 @@ limit_text Rounds = codes "rounds"
 limit_text Price = codes "price"
 limit_text Winners = codes "winners"
 
--- the entry is in the line of an award alone
+-- only the line of an award has the entry
 abbrev pub entry_text : FileKind → ℕ → List ℕ
 entry_text Award entry = 32 ∷ decimal entry
 entry_text file entry = []

@@ -1,4 +1,4 @@
--- What the statuses say of the way of a run.
+-- What the statuses say about the course of a run.
 use Rattle.cca_cli.specs.declared.status.FileKind.TheVariants.{Award, Log, Book, Cert, Weights, Slots, Edits, Out}
 use Rattle.cca_cli.specs.declared.status.Status.{Status}
 use Rattle.cca_cli.specs.declared.status.Status.TheVariants.{Done, No, Words, Refused, ReadFault, WriteFault, Memory, Limit}

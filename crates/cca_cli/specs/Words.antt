@@ -15,7 +15,8 @@ form_kept flags.None form = plain
 form_kept flags.Rounds form = form_with form.rounds false
 form_kept flags.Form form = form
 
--- A command of a kind. What the kind has no use for is left out: names after those of its files, what its flags don't ask for, a number.
+-- A command of a kind. What the kind has no use for is left out: names after its files' names, what its flags don't ask for, a
+-- number.
 abbrev pub command_with : Kind → List (List ℕ) → PriceForm → ℕ → CommandValue
 command_with kind names form number = record {
   kind = kind;
@@ -27,7 +28,7 @@ command_with kind names form number = record {
 abbrev pub command_value : Command → CommandValue
 command_value c = command_with c.kind (c.first.now ∷ c.second.now ∷ c.third.now ∷ []) c.form c.number
 
--- the names of its files are among the words
+-- the names of its files are among the arguments
 abbrev pub AreAmong : List (List ℕ) → CommandValue → Type 0
 AreAmong words command = AllByRecursion (λ f. Contains words f.name) (files_of command)
 

@@ -26,8 +26,8 @@ use Rattle.cca_cli.specs.declared.status.Status.TheVariants.{Limit, No, Memory, 
 use Rattle.cca_commands.specs.declared.checked.FeedStop.{FeedStop}
 use Rattle.cca_commands.specs.declared.checked.FeedStop.TheVariants as feed
 
--- The bytes state a certificate for which all tests hold by these weights, so that its choice and its payments are the core outcome, and
--- these are its facts.
+-- The bytes state a certificate that passes all tests by these weights, so that its choice and its payments are the core
+-- outcome, and these are its facts.
 abbrev pub ShowsFacts : BookValue → List ℕ → List ℕ → CertFacts → Type 0
 ShowsFacts book weights bytes facts =
     (c : CertValue) × CertAnswers book bytes (value c) × Holds book (weight_of weights) c
@@ -39,17 +39,18 @@ FailsATest book weights bytes status =
     (c : CertValue) × CertAnswers book bytes (value c)
     × ((test place : ℕ) × FailsFirst book (weight_of weights) c test place × (status ≡ No certs.Book test place))
 
--- the bytes state no certificate of the book, or one for which a test fails
+-- the bytes state no certificate of the book, or one that fails a test
 abbrev pub StopsCheck : BookValue → List ℕ → List ℕ → Status → Type 0
 StopsCheck book weights bytes status = CertAnswers book bytes (stops status) ⊎ FailsATest book weights bytes status
 
--- the bytes state a certificate for which all tests hold by these weights, so that its choice and its payments are the core outcome
+-- the bytes state a certificate that passes all tests by these weights, so that its choice and its payments are the core
+-- outcome
 abbrev pub PassesTests : BookValue → List ℕ → List ℕ → Type 0
 PassesTests book weights bytes =
     (c : CertValue) × CertSays (bidders_of book) (states book) bytes (stated c) × Holds book (weight_of weights) c
     × IsSound book (weight_of weights) c
 
--- what the loads in between gave of the file is a certificate for which all tests hold by these weights
+-- what the loads in between gave of the file is a certificate that passes all tests by these weights
 pub record IsFoundRight (book : BookValue) (weights name : List ℕ) (old new : Folder) : Type 0 where
   pub text : List ℕ
   pub here : GaveAll name old new text
@@ -74,7 +75,7 @@ pub record IsFed (book : BookValue) (weights : List ℕ) (name : List ℕ) (old 
   pub book_is : checker.book.now ≡ book
   pub weights_are : checker.weights.now ≡ weights
 
--- what a checker answers that stands for this text
+-- the result of a checker that stands for this text
 abbrev pub IsJudged : BookValue → List ℕ → List ℕ → Result CertFacts Status → Type 0
 IsJudged book weights bytes (Ok facts) = ShowsFacts book weights bytes facts
 IsJudged book weights bytes (Err status) = (status ≡ Memory) ⊎ (IsStop status × StopsCheck book weights bytes status)

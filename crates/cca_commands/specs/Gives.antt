@@ -67,12 +67,12 @@ ones book = replicate (bidders_of book) 1
 abbrev pub WinGives : BookValue → Outcome → Type 0
 WinGives book outcome = (z : List ℕ) × IsWinning (market_of book) z × (outcome ≡ done (win_text book z) [])
 
--- the lines of the turns, where they are asked for
+-- the lines of the turns, if they are asked for
 abbrev pub AreRounds : Bool → List ℕ → List BidderTurn → List ℕ → Type 0
 AreRounds true z turns text = AreTurnLines z 0 turns text
 AreRounds false z turns text = text ≡ []
 
--- The prices p of the winners of z as lines, those of the turns first where they are asked for; v are the Vickrey prices.
+-- The prices p of the winners of z as lines, with the lines of the turns first if they are asked for. v are the Vickrey prices.
 pub record ArePriceLines (rounds : Bool) (book : BookValue) (z : List ℕ) (v : ℕ → ℤ) (p : Point) (turns : List BidderTurn) (text : List ℕ) : Type 0 where
   pub lines : List ℕ
   pub are_rounds : AreRounds rounds z turns lines
@@ -80,16 +80,16 @@ pub record ArePriceLines (rounds : Bool) (book : BookValue) (z : List ℕ) (v : 
   pub are_prices : IsPriceText book z v p prices
   pub whole : text ≡ lines ++ prices
 
--- the turns, where they are asked for
+-- the turns, if they are asked for
 abbrev pub turns_asked : Bool → List BidderTurn → Option (List BidderTurn)
 turns_asked true turns = Some turns
 turns_asked false turns = None
 
--- the same as one line of JSON, with the turns where they are asked for
+-- the prices as one line of JSON, with the turns if they are asked for
 abbrev pub IsPriceJson : Bool → BookValue → List ℕ → (ℕ → ℤ) → Point → List BidderTurn → List ℕ → Type 0
 IsPriceJson rounds book z v p turns text = IsOutcomeJson book z v p (turns_asked rounds turns) text
 
--- as JSON where it is asked for, else as lines
+-- as JSON if it is asked for, else as lines
 abbrev pub IsPrinted : Bool → Bool → BookValue → List ℕ → (ℕ → ℤ) → Point → List BidderTurn → List ℕ → Type 0
 IsPrinted true rounds book z v p turns text = IsPriceJson rounds book z v p turns text
 IsPrinted false rounds book z v p turns text = ArePriceLines rounds book z v p turns text
@@ -98,8 +98,8 @@ IsPrinted false rounds book z v p turns text = ArePriceLines rounds book z v p t
 abbrev pub ArePrinted : PriceForm → BookValue → CertValue → List BidderTurn → List ℕ → Type 0
 ArePrinted form book c turns text = IsPrinted form.json form.rounds book c.choice (cert_prices book c) (cert_point c) turns text
 
--- What pricing a book gives: a certificate of the core outcome for which all tests hold, and a pricing run that ends at its payments;
--- both are printed in the form that is asked for.
+-- The result of pricing a book: a certificate of the core outcome that passes all tests, and a pricing run that ends at its
+-- payments; both are printed in the form that is asked for.
 pub record IsPricing (book : BookValue) (weights : List ℕ) (form : PriceForm) (c : CertValue) (text : List ℕ) : Type 0 where
   pub certificate : IsCertificate (bidders_of book) (states book) c
   pub priced : IsPricedCert book (weight_of weights) c
@@ -203,7 +203,7 @@ abbrev pub MakeGives : ℕ → Outcome → Type 0
 MakeGives number outcome =
     outcome ≡ done (made_line number made_bidders (length (made_log number))) (award_file made_award_text ∷ log_file (log_text (made_log number)) ∷ [])
 
--- the lines of the turns, where they are asked for, and then the placement and the prices that a certificate shows
+-- the lines of the turns, if they are asked for, and then the placement and the prices that a certificate shows
 pub record ArePlacedLines (slots : SlotList) (rounds : Bool) (p : PlaceCertValue) (turns : List BidderTurn) (text : List ℕ) : Type 0 where
   pub lines : List ℕ
   pub are_rounds : AreRounds rounds p.cert.choice turns lines
@@ -211,8 +211,8 @@ pub record ArePlacedLines (slots : SlotList) (rounds : Bool) (p : PlaceCertValue
   pub are_prices : IsPlaceText slots p.order p.cert.choice (prices_in (board.market_of_slots slots) p.cert) (cert_point p.cert) prices
   pub whole : text ≡ lines ++ prices
 
--- What pricing the bidders of a band gives: a certificate that is exact and for which all tests hold, and a pricing run that ends at its
--- payments; both are printed.
+-- The result of pricing the bidders of a band: a certificate that is exact and that passes all tests, and a pricing run that
+-- ends at its payments; both are printed.
 pub record IsPlacing (slots : SlotList) (rounds : Bool) (p : PlaceCertValue) (text : List ℕ) : Type 0 where
   pub certificate : IsPlaceCertificate (length slots.bidders) p
   pub priced : IsPricedPlaceCert slots p
@@ -287,12 +287,12 @@ CommandGives command contents outcome = KindGives command.kind command.form comm
 abbrev pub FilesGive : CommandValue → (List ℕ → Option (List ℕ)) → Outcome → Type 0
 FilesGive command file outcome = CommandGives command (contents_of command file) outcome
 
--- what the words give that may be no command
+-- the outcome of a command, if there is one
 abbrev pub WordsGive : Option CommandValue → (List ℕ → Option (List ℕ)) → Outcome → Type 0
 WordsGive None file outcome = outcome ≡ stopped Words
 WordsGive (Some command) file outcome = FilesGive command file outcome
 
--- The result of a run, by its words and the bytes of the files. What is appended is free within the tests of a certificate, all else
--- is one.
+-- The result of a run, by its arguments and the bytes of the files. What is appended is free within the tests of a certificate,
+-- all else is unique.
 abbrev pub Gives : List (List ℕ) → (List ℕ → Option (List ℕ)) → Outcome → Type 0
 Gives words file outcome = WordsGive (command_of words) file outcome

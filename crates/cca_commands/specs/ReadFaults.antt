@@ -14,7 +14,7 @@ use Rattle.cca_commands.specs.Gives.{CommandGives}
 abbrev pub IsReached : CommandValue → (FileKind → Option (List ℕ)) → FileKind → Type 0
 IsReached command contents kind = CommandGives command (missing kind contents) (stopped (ReadFault kind))
 
--- the command reads a file of this kind, a load of which failed, where no room is reported, and all that comes before it passed
+-- the command reads a file of this kind, a load of which failed, if no room is reported, and all that comes before it passed
 pub record FailsToRead (command : CommandValue) (old new : Folder) (kind : FileKind) : Type 0 where
   pub name : List ℕ
   pub input : input_as command kind ≡ Some name
@@ -22,18 +22,19 @@ pub record FailsToRead (command : CommandValue) (old new : Folder) (kind : FileK
   pub no_room : IsSome (old.room name) → ⊥
   pub reached : (files : List ℕ → Option (List ℕ)) → Agrees files old new → IsReached command (contents_of command files) kind
 
--- no count falls, and only those of these names may rise
+-- no count falls, and only the counts of these names may rise
 pub record CountsAmong (names : List (List ℕ)) (old new : List ℕ → ℕ) : Type 0 where
   pub not_less : (name : List ℕ) → old name ≤ new name
   pub elsewhere : (name : List ℕ) → (Contains names name → ⊥) → new name ≡ old name
 
--- These loads, the last one first, were of these names, one name after the other: all loads of a name came before those of the next.
+-- These loads, the last one first, were of these names, one name after the other: all loads of a name came before the loads of
+-- the next.
 abbrev pub AreInOrder : List (List ℕ) → List Given → Type 0
 AreInOrder [] loads = loads ≡ []
 AreInOrder (name ∷ names) loads = (later earlier : List Given) × (loads ≡ later ++ earlier) × AllByRecursion (λ g. g.name ≡ name) earlier
     × AreInOrder names later
 
--- The loads in between were of the first of these names, one name after the other, and gave what files hold that hold these contents.
+-- The loads in between were of the first of these names, one name after the other, and gave bytes of files with these contents.
 pub record Loaded (names : List (List ℕ)) (old new : Folder) : Type 0 where
   pub contents : List Content
   pub first : map (λ c. c.name) contents ≡ take (length contents) names

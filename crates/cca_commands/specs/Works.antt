@@ -30,7 +30,7 @@ abbrev pub price_status : PriceStop → Status
 price_status (price.Winners count) = Limit Winners count
 price_status price.Memory = Memory
 
--- a stop of which the line alone is printed
+-- a stop that prints only its line
 abbrev pub bare : Status → Stop
 bare status = record { before = None; status = status }
 
@@ -82,8 +82,8 @@ pub record Works (command : CommandValue) (old new : Folder) (result : Result Wo
   pub out : WorksOut command old new result
   pub reads : OnlyReads command old new
 
--- How the way from one input of this kind and name to the work stops, where its bytes give this: when out of memory, by a fault of reading
--- that was counted, where no room is reported, or by what the bytes give.
+-- How the way from one input of this kind and name to the work stops, if its bytes give this: when out of memory, by a fault of
+-- reading that was counted, if no room is reported, or by what the bytes give.
 abbrev pub StopsFrom : FileKind → List ℕ → (Option (List ℕ) → Outcome → Type 0) → Folder → Folder → Stop → Type 0
 StopsFrom kind name gives old new stop =
     (stop ≡ bare Memory)
@@ -103,7 +103,7 @@ pub record WorksFrom (kind : FileKind) (name : List ℕ) (gives : Option (List �
   pub out : GivesFrom kind name gives old new result
   pub loads : OnlyLoads name old new
 
--- the same of a certificate of this book, by these weights
+-- how it ends for a certificate of this book, by these weights
 abbrev pub CertWorks : Book → List ℕ → List ℕ → Folder → Folder → Result Work Stop → Type 0
 CertWorks book weights name old new result =
     WorksFrom Cert name (λ content. CertGives book content (VerdictGives book weights)) old new result

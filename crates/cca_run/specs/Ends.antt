@@ -27,7 +27,7 @@ pub record FailsAt (command : CommandValue) (appended : List FileText) (old new 
   pub rose : Rose (old.append_faults name) (new.append_faults name)
   pub part : AppendsUpTo command kind appended old new
 
--- no count of failed loads changed, and of those of failed appends only those of the command's outputs, which didn't fall
+-- no count of failed loads changed. Of the counts of failed appends only the command's outputs' changed, and none fell
 pub record OnlyAppends (command : CommandValue) (old new : Folder) : Type 0 where
   pub gave : new.gave ≡ old.gave
   pub loads : new.load_faults ≡ old.load_faults
@@ -38,13 +38,14 @@ abbrev pub AppendEnds : CommandValue → List FileText → Folder → Folder →
 AppendEnds command texts old new (Ok u) = AppendsAll command texts old new
 AppendEnds command texts old new (Err kind) = FailsAt command texts old new kind
 
--- whether the whole text was written, else a prefix of it and not all, for which no room is reported, and a fault of the output, which was counted
+-- whether the whole text was written. Else a prefix of it and not all was written, no room for it is reported, and a fault of
+-- the output was counted
 abbrev pub Written : Output → Output → List ℕ → Bool → Type 0
 Written old new text true = Puts old new text (length text)
 Written old new text false = Rose old.faults new.faults × ((n : ℕ) × (n < length text) × Puts old new text n)
     × (HasRoom old.room (length text) → ⊥)
 
--- How a run ends, by its command if the words say one. The fields are the clauses of the top call.
+-- How a run ends, by its command if the arguments state one. The fields are the clauses of the top call.
 pub record RunEnds (command : Option CommandValue) (old new : Folder) (before now : Output) (result : Status) : Type 0 where
   pub words : result ≡ Words → command ≡ None
   pub read_fault : (kind : FileKind) → result ≡ ReadFault kind → IsReadFault command old new kind
@@ -82,7 +83,7 @@ pub record FinishEnds (command : CommandValue) (old new : Folder) (before now : 
   pub counts : OnlyAppends command old new
   pub faults : before.faults ≤ now.faults
 
--- How a command ends by its work; or, where it has none, no file changes, and the text and the line of why are printed.
+-- How a command ends by its work; or, if it has none, no file changes, and the text and the line of why are printed.
 abbrev pub CommandEnds : CommandValue → Folder → Folder → Output → Output → Result Work Stop → Status → Type 0
 CommandEnds command old new before now (Ok work) result =
     FinishEnds command old new before now work.printed work.appended.items result

@@ -25,7 +25,7 @@ use Rattle.cca_cli.specs.declared.status.Status.{Status}
 use Rattle.cca_cli.specs.declared.status.Status.TheVariants.{Done, Limit, Memory, No, ReadFault, Refused, Words, WriteFault}
 use Rattle.cca_commands.specs.Gives.{IsYesText, ones}
 
--- the file of this name holds bytes of which this is so
+-- the file of this name has bytes with this property
 pub record FileHolds (file : List ℕ → Option (List ℕ)) (name : List ℕ) (says : List ℕ → Type 0) : Type 0 where
   pub bytes : List ℕ
   pub here : file name ≡ Some bytes
@@ -37,7 +37,8 @@ pub record IsAuction (file : List ℕ → Option (List ℕ)) (award log : List �
   pub log_states : FileHolds file log (λ bytes. AreLog terms (log_records bytes) lines)
   pub complete : IsTrue (is_complete terms (reverse lines))
 
--- the book of an auction: it holds exactly the bids that the activity rules admit, of each bidder and for each package the greatest
+-- the book of an auction: it contains exactly the bids that the activity rules admit, the greatest of each bidder for each
+-- package
 abbrev pub book_of : Terms → List Event → Book
 book_of terms lines = book_of_log terms (reverse lines)
 
@@ -55,10 +56,10 @@ pub record HoldsAdmittedBids (terms : Terms) (lines : List Event) (book : Book) 
   pub amounts : (j : ℕ) → 1 ≤ j → j ≤ length terms.bidders
       → AllByRecursion (IsGreatestFor (pairs_of (standing terms (admitted terms (reverse lines)) j))) (bids_of book j)
 
--- Whenever `audit` says yes: the award and the log state an auction; the certificate is one of the book, which holds exactly the bids that
--- the rules admit; and of that book its winners are the first feasible choice of greatest net value, no coalition blocks its prices, their sum is least in the core,
--- and every other core point of that sum lies farther from the Vickrey point. What was printed is `yes` and that outcome, with the Vickrey
--- prices.
+-- Whenever `audit` accepts: the award and the log state an auction. The certificate is one of the book, which contains exactly
+-- the bids that the rules admit. Its winners are the book's first feasible choice of greatest net value, no coalition blocks
+-- its prices, their sum is least in the core, and every other core point of this sum is farther from the Vickrey point. What
+-- was printed is `yes` and this outcome, with the Vickrey prices.
 pub record IsAudited (file : List ℕ → Option (List ℕ)) (award log cert printed : List ℕ) : Type 0 where
   pub terms : Terms
   pub lines : List Event
@@ -70,8 +71,8 @@ pub record IsAudited (file : List ℕ → Option (List ℕ)) (award log cert pri
   pub vickrey : AreVickreyPrices (market_of (book_of terms lines)) certificate.choice (cert_prices (book_of terms lines) certificate)
   pub yes : IsYesText (book_of terms lines) certificate printed
 
--- Whenever `award` is done: the award and the log state an auction, and the text that was appended is that of a certificate of its book
--- for which all tests hold, and whose winners and prices are the outcome of the auction. It is shorter than a certificate may be.
+-- Whenever `award` is done: the award and the log state an auction, and the text that was appended is a certificate of its book
+-- that passes all tests, and its winners and prices are the outcome of the auction. It is shorter than a certificate may be.
 pub record IsAwarded (file : List ℕ → Option (List ℕ)) (award log text : List ℕ) : Type 0 where
   pub terms : Terms
   pub lines : List Event

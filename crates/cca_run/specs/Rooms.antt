@@ -21,13 +21,14 @@ abbrev pub appended_to : CommandValue → List ℕ → List FileText → ℕ
 appended_to command name [] = 0
 appended_to command name (t ∷ texts) = (if goes_to command name t then length t.text else 0) + appended_to command name texts
 
--- the same of the words, which may say no command
+-- that number for the arguments, which may state no command
 abbrev pub told_to : Option CommandValue → List ℕ → List FileText → ℕ
 told_to None name texts = 0
 told_to (Some command) name texts = appended_to command name texts
 
--- Each file that is read says a room, so that no load of it fails. Each file that is appended to says one in which there is place for all
--- that an outcome of the words appends to it, and the output one for all that it prints, and for the line of out of memory.
+-- Each file that is read reports a room, so no load of it fails. Each file that is appended to reports room for all that an
+-- outcome of the arguments appends to it, and the output reports room for all that it prints, and for the line of out of
+-- memory.
 pub record HasRooms (words : List (List ℕ)) (old : Folder) (before : Output) : Type 0 where
   pub reads : (name : List ℕ) → Contains (inputs (command_of words)) name → IsSome (old.room name)
   pub appends : (o : Outcome) → Gives words old.file o → (name : List ℕ) → Contains (outputs (command_of words)) name

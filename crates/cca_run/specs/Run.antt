@@ -31,8 +31,8 @@ AppendsAll command [] old new = KeepsFiles old new
 AppendsAll command (first ∷ rest) old new = (between : Folder) × AppendsWhole command first old between
     × AppendsAll command rest between new
 
--- Of these texts the ones before that of this kind were appended whole, of that one, for which no room was reported that is enough, a part
--- from its start and not all, and of those after it nothing; no other file changed.
+-- The texts before the text of this kind were appended whole. Of this one, which no reported room has space for, a part from
+-- its start and not all was appended, and nothing of the texts after it. No other file changed.
 pub record AppendsUpTo (command : CommandValue) (kind : FileKind) (appended : List FileText) (old new : Folder) : Type 0 where
   pub before : List FileText
   pub text : List ℕ
@@ -47,8 +47,8 @@ pub record AppendsUpTo (command : CommandValue) (kind : FileKind) (appended : Li
   pub front : Adds name between new text count
   pub no_room : HasRoom (between.room name) (length text) → ⊥
 
--- The command appends to a file of this kind, an append to which failed: all else was done, the texts before this one were appended whole,
--- and of this one a part from its start.
+-- The command appends to a file of this kind, and an append to it failed: all else was done, the texts before this one were
+-- appended whole, and of this one a part from its start.
 pub record FailsToWrite (command : CommandValue) (old new : Folder) (kind : FileKind) : Type 0 where
   pub name : List ℕ
   pub output : output_as command kind ≡ Some name
@@ -93,8 +93,8 @@ abbrev pub Appended : Option CommandValue → List FileText → Folder → Folde
 Appended None appended old new = KeepsFiles old new
 Appended (Some command) appended old new = AppendsAll command appended old new
 
--- A text that was due to be printed: that of the result, and then all that it appends was appended; or the line of a hindrance whose own
--- cause holds.
+-- A text that was due to be printed: the text of the result, after all that it appends was appended, or the line of a fault
+-- whose own cause is true.
 abbrev pub IsDue : List (List ℕ) → (List ℕ → Option (List ℕ)) → Folder → Folder → List ℕ → Type 0
 IsDue words files old new text =
     ((o : Outcome) × Gives words files o × (text ≡ o.printed) × Appended (command_of words) o.appended old new)
@@ -121,16 +121,16 @@ abbrev pub outputs : Option CommandValue → List (List ℕ)
 outputs None = []
 outputs (Some command) = outputs_of command
 
--- the whole text was written and this status answered, or a prefix of it, for which no room is reported that is enough, and a fault of the
--- output, which was counted
+-- the whole text was written and this status returned. Or a prefix of it was written, no room is reported that is enough, and a
+-- fault of the output was counted
 abbrev pub Prints : Output → Output → List ℕ → Status → Status → Type 0
 Prints old new text status result =
     ((result ≡ status) × Puts old new text (length text))
     ⊎ ((result ≡ WriteFault Out) × Rose old.faults new.faults × ((n : ℕ) × (n < length text) × Puts old new text n)
     × (HasRoom old.room (length text) → ⊥))
 
--- No fault was counted in the call: no count of failed loads of a file that the command reads rose, none of failed appends to a file that
--- it appends to, nor that of the output.
+-- No fault was counted in the call: no count of failed loads of a file that the command reads rose, no count of failed appends
+-- to a file that it appends to, and not the output's count.
 pub record HasNoFault (command : Option CommandValue) (old new : Folder) (before now : Output) : Type 0 where
   pub loads : (name : List ℕ) → Contains (inputs command) name → Rose (old.load_faults name) (new.load_faults name) → ⊥
   pub appends : (name : List ℕ) → Contains (outputs command) name

@@ -22,7 +22,8 @@ use Rattle.cca_run.specs.Rooms.{HasRooms}
 use Rattle.cca_run.specs.Verdicts.{IsChecked, IsPlaceChecked, IsPlaced, IsPriced, IsReviewed, IsWeighChecked, IsWeighed}
 use Rattle.cca_run.specs.Run.{Appended, AppendsAll, Changes, HasNoFault, IsDue, IsReadFault, IsWriteFault, inputs, outputs}
 
--- A run of these words went from these files and this output to those, and ended with this status.
+-- A run with these arguments went from these files and this output to those, and ended with this
+-- status.
 pub record Runs (said : List (List ℕ)) (old new : Folder) (before now : Output) (result : Status) : Type 0 where
   pub words : result ≡ Words → command_of said ≡ None
   pub not_plain : command_of said ≡ None → (result ≡ Words) ⊎ (result ≡ WriteFault Out)

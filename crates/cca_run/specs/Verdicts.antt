@@ -1,5 +1,5 @@
--- What the acceptance of each other checker means, and what it means that the commands which price and review are done, by the bytes of
--- the files. The headline has the same for `audit` and `award`.
+-- What the acceptance of each other checker means, and what it means that the commands which price and review are done, by the
+-- bytes of the files. The headline is about `audit` and `award`.
 use Rattle.std.specs.Prelude.{◌≡◌, ℕ, Option, List, length}
 use Rattle.auction_model.specs.Book.{Book as BookValue, market_of}
 use Rattle.auction_model.specs.Prices.{IsCoreOutcome, alike, weight_of}
@@ -68,8 +68,8 @@ pub record IsPlaceChecked (file : List ℕ → Option (List ℕ)) (slots cert pr
   pub sound : IsPlaceSound of certificate
   pub yes : IsPlaceYes of certificate printed
 
--- Whenever `price` is done: the appended text is that of a certificate of the book for which all tests hold, and whose winners and
--- prices are the outcome of the auction.
+-- Whenever `price` is done: the appended text is a certificate of the book that passes all tests, and its winners and prices
+-- are the outcome of the auction.
 pub record IsPriced (file : List ℕ → Option (List ℕ)) (book text : List ℕ) : Type 0 where
   pub of : BookValue
   pub book_states : StatesBook file book of
@@ -78,7 +78,7 @@ pub record IsPriced (file : List ℕ → Option (List ℕ)) (book text : List �
   pub outcome : IsAuctionOutcome (market_of of) certificate.choice (cert_point certificate)
   pub whole : text ≡ cert_text certificate
 
--- Whenever `weigh` is done: likewise with the core outcome by the weights that the file of weights states.
+-- Whenever `weigh` is done: as for `price`, with the core outcome by the weights that the file of weights states.
 pub record IsWeighed (file : List ℕ → Option (List ℕ)) (book weights text : List ℕ) : Type 0 where
   pub of : BookValue
   pub book_states : StatesBook file book of
@@ -89,7 +89,7 @@ pub record IsWeighed (file : List ℕ → Option (List ℕ)) (book weights text 
   pub outcome : IsCoreOutcome (market_of of) (weight_of by) certificate.choice (cert_point certificate)
   pub whole : text ≡ cert_text certificate
 
--- Whenever `place` is done: the appended text is that of a certificate of a placement for which all tests hold.
+-- Whenever `place` is done: the appended text is a certificate of a placement that passes all tests.
 pub record IsPlaced (file : List ℕ → Option (List ℕ)) (slots text : List ℕ) : Type 0 where
   pub of : SlotList
   pub slots_state : StatesSlots file slots of

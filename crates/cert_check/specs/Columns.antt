@@ -13,7 +13,7 @@ pub record AreMultipliers (which : Multiplier) (rows : List RowValue) (numbers :
   pub count : length rows ≡ length numbers
   pub each : (r : ℕ) → 0 < r → r ≤ length rows → nth numbers (r - 1) ≡ multiplier_of which (row_of rows r)
 
--- for each bidder the sum over the rows that hold it
+-- for each bidder the sum over the rows that contain it
 abbrev pub AreSums : Multiplier → ℕ → List RowValue → List ℤ → Type 0
 AreSums which bidders rows sums = (j : ℕ) → 0 < j → j ≤ bidders
     → of_bidder sums j ≡ sum_holding rows j (multiplier_of which) (length rows)

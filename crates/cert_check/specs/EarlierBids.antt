@@ -10,7 +10,7 @@ use Rattle.cert_soundness.specs.Tests.{NoEarlier, bidders_of, left_after, states
 use Rattle.limits.specs.declared.TheConstants.{MOST_AMOUNT}
 use Rattle.wide_num.specs.Sums.{nth}
 
--- where bid i of bidder j fits what a place leaves, its net amount with the line's entry for the rest is below a bound
+-- if bid i of bidder j fits what a place leaves, its net amount with the line's entry for the rest is below a bound
 abbrev pub StaysBelow : Book → ℕ → List ℤ → ℕ → ℤ → ℕ → Type 0
 StaysBelow book j line rest bound i =
     IsTrue (is_within (lots_of book j i) (left_at book.supply rest))

@@ -14,7 +14,7 @@ abbrev pub IsJudged : Book → (ℕ → ℕ) → CertValue → ℕ → ℕ → O
 IsJudged book w c test place None = HoldsTo book w c test place
 IsJudged book w c test place (Some f) = FailsFirst book w c f.test f.place
 
--- the failure of a test at a place, where there is one
+-- the failure of a test at a place, if there is one
 abbrev pub failure_at : ℕ → Option ℕ → Option Failure
 failure_at test None = None
 failure_at test (Some place) = Some (record { test = test; place = place })

@@ -80,7 +80,7 @@ table_plan bidders states = replicate (suc bidders) (kind (codes "t") (signed st
 abbrev pub part_plan : ℕ → ℕ → ℕ → List Kind
 part_plan bidders states j = kind (codes "without") (these (pos j ∷ [])) ∷ kind (codes "choice") (chosen bidders) ∷ kind (codes "table") (these []) ∷ table_plan bidders states
 
--- nothing where the number is 0
+-- nothing if the number is 0
 abbrev pub unless_zero : ℤ → List Kind → List Kind
 unless_zero (pos zero) kinds = []
 unless_zero (pos (suc n)) kinds = kinds

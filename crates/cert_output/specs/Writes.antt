@@ -23,7 +23,7 @@ pub record AddsSome (name : List ℕ) (old new : Folder) (text : List ℕ) : Typ
   pub cause : Rose (old.append_faults name) (new.append_faults name)
   pub no_room : HasRoom (old.room name) (length text) → ⊥
 
--- Where these bytes waited and the text came after them, the first bytes of both were added to the file, and these wait now.
+-- If these bytes waited and the text came after them, the first bytes of both were added to the file, and these wait now.
 pub record Passes (name : List ℕ) (old new : Folder) (before now text : List ℕ) : Type 0 where
   pub sent : List ℕ
   pub adds : AddsAll name old new sent

@@ -120,7 +120,7 @@ Asks book w c t place =
     × (t ≡ 5 → C5 book c place)
     × (t ≡ 6 → C6 book c place) × (t ≡ 7 → C7 book c place) × (t ≡ 8 → C8 book w c place) × (t ≡ 9 → C9 book c place)
 
--- all tests hold at all places
+-- all tests pass at all places
 pub record Holds (book : Book) (w : ℕ → ℕ) (c : CertValue) : Type 0 where
   pub c1 : (place : ℕ) → C1 c place
   pub c2 : (place : ℕ) → C2 book c place

@@ -54,7 +54,7 @@ MayFollow (members bidders) ns z = (last_of (pos 0) ns <ℤ z) × (z ≤ℤ pos 
 MayFollow (ordered_head bidders) ns z = (length ns < bidders) × (pos 0 ≤ℤ z) × (z ≤ℤ pos 65535)
 MayFollow (ordered_count bidders) ns z = (ns ≡ []) × FitNumbers (counted bidders) (z ∷ [])
 
--- this is kept of numbers: how many there are, and the numbers themselves where all are in range
+-- this is kept of numbers: how many there are, and the numbers themselves if all are in range
 pub record Keeps (ns out : List ℤ) (count : ℕ) (beyond : Bool) : Type 0 where
   pub many : length ns ≡ count
   pub range : any_out ns ≡ beyond

@@ -122,7 +122,7 @@ HasDue b s c (Multipliers r) = r ≤ length c.rows
 HasDue b s c (RowChoice r) = r ≤ length c.rows
 HasDue b s c due = Unit {0}
 
--- the certificate has this choice where the line after depends on it, and that many rows
+-- the certificate has this choice if the line after depends on it, and that many rows
 abbrev pub Tells : CertValue → NextLine → List ℤ → ℤ → Type 0
 Tells c (Entries table k) choice first = choice ≡ as_numbers c.choice
 Tells c Rows choice first = first ≡ pos (length c.rows)
@@ -143,6 +143,6 @@ abbrev pub Leads : ℕ → ℕ → NextLine → List ℤ → ℤ → NextLine �
 Leads b s due choice first next = (c : CertValue) → IsCertificate b s c → Tells c due choice first → HasDue b s c due
     → ComesNext b s c due next
 
--- the same, where the room gives the choice and the count
+-- the same, if the room gives the choice and the count
 abbrev pub LeadsInRoom : ℕ → ℕ → NextLine → List ℤ → NextLine → Type 0
 LeadsInRoom b s due room next = Leads b s due (take b room) (get_or room (start_due b s due) (pos 0)) next

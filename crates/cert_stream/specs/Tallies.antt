@@ -9,7 +9,7 @@ pub record IsTally (t : Magnitude) (value : ℕ) : Type 0 where
   pub small : t.beyond ≡ false → (t.size ≡ value) × (value < 2 ^ 120)
   pub large : t.beyond ≡ true → 2 ^ 120 ≤ value
 
--- what is kept of a number: itself where it is in range
+-- what is kept of a number: itself if it is in range
 pub record IsKept (k : ReadNumber) (z : ℤ) : Type 0 where
   pub beyond : is_out z ≡ k.beyond
   pub same : k.beyond ≡ false → k.number ≡ z

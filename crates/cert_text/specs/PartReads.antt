@@ -24,7 +24,7 @@ own_row r = line (codes "row") (as_numbers r.members) ∷ line (codes "mult") (r
 abbrev pub row_plan : ℕ → List Kind
 row_plan bidders = kind (codes "row") (members bidders) ∷ kind (codes "mult") (signed 2) ∷ kind (codes "choice") (chosen bidders) ∷ []
 
--- The part of bidder j is read, where its number isn't 0, and follows the parts that were there.
+-- The part of bidder j is read, if its number isn't 0, and follows the parts that were there.
 pub record AddsPart (bytes : List ℕ) (place bidders states j number : ℕ) (old new : List WithoutPart) (next : ℕ) : Type 0 where
   pub part : List WithoutValue
   pub added : map without_value new ≡ map without_value old ++ part

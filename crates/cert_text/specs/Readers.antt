@@ -22,7 +22,7 @@ pub record IsLineAt (bytes : List ℕ) (place : ℕ) (word : List ℕ) (items : 
   pub out : any_out numbers ≡ beyond
   pub same : beyond ≡ false → items ≡ numbers
 
--- With these kinds of lines to come at the place, in a text by any plan, the lines from there on lead to the next place, where
+-- With these kinds of lines to come at the place, in a text by any plan, the lines from there on lead to the next place, if
 -- those kinds are left.
 pub record Leads (bytes : List ℕ) (place : ℕ) (kinds : List Kind) (next : ℕ) (left : List Kind) (read : List Line) : Type 0 where
   pub leads : (whole plan : List Kind) (items : List Line) → ReachedBy whole bytes place (kinds ++ plan) items

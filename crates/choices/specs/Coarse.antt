@@ -4,7 +4,7 @@ use Rattle.auction_model.specs.Package.{is_within}
 use Rattle.auction_model.specs.Place.{left_at, states_of}
 use Rattle.wide_num.specs.Sums.{nth}
 
--- where there are any of these units, they aren't above the number of the line
+-- if there are any of these units, they aren't above the number of the line
 abbrev pub IsFloor : ℕ → List ℤ → List ℕ → Type 0
 IsFloor unit line low = (s : ℕ) → s < length line → 0 < get_or low s 0 → pos (get_or low s 0 * unit) ≤ℤ nth line s
 
@@ -24,6 +24,6 @@ pub record AreCoarse (unit : ℕ) (line below : List ℤ) (low high : List ℕ) 
 abbrev pub Marks : List ℕ → List ℕ → List ℕ → Type 0
 Marks supply lots mask = (n : ℕ) → n < states_of supply → IsTrue (is_within lots (left_at supply n)) → get_or mask n 0 ≡ 2 ^ 16 - 1
 
--- the same of the blocks of the last `level` categories of the package, where there are that many
+-- the same of the blocks of the last `level` categories of the package, if there are that many
 abbrev pub HasMask : ℕ → List ℕ → List ℕ → List ℕ → Type 0
 HasMask level supply lots mask = 0 < level → level ≤ length lots → Marks (drop (length lots - level) supply) (drop (length lots - level) lots) mask

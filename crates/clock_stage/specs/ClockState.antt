@@ -58,8 +58,8 @@ next_prices terms clock = raised_prices terms.tick terms.thresholds clock.posted
 abbrev pub reply_to_close : Terms → ClockState → Reply
 reply_to_close terms clock = closing_reply false (has_excess terms clock) (suc (length clock.rounds)) (next_prices terms clock)
 
--- the round that is posted after this one where there is excess demand: at these prices each bidder is eligible for the points
--- of its package, and holds nothing yet
+-- the round that is posted after this one if there is excess demand: at these prices each bidder is eligible for the points of
+-- its package, and holds nothing yet
 abbrev pub next_round : Terms → List ℕ → Round → Round
 next_round terms prices r = round_with prices (map (cost_of terms.points) r.held) (map (λ lots. no_lots terms) r.held)
 

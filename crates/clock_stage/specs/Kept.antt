@@ -6,7 +6,7 @@ use Rattle.auction_rules.specs.Terms.{Terms}
 use Rattle.auction_rules.specs.State.{Round}
 use Rattle.clock_stage.specs.ClockState.{ClockState, round_with}
 
--- a package that a bidder may hold where there are that many categories
+-- a package that a bidder may hold if there are that many categories
 pub record IsHeld (categories : ℕ) (lots : List ℕ) : Type 0 where
   pub count : length lots ≡ categories
   pub few : sum lots ≤ MOST_LOTS

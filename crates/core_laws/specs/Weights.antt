@@ -23,7 +23,7 @@ pub record CanWeigh (m : Market) (z weights : List ℕ) : Type 0 where
 abbrev pub WeighAlike : List ℕ → List ℕ → Type 0
 WeighAlike z weights = AreOnes (winners_in z) (weights_in z weights)
 
--- no more winners than the limit (six), and no more than that by weights (four) where they don't all weigh 1
+-- no more winners than the limit (six), and no more than that by weights (four) if they don't all weigh 1
 abbrev pub FewWin : List ℕ → List ℕ → Type 0
 FewWin z weights = (winners_in z ≤ MOST_WINNERS) × (WeighAlike z weights ⊎ (winners_in z ≤ MOST_WEIGHTED_WINNERS))
 

@@ -29,7 +29,7 @@ last_turn den at = record { den = den; at = at; block = None }
 abbrev pub EndsWith : List Turn → Turn → Type 0
 EndsWith turns last = (past : List Turn) × (turns ≡ past ++ last ∷ [])
 
--- A payment for each winner, none below 0 and all small, over a small denominator, which is below 2^32 where all winners weigh 1.
+-- A payment for each winner, none below 0 and all small, over a small denominator, which is below 2^32 if all winners weigh 1.
 -- The excess of a block isn't below 0, and is small too.
 pub record IsPointOfTurn (z weights : List ℕ) (t : Turn) : Type 0 where
   pub den_positive : pos 1 ≤ℤ t.den

@@ -57,7 +57,7 @@ lines edits = (codes "edits 1", None) ∷ (edit_lines 0 edits ++ (codes "end", N
 abbrev pub EditsSay : ℕ → List ℕ → Said (List NamedEdit) Excess → Type 0
 EditsSay categories bytes said = Says (AreNamedEdits categories) lines bytes said
 
--- the number of the first of these bidders that has the name, after that many others; 0 where none has it
+-- the number of the first of these bidders that has the name, after that many others; 0 if none has it
 abbrev pub number_among : List ℕ → ℕ → List Bidder → ℕ
 number_among name before [] = 0
 number_among name before (b ∷ bs) = if bytes_eq b.name name then suc before else number_among name (suc before) bs

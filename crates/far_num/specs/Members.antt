@@ -7,7 +7,7 @@ use Rattle.wide_num.specs.Sums.{dot}
 use Rattle.wide_num.specs.declared.Op.TheVariants.{Add}
 use Rattle.wide_num.specs.declared.Wide.{Wide}
 
--- 1 where i is a member, and else 0
+-- 1 if i is a member, and else 0
 abbrev pub holds : ℕ → ℕ → ℤ
 holds members i = pos (bit_at members i)
 
@@ -27,7 +27,7 @@ pub record IsFirstStepOut (members : ℕ) (xs : List Far) (w : Wide) : Type 0 wh
   pub before : StayInRange members xs member
   pub step : IsExactPair Add (members_sum members xs member) (pair_at xs member) (sum_of (members_sum members xs member) (pair_at xs member)) (Err w)
 
--- the sum of the members where all sums on the way are in the range, and else the first step that leaves it
+-- the sum of the members if all sums on the way are in the range, and else the first step that leaves it
 abbrev pub IsMembersSum : ℕ → List Far → Result Far Wide → Type 0
 IsMembersSum members xs (Ok z) = (z ≡ members_sum members xs (length xs)) × StayInRange members xs (length xs)
 IsMembersSum members xs (Err w) = IsFirstStepOut members xs w

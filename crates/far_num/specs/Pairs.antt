@@ -22,7 +22,8 @@ multiple_of a k = record { far = a.far *ℤ k; near = a.near *ℤ k }
 abbrev pub both : ℤ → Far
 both k = record { far = k; near = k }
 
--- the exact pair where both parts are in the range, and else the operation on the far parts or, where their result is in the range, on the near parts
+-- the exact pair if both parts are in the range, and else the operation on the far parts or, if their result is in the range,
+-- on the near parts
 abbrev pub IsExactPair : Op → Far → Far → Far → Result Far Wide → Type 0
 IsExactPair op a b exact (Ok z) = (z ≡ exact) × IsInRange exact
 IsExactPair op a b exact (Err w) = Leaves w op a.far b.far exact.far

@@ -24,7 +24,7 @@ AreSized limit n lines = (k : ℕ) → k < length lines → size n (row lines k)
 abbrev pub HasSizedColumns : ℕ → List (List ℤ) → Type 0
 HasSizedColumns limit lines = (i : ℕ) → i < length lines → size (length lines) (λ (k : ℕ). row lines k i) ≤ limit
 
--- how large a number of a kernel row may be, where the sizes of a line sum to at most the limit
+-- how large a number of a kernel row may be, if the sizes of a line sum to at most the limit
 abbrev pub bound : ℕ → ℕ → ℕ
 bound limit n = limit ^ (n - 1)
 

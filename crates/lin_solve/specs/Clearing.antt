@@ -9,7 +9,7 @@ pub record IsColumn (lines : List (List ℤ)) (i : ℕ) (y : List ℤ) : Type 0 
   pub long : length y ≡ length lines
   pub is : (k : ℕ) → k < length lines → nth y k ≡ row lines k i
 
--- y is column i of the lines, or zeros where i is the place that is left out
+-- y is column i of the lines, or zeros if i is the place that is left out
 pub record IsKeptColumn (lines : List (List ℤ)) (left_out i : ℕ) (y : List ℤ) : Type 0 where
   pub long : length y ≡ length lines
   pub zero : i ≡ left_out → (k : ℕ) → k < length lines → nth y k ≡ pos 0

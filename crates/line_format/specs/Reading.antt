@@ -17,7 +17,7 @@ module _ {S O : Type 0} (Step : S → List ℕ → S → Type 0) (excess : S →
     pub split : bytes ≡ text_of behind ++ drop place bytes
     pub here : length (text_of behind) ≡ place
 
-  -- the reader comes to this place and no further: no line leads on from there, and where no bytes are left, no value has ended
+  -- the reader comes to this place and no further: no line leads on from there, and if no bytes are left, no value has ended
   pub record HaltsAt {V : Type 0} (ended : V → S) (bytes : List ℕ) (place : ℕ) : Type 0 where
     pub stage : S
     pub so_far : SoFar bytes place stage

@@ -19,7 +19,7 @@ counts_text (n ∷ ns) = decimal n ++ decimals_text ns
 abbrev pub AreCounts : ℕ → List ℕ → Type 0
 AreCounts categories lots = (length lots ≡ categories) × AllByRecursion (λ n. n ≤ MOST_STATED_COUNT) lots
 
--- the name of bidder k of the award, and of a stranger where k is 0
+-- the name of bidder k of the award, and of a stranger if k is 0
 abbrev pub IsNameOf : Terms → ℕ → List ℕ → Type 0
 IsNameOf terms k name = IsName name × (k ≡ number_of terms name)
 

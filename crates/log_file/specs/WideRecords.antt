@@ -29,8 +29,8 @@ count_after Nothing count = count
 count_after Field count = suc count
 count_after Record count = zero
 
--- Both are the same records up to the first that has more than four fields, and where one of them has such a record, so has the other. The
--- first one ends with it.
+-- Both are the same records up to the first that has more than four fields, and if one of them has such a record, so has the
+-- other. The first one ends with it.
 pub record SameToWide (cut whole : List (List (List ℕ))) : Type 0 where
   pub before : List (List (List ℕ))
   pub first : List (List ℕ)

@@ -85,7 +85,8 @@ pub record AreMultipliers (target : List ℤ) (weights : List ℕ) (rows : List 
   pub small_first : AreBelow (2 ^ 106) f.first.items
   pub small_second : AreBelow (2 ^ 106) f.second.items
 
--- one part of a point: den times the target, moved at each coordinate by its weight times the multipliers of the rows that hold it
+-- one part of a point: den times the target, moved at each coordinate by its weight times the multipliers of the rows that
+-- contain it
 pub record IsPart (rows : List Row) (forced : List ℕ) (weight : ℕ → ℤ) (den : ℤ) (target multipliers point : List ℤ) : Type 0 where
   pub long : length point ≡ length target
   pub at : (j : ℕ) → j < length target

@@ -15,7 +15,7 @@ weight_at weights j = pos (slice_index_or weights j 0)
 abbrev pub row_at : List Row → ℕ → Row
 row_at rows i = slice_index_or rows i (record { members = 0; bound = pos 0 })
 
--- 1 where the row at place i has the member j, and else 0
+-- 1 if the row at place i has the member j, and else 0
 abbrev pub coefficients : List Row → ℕ → ℕ → ℤ
 coefficients rows i = holds (row_at rows i).members
 
@@ -50,8 +50,8 @@ HasMembers m rows = (i : ℕ) → i < length rows → (0 < (row_at rows i).membe
 abbrev pub HasSingles : ℕ → List Row → Type 0
 HasSingles m rows = (j : ℕ) → j < m → (i : ℕ) × (i < length rows) × ((row_at rows i).members ≡ 2 ^ j)
 
--- A target, weights and rows with a nearest point that the search can compute. There are at most MOST_WINNERS coordinates, and each
--- is a row of its own. Where a weight isn't 1, all is narrow.
+-- A target, weights and rows with a nearest point that the search can compute. There are at most MOST_WINNERS coordinates, and
+-- each is a row of its own. If a weight isn't 1, all is narrow.
 pub record IsProblem (target : List ℤ) (weights : List ℕ) (rows : List Row) : Type 0 where
   pub few : length target ≤ MOST_WINNERS
   pub weighed : AreWeights (length target) weights

@@ -35,7 +35,7 @@ ArePricedLines slots v p k (suc i ∷ c) text =
 abbrev pub value_line : ℤ → List ℕ
 value_line value = codes "value " ++ signed_decimal value ++ codes "\n"
 
--- The whole text of the prices p of the winners of z, where all bidders are laid side by side in this order.
+-- The whole text of the prices p of the winners of z, if all bidders are laid side by side in this order.
 pub record IsPlaceText (slots : SlotList) (order z : List ℕ) (v : ℕ → ℤ) (p : Point) (text : List ℕ) : Type 0 where
   pub lines : List ℕ
   pub are_lines : ArePricedLines slots v p 0 z lines

@@ -59,7 +59,7 @@ payment_plan bidders = kind (codes "pay") (signed bidders) ∷ kind (codes "rows
 abbrev pub payment_lines : List ℤ → List PlaceRow → List Line
 payment_lines pay rows = line (codes "pay") pay ∷ line (codes "rows") (pos (length rows) ∷ []) ∷ row_lines rows
 
--- The part of bidder j is read, where its number isn't 0, and follows the parts that were there.
+-- The part of bidder j is read, if its number isn't 0, and follows the parts that were there.
 pub record AddsPart (bytes : List ℕ) (place bidders j number : ℕ) (old new : List PlaceWithout) (next : ℕ) : Type 0 where
   pub part : List PlaceWithout
   pub added : new ≡ old ++ part

@@ -20,9 +20,9 @@ pub record IsBestPlacedPart (slots : SlotList) (j : ℕ) (part : WithoutValue) (
   pub placement : IsPlacement slots part.choice order
   pub table : IsSetTable (board_without slots j) (amount_of slots) part.table
 
--- All tests hold. Beside what they say, the choices of the head and of the parts are the first of the greatest, each order is the
--- placement of its choice, and the tables are exact; the last is that of the worths that are lowered by the surpluses at the
--- payments, and of the idle worths.
+-- All tests pass. Beside what they say, the choices of the head and of the parts are the first of the greatest, each order is
+-- the placement of its choice, and the tables are exact; the last is that of the worths that are lowered by the surpluses at
+-- the payments, and of the idle worths.
 pub record IsPricedPlaceCert (slots : SlotList) (p : PlaceCertValue) : Type 0 where
   pub holds : PlacementHolds slots p
   pub winning : IsWinning (market_of_slots slots) p.cert.choice

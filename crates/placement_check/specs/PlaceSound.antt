@@ -10,8 +10,8 @@ use Rattle.slot_places.specs.Orders.{allows}
 use Rattle.slot_places.specs.Slots.{SlotList}
 use Rattle.cert_grammar.specs.PlaceCert.{PlaceCertValue}
 
--- The order places the choice, the choice is greatest, the value is its value, the parts give the Vickrey prices, and the choice and
--- the payments are the core outcome, where each bidder weighs 1. The choice need not be the first of the greatest.
+-- The order places the choice, the choice is greatest, the value is its value, the parts give the Vickrey prices, and the
+-- choice and the payments are the core outcome, if each bidder weighs 1. The choice need not be the first of the greatest.
 pub record IsPlaceSound (slots : SlotList) (p : PlaceCertValue) : Type 0 where
   pub order : IsTrue (allows slots p.order p.cert.choice)
   pub greatest : IsGreatest (market_of_slots slots).allowed (value_of (market_of_slots slots)) p.cert.choice

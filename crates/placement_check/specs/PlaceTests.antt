@@ -82,7 +82,7 @@ Asks slots p t place =
     × (t ≡ 5 → P5 slots p place)
     × (t ≡ 6 → P6 slots p place) × (t ≡ 7 → P7 slots p place) × (t ≡ 8 → P8 slots p place) × (t ≡ 9 → P9 slots p place)
 
--- all tests hold at all places
+-- all tests pass at all places
 pub record PlacementHolds (slots : SlotList) (p : PlaceCertValue) : Type 0 where
   pub p1 : (place : ℕ) → P1 p place
   pub p2 : (place : ℕ) → P2 slots p place

@@ -7,7 +7,8 @@ use Rattle.limits.specs.declared.TheConstants.{MOST_PLACED}
 use Rattle.wide_num.specs.Sums.{nth}
 use Rattle.placement_check.specs.declared.sums.RowSums.{RowSums}
 
--- for each bidder the sum of a number over those of the first n rows that hold it
+-- for each bidder the sum of a number over those of the first n rows that contain
+-- it
 pub record AreSumsOf (number : RowValue → ℤ) (rows : List RowValue) (n : ℕ) (sums : List ℤ) : Type 0 where
   pub each : (j : ℕ) → 0 < j → j ≤ MOST_PLACED → of_bidder sums j ≡ sum_holding rows j number n
   pub small : (k : ℕ) → unsigned_abs (nth sums k) ≤ n * 2 ^ 120

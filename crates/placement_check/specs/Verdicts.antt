@@ -6,7 +6,7 @@ use Rattle.slot_places.specs.Slots.{SlotList}
 use Rattle.cert_grammar.specs.PlaceCert.{PlaceCertValue}
 use Rattle.placement_check.specs.PlaceTests.{Asks, PlacementHolds, FailsFirst}
 
--- yes where all tests hold at all places, else the first test that fails with its first place
+-- yes if all tests pass at all places, else the first test that fails with its first place
 abbrev pub IsPlaceVerdict : SlotList → PlaceCertValue → Verdict → Type 0
 IsPlaceVerdict slots p Yes = PlacementHolds slots p
 IsPlaceVerdict slots p (No test place) = FailsFirst slots p test place

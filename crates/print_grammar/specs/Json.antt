@@ -47,13 +47,13 @@ AreRounds z before (t ∷ turns) rounds = (round : Data) × (rest : List Data) �
 abbrev pub with_winners : List Data → Members
 with_winners winners = member (codes "winners") (array (items_of winners)) no_members
 
--- the members after the revenue: the rounds, where there are turns, and the winners
+-- the members after the revenue: the rounds, if there are turns, and the winners
 abbrev pub AreLastMembers : List ℕ → Option (List BidderTurn) → List Data → Members → Type 0
 AreLastMembers z None winners members = members ≡ with_winners winners
 AreLastMembers z (Some turns) winners members = (rounds : List Data) × AreRounds z 0 turns rounds
     × (members ≡ member (codes "rounds") (array (items_of rounds)) (with_winners winners))
 
--- the prices p of the winners of z, with the turns that led to them where there are any
+-- the prices p of the winners of z, with the turns that led to them if there are any
 pub record IsOutcome (book : Book) (z : List ℕ) (v : ℕ → ℤ) (p : Point) (turns : Option (List BidderTurn)) (outcome : Data) : Type 0 where
   pub winners : List Data
   pub are_winners : AreWinners book z v p 0 z winners

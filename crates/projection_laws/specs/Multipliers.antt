@@ -21,7 +21,7 @@ SumsTo m r a d first = (j : ℕ) → j < m → sum_at r a first j ≡ d
 abbrev pub SumsToOrStands : ℕ → ℕ → (ℕ → ℕ → ℤ) → ℤ → (ℕ → ℤ) → (ℕ → ℤ) → ℤ → (ℕ → ℤ) → Type 0
 SumsToOrStands m r a d n first e x = (j : ℕ) → j < m → (sum_at r a first j ≡ d) ⊎ (d *ℤ x j ≡ e *ℤ n j)
 
--- The second multipliers: none is negative where the first is 0, each row with one other than 0 is tight, and at each
+-- The second multipliers: none is negative if the first is 0, each row with one other than 0 is tight, and at each
 -- coordinate they come, times the weight, to what the point is off the target.
 pub record AreSecond (m r : ℕ) (a : ℕ → ℕ → ℤ) (bound : ℕ → ℤ) (d : ℤ) (n first second target weight : ℕ → ℤ) : Type 0 where
   pub sign : (i : ℕ) → i < r → first i ≡ pos 0 → pos 0 ≤ℤ second i

@@ -31,7 +31,7 @@ pub record IsConstraining (needed : ℕ) (history : List Round) (j r : ℕ) : Ty
 abbrev pub bid_value : Bid → BookBid
 bid_value b = record { lots = b.«package»; amount = b.amount }
 
--- the amount of a bid where it is for the package, and else 0
+-- the amount of a bid if it is for the package, and else 0
 abbrev pub amount_for : List ℕ → BookBid → ℕ
 amount_for lots b = if is_same b.lots lots then b.amount else 0
 

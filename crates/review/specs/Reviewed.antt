@@ -23,7 +23,7 @@ pub record IsReviewed (book : Book) (lines : SideLines) (choice : List ℕ) : Ty
   pub winning : IsWinning (market_of book) choice
   pub sides : AreSideLines book lines
 
--- where the package fits at a place, the best of both sides beside it are together below the limit
+-- if the package fits at a place, the best of both sides beside it are together below the limit
 abbrev pub IsBelowAt : List ℕ → List ℕ → List ℤ → List ℤ → ℤ → ℕ → Type 0
 IsBelowAt supply lots before after limit s = IsTrue (is_within lots (left_at supply s))
     → (slice_index_or before (states_of supply - 1 - s) (pos 0)
@@ -42,11 +42,11 @@ pub record IsBeaten (book : Book) (choice : List ℕ) (j : ℕ) (bid : BookBid) 
   pub below : AreBelow book.supply bid.lots before after
       (value_of (market_of book) choice -ℤ (pos bid.amount -ℤ pos (cost_of book.reserves bid.lots)))
 
--- the number of a bid, where bid `put` was put in
+-- the number of a bid, if bid `put` was put in
 abbrev pub moved_up : ℕ → ℕ → ℕ
 moved_up put number = if nat_le put number then number + 1 else number
 
--- the number of a bid, where bid `gone` was taken out
+-- the number of a bid, if bid `gone` was taken out
 abbrev pub moved_down : ℕ → ℕ → ℕ
 moved_down gone number = if nat_lt gone number then number - 1 else number
 

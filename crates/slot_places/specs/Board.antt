@@ -1,4 +1,4 @@
--- Bidders that are placed one after the other, where what a bidder can be given depends on the set of those before it.
+-- Bidders that are placed one after the other, if what a bidder can be given depends on the set of those before it.
 use Rattle.std.specs.Prelude.{ℕ, zero, suc, ◌+◌, Bool, true, false, ◌&&◌, ◌||◌, not, ◌==◌, if◌then◌else◌, List, [], length}
 use Rattle.auction_model.specs.Lowered.{sum_to}
 use Rattle.auction_model.specs.Market.{Market, number_of}

@@ -1,4 +1,4 @@
--- The exact table over sets of bidders: for each set the greatest sum that the bidders outside it can still count, where those of
+-- The exact table over sets of bidders: for each set the greatest sum that the bidders outside it can still count, if those of
 -- the set are placed first. Bit j - 1 of a set stands for bidder j.
 use Rattle.std.specs.Prelude.{◌≡◌, ℕ, suc, ◌+◌, ◌-◌, ◌*◌, ◌^◌, ◌<◌, ◌≤◌, Bool, true, ◌&&◌, ◌||◌, not, ◌==◌, if◌then◌else◌, IsTrue, List, [], ◌∷◌, length, slice_index_or, ℤ, pos, unsigned_abs}
 use Rattle.std.specs.Int.{bit_at}

@@ -16,7 +16,7 @@ pub record Next (b : Board) (c : List ℕ) (left : ℕ) (s : ℕ → Bool) (j : 
   pub may : IsTrue (b.may s j (number_of c j))
   pub rest : IsTrue (can_place b c left (joined j s))
 
--- c is no worse than d: it has no smaller value, and where d comes before it, a greater one
+-- c is no worse than d: it has no smaller value, and if d comes before it, a greater one
 pub record IsBefore (value : List ℕ → ℤ) (c d : List ℕ) : Type 0 where
   pub most : value d ≤ℤ value c
   pub first : IsTrue (is_earlier d c) → value d <ℤ value c

@@ -16,7 +16,7 @@ use Rattle.stream_check.specs.InRoom.{HasRoom, HasLine}
 use Rattle.stream_check.specs.Totals.{HasTotals}
 use Rattle.stream_check.specs.Tests.{IsTestedTo}
 
--- all tests hold as far as they are made, and the room and the totals have what the tests after need
+-- all tests pass as far as they are made, and the room and the totals have what the tests after need
 pub record IsOpen (book : Book) (w : ℕ → ℕ) (c : CertValue) (due : NextLine) (late : Option ℕ) (members : ℕ) (grows : Bool) (totals : RowTotals) (room : List ℤ) : Type 0 where
   pub has : HasDue (bidders_of book) (states book) c due
   pub named : IsDue (bidders_of book) due

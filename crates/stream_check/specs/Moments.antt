@@ -34,8 +34,8 @@ pub record IsClaimOf (at : LineContext) (a : Claim) : Type 0 where
   pub book : a.book.now ≡ at.book.now
   pub each : (c : CertValue) → IsAt at c → IsOf a c
 
--- The multipliers of all its rows have come, and the tests before them are made. It is the line of the last row, or of the count where there
--- is none.
+-- The multipliers of all its rows have come, and the tests before them are made. It is the line of the last row, or of the
+-- count if there is none.
 pub record HasAllRows (at : LineContext) : Type 0 where
   pub line : IsRowsEnd at.due
   pub totals : (c : CertValue) → IsAt at c → AreTotals c (length c.rows) at.totals.now

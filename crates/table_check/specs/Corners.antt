@@ -10,7 +10,7 @@ abbrev pub KeepsBlock : List ℕ → List ℕ → List ℤ → List ℤ → ℤ 
 KeepsBlock supply lots line below worth = (n : ℕ) → n < states_of supply → IsTrue (is_within lots (left_at supply n))
     → (worth +ℤ nth below (n - place_of supply lots)) ≤ℤ nth line n
 
--- both lines never fall where this says so
+-- both lines never fall if this says so
 pub record BothGrow (supply : List ℕ) (grow : Bool) (line below : List ℤ) : Type 0 where
   pub line_grows : grow ≡ true → Grows supply line
   pub below_grows : grow ≡ true → Grows supply below

@@ -1,4 +1,4 @@
--- What is asked where one more bid is counted in a line, and what is done.
+-- What is asked if one more bid is counted in a line, and what is done.
 use Rattle.std.specs.Prelude.{◌≡◌, ℕ, ◌≤◌, ◌<◌, ◌^◌, IfSome, List, Option, length, map, slice_index_or, ℤ, pos, unsigned_abs}
 use Rattle.auction_model.specs.Steps.{raised}
 use Rattle.choices.specs.Coarse.{AreCoarse}
@@ -24,6 +24,6 @@ pub record AreInUnits {A : Type 0} (number : A → ℤ) (shift : ℕ) (own rest 
   pub places : length low ≡ length own
   pub places_below : length high ≡ length rest
 
--- they do where there is a shift
+-- they do if there is a shift
 abbrev pub MayBeInUnits : {A : Type 0} → (A → ℤ) → Option ℕ → List A → List A → List ℕ → List ℕ → Type 0
 MayBeInUnits number shift own rest low high = IfSome shift (λ k. AreInUnits number k own rest low high)

@@ -11,7 +11,7 @@ InRange z = unsigned_abs z < 2 ^ 120
 abbrev pub Leaves : Wide → Op → ℤ → ℤ → ℤ → Type 0
 Leaves w op a b exact = (w.op ≡ op) × (w.left ≡ a) × (w.right ≡ b) × (2 ^ 120 ≤ unsigned_abs exact)
 
--- the exact result where it is in the range, and else the operation with its operands
+-- the exact result if it is in the range, and else the operation with its operands
 abbrev pub IsExact : Op → ℤ → ℤ → ℤ → Result ℤ Wide → Type 0
 IsExact op a b exact (Ok z) = (z ≡ exact) × InRange exact
 IsExact op a b exact (Err w) = Leaves w op a b exact
