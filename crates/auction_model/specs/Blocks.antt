@@ -22,7 +22,7 @@ abbrev pub IsGreatestExcess : Market → List ℕ → Point → ℤ → Type 0
 IsGreatestExcess m z p excess = (members : ℕ → Bool) (f : List ℕ) → IsTrue (m.allowed f) → IsIdleSet m z f members
     → excess_of m z p members f ≤ℤ excess
 
--- the block that a turn takes: the first choice that reaches the greatest excess, and the largest set with which it does
+-- the block that a turn takes: the first choice that reaches the greatest excess, and the largest set that it does so with
 pub record IsTakenBlock (m : Market) (z : List ℕ) (p : Point) (f : List ℕ) (members : ℕ → Bool) (excess : ℤ) : Type 0 where
   pub greatest : IsGreatestExcess m z p excess
   pub allowed : IsTrue (m.allowed f)

@@ -1,4 +1,4 @@
--- Tests of packages. The laws of PackageLaws tie them to the words of auction_model.
+-- Tests of packages. The laws of PackageLaws tie them to the definitions of auction_model.
 use Rattle.std.specs.Prelude.{◌≡◌, ℕ, suc, Bool, true, false, ◌&&◌, ◌||◌, nat_le, nat_lt, ◌==◌, List, [], ◌∷◌, Option, Some, None, if◌then◌else◌}
 use Rattle.auction_model.specs.Package.{is_within}
 
@@ -6,7 +6,7 @@ use Rattle.auction_model.specs.Package.{is_within}
 abbrev pub is_empty : List ℕ → Bool
 is_empty lots = is_within lots []
 
--- the first category whose count is above the supply's, where the first of these counts is that of the given category
+-- the first category whose count is above the supply's, where the first of these counts is the given category's
 abbrev pub first_over : ℕ → List ℕ → List ℕ → Option ℕ
 first_over category [] supply = None
 first_over category (a ∷ lots) [] = if a == 0 then first_over (suc category) lots [] else Some category

@@ -31,7 +31,7 @@ pub record IsTurnPoint (m : Market) (w : ℕ → ℕ) (z : List ℕ) (v : ℕ �
   pub least : HasLeastSum m (MeetsBidderRows m z rows) p
   pub nearest : IsNearestTo m w v (MeetsBidderRows m z rows) p
 
--- the first rows, k bidders being passed: each winner alone, in order, with its price
+-- the first rows, after k bidders: the single winners, in order, each with its price
 abbrev pub single_rows : (ℕ → ℤ) → ℕ → List ℕ → List BidderRow
 single_rows v k [] = []
 single_rows v k (zero ∷ z) = single_rows v (suc k) z
@@ -52,8 +52,8 @@ pub record IsBlockOf (m : Market) (z : List ℕ) (p : Point) (b : BidderBlock) :
   pub some : pos 0 <ℤ b.excess
   pub bound : b.row.bound ≡ row_bound m z b.row.members b.choice
 
--- The turns go on from these rows: each has the point of the rows so far. If no excess is above 0, it is the last; else
--- its block gives the next turn one row more.
+-- The turns go on from these rows: each has the point of the rows so far. If no excess is above 0, it is the last. Else
+-- its block adds one row to the next turn.
 abbrev pub GoOn : Market → (ℕ → ℕ) → List ℕ → (ℕ → ℤ) → List BidderRow → List BidderTurn → Type 0
 GoOn m w z v rows [] = ⊥
 GoOn m w z v rows (t ∷ turns) =
@@ -61,7 +61,8 @@ GoOn m w z v rows (t ∷ turns) =
     × MatchOption t.block ((turns ≡ []) × IsGreatestExcess m z t.point (pos 0)) (λ b. IsBlockOf m z t.point b
     × GoOn m w z v (rows ++ b.row ∷ []) turns)
 
--- the turns of pricing the winning choice z with these weights, from the rows of each winner alone with its Vickrey price
+-- the turns of pricing the winning choice z with these weights, from the rows of the single winners with their Vickrey
+-- prices
 pub record IsPricingRun (m : Market) (w : ℕ → ℕ) (z : List ℕ) (turns : List BidderTurn) : Type 0 where
   pub winning : IsWinning m z
   pub turns_of : (v : ℕ → ℤ) → AreVickreyPrices m z v → GoOn m w z v (single_rows v 0 z) turns

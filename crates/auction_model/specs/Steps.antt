@@ -1,4 +1,4 @@
--- The steps by which a table is filled and visited: words of private contracts.
+-- The steps that fill and visit a table: terms of private contracts.
 use Rattle.std.specs.Prelude.{◌≡◌, ℕ, ◌≤◌, List, slice_index_or, ℤ, pos, ◌+ℤ◌, ◌<ℤ◌, IsTrue, if◌then◌else◌}
 use Rattle.std.specs.Int.{int_max}
 use Rattle.auction_model.specs.Package.{is_within, less}
@@ -15,7 +15,7 @@ raised supply below lots worth s old =
 abbrev pub sum_with : Menu → (ℕ → ℕ → ℤ) → List ℕ → ℕ → ℕ → List ℤ → ℕ → ℤ
 sum_with m counts supply j s below i = counts j i +ℤ slice_index_or below (place_of supply (less (left_at supply s) (m.lots j i))) (pos 0)
 
--- i is the first number, in the order of ties, with which bidder j and the rest reach the entry
+-- i is the first number, in the order of ties, that lets bidder j and the rest reach the entry
 pub record IsFirstNumber (m : Menu) (counts : ℕ → ℕ → ℤ) (supply : List ℕ) (j s : ℕ) (here : ℤ) (below : List ℤ) (i : ℕ) : Type 0 where
   pub fits : IsTrue (is_within (m.lots j i) (left_at supply s))
   pub reaches : here ≡ sum_with m counts supply j s below i

@@ -7,7 +7,8 @@ use Rattle.award_file.specs.declared.caps.CapFault.{CapFault}
 use Rattle.award_file.specs.declared.entrants.Entrant.{Entrant as Entered}
 use Rattle.award_file.specs.Award.{entrant_with}
 
--- a name with what the award says of its bidder
+-- a name with what the award states for its
+-- bidder
 abbrev pub entrant_value : String Global × Entered → Entrant
 entrant_value e = entrant_with (string_bytes e.0) e.1.eligibility e.1.holding.items
 

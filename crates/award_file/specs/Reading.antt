@@ -31,23 +31,23 @@ terms_excess terms = option_or (supply_excess terms.supply) (bidders_excess (len
 -- what bytes may say
 pub data Reading : Type 0 where
   no_toml : Reading
-  -- the first broken rule, by the number of its field, and that of the table in its list, or 0
+  -- the first broken rule, by the number of its field, and the number of the table in its list, or 0
   broken : ℕ → ℕ → Reading
   -- no rule is broken, but a limit is exceeded
   too_many : LimitKind → ℕ → Reading
   stated_terms : Terms → Reading
 
--- what is said of terms that exceed this limit, or none
+-- the reading of terms that exceed this limit, or none
 abbrev pub reading_within : Option Excess → Terms → Reading
 reading_within None terms = stated_terms terms
 reading_within (Some excess) terms = too_many excess.0 excess.1
 
--- what is said of terms whose table has this fault, or none
+-- the reading of terms whose table has this fault, or none
 abbrev pub reading_after : Option Fault → Terms → Reading
 reading_after None terms = reading_within (terms_excess terms) terms
 reading_after (Some fault) terms = broken fault.0 fault.1
 
--- what is said of a table, or of no TOML
+-- the reading of a table, or of no TOML
 abbrev pub reading_of : Option Members → Reading
 reading_of None = no_toml
 reading_of (Some t) = reading_after (award_fault t) (terms_of t)
@@ -63,14 +63,14 @@ IsStop r (Field number entry) = r ≡ broken number entry
 IsStop r (Limit kind count) = r ≡ too_many kind count
 IsStop r Memory = Unit {0}
 
--- the stop is that of the first fault
+-- the stop is the first fault's
 abbrev pub IsFault : Option Fault → AwardStop → Type 0
 IsFault fault Text = ⊥
 IsFault fault (Field number entry) = fault ≡ Some (number, entry)
 IsFault fault (Limit kind count) = ⊥
 IsFault fault Memory = Unit {0}
 
--- the stop is that of the first limit that is exceeded
+-- the stop is for the first limit that is exceeded
 abbrev pub IsLimit : Option Excess → AwardStop → Type 0
 IsLimit excess Text = ⊥
 IsLimit excess (Field number entry) = ⊥

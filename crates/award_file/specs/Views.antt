@@ -1,4 +1,4 @@
--- The terms that the fields of an award hold.
+-- The terms in the fields of an award.
 use Rattle.auction_rules.specs.Terms.{Terms}
 use Rattle.award_file.specs.declared.award.Award.TheInside.{Inside}
 use Rattle.award_file.specs.Award.{terms_with}

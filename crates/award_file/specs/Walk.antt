@@ -15,7 +15,7 @@ use Rattle.award_file.specs.Stated.{number_at, row_of, name_at, tables_at, has_o
 abbrev pub Fault : Type 0
 Fault = ℕ × ℕ
 
--- the fault of a field, unless its rule holds
+-- the fault of a field, unless its rule is true
 abbrev pub unless : Bool → ℕ → ℕ → Option Fault
 unless holds field entry = if holds then None else Some (field, entry)
 
@@ -66,7 +66,7 @@ points_at t = number_at 0 MOST_POINTS (codes "points") t
 abbrev pub reserve_at : Members → Option ℕ
 reserve_at t = number_at 0 MOST_PRICE (codes "reserve") t
 
--- the first fault of a category after those of these names
+-- the first fault of a category after the categories of these names
 abbrev pub category_fault : List (List ℕ) → Members → Option Fault
 category_fault before t = first_fault (
     unless (is_new before (name_at t)) CATEGORY_NAME (entry_after (length before))
@@ -103,7 +103,7 @@ holding_in categories (Some d) = row_of categories MOST_COUNT d
 abbrev pub holding_at : ℕ → Members → Option (List ℕ)
 holding_at categories t = holding_in categories (get_member (codes "holding") t)
 
--- the first fault of a bidder after those of these names
+-- the first fault of a bidder after the bidders of these names
 abbrev pub bidder_fault : ℕ → List (List ℕ) → Members → Option Fault
 bidder_fault categories before t = first_fault (
     unless (is_new before (name_at t)) BIDDER_NAME (entry_after (length before))
@@ -144,7 +144,7 @@ comes_next (e ∷ es) (Some excess) = nat_lt (last_or e es) excess
 abbrev pub excess_or_none : Members → ℕ
 excess_or_none t = unwrap_or (excess_at t) 0
 
--- the first fault of a step after those of these excesses
+-- the first fault of a step after the steps of these excesses
 abbrev pub step_fault : List ℕ → Members → Option Fault
 step_fault before t = first_fault (
     unless (comes_next before (excess_at t)) EXCESS (entry_after (length before))
@@ -178,7 +178,7 @@ limit_at t = number_at 0 MOST_CAP_LIMIT (codes "limit") t
 abbrev pub limit_or_none : Members → ℕ
 limit_or_none t = unwrap_or (limit_at t) 0
 
--- the first fault of a cap after those of these limits
+-- the first fault of a cap after the caps of these limits
 abbrev pub cap_fault : ℕ → List ℕ → Members → Option Fault
 cap_fault categories before t = first_fault (
     unless (is_some (weights_at categories t)) CAP_WEIGHTS (entry_after (length before))

@@ -1,4 +1,4 @@
--- A book in which one bidder has other bids: one more, one with another amount, or one less.
+-- A book with other bids of one bidder: one more, one with another amount, or one less.
 use Rattle.std.specs.Prelude.{◌≡◌, ◌⊎◌, ℕ, ◌-◌, ◌<◌, ◌≤◌, true, false, IsTrue, IsFalse, List, [], length, slice_index_or, slice_set}
 use Rattle.std.specs.List.{remove}
 use Rattle.auction_model.specs.Book.{Book, BookBid, bidder_of, bidder_with, bids_of, lots_of, no_bid, with_bidders}
@@ -7,11 +7,11 @@ use Rattle.auction_model.specs.Entries.{with_entry}
 use Rattle.auction_model.specs.PackageTests.{is_before}
 use Rattle.limits.specs.declared.TheConstants.{MOST_AMOUNT, MOST_BIDS}
 
--- the book in which bidder j has these bids
+-- the book with these bids of bidder j
 abbrev pub with_bids : Book → ℕ → List BookBid → Book
 with_bids book j bids = with_bidders book (slice_set book.bidders (j - 1) (bidder_with (bidder_of book j).name bids))
 
--- the book in which bidder j has this bid: in the place of its bid for the package, or else in the order of packages
+-- the book with this bid of bidder j: instead of its bid for the package, or else in the order of packages
 abbrev pub with_put : Book → ℕ → BookBid → Book
 with_put book j bid = with_bids book j (with_entry bid.lots bid.amount (bids_of book j))
 
@@ -19,7 +19,7 @@ with_put book j bid = with_bids book j (with_entry bid.lots bid.amount (bids_of 
 abbrev pub without_bid : Book → ℕ → ℕ → Book
 without_bid book j i = with_bids book j (remove (bids_of book j) (i - 1))
 
--- the package of each bid comes before those of all later ones
+-- the package of each bid comes before the packages of all later ones
 abbrev pub InPackageOrder : List BookBid → Type 0
 InPackageOrder bids = (k i : ℕ) → k < i → i < length bids
     → is_before (slice_index_or bids k no_bid).lots (slice_index_or bids i no_bid).lots ≡ true
@@ -36,7 +36,7 @@ pub record IsBidFor (book : Book) (j : ℕ) (lots : List ℕ) (i : ℕ) : Type 0
   pub known : i ≤ length (bids_of book j)
   pub own : lots_of book j i ≡ lots
 
--- what a bid of bidder j has to keep, so that the rules of the book go on to hold if it is put in
+-- what a bid of bidder j has to keep, so that the book keeps its rules if it is inserted
 pub record CanPut (book : Book) (j : ℕ) (bid : BookBid) : Type 0 where
   pub some : 0 < j
   pub known : j ≤ length book.bidders

@@ -1,4 +1,4 @@
--- The book that the fields hold.
+-- The book in the fields.
 use Rattle.std.specs.Prelude.{◌≡◌, ℕ, List, map, pos, ◌-ℤ◌}
 use Rattle.std.specs.List.{All}
 use Rattle.auction_model.specs.Package.{cost_of}

@@ -1,4 +1,5 @@
--- What a list of bidders holds.
+-- The content of a list of
+-- bidders.
 use Rattle.auction_model.specs.Book.{Bidder}
 use Rattle.bid_book.specs.declared.bidders.BidderBids.{BidderBids}
 

@@ -1,4 +1,4 @@
--- What a list of bids holds, and the book of lists.
+-- The content of a list of bids, and the book of lists.
 use Rattle.std.specs.Prelude.{ℕ, List}
 use Rattle.auction_model.specs.Book.{Bidder, Book, BookBid}
 use Rattle.lots.specs.declared.package.Bid.{Bid}

@@ -1,5 +1,5 @@
 -- The stages of reading a book, and which lines bring the reader from one to the next. They serve the reader's own
--- contracts; what bytes say of a book is said without them.
+-- contracts. The meaning of bytes as a book is defined without them.
 use Rattle.std.specs.Prelude.{◌≡◌, ◌≢◌, ◌⊎◌, ℕ, ◌+◌, ◌-◌, ◌<◌, Option, None, List, [], ◌∷◌, ◌++◌, codes, length, slice_set}
 use Rattle.std.specs.List.{AllByRecursion}
 use Rattle.auction_model.specs.Book.{Bidder, Book, BookBid, bidder_of, bidder_with, bids_of, with_bidders}

@@ -7,7 +7,8 @@ use Rattle.book_grammar.specs.BookLines.{bid_line, bid_lines, bidder_line, bidde
 abbrev pub bid_text : BookBid → List ℕ
 bid_text b = text_of (bid_line 0 b ∷ [])
 
--- the line of a bidder, and those of its bids
+-- the line of a bidder, and the lines of its
+-- bids
 abbrev pub bidder_text : Bidder → List ℕ
 bidder_text b = text_of (bidder_line 0 b.name ∷ bid_lines 0 b.bids)
 

@@ -5,7 +5,7 @@ use Rattle.auction_rules.specs.declared.Reply.TheVariants.{Ok}
 use Rattle.auction_rules.specs.Terms.{Terms}
 use Rattle.auction_rules.specs.Replies.{reply_to}
 
--- each line is answered Ok, after those before it
+-- the reply to each line is Ok, after the lines before it
 abbrev pub AreAnsweredOk : Terms → List Event → Type 0
 AreAnsweredOk terms [] = Unit {0}
 AreAnsweredOk terms (line ∷ log) = (reply_to terms log line ≡ Ok) × AreAnsweredOk terms log

@@ -1,4 +1,5 @@
--- The text of an award in which no bidder holds lots and no spectrum cap is.
+-- The text of an award without holdings of bidders and without spectrum
+-- caps.
 use Rattle.std.specs.Prelude.{ℕ, List, [], ◌∷◌, ◌++◌, codes, flat_map}
 use Rattle.std.specs.Fmt.{decimal}
 use Rattle.auction_rules.specs.Terms.{Entrant, Terms}

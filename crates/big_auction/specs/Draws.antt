@@ -1,7 +1,7 @@
 -- The generator: a linear congruence of period 2^31, of whose states the upper bits are drawn.
 use Rattle.std.specs.Prelude.{ℕ, zero, suc, ◌+◌, ◌*◌, ◌/◌, ◌%◌, ◌^◌, List, [], ◌∷◌}
 
--- the state from which a number draws
+-- the first state of a number's draws
 abbrev pub first_state : ℕ → ℕ
 first_state number = number % 2 ^ 31
 

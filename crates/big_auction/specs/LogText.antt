@@ -1,4 +1,4 @@
--- The text of a made log, in which bidders have the names of the made award.
+-- The text of a made log, where bidders have the names of the made award.
 use Rattle.std.specs.Prelude.{ℕ, List}
 use Rattle.auction_rules.specs.declared.Event.{Event}
 use Rattle.log_file.specs.LogText as text

@@ -12,8 +12,8 @@ use Rattle.big_auction.specs.LogText.{log_text}
 use Rattle.big_auction.specs.MadeAward.{made_terms}
 use Rattle.big_auction.specs.MadeLog.{made_log}
 
--- the award keeps all rules and limits, its text is read as its terms, the text of the log of the number is read as its lines, each of
--- them is answered Ok, the log is complete, and no choice that fits has more than four winners
+-- the award keeps all rules and limits, its text is read as its terms, the text of the log of the number is read as its lines,
+-- the reply to each is Ok, the log is complete, and no choice that fits has more than four winners
 pub record IsMadeAuction (number : ℕ) : Type 0 where
   pub lawful : IsAward made_terms
   pub stated : reading made_award_text ≡ stated_terms made_terms

@@ -1,4 +1,4 @@
--- The award that is made: the same for each number.
+-- The award that is made: one for all numbers.
 use Rattle.std.specs.Prelude.{ℕ, List, [], ◌∷◌, codes, replicate, length}
 use Rattle.std.specs.Fmt.{decimal}
 use Rattle.auction_rules.specs.Terms.{Entrant, Terms}

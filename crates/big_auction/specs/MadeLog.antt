@@ -35,7 +35,7 @@ last_of k own = if nat_le k staying then reduced own else no_lots made_terms
 abbrev pub final_package_of : ℕ → ℕ → List ℕ
 final_package_of number k = last_of k (package_of number k)
 
--- the rounds in which all bidders bid
+-- the rounds with bids of all bidders
 abbrev pub full_rounds : ℕ
 full_rounds = 9
 

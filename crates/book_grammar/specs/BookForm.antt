@@ -40,7 +40,7 @@ abbrev pub AreBids : List ℕ → List ℕ → List ℕ → List BookBid → Typ
 AreBids supply reserves before [] = Unit {0}
 AreBids supply reserves before (b ∷ bs) = IsBid supply reserves before b × AreBids supply reserves b.lots bs
 
--- before the first bid of a bidder stands the empty package, so no package is empty
+-- the empty package comes before the first bid of a bidder, so no package is empty
 abbrev pub empty_package : List ℕ → List ℕ
 empty_package supply = replicate (length supply) 0
 

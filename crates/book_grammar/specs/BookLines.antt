@@ -1,4 +1,4 @@
--- The lines of a book, and beside a line the limit that it exceeds.
+-- The lines of a book, each with the limit that it exceeds.
 use Rattle.std.specs.Prelude.{◌≡◌, ℕ, ◌+◌, Option, Some, None, List, [], ◌∷◌, ◌++◌, codes, length, sum, nat_le, nat_lt, if◌then◌else◌}
 use Rattle.line_format.specs.LineText.{first_excess}
 use Rattle.auction_model.specs.Place.{states_of}
@@ -56,7 +56,7 @@ head_lines book = (codes "book 1", None) ∷ supply_line book.supply ∷ reserve
 abbrev pub book_lines : Book → List Line
 book_lines book = head_lines book ++ bidder_lines 0 book.bidders ++ (codes "end", None) ∷ []
 
--- a book that has a text, in which nothing exceeds a limit
+-- a book that has a text where nothing exceeds a limit
 pub record IsBookWithinLimits (book : Book) : Type 0 where
   pub form : IsBook book
   pub limits : first_excess (book_lines book) ≡ None

@@ -7,7 +7,8 @@ use Rattle.core_price.specs.declared.priced.PriceStop.TheVariants.{Winners, Memo
 use Rattle.core_laws.specs.Weights.{ManyWin}
 use Rattle.core_laws.specs.Winners.{winners_in}
 
--- the winning choice has more winners than can be priced with the weights, that many; out of memory says nothing of the book
+-- the winning choice has more winners than can be priced with the weights, that many; out of memory says nothing about the
+-- book
 abbrev pub IsBookStop : Book → List ℕ → PriceStop → Type 0
 IsBookStop book weights (Winners n) = (z : List ℕ) × IsWinning (market_of book) z × ManyWin z weights
     × (n ≡ winners_in z)

@@ -6,7 +6,8 @@ use Rattle.cca_cli.specs.Code.{code_of}
 use Rattle.cca_cli.specs.declared.status.Status.{Status}
 use Rattle.cca_run.specs.Runs.{Runs}
 
--- A run of these words over files and an output that were so ended with a status whose code this is, and left these files and this output.
+-- A run with these arguments over the old files and the old output ended with a status of this code, and left the new files and
+-- the new output.
 pub record EndsAs (words : List (List ℕ)) (old new : Folder) (before now : Output) (code : ℕ) : Type 0 where
   pub status : Status
   pub runs : Runs words old new before now status

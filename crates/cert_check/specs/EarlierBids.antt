@@ -1,4 +1,4 @@
--- The bids that come before those of the choice in the order of ties.
+-- The bids that come before the choice's bids in the order of ties.
 use Rattle.std.specs.Prelude.{◌≡◌, ℕ, suc, ◌+◌, ◌*◌, ◌^◌, ◌<◌, ◌≤◌, IsTrue, List, length, drop, ℤ, ◌+ℤ◌, ◌-ℤ◌, ◌<ℤ◌, unsigned_abs}
 use Rattle.auction_model.specs.Package.{is_within, less}
 use Rattle.auction_model.specs.Place.{left_at, place_of}

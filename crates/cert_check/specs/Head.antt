@@ -1,19 +1,19 @@
--- What the tests before one give it.
+-- What a test can use from the tests before it.
 use Rattle.std.specs.Prelude.{◌≡◌, ℕ, ◌<◌, ◌≤◌, ◌^◌, IsTrue, List, length, ℤ, pos, ◌+ℤ◌, ◌*ℤ◌, ◌≤ℤ◌, ◌<ℤ◌}
 use Rattle.auction_model.specs.Book.{Book, bids_of, market_of, net_of}
 use Rattle.auction_model.specs.Market.{value_of}
 use Rattle.cert_grammar.specs.Certificate.{CertValue}
 use Rattle.cert_soundness.specs.Tests.{Asks, C1, C2, C3, bidders_of}
 
--- it holds at all places before this one
+-- it is true at all places before this one
 abbrev pub HoldsBefore : (ℕ → Type 0) → ℕ → Type 0
 HoldsBefore P n = (place : ℕ) → place < n → P place
 
--- all tests before this one hold
+-- all tests before this one pass
 abbrev pub HoldsUpTo : Book → (ℕ → ℕ) → CertValue → ℕ → Type 0
 HoldsUpTo book w c n = (test place : ℕ) → test < n → Asks book w c test place
 
--- the first three tests hold: the sizes, the choice and its table
+-- the first three tests pass: the sizes, the choice and its table
 pub record HeadHolds (book : Book) (c : CertValue) : Type 0 where
   pub sizes : (place : ℕ) → C1 c place
   pub choice : (place : ℕ) → C2 book c place

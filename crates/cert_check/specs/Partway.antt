@@ -5,11 +5,11 @@ use Rattle.cert_grammar.specs.Certificate.{CertValue}
 use Rattle.cert_soundness.specs.Tests.{Asks, FailsFirst}
 use Rattle.cert_check.specs.declared.failure.Failure.{Failure}
 
--- all that comes before this place of this test holds
+-- all tests pass before this place of this test
 abbrev pub HoldsTo : Book → (ℕ → ℕ) → CertValue → ℕ → ℕ → Type 0
 HoldsTo book w c test place = (u q : ℕ) → (u < test) ⊎ ((u ≡ test) × (q < place)) → Asks book w c u q
 
--- either all before this place of this test holds, or what fails first is known
+-- either all tests pass before this place of this test, or what fails first is known
 abbrev pub IsJudged : Book → (ℕ → ℕ) → CertValue → ℕ → ℕ → Option Failure → Type 0
 IsJudged book w c test place None = HoldsTo book w c test place
 IsJudged book w c test place (Some f) = FailsFirst book w c f.test f.place
@@ -19,7 +19,8 @@ abbrev pub failure_at : ℕ → Option ℕ → Option Failure
 failure_at test None = None
 failure_at test (Some place) = Some (record { test = test; place = place })
 
--- of the first n places after a base, this is the first at which the test fails, or none does
+-- of the first n places after a base, this is the first where the test fails, or it fails at
+-- none
 abbrev pub IsLate : Book → (ℕ → ℕ) → CertValue → ℕ → ℕ → ℕ → Option ℕ → Type 0
 IsLate book w c test base n None = (i : ℕ) → i < n → Asks book w c test (base + i)
 IsLate book w c test base n (Some p) = (p < n) × (Asks book w c test (base + p) → ⊥)

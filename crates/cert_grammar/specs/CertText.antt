@@ -27,12 +27,12 @@ abbrev pub part_lines : List WithoutValue → List Line
 part_lines [] = []
 part_lines (w ∷ ws) = (line (codes "without") (pos w.winner ∷ []) ∷ choice_line w.choice ∷ line (codes "table") [] ∷ table_lines w.table) ++ part_lines ws
 
--- for each row its members, its two multipliers, and the choice that gives its bound
+-- for each row its members, its two multipliers, and the choice that determines its bound
 abbrev pub row_lines : List RowValue → List Line
 row_lines [] = []
 row_lines (r ∷ rows) = line (codes "row") (as_numbers r.members) ∷ line (codes "mult") (r.first ∷ r.second ∷ []) ∷ choice_line r.choice ∷ row_lines rows
 
--- what follows the version: all that the certificate holds, in order
+-- what follows the version: the content of the certificate, in order
 abbrev pub body_lines : CertValue → List Line
 body_lines c =
     line (codes "den") (c.den ∷ []) ∷ line (codes "value") (c.value ∷ []) ∷ choice_line c.choice
@@ -40,7 +40,8 @@ body_lines c =
     ++ line (codes "pay") c.pay ∷ line (codes "rows") (pos (length c.rows) ∷ [])
     ∷ (row_lines c.rows ++ line (codes "lowered") [] ∷ (table_lines c.lowered ++ line (codes "end") [] ∷ [])))
 
--- The version, then all that the certificate holds. It is for as many bidders as its choice has, and for as many states as its table.
+-- The version, then the content of the certificate. It is for as many bidders as its choice has, and for as many states as its
+-- table.
 abbrev pub cert_lines : CertValue → List Line
 cert_lines c = version_lines (length c.choice) (length (slice_index_or c.table 0 [])) ++ body_lines c
 

@@ -8,7 +8,7 @@ pub record WithoutValue : Type 0 where
   pub choice : List ℕ
   pub table : List (List ℤ)
 
--- a set of winners, its two multipliers, and the choice that gives its bound
+-- a set of winners, its two multipliers, and the choice that determines its bound
 pub record RowValue : Type 0 where
   pub members : List ℕ
   pub first : ℤ

@@ -166,7 +166,7 @@ body_plan bidders states =
 abbrev pub cert_plan : ℕ → ℕ → List Kind
 cert_plan bidders states = version_plan bidders states ++ body_plan bidders states
 
--- the lines are those of a certificate for that many bidders and states
+-- the lines are a certificate's for that many bidders and states
 abbrev pub IsCertText : ℕ → ℕ → List Line → Type 0
 IsCertText bidders states = Follows Fits after (cert_plan bidders states)
 
@@ -177,10 +177,10 @@ places_plan bidders =
     ∷ kind (codes "choice") (ordered_head bidders) ∷ kind (codes "pay") (signed bidders) ∷ kind (codes "rows") (ordered_count bidders)
     ∷ kind (codes "lowered") (these []) ∷ (set_table_plan bidders ++ kind (codes "end") (these []) ∷ [])
 
--- the lines are those of a certificate of places for that many bidders
+-- the lines are a certificate of places' for that many bidders
 abbrev pub IsPlacesText : ℕ → List Line → Type 0
 IsPlacesText bidders = Follows Fits after (places_plan bidders)
 
--- the bytes of each line, and beside a line with a number out of range its place
+-- the bytes of each line, and for a line with a number out of range its place
 abbrev pub lines : List Line → List (List ℕ × Option ℕ)
 lines ls = placed spell over 0 ls

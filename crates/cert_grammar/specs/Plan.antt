@@ -2,7 +2,7 @@
 use Rattle.std.specs.Prelude.{◌≡◌, ℕ, ◌+◌, Bool, Option, Some, None, List, [], ◌∷◌, ◌++◌, length, if◌then◌else◌}
 
 module _ {K I : Type 0} (Fits : K → I → Type 0) (after : K → I → List K) where
-  -- the lines are those of the plan, to its end
+  -- the lines are the plan's, to its end
   abbrev pub Follows : List K → List I → Type 0
   Follows [] [] = Unit {0}
   Follows [] (i ∷ is) = ⊥
@@ -16,7 +16,7 @@ module _ {I : Type 0} (spell : I → List ℕ) (over : I → Bool) where
   abbrev pub next_place : ℕ → I → ℕ
   next_place place i = place + (length (spell i) + 1)
 
-  -- the lines from this place on; beside a line with a number that is out of range stands its place
+  -- the lines from this place on, and for a line with a number out of range its place
   abbrev pub placed : ℕ → List I → List (List ℕ × Option ℕ)
   placed place [] = []
   placed place (i ∷ is) = (spell i, mark place i) ∷ placed (next_place place i) is
@@ -26,7 +26,7 @@ module _ {I : Type 0} (spell : I → List ℕ) (over : I → Bool) where
   end_place place [] = place
   end_place place (i ∷ is) = end_place (next_place place i) is
 
-  -- what is beside the last of the lines
+  -- the mark of the last of the lines
   abbrev pub last_mark : ℕ → Option ℕ → List I → Option ℕ
   last_mark place before [] = before
   last_mark place before (i ∷ is) = last_mark (next_place place i) (mark place i) is

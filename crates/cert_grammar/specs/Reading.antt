@@ -1,4 +1,4 @@
--- Where a reader of a text by a plan is.
+-- The position of a reader of a text by a plan.
 use Rattle.std.specs.Prelude.{◌≡◌, ℕ, ◌<◌, None, List, [], ◌∷◌}
 use Rattle.line_format.specs.LineText.{IsLine}
 use Rattle.line_format.specs.Reading.{SoFar}
@@ -29,6 +29,6 @@ pub record ReachedBy (whole : List Kind) (bytes : List ℕ) (place : ℕ) (plan 
   pub place_is : end_place spell over 0 items ≡ place
   pub mark_is : last_mark spell over 0 None items ≡ None
 
--- the same in a certificate for that many bidders and states
+-- this position in a certificate for that many bidders and states
 abbrev pub Reached : ℕ → ℕ → List ℕ → ℕ → List Kind → List Line → Type 0
 Reached bidders states = ReachedBy (cert_plan bidders states)

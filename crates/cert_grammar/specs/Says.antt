@@ -1,4 +1,4 @@
--- What bytes say of a certificate.
+-- The reading of bytes as a certificate.
 use Rattle.std.specs.Prelude.{ℕ, List}
 use Rattle.line_format.specs.LineText.{text_of, IsTextOf, FaultAt, Exceeds, Said, stated, faulty, beyond}
 use Rattle.cert_grammar.specs.Certificate.{CertValue}
@@ -9,8 +9,8 @@ use Rattle.cert_grammar.specs.Lines.{IsCertText, lines}
 abbrev pub cert_text : CertValue → List ℕ
 cert_text c = text_of (lines (cert_lines c))
 
--- For that many bidders and states: the certificate that the bytes are the text of; or the place where the first faulty line
--- begins; or the place where the first line begins that has a number out of range, the lines up to it being of right form.
+-- For that many bidders and states: the certificate that the bytes are the text of; or the place of the first faulty line,
+-- or the place of the first line with a number out of range, if the lines up to it are of right form.
 abbrev pub CertSays : ℕ → ℕ → List ℕ → Said CertValue ℕ → Type 0
 CertSays bidders states bytes (stated c) = IsCertificate bidders states c
     × IsTextOf (IsCertText bidders states) lines bytes (cert_lines c)

@@ -1,4 +1,4 @@
--- The bytes of a text that is held as parts.
+-- The bytes of a text that is kept as parts.
 use Rattle.std.specs.Prelude.{ℕ, List, [], ◌∷◌, ◌++◌}
 use Rattle.std.specs.List.{AllByRecursion}
 use Rattle.cert_grammar.specs.CertText.{table_lines}
@@ -10,7 +10,7 @@ abbrev pub part_bytes : Part → List ℕ
 part_bytes (Bytes text) = text
 part_bytes (Lines table) = bytes_of (table_lines table)
 
--- those of all parts, one after another
+-- the bytes of all parts, one after another
 abbrev pub all_bytes : List Part → List ℕ
 all_bytes [] = []
 all_bytes (p ∷ ps) = part_bytes p ++ all_bytes ps

@@ -1,4 +1,5 @@
--- What the payments and the parts of a certificate come to in any market: the worths less the surpluses of winners, and the Vickrey prices.
+-- What the payments and the parts of a certificate amount to in any market: the worths less the surpluses of winners, and the
+-- Vickrey prices.
 use Rattle.std.specs.Prelude.{ℕ, ℤ, pos, ◌-ℤ◌, ◌*ℤ◌, if◌then◌else◌}
 use Rattle.auction_model.specs.Market.{Market, uses}
 use Rattle.auction_model.specs.Lowered.{of_bidder}

@@ -1,5 +1,5 @@
--- The tests of a certificate that need no more of an auction than its market: those of payments, rows and multipliers. As all tests,
--- each asks something at each of its places and nothing at any other number.
+-- The tests of a certificate that need only the market of an auction: the tests of payments, rows and multipliers. Like all
+-- tests, each asks something at each of its places and nothing at any other number.
 use Rattle.std.specs.Prelude.{◌≡◌, ℕ, zero, suc, ◌+◌, ◌<◌, ◌≤◌, IsTrue, IsFalse, not, List, length, ℤ, pos, ◌+ℤ◌, ◌-ℤ◌, ◌*ℤ◌, ◌≤ℤ◌, ◌<ℤ◌, ◌⊎◌, if◌then◌else◌}
 use Rattle.auction_model.specs.Market.{Market, number_of, uses, value_of, worth_in}
 use Rattle.auction_model.specs.Lowered.{of_bidder}
@@ -28,7 +28,7 @@ pub record IsTight (m : Market) (c : CertValue) (row : RowValue) : Type 0 where
 pub record HasTightRow (m : Market) (c : CertValue) (place : ℕ) : Type 0 where
   pub row : 0 < place → place ≤ length c.rows → IsTight m c (row_of c.rows place)
 
--- the sum over rows 1 to n of the numbers of those that hold bidder j
+-- the sum of the numbers of those of rows 1 to n that contain bidder j
 abbrev pub sum_holding : List RowValue → ℕ → (RowValue → ℤ) → ℕ → ℤ
 sum_holding rows j number zero = pos 0
 sum_holding rows j number (suc n) = sum_holding rows j number n +ℤ (if is_member (row_of rows (suc n)).members j then number (row_of rows (suc n)) else pos 0)

@@ -17,8 +17,8 @@ pub record IsBestPart (book : Book) (j : ℕ) (part : WithoutValue) : Type 0 whe
   pub choice : IsFirstGreatest (allowed_without (market_of book) j) (value_of (market_of book)) part.choice
   pub table : IsExactTable (without (menu_of book) j) (net_of book) book.supply part.table
 
--- All tests pass. Beside what they say, the choices are the first of the greatest and the tables are exact; the last is that of
--- the worths that are lowered by the surpluses at the payments, and of the idle worths.
+-- All tests pass. Also the choices are the first of the greatest and the tables are exact. The last table is for the worths
+-- lowered by the surpluses at the payments, and for the idle worths.
 pub record IsPricedCert (book : Book) (w : ℕ → ℕ) (c : CertValue) : Type 0 where
   pub holds : Holds book w c
   pub winning : IsWinning (market_of book) c.choice

@@ -1,4 +1,4 @@
--- What a yes of the checker says of a book and a certificate.
+-- What the checker's acceptance means for a book and a certificate.
 use Rattle.std.specs.Prelude.{◌≡◌, ℕ, ℤ, pos, if◌then◌else◌}
 use Rattle.auction_model.specs.Book.{Book, market_of}
 use Rattle.auction_model.specs.Greatest.{IsWinning}
@@ -15,7 +15,7 @@ cert_point c = record { den = c.den; at = c.pay }
 abbrev pub cert_prices : Book → CertValue → ℕ → ℤ
 cert_prices book c j = if uses c.choice j then vickrey_of book c j else pos 0
 
--- The choice is the winning one, the value is its value, the parts give the Vickrey prices, and the choice and the payments are
+-- The choice is the winning one, the value is its value, the parts show the Vickrey prices, and the choice and the payments are
 -- the core outcome with these weights.
 pub record IsSound (book : Book) (w : ℕ → ℕ) (c : CertValue) : Type 0 where
   pub winning : IsWinning (market_of book) c.choice

@@ -132,7 +132,7 @@ pub record Holds (book : Book) (w : ℕ → ℕ) (c : CertValue) : Type 0 where
   pub c8 : (place : ℕ) → C8 book w c place
   pub c9 : (place : ℕ) → C9 book c place
 
--- test t at this place is the first that fails: what comes before it holds
+-- test t at this place is the first that fails: all before it passes
 pub record FailsFirst (book : Book) (w : ℕ → ℕ) (c : CertValue) (t place : ℕ) : Type 0 where
   pub fails : Asks book w c t place → ⊥
   pub before : (u q : ℕ) → (u < t) ⊎ ((u ≡ t) × (q < place)) → Asks book w c u q

@@ -81,7 +81,7 @@ after_table bidders states choice Head = from_part bidders states choice 0
 after_table bidders states choice (Part j) = from_part bidders states choice j
 after_table bidders states choice Lowered = kind (codes "end") (these []) ∷ []
 
--- the line of limits, which the second version alone has
+-- the line of limits, which only the second version has
 abbrev pub limits_plan : Bool → List Kind
 limits_plan true = []
 limits_plan false = kind (codes "limits") (these (pos MOST_BIDDERS ∷ pos MOST_STATES ∷ [])) ∷ []

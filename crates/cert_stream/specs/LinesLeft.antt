@@ -47,7 +47,7 @@ table_left c Head = parts_left c 0
 table_left c (Part j) = parts_left c j
 table_left c Lowered = end_line
 
--- the row of which r are to come, with this one
+-- the row with r rows to come, itself included
 abbrev pub row_at : CertValue → ℕ → RowValue
 row_at c r = slice_index_or c.rows (length c.rows - r) (record { members = []; first = pos 0; second = pos 0; choice = [] })
 
@@ -58,7 +58,7 @@ titled_left c table = line (title_of table) [] ∷ (table_lines (table_in c tabl
 abbrev pub limits_line : Line
 limits_line = line (codes "limits") (pos MOST_BIDDERS ∷ pos MOST_STATES ∷ [])
 
--- the line of limits, which the second version alone has
+-- the line of limits, which only the second version has
 abbrev pub limits_lines : Bool → List Line
 limits_lines true = []
 limits_lines false = limits_line ∷ []
@@ -143,6 +143,6 @@ abbrev pub Leads : ℕ → ℕ → NextLine → List ℤ → ℤ → NextLine �
 Leads b s due choice first next = (c : CertValue) → IsCertificate b s c → Tells c due choice first → HasDue b s c due
     → ComesNext b s c due next
 
--- the same, if the room gives the choice and the count
+-- the next line, if the room has the choice and the count
 abbrev pub LeadsInRoom : ℕ → ℕ → NextLine → List ℤ → NextLine → Type 0
 LeadsInRoom b s due room next = Leads b s due (take b room) (get_or room (start_due b s due) (pos 0)) next

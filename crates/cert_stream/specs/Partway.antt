@@ -13,13 +13,13 @@ abbrev pub IsBelow : Bool → ℤ → Type 0
 IsBelow negative (pos n) = negative ≡ false
 IsBelow negative (negsuc n) = negative ≡ true
 
--- the last number so far, of which this sign and size were read
+-- the last number so far, after this sign and size
 pub record IsOpen (negative : Bool) (tally : Magnitude) (z : ℤ) : Type 0 where
   pub sign : IsBelow negative z
   pub size : IsTally tally (unsigned_abs z)
 
--- The bytes are the prefix of a line of the word: these numbers are whole, and after them it has come so far. Digits are those of
--- one number more, which may go on.
+-- The bytes are the prefix of a line of the word: these numbers are whole, and after them it has come so far. Digits are part
+-- of one number more, which may go on.
 abbrev pub Partway : List ℕ → List ℤ → Phase → List ℕ → Type 0
 Partway word ns (Word count) bytes = (ns ≡ []) × (count ≤ length word) × (bytes ≡ take count word)
 Partway word ns Space bytes = bytes ≡ word ++ (numbers_text ns ++ 32 ∷ [])

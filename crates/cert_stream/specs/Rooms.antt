@@ -1,4 +1,4 @@
--- Where the numbers of a line are in the room.
+-- The places of the numbers of a line in the room.
 use Rattle.std.specs.Prelude.{◌≡◌, ℕ, ◌+◌, ◌-◌, ◌*◌, ◌%◌, List, take, drop, ℤ}
 use Rattle.limits.specs.declared.TheConstants.{MOST_BIDDERS, MOST_STATES}
 use Rattle.cert_grammar.specs.Lines.{is_first_version}

@@ -1,4 +1,4 @@
--- For which text a reader is.
+-- The text that a reader stands for.
 use Rattle.std.specs.Prelude.{◌≡◌, ℕ, ◌+◌, Option, Some, None, false, List, [], ◌∷◌, ◌++◌, length, take, drop, ℤ}
 use Rattle.line_format.specs.LineText.{IsLine}
 use Rattle.cert_grammar.specs.Plan.{Follows}
@@ -23,7 +23,7 @@ AllIn (l ∷ ls) = (over l ≡ false) × AllIn ls
 abbrev pub Lead : ℕ → ℕ → List Kind → List Line → Type 0
 Lead b s plan items = (more : List Line) → Follows Fits after plan more → IsCertText b s (items ++ more)
 
--- The text's whole lines are the first lines of a certificate, and after them this line is due, of which that much has come. The room
+-- The text's whole lines are the first lines of a certificate, and after them this line is due and has come that far. The room
 -- begins with the head's choice, once that has come.
 pub record IsReading (b s : ℕ) (due : NextLine) (part : LinePart) (place read : ℕ) (room : List ℤ) (text : List ℕ) (items : List Line) : Type 0 where
   pub reached : Reached b s text place (plan_due b s (take b room) due) items

@@ -6,7 +6,7 @@ use Rattle.wide_num.proofs.Decimal.{IsDigit}
 abbrev pub AreDigitsFrom : List ℕ → ℕ → ℕ → Type 0
 AreDigitsFrom piece at n = (i : ℕ) → i < n → IsDigit (get_or piece (at + i) 0)
 
--- each byte less that of the digit 0, the first one lowest
+-- each byte less the byte of the digit 0, the first one lowest
 abbrev pub word_of : List ℕ → ℕ
 word_of [] = 0
 word_of (c ∷ cs) = (c + 208) % 256 + 256 * word_of cs

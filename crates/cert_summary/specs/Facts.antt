@@ -1,4 +1,4 @@
--- What is printed of a certificate, and the certificates of which that can be reported.
+-- What is printed for a certificate, and the certificates that allow it.
 use Rattle.std.specs.Prelude.{◌≡◌, ℕ, map}
 use Rattle.auction_model.specs.Book.{Book}
 use Rattle.cert_grammar.specs.Certificate.{CertValue, WithoutValue}
@@ -7,7 +7,7 @@ use Rattle.cert_soundness.specs.Tests.{C1, C2, C4, C5, bidders_of, states, vickr
 use Rattle.choices.specs.declared.chooser.Single.{Single}
 use Rattle.cert_summary.specs.declared.shown.CertFacts.{CertFacts}
 
--- a certificate of the book, of whose tests those hold on which its facts rest: its sizes, its choice, its parts and its payments
+-- a certificate of the book that passes the tests its facts rest on: its sizes, its choice, its parts and its payments
 pub record HasFacts (book : Book) (c : CertValue) : Type 0 where
   pub certificate : IsCertificate (bidders_of book) (states book) c
   pub sizes : (place : ℕ) → C1 c place
@@ -19,8 +19,8 @@ pub record HasFacts (book : Book) (c : CertValue) : Type 0 where
 abbrev pub single_of : Book → CertValue → WithoutValue → Single
 single_of book c part = record { winner = part.winner; price = vickrey_of book c part.winner; choice = part.choice }
 
--- These are the facts of such a certificate: its denominator, value, choice and payments, and for each of its parts, in order, the winner
--- alone.
+-- These are the facts of such a certificate: its denominator, value, choice and payments, and for each of its parts, in order,
+-- the single winner.
 pub record AreFacts (book : Book) (c : CertValue) (facts : CertFacts) : Type 0 where
   pub of : HasFacts book c
   pub den : facts.den ≡ c.den

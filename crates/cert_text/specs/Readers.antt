@@ -1,4 +1,4 @@
--- What a line is read as, and where the reader then is.
+-- The reading of a line, and the reader's position after it.
 use Rattle.std.specs.Prelude.{◌≡◌, ℕ, ◌+◌, ◌≤◌, ◌<◌, Bool, false, List, [], ◌∷◌, codes, ◌++◌, length, take, drop, ℤ, pos}
 use Rattle.line_format.specs.LineText.{IsLine}
 use Rattle.line_format.specs.Numeral.{numbers_text}
@@ -9,7 +9,7 @@ use Rattle.cert_grammar.specs.Reading.{ReachedBy}
 use Rattle.cert_text.specs.Stops.{StopsBy}
 use Rattle.cert_text.specs.declared.stop.CertStop.{CertStop}
 
--- at the place stands a line of the word and numbers, of which this is kept
+-- at the place is a line of the word and numbers, and this is kept of them
 pub record IsLineAt (bytes : List ℕ) (place : ℕ) (word : List ℕ) (items : List ℤ) (beyond : Bool) (next : ℕ) : Type 0 where
   pub size : ℕ
   pub is_line : IsLine (take size (drop place bytes))
@@ -42,7 +42,7 @@ HaltsAtEnd bytes place stop = (whole : List Kind) (items : List Line) → Reache
 abbrev pub IsRefused : List ℕ → ℕ → List ℕ → CertStop → Type 0
 IsRefused bytes place word stop = (n : Numbers) → Halts bytes place (kind word n ∷ []) stop
 
--- numbers of the one kind are those of the other
+-- numbers of the one kind are numbers of the other
 pub record AreLike (m n : Numbers) : Type 0 where
   pub to : (ns : List ℤ) → FitNumbers n ns → FitNumbers m ns
   pub from : (ns : List ℤ) → FitNumbers m ns → FitNumbers n ns
@@ -55,7 +55,7 @@ LeadsLike bytes place word m next ns = (n : Numbers) → AreLike m n
 abbrev pub HaltsLike : List ℕ → ℕ → List ℕ → Numbers → CertStop → Type 0
 HaltsLike bytes place word m stop = (n : Numbers) → AreLike m n → Halts bytes place (kind word n ∷ []) stop
 
--- numbers of this kind are those of a choice
+-- numbers of this kind are a choice's
 abbrev pub AreChosen : ℕ → Numbers → Type 0
 AreChosen bidders n = AreLike (chosen bidders) n
 

@@ -7,7 +7,8 @@ use Rattle.cert_grammar.specs.Says.{CertSays}
 use Rattle.cert_text.specs.declared.stop.CertStop.{CertStop}
 use Rattle.cert_text.specs.declared.stop.CertStop.TheVariants.{Form, Range, Memory}
 
--- what the bytes say, for that many bidders and states; out of memory says nothing of them
+-- what the bytes say, for that many bidders and states; out of memory says nothing about
+-- them
 abbrev pub StopsAt : ℕ → ℕ → List ℕ → CertStop → Type 0
 StopsAt bidders states bytes (Form place) = CertSays bidders states bytes (faulty place)
 StopsAt bidders states bytes (Range place) = CertSays bidders states bytes (beyond place)

@@ -24,6 +24,6 @@ pub record AreCoarse (unit : ℕ) (line below : List ℤ) (low high : List ℕ) 
 abbrev pub Marks : List ℕ → List ℕ → List ℕ → Type 0
 Marks supply lots mask = (n : ℕ) → n < states_of supply → IsTrue (is_within lots (left_at supply n)) → get_or mask n 0 ≡ 2 ^ 16 - 1
 
--- the same of the blocks of the last `level` categories of the package, if there are that many
+-- the mask of the blocks of the last `level` categories of the package, if there are that many
 abbrev pub HasMask : ℕ → List ℕ → List ℕ → List ℕ → Type 0
 HasMask level supply lots mask = 0 < level → level ≤ length lots → Marks (drop (length lots - level) supply) (drop (length lots - level) lots) mask

@@ -1,4 +1,4 @@
--- The winners of a choice, each alone.
+-- The single winners of a choice.
 use Rattle.std.specs.Prelude.{◌≡◌, ℕ, zero, suc, IsTrue, List, [], ◌∷◌, map}
 use Rattle.std.specs.List.{AllByRecursion}
 use Rattle.auction_model.specs.Market.{Market, uses, value_of}

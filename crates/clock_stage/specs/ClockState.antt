@@ -29,7 +29,7 @@ round_number clock = if clock.running then suc (length clock.rounds) else length
 abbrev pub round_with : List ℕ → List ℕ → List (List ℕ) → Round
 round_with prices eligibility held = record { prices = prices; eligibility = eligibility; held = held }
 
--- the round in which bidder j holds these lots
+-- the round where bidder j holds these lots
 abbrev pub with_held : Round → ℕ → List ℕ → Round
 with_held r j lots = round_with r.prices r.eligibility (slice_set r.held (j - 1) lots)
 

@@ -38,7 +38,7 @@ pub record IsHistory (rounds : List Round) : Type 0 where
   pub few : length rounds ≤ MOST_ROUNDS
   pub each : All (IsRound (bidders_in rounds) (categories_in rounds)) rounds
 
--- what a clock keeps: its rounds have as many bidders and categories as the posted one, for which there is room
+-- the invariant of a clock: its rounds have as many bidders and categories as the posted one, within the limits
 pub record IsClock (clock : ClockState) : Type 0 where
   pub few_bidders : length clock.posted.held ≤ MOST_BIDDERS
   pub few_categories : length clock.posted.prices ≤ MOST_CATEGORIES

@@ -1,4 +1,4 @@
--- The rounds that the fields of a history and a clock hold.
+-- The rounds in the fields of a history and a clock.
 use Rattle.std.specs.Prelude.{List, map}
 use Rattle.auction_rules.specs.State.{Round}
 use Rattle.clock_stage.specs.declared.rounds.ClockRound.{ClockRound}

@@ -16,7 +16,8 @@ row_in z row = record { members = has_member z row.members; bound = row.bound }
 abbrev pub HasWinners : List ℕ → ℕ → Type 0
 HasWinners z bits = (0 < bits) × (bits < 2 ^ winners_in z)
 
--- the choice c uses no member of the row and gives it its bound, and no choice gives this set a greater one
+-- the choice c uses no member of the row and determines its bound, and no choice leads to a greater bound
+-- for this set
 pub record IsGivenBy (m : Market) (z : List ℕ) (row : Row) (c : List ℕ) : Type 0 where
   pub members : HasWinners z row.members
   pub allowed : IsTrue (m.allowed c)

@@ -18,7 +18,8 @@ firsts kept = map (λ r. r.first) kept
 abbrev pub seconds : List PricedRow → List ℤ
 seconds kept = map (λ r. r.second) kept
 
--- a row that is kept: its choice gives it, the point is tight there, and its multipliers aren't both 0
+-- a row that is kept: its choice determines it, the point is tight there, and its multipliers aren't
+-- both 0
 pub record IsKept (m : Market) (z : List ℕ) (den : ℤ) (at : List ℤ) (r : PricedRow) : Type 0 where
   pub given : IsGivenBy m z r.row r.choice
   pub tight : dot (winners_in z) (holds r.row.members) (nth at) ≡ den *ℤ r.row.bound

@@ -37,8 +37,8 @@ pub record AreTurnsTo (m : Market) (z weights : List ℕ) (singles : List Single
   pub last : EndsWith turns (last_turn den at)
   pub distinct : IsDistinct eqb (map (λ r. r.members) (asked_rows singles turns))
 
--- Rows of the turns, at most one for each winner, on which these payments are tight. Their first multipliers show that the sum is
--- the least, the second that the point is the nearest. All is in lowest terms.
+-- Rows of the turns, at most one for each winner. These payments are tight on them. Their first multipliers show that the sum
+-- is the least, the second that the point is the nearest. All is in lowest terms.
 pub record AreShownBy (m : Market) (z weights : List ℕ) (singles : List Single) (turns : List Turn) (den : ℤ) (at : List ℤ) (rows : List PricedRow) : Type 0 where
   pub order : AreAmong (asked_rows singles turns) (asked_choices singles turns) rows
   pub few : length rows ≤ winners_in z
@@ -55,5 +55,5 @@ pub record IsPriced {T : Type 0} (m : Market) (z weights : List ℕ) (singles : 
   pub prices : ArePrices m z weights singles p.den p.at
   pub turns : AreTurnsTo m z weights singles p.turns p.den p.at
   pub shown : AreShownBy m z weights singles p.turns p.den p.at p.rows
-  -- the last search, in which nothing blocks
+  -- the last search, where nothing blocks
   pub last : IsFound m z p.den (for_bidders z p.at) p.last.choice p.last.sum

@@ -1,4 +1,4 @@
--- The rows in the order in which they come: each winner alone, then one of each block.
+-- The rows in the order of their arrival: the single winners, then one of each block.
 use Rattle.std.specs.Prelude.{ℕ, suc, ◌^◌, List, [], ◌∷◌, ◌++◌, map, Option, ℤ}
 use Rattle.std.specs.declared.option.Option.TheVariants.{Some, None}
 use Rattle.blocking.specs.declared.look.Block.{Block}
@@ -10,7 +10,7 @@ use Rattle.core_price.specs.declared.priced.Turn.{Turn}
 abbrev pub prices_of : List Single → List ℤ
 prices_of singles = map (λ s. s.price) singles
 
--- each winner alone, i winners being passed, with its Vickrey price
+-- the single winners after i winners, each with its Vickrey price
 abbrev pub single_bits : ℕ → List Single → List Row
 single_bits i [] = []
 single_bits i (s ∷ singles) = record { members = 2 ^ i; bound = s.price } ∷ single_bits (suc i) singles

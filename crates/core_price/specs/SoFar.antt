@@ -29,7 +29,7 @@ pub record CanTurn (m : Market) (z : List ℕ) (prices : List ℤ) (weights : Li
   pub targets : AreTargets prices
   pub sum : total (length prices) (nth prices) ≤ℤ value_of m z
 
--- the choice that gives the row at a place
+-- the choice of the row at a place
 abbrev pub choice_at : List (List ℕ) → ℕ → List ℕ
 choice_at choices i = slice_index_or choices i []
 

@@ -21,7 +21,7 @@ turn_of z t = record { point = point_of z t.den t.at; block = option_map (block_
 abbrev pub turns_of : List ℕ → List Turn → List BidderTurn
 turns_of z turns = map (turn_of z) turns
 
--- the turn at which no coalition blocks the point
+-- the turn where no coalition blocks the point
 abbrev pub last_turn : ℤ → List ℤ → Turn
 last_turn den at = record { den = den; at = at; block = None }
 

@@ -1,4 +1,4 @@
--- The form of a file of edits: which lists of edits have a text, and its lines. Beside a line stands the limit that it exceeds.
+-- The form of a file of edits: which lists of edits have a text, and its lines, each with the limit that it exceeds.
 use Rattle.std.specs.Prelude.{◌≡◌, ℕ, suc, ◌+◌, ◌≤◌, Option, Some, None, List, [], ◌∷◌, ◌++◌, codes, length, map, nat_le, if◌then◌else◌}
 use Rattle.std.specs.List.{AllByRecursion}
 use Rattle.std.specs.Str.{bytes_eq}

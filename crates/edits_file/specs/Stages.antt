@@ -1,5 +1,5 @@
--- The stages of reading edits, and which lines bring the reader from one to the next. They serve the reader's own contracts; what bytes
--- say of edits is said without them.
+-- The stages of reading edits, and which lines bring the reader from one to the next. They serve the reader's own contracts.
+-- The meaning of bytes as edits is defined without them.
 use Rattle.std.specs.Prelude.{◌≡◌, ◌⊎◌, ℕ, ◌+◌, ◌≤◌, Option, None, List, [], ◌∷◌, ◌++◌, codes, length}
 use Rattle.std.specs.Fmt.{decimal}
 use Rattle.std.specs.List.{AllByRecursion}

@@ -58,7 +58,8 @@ pub record ContentOf (n : ℕ) (v : ℕ → ℤ) (g : ℤ) : Type 0 where
 abbrev pub flag : List Bool → ℕ → Bool
 flag free j = slice_index_or free j false
 
--- the rows of the free coordinates, ready for a line: each is small, and of all free coordinates it isn't 0 at its own alone
+-- the rows of the free coordinates, ready for a line: each is small, and of all free coordinates it is nonzero only at its
+-- own
 pub record Ready (line : List ℤ) (basis : List (List ℤ)) (free : List Bool) : Type 0 where
   pub limit : ℕ
   pub long_line : length line ≡ length free

@@ -33,7 +33,7 @@ pub record IsDependence (m : List (List ℤ)) (v : List ℤ) : Type 0 where
   pub apart : nth v place ≢ pos 0
   pub zero : IsCleared (length m) (length m) m (nth v)
 
--- what an answer says of the matrix and of the two parts of the right side
+-- what a result says about the matrix and the two parts of the right side
 abbrev pub IsAnswer : List (List ℤ) → (ℕ → ℤ) → (ℕ → ℤ) → Solved → Type 0
 IsAnswer m fars nears (One den values) = IsOneSolution m fars nears den values
 IsAnswer m fars nears (Dependent combination) = IsDependence m combination

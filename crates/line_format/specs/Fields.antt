@@ -76,7 +76,7 @@ pub record HasNumbers (text : List ℕ) (items : List ℤ) (beyond : Bool) : Typ
   pub out : any_out numbers ≡ beyond
   pub same : beyond ≡ false → items ≡ numbers
 
--- the line is the word and numbers, of which this is kept
+-- the line is the word and numbers, and this is kept of them
 pub record HasLine (text word : List ℕ) (items : List ℤ) (beyond : Bool) : Type 0 where
   pub front : take (length word) text ≡ word
   pub rest : HasNumbers (drop (length word) text) items beyond

@@ -1,5 +1,5 @@
--- Forms of text by lines. A form says which values have a text, and the lines of each value. Beside a line that
--- exceeds a limit stands what it exceeds.
+-- Forms of text by lines. A form defines which values have a text, and the lines of each value. A line that
+-- exceeds a limit is listed with the limit.
 use Rattle.std.specs.Prelude.{◌≡◌, ◌≢◌, ℕ, ◌≤◌, Option, Some, None, List, [], ◌∷◌, ◌++◌, length, take}
 use Rattle.std.specs.Option.{option_or}
 

@@ -10,7 +10,8 @@ digits_of (suc most) n = elim (nat_lt n 10) [ true ↦ (48 + n) ∷ [] | false �
 unfoldable pub numeral : ℕ → List ℕ
 numeral n = digits_of (suc n) n
 
--- the same with '-' before a number below 0
+-- the numeral, with '-' before a number
+-- below 0
 abbrev pub signed_numeral : ℤ → List ℕ
 signed_numeral (pos n) = numeral n
 signed_numeral (negsuc n) = 45 ∷ numeral (suc n)

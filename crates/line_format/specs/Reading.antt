@@ -3,7 +3,7 @@ use Rattle.std.specs.Prelude.{◌≡◌, ℕ, ◌<◌, Option, Some, None, List,
 use Rattle.line_format.specs.LineText.{IsLine, text_of, first_excess}
 
 module _ {S O : Type 0} (Step : S → List ℕ → S → Type 0) (excess : S → Option O) where
-  -- the reader goes from one stage to the other over these lines, and each exceeds what is beside it
+  -- the reader goes from one stage to the other over these lines, and each exceeds the limit listed with it
   abbrev pub Runs : S → List (List ℕ × Option O) → S → Type 0
   Runs s [] t = s ≡ t
   Runs s (m ∷ ms) t = (u : S) × IsLine m.0 × Step s m.0 u × (m.1 ≡ excess u) × Runs u ms t
@@ -17,7 +17,7 @@ module _ {S O : Type 0} (Step : S → List ℕ → S → Type 0) (excess : S →
     pub split : bytes ≡ text_of behind ++ drop place bytes
     pub here : length (text_of behind) ≡ place
 
-  -- the reader comes to this place and no further: no line leads on from there, and if no bytes are left, no value has ended
+  -- the reader reaches this place and no further: no line leads on from there, and if no bytes are left, no value has ended
   pub record HaltsAt {V : Type 0} (ended : V → S) (bytes : List ℕ) (place : ℕ) : Type 0 where
     pub stage : S
     pub so_far : SoFar bytes place stage

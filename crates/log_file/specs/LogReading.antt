@@ -9,7 +9,7 @@ use Rattle.log_file.specs.declared.LogStop.{LogStop}
 use Rattle.log_file.specs.declared.LogStop.TheVariants.{Form, Limit, Memory}
 use Rattle.log_file.specs.LogForm.{States, StatesNone}
 
--- the fields of each record, as the crate csv defines them; a byte order mark at the start is no part of them
+-- the fields of each record, as the crate csv defines them; a byte order mark at the start isn't part of them
 abbrev pub log_records : List ℕ → List (List (List ℕ))
 log_records bytes = records default_config (strip_bom bytes)
 
@@ -38,13 +38,13 @@ IsFirstFault terms rows number =
     × BeginWith terms rows events (fields ∷ later) × StatesNone terms fields × (length events < MOST_RECORDS)
     × (number ≡ suc (length events))
 
--- after as many records as a log may have, each of which states an event, follows another one
+-- after as many records as a log may have, each with an event, another one follows
 abbrev pub AreTooMany : Terms → List (List (List ℕ)) → Type 0
 AreTooMany terms rows =
     (events : List Event) × (fields : List (List ℕ)) × (later : List (List (List ℕ)))
     × BeginWith terms rows events (fields ∷ later) × (length events ≡ MOST_RECORDS)
 
--- what a stop says of the records
+-- what a stop says about the records
 abbrev pub IsStop : Terms → List (List (List ℕ)) → LogStop → Type 0
 IsStop terms rows (Form number) = IsFirstFault terms rows number
 IsStop terms rows (Limit kind count) = AreTooMany terms rows × (kind ≡ Records) × (count ≡ suc MOST_RECORDS)

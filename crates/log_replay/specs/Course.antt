@@ -24,7 +24,7 @@ pub record IsAnswered (terms : Terms) (log : List Event) (line : Event) (answer 
   pub reply : answer ≡ reply_to terms log line
   pub state : new ≡ state_of terms (line ∷ log)
 
--- a desk that stood for a log answered the line as it is to be, and stands for the log with the line
+-- a desk that stood for a log replied to the line by the rules, and stands for the log with the line
 abbrev pub Answers : DeskState → Event → Reply → DeskState → Type 0
 Answers old line answer new = (terms : Terms) (log : List Event) → old ≡ state_of terms log
     → IsAnswered terms log line answer new

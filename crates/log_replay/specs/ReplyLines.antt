@@ -1,4 +1,4 @@
--- What a log is answered by, line for line, and where it leads. A log has its newest line first.
+-- The replies to a log, line for line, and its result. A log has its newest line first.
 use Rattle.std.specs.Prelude.{ℕ, suc, Option, Some, None, Result, Ok, Err, List, [], ◌∷◌, ◌++◌, length, if◌then◌else◌}
 use Rattle.std.specs.Option.{option_or}
 use Rattle.limits.specs.declared.TheConstants.{MOST_ROUNDS}
@@ -24,7 +24,8 @@ done_at stage.Clock round = done.Round round
 done_at stage.Sealed round = done.Sealed
 done_at stage.Closed round = done.Closed
 
--- what a line did that got this reply, by the stage and the posted round after it: something is reported of an admitted close alone
+-- what a line did that got this reply, by the stage and the posted round after it: only an admitted close has an effect to
+-- report
 abbrev pub done_by : Event → Reply → Stage → ℕ → Option CloseDone
 done_by Close reply.Ok stage round = Some (done_at stage round)
 done_by line answer stage round = None
@@ -42,14 +43,14 @@ abbrev pub reply_lines : Terms → List Event → List ℕ
 reply_lines terms [] = []
 reply_lines terms (line ∷ log) = reply_lines terms log ++ line_of terms line log
 
--- The limit for which a close is refused: rounds, of which there would be one more than there may be, or a price, with what it would be
--- raised to. A draft that is refused for a full list meets no limit of the auction.
+-- The limit that refuses a close: rounds, with one more than there may be, or a price, with what it would be raised to. A draft
+-- that is refused for a full list exceeds no limit of the auction.
 abbrev pub refusal_of : Event → Reply → Option ReplayStop
 refusal_of Close (reply.Full count) = Some (Rounds (suc MOST_ROUNDS))
 refusal_of Close (reply.PriceTop category price) = Some (Price price)
 refusal_of line answer = None
 
--- that of the first close of a log that is refused for a limit
+-- the limit of the first close of a log that is refused for one
 abbrev pub first_refusal : Terms → List Event → Option ReplayStop
 first_refusal terms [] = None
 first_refusal terms (line ∷ log) = option_or (first_refusal terms log) (refusal_of line (reply_to terms log line))

@@ -1,4 +1,4 @@
--- What the search holds: a point and its multipliers by parts, the rows that made it, and their sizes.
+-- What the search keeps: a point and its multipliers by parts, the rows that made it, and their sizes.
 use Rattle.far_num.specs.declared.Row.{Row}
 use Rattle.limits.specs.declared.TheConstants.{MOST_WINNERS}
 use Rattle.nearest_point.specs.Numbers.{AreBelow, at_t, large, place}
@@ -35,7 +35,7 @@ abbrev pub IsOwed : List ℤ → List Row → List ℕ → ℕ → Type 0
 IsOwed target rows forced from = (e : ℤ)
     × ((x : ℕ → ℤ) × Owed (length target) (length rows) (coefficients rows) (bounds rows) forced from e x)
 
--- what holds of the parts, and their sizes
+-- the properties of the parts, and their sizes
 pub record HasParts (target : List ℤ) (weights : List ℕ) (rows : List Row) (h : Held) : Type 0 where
   pub long_far : length h.far.items ≡ length target
   pub long_near : length h.near.items ≡ length target
@@ -59,7 +59,7 @@ pub record IsLowered (weights : List ℕ) (lowered : List ℤ) : Type 0 where
 abbrev pub IsBelowBy : ℕ → List ℤ → Type 0
 IsBelowBy top lowered = (j : ℕ) → j < length lowered → ((pos 0 -ℤ pos top) ≤ℤ nth lowered j) × (nth lowered j ≤ℤ pos 0)
 
--- neither the sum of the targets nor a bound is above the edge
+-- the sum of the targets and each bound are at most the edge
 pub record IsEdge (edge : ℕ) (target : List ℤ) (rows : List Row) : Type 0 where
   pub sum : total (length target) (nth target) ≤ℤ pos edge
   pub small : (i : ℕ) → i < length rows → bounds rows i ≤ℤ pos edge
@@ -101,7 +101,7 @@ pub record IsSolved (target : List ℤ) (weights : List ℕ) (rows : List Row) (
   pub independent : Independent (length target) (length forced) (row_of rows forced)
   pub multipliers : AreMultipliers target weights rows forced f
 
--- the point is that of the forced rows with equality, and no other row is taken
+-- the point meets the forced rows with equality, and no other row is taken
 pub record IsSettledFor (target : List ℤ) (weights : List ℕ) (rows : List Row) (forced : List ℕ) (h : Held) : Type 0 where
   pub near : IsNear target weights rows forced (length rows) h
   pub parts : HasParts target weights rows h

@@ -18,7 +18,7 @@ at_t t far near j = far j *ℤ t +ℤ near j
 abbrev pub place : List ℕ → ℕ → ℕ
 place list i = slice_index_or list i 0
 
--- the number if the test holds, and else 0
+-- the number if the test is true, and else 0
 abbrev pub when : Bool → ℤ → ℤ
 when b x = if b then x else pos 0
 

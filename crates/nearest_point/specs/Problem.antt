@@ -36,7 +36,7 @@ pub record AreBounds (rows : List Row) : Type 0 where
   pub not_negative : (i : ℕ) → i < length rows → pos 0 ≤ℤ bounds rows i
   pub small : (i : ℕ) → i < length rows → bounds rows i ≤ℤ pos MOST_VALUE
 
--- few enough coordinates for weights, and neither the sum of the targets nor a bound is above MOST_WEIGHTED_VALUE
+-- few enough coordinates for weights, and the sum of the targets and each bound are at most MOST_WEIGHTED_VALUE
 pub record IsNarrow (target : List ℤ) (rows : List Row) : Type 0 where
   pub few : length target ≤ MOST_WEIGHTED_WINNERS
   pub sum : total (length target) (nth target) ≤ℤ pos MOST_WEIGHTED_VALUE

@@ -3,7 +3,7 @@ use Rattle.nearest_point.specs.Numbers.{place}
 use Rattle.std.specs.Prelude.{List, length, pos, ℕ, ℤ, ◌*ℤ◌, ◌+ℤ◌, ◌-ℤ◌, ◌<ℤ◌, ◌<◌, ◌≡◌, ◌≤ℤ◌, ◌≤◌}
 use Rattle.wide_num.specs.Sums.{dot, total}
 
--- point = den * target + weight * (the sum of the multipliers of the rows that hold the coordinate)
+-- point = den * target + weight * (the sum of the multipliers of the rows that contain the coordinate)
 pub record Solved (m r : ℕ) (a : ℕ → ℕ → ℤ) (den : ℤ) (point mult target weight : ℕ → ℤ) : Type 0 where
   pub positive : pos 0 <ℤ den
   pub at : (j : ℕ) → j < m → point j ≡ den *ℤ target j +ℤ weight j *ℤ total r (λ i. mult i *ℤ a i j)

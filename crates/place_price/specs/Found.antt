@@ -17,7 +17,7 @@ use Rattle.slot_places.specs.Board.{board_of, market_of_slots}
 use Rattle.slot_places.specs.SetTable.{IsSetTable}
 use Rattle.slot_places.specs.Slots.{SlotList, amount_of}
 
--- the winning choice with its worth and the table of the amounts, the winners each alone with their parts, and the prices
+-- the winning choice with its worth and the table of the amounts, the single winners with their parts, and the prices
 pub record AreFound (slots : SlotList) (whole : Found (List (List ℤ))) (singles : List Single) (parts : List PlaceWithout) (priced : Priced (List (List ℤ))) : Type 0 where
   pub winning : IsWinning (market_of_slots slots) whole.choice
   pub value : whole.sum ≡ value_of (market_of_slots slots) whole.choice

@@ -14,7 +14,7 @@ use Rattle.place_price.specs.PlaceText.{priced_line}
 abbrev pub IsBidder : SlotList → ℕ → Type 0
 IsBidder slots j = (0 < j) × (j ≤ length slots.bidders)
 
--- it is one of these slots; its order and its choice name bidders and bids that there are; the value is that of the choice, and no
+-- it is one of these slots; its order and its choice name bidders and bids that there are; the value is the choice's, and no
 -- payment is below 0
 pub record CanPrint (slots : SlotList) (c : PlaceCertificate) : Type 0 where
   pub shape : length c.choice ≡ length slots.bidders

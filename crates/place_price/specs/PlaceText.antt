@@ -1,5 +1,5 @@
--- What is printed of a placement: a line for each bidder in the order of the placement, a line for each winner in the order of the bidders,
--- the value and the revenue. There are no reserves, so amounts are printed as they are.
+-- What is printed for a placement: a line for each bidder in the order of the placement, a line for each winner in the order of
+-- the bidders, the value and the revenue. There are no reserves, so amounts are printed as they are.
 use Rattle.std.specs.Prelude.{◌≡◌, ℕ, zero, suc, ◌+◌, List, [], ◌∷◌, ◌++◌, codes, length, ℤ}
 use Rattle.std.specs.Fmt.{decimal, signed_decimal}
 use Rattle.auction_model.specs.Lowered.{of_bidder}

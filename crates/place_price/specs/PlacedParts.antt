@@ -1,4 +1,4 @@
--- The parts of a placement certificate, from the winners, each alone: words of private contracts.
+-- The parts of a placement certificate, from the single winners: terms of private contracts.
 use Rattle.std.specs.Prelude.{◌≡◌, List, length, map, ℤ}
 use Rattle.std.specs.List.{AllByRecursion}
 use Rattle.choices.specs.declared.chooser.Single.{Single}
@@ -12,7 +12,7 @@ use Rattle.slot_places.specs.Slots.{SlotList}
 abbrev pub IsBest : SlotList → PlaceWithout → Type 0
 IsBest slots w = IsBestPlacedPart slots w.winner (part_value w) w.order
 
--- the part of a winner alone
+-- the part of a single winner
 pub record IsPartOf (slots : SlotList) (s : Single) (w : PlaceWithout) : Type 0 where
   pub winner : w.winner ≡ s.winner
   pub choice : w.choice ≡ s.choice

@@ -1,4 +1,5 @@
--- The rows of pricing, and those of a placement certificate: words of private contracts.
+-- The rows of pricing and the rows of a placement certificate: terms of private
+-- contracts.
 use Rattle.std.specs.Prelude.{IsTrue}
 use Rattle.core_price.specs.declared.priced.PricedRow.{PricedRow}
 use Rattle.placement_cert.specs.declared.certificate.PlaceRow.{PlaceRow}

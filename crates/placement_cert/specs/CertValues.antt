@@ -11,7 +11,8 @@ use Rattle.placement_cert.specs.declared.certificate.PlaceCertificate.{PlaceCert
 abbrev pub place_cert_value : PlaceCertificate → PlaceCertValue
 place_cert_value c = place_cert_from c.den c.value c.choice c.order c.table c.withouts c.pay c.rows c.lowered
 
--- what the bytes say, for that many bidders; out of memory says nothing of them
+-- what the bytes say, for that many bidders; out of memory says nothing about
+-- them
 abbrev pub PlaceStopsAt : ℕ → List ℕ → CertStop → Type 0
 PlaceStopsAt bidders bytes (Form place) = PlaceCertSays bidders bytes (faulty place)
 PlaceStopsAt bidders bytes (Range place) = PlaceCertSays bidders bytes (beyond place)

@@ -1,4 +1,5 @@
--- What a placement certificate keeps has at most one proof, so a struct may hold it.
+-- The rule of a placement certificate has at most one proof, so a struct may contain
+-- it.
 use Rattle.std.specs.Prelude.{ℕ, zero, suc, List, [], ◌∷◌}
 use denote.Struct.Props as logic
 use Rattle.cert_grammar.specs.Certificate.{RowValue, WithoutValue}

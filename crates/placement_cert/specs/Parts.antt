@@ -27,7 +27,7 @@ place_cert_from den value choice order table withouts pay rows lowered = record 
   row_orders = map row_order rows;
 }
 
--- the parts are those of a choice, from bidder j on
+-- the parts are a choice's, from bidder j on
 abbrev pub AreParts : ℕ → ℕ → List ℕ → List PlaceWithout → Type 0
 AreParts bidders j choice parts = AreOrderedWithouts bidders j choice (map part_value parts) (map part_order parts)
 

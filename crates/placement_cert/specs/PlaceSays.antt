@@ -1,4 +1,4 @@
--- What bytes say of a placement certificate.
+-- The reading of bytes as a placement certificate.
 use Rattle.std.specs.Prelude.{ℕ, List}
 use Rattle.line_format.specs.LineText.{Exceeds, FaultAt, IsTextOf, Said, beyond, faulty, stated, text_of}
 use Rattle.cert_grammar.specs.Lines.{IsPlacesText, lines}
@@ -9,8 +9,8 @@ use Rattle.placement_cert.specs.PlaceText.{IsPlaceCertificate, place_lines}
 abbrev pub place_text : PlaceCertValue → List ℕ
 place_text c = text_of (lines (place_lines c))
 
--- For that many bidders: the certificate that the bytes are the text of; or the place where the first faulty line begins; or the
--- place where the first line begins that has a number out of range, the lines up to it being of right form.
+-- For that many bidders: the certificate that the bytes are the text of; or the place of the first faulty line, or the place of
+-- the first line with a number out of range, if the lines up to it are of right form.
 abbrev pub PlaceCertSays : ℕ → List ℕ → Said PlaceCertValue ℕ → Type 0
 PlaceCertSays bidders bytes (stated c) = IsPlaceCertificate bidders c
     × IsTextOf (IsPlacesText bidders) lines bytes (place_lines c)

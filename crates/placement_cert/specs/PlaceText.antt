@@ -1,5 +1,5 @@
--- The lines of a placement certificate, and which certificates have a text. They are those of a certificate with another first line,
--- an order before each choice, and tables of one line with an entry for each set of bidders.
+-- The lines of a placement certificate, and which certificates have a text. They are a certificate's lines with another first
+-- line, an order before each choice, and tables of one line with an entry for each set of bidders.
 use Rattle.std.specs.Prelude.{◌≡◌, ℕ, zero, suc, ◌^◌, ◌≤◌, List, [], ◌∷◌, ◌++◌, length, codes, ℤ, pos}
 use Rattle.wide_num.specs.Range.{InRange}
 use Rattle.line_format.specs.Range.{AllInRange}
@@ -19,7 +19,7 @@ ordered_part_lines (w ∷ ws) (order ∷ orders) =
     (line (codes "without") (pos w.winner ∷ []) ∷ order_line order ∷ choice_line w.choice ∷ line (codes "table") [] ∷ table_lines w.table)
     ++ ordered_part_lines ws orders
 
--- for each row its members, its two multipliers, an order, and the choice that gives its bound
+-- for each row its members, its two multipliers, an order, and the choice that determines its bound
 abbrev pub ordered_row_lines : List RowValue → List (List ℕ) → List Line
 ordered_row_lines [] orders = []
 ordered_row_lines (r ∷ rows) [] = []
@@ -27,7 +27,7 @@ ordered_row_lines (r ∷ rows) (order ∷ orders) =
     line (codes "row") (as_numbers r.members) ∷ line (codes "mult") (r.first ∷ r.second ∷ []) ∷ order_line order ∷ choice_line r.choice
     ∷ ordered_row_lines rows orders
 
--- all that the certificate holds, in order
+-- the content of the certificate, in order
 abbrev pub place_lines : PlaceCertValue → List Line
 place_lines c =
     line (codes "pcert") (pos 1 ∷ []) ∷ line (codes "den") (c.cert.den ∷ []) ∷ line (codes "value") (c.cert.value ∷ []) ∷ order_line c.order

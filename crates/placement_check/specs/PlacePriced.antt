@@ -14,15 +14,15 @@ use Rattle.slot_places.specs.Slots.{SlotList, amount_of}
 use Rattle.cert_grammar.specs.PlaceCert.{PlaceCertValue, order_in_row, order_without}
 use Rattle.placement_check.specs.PlaceTests.{PlacementHolds}
 
--- the first of the greatest choices that don't use winner j, its placement, and the exact table in which j has no bids
+-- the first of the greatest choices that don't use winner j, its placement, and the exact table without bids of j
 pub record IsBestPlacedPart (slots : SlotList) (j : ℕ) (part : WithoutValue) (order : List ℕ) : Type 0 where
   pub choice : IsFirstGreatest (allowed_without (market_of_slots slots) j) (value_of (market_of_slots slots)) part.choice
   pub placement : IsPlacement slots part.choice order
   pub table : IsSetTable (board_without slots j) (amount_of slots) part.table
 
--- All tests pass. Beside what they say, the choices of the head and of the parts are the first of the greatest, each order is
--- the placement of its choice, and the tables are exact; the last is that of the worths that are lowered by the surpluses at
--- the payments, and of the idle worths.
+-- All tests pass. Also the choices of the head and of the parts are the first of the greatest, each order is the placement of
+-- its choice, and the tables are exact. The last table is for the worths lowered by the surpluses at the payments, and for the
+-- idle worths.
 pub record IsPricedPlaceCert (slots : SlotList) (p : PlaceCertValue) : Type 0 where
   pub holds : PlacementHolds slots p
   pub winning : IsWinning (market_of_slots slots) p.cert.choice
@@ -35,7 +35,7 @@ pub record IsPricedPlaceCert (slots : SlotList) (p : PlaceCertValue) : Type 0 wh
   pub outcome : IsCoreOutcome (market_of_slots slots) alike p.cert.choice (cert_point p.cert)
   pub table_lowered : IsSetTable (board_of slots) (lowered p.cert.den (amount_of slots) (surpluses_of (market_of_slots slots) p.cert.choice p.cert.den p.cert.pay)) p.cert.lowered
 
--- two parts with the orders beside them: the same choice, placement and table
+-- two parts with their orders: equal choice, placement and table
 pub record IsSamePlacedPart (a b : WithoutValue) (order other : List ℕ) : Type 0 where
   pub choice : a.choice ≡ b.choice
   pub placement : order ≡ other

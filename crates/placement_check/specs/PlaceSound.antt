@@ -1,4 +1,4 @@
--- What a yes of the checker says of slots and a placement certificate.
+-- What the checker's acceptance means for slots and a placement certificate.
 use Rattle.std.specs.Prelude.{◌≡◌, IsTrue}
 use Rattle.auction_model.specs.Greatest.{IsGreatest}
 use Rattle.auction_model.specs.Market.{value_of}
@@ -10,7 +10,7 @@ use Rattle.slot_places.specs.Orders.{allows}
 use Rattle.slot_places.specs.Slots.{SlotList}
 use Rattle.cert_grammar.specs.PlaceCert.{PlaceCertValue}
 
--- The order places the choice, the choice is greatest, the value is its value, the parts give the Vickrey prices, and the
+-- The order places the choice, the choice is greatest, the value is its value, the parts show the Vickrey prices, and the
 -- choice and the payments are the core outcome, if each bidder weighs 1. The choice need not be the first of the greatest.
 pub record IsPlaceSound (slots : SlotList) (p : PlaceCertValue) : Type 0 where
   pub order : IsTrue (allows slots p.order p.cert.choice)

@@ -15,9 +15,9 @@ use Rattle.slot_places.specs.SetTable.{holds}
 use Rattle.slot_places.specs.Slots.{SlotList, bids_of, amount_of}
 use Rattle.cert_grammar.specs.PlaceCert.{PlaceCertValue, order_in_row, order_without}
 
--- The rules at the entry of a set, whose bidders are placed first. That of all bidders is not below 0. For each bidder outside the
--- set the entry is at least that of the set with this bidder, and at least that entry plus the worth of each bid of the bidder that
--- it can be given right after the set.
+-- The rules at the entry of a set, whose bidders are placed first. The entry of all bidders is not below 0. For each bidder
+-- outside the set the entry is at least the entry of the set with this bidder, and at least that entry plus the worth of each
+-- bid of the bidder that it can be given right after the set.
 pub record ObeysSet (b : Board) (worth : ℕ → ℕ → ℤ) (table : List (List ℤ)) (bits : ℕ) : Type 0 where
   pub last : bits ≡ 2 ^ b.bidders - 1 → pos 0 ≤ℤ entry_at table 0 bits
   pub none : (j : ℕ) → 0 < j → j ≤ b.bidders → IsFalse (holds bits j)
@@ -94,7 +94,7 @@ pub record PlacementHolds (slots : SlotList) (p : PlaceCertValue) : Type 0 where
   pub p8 : (place : ℕ) → P8 slots p place
   pub p9 : (place : ℕ) → P9 slots p place
 
--- test t at this place is the first that fails: what comes before it holds
+-- test t at this place is the first that fails: all before it passes
 pub record FailsFirst (slots : SlotList) (p : PlaceCertValue) (t place : ℕ) : Type 0 where
   pub fails : Asks slots p t place → ⊥
   pub before : (u q : ℕ) → (u < t) ⊎ ((u ≡ t) × (q < place)) → Asks slots p u q

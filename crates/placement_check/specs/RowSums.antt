@@ -13,7 +13,7 @@ pub record AreSumsOf (number : RowValue → ℤ) (rows : List RowValue) (n : ℕ
   pub each : (j : ℕ) → 0 < j → j ≤ MOST_PLACED → of_bidder sums j ≡ sum_holding rows j number n
   pub small : (k : ℕ) → unsigned_abs (nth sums k) ≤ n * 2 ^ 120
 
--- the same of both multipliers
+-- these sums for both multipliers
 pub record AreRowSums (rows : List RowValue) (n : ℕ) (sums : RowSums) : Type 0 where
   pub firsts : AreSumsOf (λ row. row.first) rows n sums.firsts
   pub seconds : AreSumsOf (λ row. row.second) rows n sums.seconds

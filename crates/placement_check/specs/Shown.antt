@@ -29,7 +29,7 @@ HasSmallProducts slots p = (j : ℕ) → 0 < j → j ≤ length slots.bidders
     → (pos 0 ≤ℤ (p.cert.den *ℤ worth_in (market_of_slots slots) p.cert.choice j))
     × (unsigned_abs (p.cert.den *ℤ worth_in (market_of_slots slots) p.cert.choice j) < 2 ^ 120)
 
--- a row as P6 asks for it, with the order beside it
+-- a row as P6 asks for it, with its order
 pub record IsTightPlaced (slots : SlotList) (c : CertValue) (row : RowValue) (order : List ℕ) : Type 0 where
   pub tight : IsTight (market_of_slots slots) c row
   pub order_allows : IsTrue (allows slots order row.choice)

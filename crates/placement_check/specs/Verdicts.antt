@@ -11,6 +11,6 @@ abbrev pub IsPlaceVerdict : SlotList → PlaceCertValue → Verdict → Type 0
 IsPlaceVerdict slots p Yes = PlacementHolds slots p
 IsPlaceVerdict slots p (No test place) = FailsFirst slots p test place
 
--- all tests before this one hold
+-- all tests before this one pass
 abbrev pub HoldsUpTo : SlotList → PlaceCertValue → ℕ → Type 0
 HoldsUpTo slots p n = (test place : ℕ) → test < n → Asks slots p test place

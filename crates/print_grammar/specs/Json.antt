@@ -1,5 +1,5 @@
--- The JSON of an outcome: the compact text of one object, whose keys are in alphabetical order, and a line feed. All amounts are
--- gross, as in the text of prices.
+-- The JSON of an outcome: the compact text of one object, whose keys are in alphabetical order, and a line feed. All amounts
+-- are gross, just like in the text of prices.
 use Rattle.std.specs.Prelude.{◌≡◌, ℕ, zero, suc, Option, Some, None, List, [], ◌∷◌, ◌++◌, codes, map, ℤ, ◌+ℤ◌}
 use Rattle.serde_json.specs.Data.{Data, Members, array, member, no_members, number, object, string, unsigned}
 use Rattle.serde_json.specs.Find.{of_integer}
@@ -38,7 +38,7 @@ AreWinners book z v p k (suc i ∷ c) winners =
 abbrev pub IsRound : List ℕ → ℕ → BidderTurn → Data → Type 0
 IsRound z n turn round = (line : List ℕ) × IsTurnLine z n turn (line ++ codes "\n") × (round ≡ string line)
 
--- those of these turns of pricing the winners of z, after that many others
+-- the lines of these turns of pricing the winners of z, after that many others
 abbrev pub AreRounds : List ℕ → ℕ → List BidderTurn → List Data → Type 0
 AreRounds z before [] rounds = rounds ≡ []
 AreRounds z before (t ∷ turns) rounds = (round : Data) × (rest : List Data) × IsRound z (suc before) t round

@@ -9,15 +9,15 @@ pub record AreFirst (m r : ℕ) (a : ℕ → ℕ → ℤ) (bound : ℕ → ℤ) 
   pub not_negative : (i : ℕ) → i < r → pos 0 ≤ℤ first i
   pub tight : (i : ℕ) → i < r → first i ≢ pos 0 → MeetsExactly m (a i) (bound i) d n
 
--- what the numbers of all rows come to at coordinate j
+-- the sum of the numbers of all rows at coordinate j
 abbrev pub sum_at : ℕ → (ℕ → ℕ → ℤ) → (ℕ → ℤ) → ℕ → ℤ
 sum_at r a numbers j = dot r numbers (λ i. a i j)
 
--- at each coordinate the first multipliers come to d
+-- at each coordinate the sum of the first multipliers is d
 abbrev pub SumsTo : ℕ → ℕ → (ℕ → ℕ → ℤ) → ℤ → (ℕ → ℤ) → Type 0
 SumsTo m r a d first = (j : ℕ) → j < m → sum_at r a first j ≡ d
 
--- at each coordinate the first multipliers come to d, or the point x over e is the same there
+-- at each coordinate the sum of the first multipliers is d, or the point x over e is the same there
 abbrev pub SumsToOrStands : ℕ → ℕ → (ℕ → ℕ → ℤ) → ℤ → (ℕ → ℤ) → (ℕ → ℤ) → ℤ → (ℕ → ℤ) → Type 0
 SumsToOrStands m r a d n first e x = (j : ℕ) → j < m → (sum_at r a first j ≡ d) ⊎ (d *ℤ x j ≡ e *ℤ n j)
 

@@ -1,4 +1,4 @@
--- What the closed rounds say of caps: for each round the greatest eligibility from it on, and the greatest clock bid for what was
+-- The closed rounds' part in caps: for each round the greatest eligibility from it on, and the greatest clock bid for what was
 -- held in it. Places are counted from 0.
 use Rattle.std.specs.Prelude.{◌≡◌, ◌⊎◌, ℕ, ◌+◌, ◌-◌, ◌≤◌, ◌<◌, max, List, [], ◌∷◌, length, drop, slice_index}
 use Rattle.limits.specs.declared.TheConstants.{MOST_AMOUNT}
@@ -27,7 +27,7 @@ abbrev pub IsHigh : List Round → ℕ → List BookBid → ℕ → ℕ → Type
 IsHigh history j bids k high = (high ≡ highest (rounds_of j history) bids (own_in history j (k + 1)).held)
     × (high ≤ MOST_AMOUNT)
 
--- the highest amounts over the clock alone from the place on
+-- the highest amounts over only the clock from the place on
 abbrev pub AreHighsFrom : ℕ → List Round → ℕ → List ℕ → Type 0
 AreHighsFrom place history j highs = (k : ℕ) → place ≤ k → k < length history
     → IsHigh history j [] k (slice_index highs k)

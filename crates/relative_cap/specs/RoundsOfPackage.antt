@@ -1,4 +1,4 @@
--- What the closed rounds say of the cap of one package, whatever the list is. Places are counted from 0.
+-- The closed rounds' terms for the cap of one package, whatever the list is. Places are counted from 0.
 use Rattle.std.specs.Prelude.{◌≡◌, ℕ, suc, ◌≤◌, List, [], ◌∷◌, length, if◌then◌else◌}
 use Rattle.limits.specs.declared.TheConstants.{MOST_AMOUNT}
 use Rattle.auction_model.specs.Package.{cost_of}
@@ -9,12 +9,12 @@ use Rattle.relative_cap.specs.declared.terms.RoundTerms.{RoundTerms}
 use Rattle.relative_cap.specs.declared.terms.PackageTerms.{PackageTerms}
 use Rattle.relative_cap.specs.OwnRounds.{rounds_of, own_in, IsConstraining}
 
--- the place of the first of the rounds in which the package was held, and their number if there is none
+-- the place of the first round where the package was held, or the number of rounds if there is none
 abbrev pub first_place : List OwnRound → List ℕ → ℕ
 first_place [] lots = 0
 first_place (r ∷ rounds) lots = if is_same r.held lots then 0 else suc (first_place rounds lots)
 
--- the same, and the number of rounds for the empty package
+-- this place, and the number of rounds for the empty package
 abbrev pub own_place : List Round → ℕ → List ℕ → ℕ
 own_place history j lots = if is_empty lots then length history else first_place (rounds_of j history) lots
 

@@ -21,12 +21,12 @@ tested_bid e = bid_value e.bid
 abbrev pub tested_lots : TestedEntry → List ℕ
 tested_lots e = e.bid.«package»
 
--- an entry that was tested, with what the rounds say of its package
+-- an entry that was tested, with the rounds' terms for its package
 pub record IsTested (history : List Round) (points : List ℕ) (j : ℕ) (e : TestedEntry) : Type 0 where
   pub entry : IsEntry (categories_in history) e.bid
   pub terms : IsTerms history points j e.bid.«package» e.terms
 
--- after the bids before the place, which stay, stands this one
+-- this bid follows the bids before the place, which stay
 abbrev pub IsPutAt : List BookBid → ℕ → BookBid → List BookBid → Type 0
 IsPutAt old place b new = take (place + 1) new ≡ take place old ++ b ∷ []
 
@@ -39,7 +39,7 @@ pub record IsHighest (rounds : List OwnRound) (bids : List BookBid) (lots : List
   pub is : high ≡ highest rounds bids lots
   pub most : high ≤ MOST_AMOUNT
 
--- at the first place at which a package was held stands what is highest for it
+-- at the first place where a package was held is the highest amount for it
 pub record AreHighs (history : List Round) (j : ℕ) (bids : List BookBid) (highs : List ℕ) : Type 0 where
   pub room : length history ≤ length highs
   pub each : (lots : List ℕ) → first_place (rounds_of j history) lots < length history
