@@ -179,7 +179,7 @@ def commands(files: Mapping[str, bytes]) -> list[tuple[str, str]]:
 
 def command_text(command: str) -> str:
     """A command as markup, in which no line breaks an option after its hyphens."""
-    words = map(html.escape, command.split(" "))
+    words = html.escape(command).split(" ")
     return " ".join(f"<span>{word}</span>" if word.startswith("--") else word for word in words)
 
 
