@@ -165,6 +165,8 @@ impl<S: SystemCalls> SystemFiles<S> {
             × IfSome self.old.appending (λ before. before.seen.place ≡ place
             → (file.file ≡ before.file) × (file.seen ≡ before.seen) × (file.is_regular ≡ before.is_regular)))) }
         ensures closed { OnErr result (self.new.appending ≡ None) }
+        ensures kept { (m : Met) → Any (λ old. old ≡ m) self.old.met.items → Any (λ new. new ≡ m) self.new.met.items }
+        ensures output { self.new.output ≡ self.old.output }
         ensures gave { self.new.gave ≡ self.old.gave }
         ensures took { self.new.took ≡ self.old.took }
     {
