@@ -40,7 +40,7 @@ module _ (m : Menu) (c : List ℕ) (k : ℕ) (inside : k < length c) where
   pub known-fails : m.bids (k + 1) < get_or c k 0 → is_known_after m k (drop k c) ≡ false
   known-fails low = known-step ∙ and_left _ (is_known_after m (k + 1) (drop (k + 1) c)) (lt-leb (get_or c k 0) (m.bids (k + 1)) low)
 
-  -- with a number of bidder k + 1 in range the choice is known exactly where the rest is
+  -- with a number of bidder k + 1 in range the choice is known exactly if the rest is
   pub known-goes_on : get_or c k 0 ≤ m.bids (k + 1) → is_known_after m k (drop k c) ≡ is_known_after m (k + 1) (drop (k + 1) c)
   known-goes_on low = known-step ∙ ap (λ b. b && is_known_after m (k + 1) (drop (k + 1) c)) (le-leb (get_or c k 0) (m.bids (k + 1)) low)
 
@@ -48,7 +48,7 @@ module _ (m : Menu) (c : List ℕ) (k : ℕ) (inside : k < length c) where
       (is_within (m.lots (k + 1) (get_or c k 0)) left && fits_after m (k + 1) (less left (m.lots (k + 1) (get_or c k 0))) (drop (k + 1) c))
   fits-step left = rw (add-one, drop-cons c k 0) (fits-cons m k left (get_or c k 0) (drop (suc k) c))
 
-  -- where the package of bidder k + 1 isn't within what is left, the choice doesn't fit
+  -- if the package of bidder k + 1 isn't within what is left, the choice doesn't fit
   pub fits-fails : (left : List ℕ) → get_or c k 0 ≤ m.bids (k + 1) → is_within (m.lots (k + 1) (get_or c k 0)) left ≡ false
       → fits_after m k left (drop k c) ≡ false
   fits-fails left known out =
@@ -57,7 +57,7 @@ module _ (m : Menu) (c : List ℕ) (k : ℕ) (inside : k < length c) where
       (le-leb (get_or c k 0) (m.bids (k + 1)) known)
       ∙ and_left _ (fits_after m (k + 1) (less left (m.lots (k + 1) (get_or c k 0))) (drop (k + 1) c)) out
 
-  -- where that package is within what is left, the choice fits exactly where the rest fits in what it leaves
+  -- if that package is within what is left, the choice fits exactly if the rest fits in what it leaves
   pub fits-goes_on : (left : List ℕ) → get_or c k 0 ≤ m.bids (k + 1) → IsTrue (is_within (m.lots (k + 1) (get_or c k 0)) left)
       → fits_after m k left (drop k c) ≡ fits_after m (k + 1) (less left (m.lots (k + 1) (get_or c k 0))) (drop (k + 1) c)
   fits-goes_on left known own =

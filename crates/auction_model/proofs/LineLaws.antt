@@ -21,7 +21,7 @@ pub record IsLineUpTo (m : Menu) (counts : ℕ → ℕ → ℤ) (supply : List �
 pub int_max-left : (a b : ℤ) → b ≤ℤ a → int_max a b ≡ a
 int_max-left a b h = omega (arith, ints, int_max_is a b)
 
--- where the second number is at least the first, it is the greater one
+-- if the second number is at least the first, it is the greater one
 pub int_max-right : (a b : ℤ) → a ≤ℤ b → int_max a b ≡ b
 int_max-right a b h = omega (arith, ints, int_max_is a b)
 

@@ -1,4 +1,5 @@
--- What holds of each element of a list, and of one more; lists of zeros.
+-- What is true for each element of a list, and of one more; lists of
+-- zeros.
 use Rattle.std.specs.Prelude.{◌≡◌, ℕ, zero, suc, List, [], ◌∷◌, ◌++◌, get_or, replicate, pos, refl}
 use Rattle.std.specs.List.{AllByRecursion}
 

@@ -58,7 +58,7 @@ is_before-trans (a ∷ p) (b ∷ q) (c ∷ r) h k =
           ]
     ]
 
--- of two packages that aren't the same, where the first isn't before the second, the second is before the first
+-- of two packages that aren't the same, if the first isn't before the second, the second is before the first
 pub is_before-total : (p q : List ℕ) → is_same p q ≡ false → is_before p q ≡ false → is_before q p ≡ true
 is_before-total [] [] h k = cc
 is_before-total [] (b ∷ q) h k = cc
@@ -97,7 +97,7 @@ comes-is_before (a ∷ p) (b ∷ q) (inl less) = or_left (nat_lt a b) ((a == b) 
 comes-is_before (a ∷ p) (b ∷ q) (inr same) = or_right (nat_lt a b) ((a == b) && is_before p q)
     (and_from (a == b) (is_before p q) (eq-eqb a b same.0) (comes-is_before p q same.1))
 
--- no category is over exactly where the package is within the supply
+-- no category is over exactly if the package is within the supply
 pub within-first_over : (category : ℕ) (lots supply : List ℕ) → is_within lots supply ≡ true → first_over category lots supply ≡ None
 within-first_over category [] supply h = refl
 within-first_over category (a ∷ lots) [] h =
@@ -123,7 +123,7 @@ first_over-within category (a ∷ lots) (b ∷ supply) h =
       | inr over ↦ let no : Some category ≡ None = rw over at h in cc
     ]
 
--- where p isn't the same as q, q isn't the same as p
+-- if p isn't the same as q, q isn't the same as p
 pub not_same-sym : (p q : List ℕ) → is_same p q ≡ false → is_same q p ≡ false
 not_same-sym p q apart =
     elim (cases_Bool (is_same q p)) [

@@ -82,7 +82,7 @@ vickrey-one m z j v w p q = by (cases_Bool (uses z j))
 
 -- sums over bidders
 
--- two sums over the same bidders are equal where each bidder's numbers are
+-- two sums over the same bidders are equal if each bidder's numbers are
 pub over-same : (s : ℕ → Bool) (f g : ℕ → ℤ) (n : ℕ) → ((j : ℕ) → 0 < j → j ≤ n → f j ≡ g j) → sum_over s f n ≡ sum_over s g n
 over-same s f g zero same = refl
 over-same s f g (suc n) same =
@@ -213,14 +213,14 @@ module _ (m : Market) (law : IsMarket m) (w : ℕ → ℕ) (z : List ℕ) (p q :
       even : (x y : ℤ) → y ≤ℤ x → x ≤ℤ y → x ≡ y
       even x y h k = omega (arith, ints, h, k)
 
--- a point is unblocked exactly where no coalition blocks it with any choice
+-- a point is unblocked exactly if no coalition blocks it with any choice
 pub blocking-none : (m : Market) (z : List ℕ) (p : Point) → IsUnblocked m z p → (k : ℕ → Bool) (f : List ℕ) → IsBlocking m z p k f → ⊥
 blocking-none m z p free k f blocks = let most = free k f blocks.allowed blocks.within in let more = blocks.more in strict _ _ more most
   where
     strict : (x y : ℤ) → x <ℤ y → y ≤ℤ x → ⊥
     strict x y h k = omega (arith, ints, h, k)
 
--- where no coalition blocks with any choice, none offers more than all pay
+-- if no coalition blocks with any choice, none offers more than all pay
 pub none-blocking : (m : Market) (z : List ℕ) (p : Point) → ((k : ℕ → Bool) (f : List ℕ) → IsBlocking m z p k f → ⊥) → IsUnblocked m z p
 none-blocking m z p none k f allowed within =
     by_lt_z (paid m p) (offer m z p k f) (λ more. absurd (none k f (record { allowed = allowed; within = within; more = more }))) (λ most. most)

@@ -81,7 +81,7 @@ line-past_skip m counts supply j k line h e = record {
       (λ c. fits-without_none m k (left_at supply s) c ∙ sym (fits-past_skip m j k (left_at supply s) c h)) (e.exact s inside);
 }
 
--- line j - 1 is line j where bidder j has no bids and counts nothing idle
+-- line j - 1 is line j if bidder j has no bids and counts nothing idle
 pub line-at_skip : (m : Menu) (counts : ℕ → ℕ → ℤ) (supply : List ℕ) (j : ℕ) (line : List ℤ) → 0 < j → j ≤ m.bidders → m.lots j 0 ≡ [] → counts j 0 ≡ pos 0
     → IsLine (without m j) counts supply j line → IsLine (without m j) counts supply (j - 1) line
 line-at_skip m counts supply j line some inside empty idle e =

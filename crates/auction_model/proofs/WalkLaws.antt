@@ -23,7 +23,7 @@ module _ (m : Menu) (counts : ℕ → ℕ → ℤ) (supply : List ℕ) (k s : �
   pub sum-bounds : (i : ℕ) → i ≤ m.bids (suc k) → IsTrue (is_within (m.lots (suc k) i) (left_at supply s)) → sum_with m counts supply (suc k) s below i ≤ℤ here
   sum-bounds i known own = entry-bounds m counts k (left_at supply s) here _ i inside known own e (below-at i)
 
-  -- where no bid reaches the entry, number 0 does
+  -- if no bid reaches the entry, number 0 does
   pub zero-sum : m.lots (suc k) 0 ≡ [] → ((i : ℕ) → suc i ≤ m.bids (suc k) → IsTrue (is_within (m.lots (suc k) (suc i)) (left_at supply s))
       → sum_with m counts supply (suc k) s below (suc i) <ℤ here) → here ≡ sum_with m counts supply (suc k) s below 0
   zero-sum none low =

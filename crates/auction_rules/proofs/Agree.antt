@@ -11,7 +11,7 @@ use Rattle.std.proofs.lemmas.Bool.{cases_Bool}
 pub record Agree (n : ℕ) (held other : ℕ → ℕ → List ℕ) : Type 0 where
   pub same : (r j : ℕ) → r ≤ n → held r j ≡ other r j
 
--- where the same is held up to round n, the same is held up to each round m that isn't later
+-- if the same is held up to round n, the same is held up to each round m that isn't later
 pub Agree-fewer : (n m : ℕ) (held other : ℕ → ℕ → List ℕ) → Agree n held other → m ≤ n → Agree m held other
 Agree-fewer n m held other agree few = record { same = λ r j h. agree.same r j (omega arith) }
 
@@ -20,11 +20,11 @@ pub sum_of-same : (none : List ℕ) (f g : ℕ → List ℕ) (n : ℕ) → ((j :
 sum_of-same none f g zero same = refl
 sum_of-same none f g (suc n) same = rw (sum_of-same none f g n same, same (suc n)) refl
 
--- where the same is held up to round n, the demand of each round up to n is the same
+-- if the same is held up to round n, the demand of each round up to n is the same
 pub demand-same : (terms : Terms) (n r : ℕ) (held other : ℕ → ℕ → List ℕ) → Agree n held other → r ≤ n → demand terms held r ≡ demand terms other r
 demand-same terms n r held other agree few = sum_of-same (no_lots terms) (held r) (other r) (length terms.bidders) (λ j. agree.same r j few)
 
--- where the same is held up to round n, the prices after n rounds are the same
+-- if the same is held up to round n, the prices after n rounds are the same
 pub prices_after-same : (terms : Terms) (n : ℕ) (held other : ℕ → ℕ → List ℕ) → Agree n held other → prices_after terms held n ≡ prices_after terms other n
 prices_after-same terms zero held other agree = refl
 prices_after-same terms (suc n) held other agree =
@@ -33,13 +33,13 @@ prices_after-same terms (suc n) held other agree =
       demand-same terms (suc n) (suc n) held other agree (omega arith),
     ) refl
 
--- where the same is held up to round n, a bidder's eligibility after n rounds is the same
+-- if the same is held up to round n, a bidder's eligibility after n rounds is the same
 pub eligibility_after-same : (terms : Terms) (j n : ℕ) (held other : ℕ → ℕ → List ℕ) → Agree n held other
     → eligibility_after terms held j n ≡ eligibility_after terms other j n
 eligibility_after-same terms j zero held other agree = refl
 eligibility_after-same terms j (suc n) held other agree = ap (cost_of terms.points) (agree.same (suc n) j (omega arith))
 
--- where the same is held up to round n, the final round among the first n is the same, or there is none in both
+-- if the same is held up to round n, the final round among the first n is the same, or there is none in both
 pub final_round-same : (terms : Terms) (n : ℕ) (held other : ℕ → ℕ → List ℕ) → Agree n held other → final_round terms held n ≡ final_round terms other n
 final_round-same terms zero held other agree = refl
 final_round-same terms (suc n) held other agree =
@@ -49,7 +49,7 @@ final_round-same terms (suc n) held other agree =
           (omega arith),
     ) refl
 
--- where the same is held up to round n, a bidder's first n rounds are the same
+-- if the same is held up to round n, a bidder's first n rounds are the same
 pub own_rounds-same : (terms : Terms) (j n : ℕ) (held other : ℕ → ℕ → List ℕ) → Agree n held other → own_rounds terms held j n ≡ own_rounds terms other j n
 own_rounds-same terms j zero held other agree = refl
 own_rounds-same terms j (suc n) held other agree =

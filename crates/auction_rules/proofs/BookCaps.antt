@@ -50,7 +50,7 @@ among-placed lots x (p ∷ ps) =
       | inr apart ↦ ap (among lots) (cond-false (is_same x p) (p ∷ ps) _ apart) ∙ placed-apart lots x p ps (is_before x p) (among-placed lots x ps)
     ]
 
--- a package is among packages put in order exactly where it is among these packages
+-- a package is among packages put in order exactly if it is among these packages
 pub among-in_order : (lots : List ℕ) (ps : List (List ℕ)) → among lots (in_order ps) ≡ among lots ps
 among-in_order lots [] = refl
 among-in_order lots (p ∷ ps) = among-placed lots p (in_order ps) ∙ ap (λ (b : Bool). is_same p lots || b) (among-in_order lots ps)
@@ -310,7 +310,7 @@ excess-later : (o : Option ℕ) (entry : ℕ) (later : Option (ℕ × ℕ)) → 
 excess-later None entry later h = h
 excess-later (Some c) entry later h = cc
 
--- where no entry is above its cap, the greatest amount for a package that has a cap is at most this cap
+-- if no entry is above its cap, the greatest amount for a package that has a cap is at most this cap
 pub list-within_cap : (cap_at : List ℕ → Option ℕ) (entry : ℕ) (bids : List BookBid) (lots : List ℕ) (cap : ℕ) → first_excess cap_at entry bids ≡ None
     → cap_at lots ≡ Some cap → greatest lots bids ≤ cap
 list-within_cap cap_at entry [] lots cap valid h = omega arith

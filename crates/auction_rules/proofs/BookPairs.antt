@@ -22,7 +22,7 @@ has_entry-among : (lots : List ℕ) (bids : List BookBid) → has_entry lots bid
 has_entry-among lots [] = refl
 has_entry-among lots (b ∷ bids) = ap (λ (h : Bool). is_same b.lots lots || h) (has_entry-among lots bids)
 
--- one package more, where it isn't empty
+-- one package more, if it isn't empty
 among-if : (lots p : List ℕ) (rest : List (List ℕ)) (empty : Bool) → among lots (if not empty then p ∷ rest else rest) ≡
     ((not empty && is_same p lots) || among lots rest)
 among-if lots p rest true = refl
@@ -59,7 +59,7 @@ has_entry-best_bids lots bids =
     ∙ among-some lots (map bid_lots bids)
     ∙ ap (λ (there : Bool). not (is_empty lots) && there) (sym (has_entry-among lots bids))
 
--- a package is in the book where it isn't empty and is among the pairs
+-- a package is in the book if it isn't empty and is among the pairs
 pub has_entry-bids_in_book : (terms : Terms) (log : List Event) (j : ℕ) (lots : List ℕ)
     → has_entry lots (bids_in_book terms log j) ≡ (not (is_empty lots) && has_entry lots (pairs_of (standing terms (admitted terms log) j)))
 has_entry-bids_in_book terms log j lots = has_entry-best_bids lots (pairs_of (standing terms (admitted terms log) j))

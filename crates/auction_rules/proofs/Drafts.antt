@@ -12,7 +12,7 @@ use Rattle.auction_rules.specs.Lines.{submitted_list}
 use Rattle.auction_model.specs.Entries.{with_entry, without_entry}
 use Rattle.auction_rules.specs.Replies.{is_of}
 
--- where p is before q, packages that all come after q all come after p
+-- if p is before q, packages that all come after q all come after p
 pub AllAfter-trans : (p q : List ℕ) (ps : List (List ℕ)) → is_before p q ≡ true → AllAfter q ps → AllAfter p ps
 AllAfter-trans p q [] h after = tt
 AllAfter-trans p q (r ∷ ps) h after = (is_before-trans p q r h after.0, AllAfter-trans p q ps h after.1)
@@ -140,7 +140,7 @@ draft_of-drop : (j k : ℕ) (x : List ℕ) (lines : List Event) (q : List ℕ) �
 draft_of-drop j k x lines q mine =
     elim (cases_Bool (is_same x q)) [ inl same ↦ rw (mine, same) refl | inr apart ↦ rw (mine, apart) refl ]
 
--- a line of others says nothing of it
+-- a line of others says nothing about it
 draft_word-other : (j : ℕ) (e : Event) (q : List ℕ) → is_of j e ≡ false → draft_word j q e ≡ None
 draft_word-other j (Bid k lots) q h = refl
 draft_word-other j (Draft k lots a) q h = rw h refl

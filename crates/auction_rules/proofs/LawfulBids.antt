@@ -57,7 +57,7 @@ IsLawfulLine terms (Drop k lots) = Unit {0}
 IsLawfulLine terms (Submit k) = Unit {0}
 IsLawfulLine terms Close = Unit {0}
 
--- what follows for a draft where the reply is Ok
+-- what follows for a draft if the reply is Ok
 pub record DraftOk (over : Option ℕ) (short empty low full above : Bool) : Type 0 where
   pub none_over : over ≡ None
   pub eligible : short ≡ false
@@ -143,7 +143,7 @@ line-lawful terms lines e ok same =
           (own_reply terms (line_bidder e) (standing terms lines (line_bidder e)) e) other)) ∙ ok) same
     ]
 
--- where the packages of a log have the award's number of categories, each admitted line is lawful
+-- if the packages of a log have the award's number of categories, each admitted line is lawful
 pub admitted-lawful : (terms : Terms) (log : List Event) → AllByRecursion (HasCategories terms) log → AllByRecursion (IsLawfulLine terms) (admitted terms log)
 admitted-lawful terms [] same = tt
 admitted-lawful terms (e ∷ log) same =
@@ -257,7 +257,7 @@ close-ok false true excess prices ok more = cc
 close-ok false false true prices ok more = price_top-none 1 prices ok
 close-ok false false false prices ok more = cc
 
--- prices are posted where there is excess demand
+-- prices are posted if there is excess demand
 pub posts-excess : (n : ℕ) (final : Option ℕ) (within : Bool) (p prices : List ℕ)
     → (if is_clock (stage_by (suc n) (option_or final (if within then Some (suc n) else None))) then Some prices else None) ≡ Some p
     → ((is_clock (stage_by n final) && not within) ≡ true) × (prices ≡ p)

@@ -1,4 +1,4 @@
--- What holds of every bidder's standing after a log: the rounds are rising and eligible, and the submitted list is valid.
+-- What is true for every bidder's standing after a log: the rounds are rising and eligible, and the submitted list is valid.
 use Rattle.std.proofs.Common.{Bool, List, None, Option, Some, [], ap, arith, false, inl, inr, length, map, not, refl, subst, suc, sym, true, zero, ℕ}
 use Rattle.std.proofs.Common.{◌*◌, ◌++◌, ◌-◌, ◌∙◌, ◌∷◌, ◌≡◌, ◌≤◌}
 use Rattle.std.specs.Prelude.{if◌then◌else◌, ◌&&◌, ◌==◌, nat_lt, nat_le, nat_eq, unwrap_or}
@@ -85,7 +85,7 @@ AreRising-own_rounds terms held j (suc n) =
     AreRising-append (own_rounds terms held j n) (own_round terms held j (suc n)) (AreRising-own_rounds terms held j n)
     (own_rounds-rise terms held j n (own_round terms held j (suc n)) last)
 
--- rounds in which the bidder is eligible for what it holds stay such with one more that is so
+-- rounds where the bidder is eligible for what it holds stay such with one more that is so
 pub AreEligible-append : (points : List ℕ) (rounds : List OwnRound) (q : OwnRound) → AreEligible points rounds → cost_of points q.held ≤ q.eligibility
     → AreEligible points (rounds ++ q ∷ [])
 AreEligible-append points [] q all last = (last, tt)
@@ -104,7 +104,7 @@ pub record IsSound (terms : Terms) (s : Standing) : Type 0 where
   pub valid : list_fault (final_cap terms) terms.points s.rounds s.submitted ≡ None
   pub unsubmitted : is_clock s.stage ≡ true → s.submitted ≡ []
 
--- where the reply is Ok, no condition holds
+-- if the reply is Ok, no condition holds
 pub bid-ok : (out strange : Bool) (over : Option ℕ) (rule : Option (ℕ × ℕ)) (short : Bool) (e : ℕ)
     → is_ok_reply (first_reply (when out reply.Stage ∷ when strange reply.Unknown ∷ supply_reply over ∷ spectrum_reply rule ∷ when short
     (reply.Points e) ∷ [])) ≡ true → (over ≡ None) × (short ≡ false)

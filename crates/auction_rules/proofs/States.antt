@@ -133,7 +133,7 @@ rounds-line terms e lines c =
 abbrev pub same_states : DeskState → DeskState → Type 0
 same_states s t = s ≡ t
 
--- states of the same terms are the same where each of their other parts is
+-- states of the same terms are the same if each of their other parts is
 pub state-parts : (terms : Terms) (stage stage' : Stage) (rounds rounds' : List Round) (prices prices' eligibility eligibility' : List ℕ)
     (held held' : List (List ℕ)) (drafts drafts' submitted submitted' : List (List BookBid))
     → stage ≡ stage' → rounds ≡ rounds' → prices ≡ prices' → eligibility ≡ eligibility' → held ≡ held' → drafts ≡ drafts' → submitted ≡ submitted'

@@ -165,7 +165,7 @@ own_replies-view terms j (e ∷ log) =
           ∙ ap (λ (vs : List Seen). replies_seen terms j (vs ++ view terms j log)) (sym (seen-other terms j lines e c theirs))
     ]
 
--- where bidder j has the same view of two logs, a line of its own gets the same reply after both
+-- if bidder j has the same view of two logs, a line of its own gets the same reply after both
 pub reply_to-same_view : (terms : Terms) (j : ℕ) (e : Event) (log other : List Event) → is_of j e ≡ true → view terms j log ≡ view terms j other
     → reply_to terms log e ≡ reply_to terms other e
 unfolding reply_to
@@ -174,13 +174,13 @@ reply_to-same_view terms j e log other mine same =
     ∙ ap (λ (s : Standing). own_reply terms j s e) (standing-view terms j log ∙ ap (standing_seen terms j) same ∙ sym (standing-view terms j other))
     ∙ sym (reply_after-own terms (admitted terms other) j e mine)
 
--- where bidder j has the same view of two logs, its lines got the same replies in both
+-- if bidder j has the same view of two logs, its lines got the same replies in both
 pub own_replies-same_view :
     (terms : Terms) (j : ℕ) (log other : List Event) → view terms j log ≡ view terms j other
     → own_replies terms j log ≡ own_replies terms j other
 own_replies-same_view terms j log other same = own_replies-view terms j log ∙ ap (replies_seen terms j) same ∙ sym (own_replies-view terms j other)
 
--- where bidder j has the same view of two logs, it has the same bids in their books
+-- if bidder j has the same view of two logs, it has the same bids in their books
 pub bids_in_book-same_view :
     (terms : Terms) (j : ℕ) (log other : List Event) → view terms j log ≡ view terms j other
     → bids_in_book terms log j ≡ bids_in_book terms other j

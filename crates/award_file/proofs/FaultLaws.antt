@@ -14,7 +14,7 @@ use Rattle.award_file.proofs.FieldLaws.{name-is}
 
 -- ---- faults
 
--- where none of three rules is broken, all hold; and so for four and five
+-- if none of three rules is broken, all hold; and so for four and five
 pub three-hold : (a b c : Bool) (i j k entry : ℕ) → first_fault (unless a i entry ∷ unless b j entry ∷ unless c k entry ∷ []) ≡ None
     → (a ≡ true) × (b ≡ true) × (c ≡ true)
 three-hold false b c i j k entry h = absurd (cc h)
@@ -22,13 +22,13 @@ three-hold true false c i j k entry h = absurd (cc h)
 three-hold true true false i j k entry h = absurd (cc h)
 three-hold true true true i j k entry h = (refl, refl, refl)
 
--- where none of four rules is broken, all four hold
+-- if none of four rules is broken, all four hold
 pub four-hold : (a b c d : Bool) (i j k l entry : ℕ) → first_fault (unless a i entry ∷ unless b j entry ∷ unless c k entry ∷ unless d l entry ∷ []) ≡ None
     → (a ≡ true) × (b ≡ true) × (c ≡ true) × (d ≡ true)
 four-hold false b c d i j k l entry h = absurd (cc h)
 four-hold true b c d i j k l entry h = let more = three-hold b c d j k l entry h in (refl, more.0, more.1, more.2)
 
--- where none of five rules is broken, all five hold
+-- if none of five rules is broken, all five hold
 pub five-hold : (a b c d e : Bool) (i j k l m entry : ℕ) → first_fault (unless a i entry ∷ unless b j entry ∷ unless c k entry ∷ unless d l entry ∷ unless e m
     entry ∷ []) ≡ None
     → (a ≡ true) × (b ≡ true) × (c ≡ true) × (d ≡ true) × (e ≡ true)

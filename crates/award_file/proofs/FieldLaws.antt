@@ -74,7 +74,7 @@ pub tables-more : (d : Data) (ds : Items) → are_tables (item d ds) ≡ true �
 tables-more (table t) ds h = (h, refl)
 tables-more _ ds h = absurd (false≢true h)
 
--- where all elements are tables, there are as many
+-- if all elements are tables, there are as many
 pub tables-count : (vs : List Value) → are_tables (items_view vs) ≡ true → length (tables_of (items_view vs)) ≡ length vs
 tables-count [] h = refl
 tables-count (v ∷ vs) h = let more = tables-more (view v) (items_view vs) h in more.1 ∙ ap suc (tables-count vs more.0)

@@ -75,7 +75,7 @@ over true false c l m t stop h = subst (λ (s : LotStop). IsLimit (Some (Lots, m
 over true true false l m t stop h = subst (λ (s : LotStop). IsLimit (Some (States, t)) (limit_stop s)) (same_Some _ _ h) refl
 over true true true l m t stop h = absurd (cc h)
 
--- a supply isn't made where its counts exceed a limit
+-- a supply isn't made if its counts exceed a limit
 pub stops-over : (supply : List ℕ) (stop : LotStop) → IsOffer supply → supply_stop supply ≡ Some stop → IsLimit (supply_excess supply) (limit_stop stop)
 stops-over supply stop offer stops =
     subst (λ (e : Option Excess). IsLimit e (limit_stop stop)) (sym (excess-is supply))

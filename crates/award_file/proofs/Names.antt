@@ -86,7 +86,7 @@ pub number-found : (bidders : List Entrant) (name : List ℕ) → 0 < number_amo
     → (bidder_at bidders (number_among name (names_of bidders))).name ≡ name
 number-found bidders name some = number_found-by (position (bytes_eq name) (names_of bidders)) bidders name refl some
 
--- where names occur once, a name has the number of its bidder
+-- if names occur once, a name has the number of its bidder
 pub number-only : (bidders : List Entrant) (name : List ℕ) (j : ℕ) → AreNamedApart bidders → 1 ≤ j → j ≤ length bidders → (bidder_at bidders j).name ≡ name
     → number_among name (names_of bidders) ≡ j
 number-only bidders name zero apart low high is = absurd (omega arith)

@@ -49,10 +49,10 @@ first-limits f g (Field number entry) h = absurd h
 first-limits f g (Limit kind count) h = rw h
 first-limits f g Memory h = tt
 
--- the limit of bidders, where no other is exceeded
+-- the limit of bidders, if no other is exceeded
 pub bidders-exceed : (f : Option Excess) (n : ℕ) → f ≡ None → 16 < n → option_or f (bidders_excess n) ≡ Some (Bidders, n)
 bidders-exceed f n none many = let e : bidders_excess n ≡ Some (Bidders, n) = grind (arith, nat_tests) in rw none e
 
--- where no other limit is exceeded and there are at most 16 bidders, no limit is
+-- if no other limit is exceeded and there are at most 16 bidders, no limit is
 pub none-exceeded : (f : Option Excess) (n : ℕ) → f ≡ None → n ≤ 16 → option_or f (bidders_excess n) ≡ None
 none-exceeded f n none few = let e : bidders_excess n ≡ None = grind (arith, nat_tests) in rw none e

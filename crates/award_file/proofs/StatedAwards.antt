@@ -26,7 +26,7 @@ new-name : (before : List (List ℕ)) (found : Option (List ℕ)) → is_new bef
 new-name before None h = absurd (false≢true h)
 new-name before (Some name) h = h
 
--- where each name of tables is new, no name occurs twice
+-- if each name of tables is new, no name occurs twice
 names-apart : (n : ℕ) (before : List (List ℕ)) (ts : List Members) → IsDistinct bytes_eq before
     → tables_fault (bidder_fault n) name_or_none before ts ≡ None → IsDistinct bytes_eq (before ++ map name_or_none ts)
 names-apart n before [] apart h = subst (λ names. IsDistinct bytes_eq names) (sym (append-nil before)) apart

@@ -10,7 +10,7 @@ last-is : (x : ℕ × ℕ) (xs : List (ℕ × ℕ)) (y : ℕ × ℕ) → slice_g
 last-is x [] y h = ap (λ (p : ℕ × ℕ). p.0) (same_Some _ _ h)
 last-is x (z ∷ zs) y h = last-is z zs y h
 
--- an excess comes next after some steps where it is above that of the last one
+-- an excess comes next after some steps if it is above that of the last one
 pub after-last : (xs : List (ℕ × ℕ)) (y : ℕ × ℕ) (excess : ℕ) → slice_get xs (length xs - 1) ≡ Some y
     → comes_next (excesses xs) (Some excess) ≡ nat_lt y.0 excess
 after-last [] y excess h = absurd (cc h)

@@ -68,7 +68,7 @@ module _ (b : Inside) (last : ℕ) (last_is : last ≡ length b.bidders.items) (
       bids_are b last last_some last_known old read bids book (bids_of book last ++ bid_value entry ∷ []) is made
       ∙ ap (λ (k : ℕ). with_bids book k (bids_of book k ++ bid_value entry ∷ [])) (last_is ∙ count)
 
-  -- where the last bidder keeps the same bids, the net amounts stay right
+  -- if the last bidder keeps the same bids, the net amounts stay right
   pub none_nets : bids.items ≡ old.bids.items → NetsAreKept b → NetsAreKept (changed b last last_some last_known old read bids)
   none_nets = same_nets b last last_some last_known old read bids
 
@@ -80,7 +80,7 @@ module _ (b : Inside) (last : ℕ) (last_is : last ≡ length b.bidders.items) (
       (subst (All (HasNet b.reserves.items)) (sym pushed) (All-push (HasNet b.reserves.items) old.bids.items entry
       (own_nets b last last_some last_known old read nets) net))
 
-  -- where the last bidder keeps the same bids, it stays right which bids are better
+  -- if the last bidder keeps the same bids, it stays right which bids are better
   pub none_betters : bids.items ≡ old.bids.items → BettersAreKept b → BettersAreKept (changed b last last_some last_known old read bids)
   none_betters = same_betters b last last_some last_known old read bids
 

@@ -1,4 +1,4 @@
--- What the fields hold where one bidder has other bids.
+-- What the fields hold if one bidder has other bids.
 use Rattle.std.proofs.Common.{◌≡◌, ℕ, suc, ◌-◌, ◌≤◌, ◌<◌, List, length, get_or, set, refl, sym, ap, subst, ◌∙◌, arith, Vec, Global}
 use Rattle.std.specs.Prelude.{map, Result, Ok, Err, OnErr}
 use Rattle.std.specs.Vec.{with_item}
@@ -75,20 +75,20 @@ module _ (b : Inside) (j : ℕ) (some : 0 < j) (known : j ≤ length b.bidders.i
         ∙ ap (λ (x : Book). with_bidders x (set x.bidders (j - 1) (bidder_with old.name list))) is
         ∙ ap (λ (x : Bidder). with_bidders book (set book.bidders (j - 1) (bidder_with x.name list))) (sym own)
 
-    -- where the net amounts of the new bids are right, those of the changed fields are
+    -- if the net amounts of the new bids are right, those of the changed fields are
     pub changed_nets : NetsAreKept b → All (HasNet b.reserves.items) bids.items → NetsAreKept changed
     changed_nets nets own = All-set (λ (x : BookBidder). All (HasNet b.reserves.items) x.bids.items) b.bidders.items (j - 1)
         (record { name = old.name; bids = bids }) own nets
 
-    -- the net amounts stay right where the bids are the same
+    -- the net amounts stay right if the bids are the same
     pub same_nets : bids.items ≡ old.bids.items → NetsAreKept b → NetsAreKept changed
     same_nets same nets = changed_nets nets (subst (All (HasNet b.reserves.items)) (sym same) (own_nets nets))
 
-    -- where it is right which of the new bids are better, it is so for the changed fields
+    -- if it is right which of the new bids are better, it is so for the changed fields
     pub changed_betters : BettersAreKept b → AreBetter bids.items → BettersAreKept changed
     changed_betters betters own = All-set (λ (x : BookBidder). AreBetter x.bids.items) b.bidders.items (j - 1)
         (record { name = old.name; bids = bids }) own betters
 
-    -- which bids are better stays right where the bids are the same
+    -- which bids are better stays right if the bids are the same
     pub same_betters : bids.items ≡ old.bids.items → BettersAreKept b → BettersAreKept changed
     same_betters same betters = changed_betters betters (subst AreBetter (sym same) (own_betters betters))

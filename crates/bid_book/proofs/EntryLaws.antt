@@ -47,7 +47,7 @@ pub name_utf8 : (name : List ℕ) → IsName name → IsUtf8 name
 name_utf8 [] is = absurd is
 name_utf8 (c ∷ cs) is = IsUtf8-from_ascii (c ∷ cs) (IsAscii-from_all (c ∷ cs) (each_all (λ b. b < 128) (c ∷ cs) (omega (arith, is.0), bytes_low cs is.1)))
 
--- where a result can be no error, anything follows from the lack of its value
+-- if a result can be no error, anything follows from the lack of its value
 pub ok_some : {T E : Type 0} (r : Result T E) (o : Option T) (P : T → Type 0) (Q : E → Type 0) (Z : Type 0) → o ≡ result_ok r → MatchResult r P Q
     → ((e : E) → Q e → ⊥) → IfNone o Z
 ok_some (Ok x) o P Q Z is match other = subst (λ (p : Option _). IfNone p Z) (sym is) tt

@@ -140,7 +140,7 @@ pub record Parts (bidders : List Bidder) : Type 0 where
   pub bidder : Bidder
   pub whole : bidders ≡ front ++ bidder ∷ []
 
--- where there is a bidder, the list of bidders is a prefix and a last one
+-- if there is a bidder, the list of bidders is a prefix and a last one
 pub parts_of : (bidders : List Bidder) → 0 < length bidders → Parts bidders
 parts_of bidders some =
     let all : take (length bidders - 1 + 1) bidders ≡ bidders = take_all (length bidders - 1 + 1) bidders (omega arith) in

@@ -72,7 +72,7 @@ module _ (line counts : List ℕ) (spelled : line ≡ (supply_line counts).0) (o
       let told = limit_one (over.kind, over.count) (kind, count) (sym over.line ∙ is) in
       (Supplied counts, (counts, spelled, offer, refl), over.exceeds ∙ ap Some told)
 
-  -- where an offer's supply can't be made, that is no fault of form
+  -- if an offer's supply can't be made, that is no fault of form
   pub supply_no_form : (stop ≡ lots.Memory) ⊎ (supply_stop counts ≡ Some stop) → line_stop stop ≡ Form → ⊥
   supply_no_form (inl memory) is = let e : line_stop lots.Memory ≡ Form = ap line_stop (sym memory) ∙ is in cc
   supply_no_form (inr stops) is =

@@ -60,7 +60,7 @@ two_bidders old a b l x y =
     let same : x.name ≡ y.name = cc in
     x.new_is ∙ ap (λ (n : List ℕ). with_bidders old (old.bidders ++ bidder_with n [] ∷ [])) same ∙ sym y.new_is
 
--- a line states one bid, where the numbers are below 2 ^ 120
+-- a line states one bid, if the numbers are below 2 ^ 120
 pub bid_one : (l : List ℕ) (a b : BookBid) → AreSmall (a.lots ++ a.amount ∷ []) → AreSmall (b.lots ++ b.amount ∷ []) → l ≡ (bid_line 0 a).0
     → l ≡ (bid_line 0 b).0 → a ≡ b
 bid_one l a b sa sb la lb =

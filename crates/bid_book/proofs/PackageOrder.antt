@@ -8,7 +8,7 @@ use Rattle.auction_model.specs.Package.{ComesBefore, is_within}
 use Rattle.book_grammar.specs.BookForm.{empty_package}
 use Rattle.bid_book.specs.Stages.{last_lots, last_bids, lots_before}
 
--- the first list comes first, also where it is a prefix of the other
+-- the first list comes first, also if it is a prefix of the other
 abbrev pub is_before : List ℕ → List ℕ → Bool
 is_before [] [] = false
 is_before [] (y ∷ ys) = true
@@ -70,12 +70,12 @@ pub lots_at : (book : Book) (j i : ℕ) → 0 < i → lots_of book j i ≡ (get_
 lots_at book j zero some = absurd (omega arith)
 lots_at book j (suc i) some = ap (λ (k : ℕ). (get_or (bids_of book j) k no_bid).lots) (omega arith)
 
--- where the last bidder, of number n, has that many bids
+-- if the last bidder, of number n, has that many bids
 pub lots_none : (book : Book) (n last : ℕ) → n ≡ length book.bidders → last ≡ length (bids_of book n) → last ≡ 0 → lots_before book ≡ empty_package book.supply
 lots_none book n last is count none = last_lots-none (empty_package book.supply) (last_bids book)
     (ap (λ (k : ℕ). length (bids_of book k)) (sym is) ∙ sym count ∙ none)
 
--- where the last bidder has bids, the next bid's package has to come after that of the last one
+-- if the last bidder has bids, the next bid's package has to come after that of the last one
 pub lots_some : (book : Book) (n last : ℕ) → n ≡ length book.bidders → last ≡ length (bids_of book n) → 0 < last → lots_before book ≡ lots_of book n last
 lots_some book n last is count some =
     let own : last ≡ length (last_bids book) = count ∙ ap (λ (k : ℕ). length (bids_of book k)) is in

@@ -1,4 +1,4 @@
--- Bids in the order of their packages: where one is put in.
+-- Bids in package order: the place of a new one.
 use Rattle.std.specs.Prelude.{◌≡◌, ℕ, zero, suc, ◌≤◌, ◌<◌, true, false, List, [], ◌∷◌, length, get_or, refl}
 use Rattle.std.proofs.Common.{inl, inr, set, sym, ◌∙◌, ap, subst, arith}
 use Rattle.std.specs.List.{insert}
@@ -69,7 +69,7 @@ put-free (b ∷ bids) lots amount (suc place) before last behind other =
     (put-free bids lots amount place (λ k low. before (suc k) (omega (arith, low))) (omega (arith, last)) (λ inside. behind (omega (arith, inside)))
     (λ there. other (omega (arith, there.0), there.1))))
 
--- where a bid is for these lots, it is at their place
+-- if a bid is for these lots, it is at their place
 pub place-there : (bids : List BookBid) (lots : List ℕ) (place i : ℕ) → InPackageOrder bids → IsPlaceIn bids lots place → i < length bids
     → (get_or bids i no_bid).lots ≡ lots → (place < length bids) × ((get_or bids place no_bid).lots ≡ lots)
 place-there bids lots place i order at inside own =

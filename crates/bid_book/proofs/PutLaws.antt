@@ -1,4 +1,4 @@
--- The rules of a book go on to hold where a bid that keeps them is put in, and where a bid is taken out.
+-- The rules of a book go on to hold if a bid that keeps them is put in, and where a bid is taken out.
 use Rattle.std.specs.Prelude.{◌≡◌, ◌≢◌, ℕ, zero, suc, ◌+◌, ◌-◌, ◌≤◌, ◌<◌, true, Option, None, List, [], ◌∷◌, ◌++◌, codes, length, get_or, map, replicate, refl}
 use Rattle.std.proofs.Math.ListN.{length-set}
 use Rattle.std.proofs.Common.{inl, inr, set, sym, ◌∙◌, ap, subst, arith}
@@ -183,7 +183,7 @@ bidders-few before (b ∷ bidders) few each =
     ∙ ap (λ (o : Option Excess). option_or o (first_excess (bidder_lines (before + 1) bidders))) own
     ∙ bidders-few (before + 1) bidders (omega arith) each.1
 
--- no line of a book exceeds a limit where its supply and its counts don't
+-- no line of a book exceeds a limit if its supply and its counts don't
 pub lines-within : (book : Book) → supply_excess book.supply ≡ None → length book.bidders ≤ 16 → AllByRecursion HasFew book.bidders
     → first_excess (book_lines book) ≡ None
 lines-within book supply few each =
@@ -242,7 +242,7 @@ entry-count lots amount (b ∷ bids) =
       ]
     ]
 
--- where there is a bid for the package, as many as before
+-- if there is a bid for the package, as many as before
 entry-same : (bids : List BookBid) (lots : List ℕ) (amount i : ℕ) → InPackageOrder bids → i < length bids → (get_or bids i no_bid).lots ≡ lots
     → length (with_entry lots amount bids) ≡ length bids
 entry-same bids lots amount i order inside here =
@@ -294,7 +294,7 @@ entry-holds P lots amount (b ∷ bids) all =
       ]
     ]
 
--- where a book keeps its rules with a bid put in, that bid keeps them, whatever bids come before it
+-- if a book keeps its rules with a bid put in, that bid keeps them, whatever bids come before it
 pub put-sound : (book : Book) (j : ℕ) (bid : BookBid) → 0 < j → j ≤ length book.bidders → IsBookWithinLimits (with_put book j bid)
     → IsSoundBid book.supply book.reserves bid
 put-sound book j bid some known is =

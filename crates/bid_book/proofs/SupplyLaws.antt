@@ -16,12 +16,12 @@ use Rattle.lots.specs.Limits.{IsSupply, categories_stop, zero_stop, lots_stop, s
 use Rattle.line_format.specs.declared.stop.LineStop.TheVariants.{Limit}
 use Rattle.bid_book.specs.Stops.{line_stop}
 
--- where one value or else another is none, the one is none
+-- if one value or else another is none, the one is none
 pub none_first : {O : Type 0} (a b : Option O) → option_or a b ≡ None → a ≡ None
 none_first None b is = refl
 none_first (Some x) b is = absurd (cc)
 
--- where one value or else another is none, the other is none
+-- if one value or else another is none, the other is none
 pub none_second : {O : Type 0} (a b : Option O) → option_or a b ≡ None → b ≡ None
 none_second None b is = is
 none_second (Some x) b is = absurd (cc)

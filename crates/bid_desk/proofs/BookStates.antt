@@ -45,7 +45,7 @@ lists-booked desk few reached k d inside =
     subst (IsBooked (length desk.terms.supply)) own
     (known-booked desk.terms desk (suc k) (known-reached desk (suc k) few reached (omega arith) (omega (arith, inside, lists-count desk reached))))
 
--- once the clock has stopped a round is closed, also where the award has no bidder
+-- once the clock has stopped a round is closed, also if the award has no bidder
 round-closed : (terms : Terms) (log : List Event) → is_clock (state_of terms log).stage ≡ false → 1 ≤ length (state_of terms log).rounds
 unfolding state_of
 round-closed terms log over =

@@ -199,7 +199,7 @@ removed-by list read new lots place same is by =
     let own : IsTakenAt (map bid_value list) lots place = subst (λ (xs : List Bid). IsTakenAt (map bid_value xs) lots place) same is in
     ap (map bid_value) by ∙ map-remove bid_value list place ∙ sym own.removed
 
--- entries whose values are kept, where there are as many categories
+-- entries whose values are kept, if there are as many categories
 pub entries-of : (list : List Bid) (values : List BookBid) (categories count : ℕ) → map bid_value list ≡ values → IsKept count values → categories ≡ count
     → All (IsEntry categories) list
 entries-of list values categories count is kept same =

@@ -44,7 +44,7 @@ first-eligibility : (j : ℕ) (rounds : List Round) → 1 ≤ length rounds → 
 first-eligibility j [] some = absurd (omega arith)
 first-eligibility j (r ∷ rounds) some = refl
 
--- drafts are kept in order, and are small, where the supply has no more lots than it may
+-- drafts are kept in order, and are small, if the supply has no more lots than it may
 drafts-kept : (terms : Terms) (j : ℕ) (list : List BookBid) → sum terms.supply ≤ 40 → AreDrafts terms j list → IsKept (length terms.supply) list
 drafts-kept terms j list lots are = record {
   each = each-weaker (IsDraft terms j) (IsKeptEntry (length terms.supply)) list

@@ -29,7 +29,7 @@ testers-running terms clock new testers runs are = record {
   each = λ k d inside. kept-running terms clock new (k + 1) (get_or testers k d) runs (are.each k d inside);
 }
 
--- where no bidder has a tester, the testers are right at any clock
+-- if no bidder has a tester, the testers are right at any clock
 pub testers-start : (terms : Terms) (clock : ClockState) (count : ℕ) (testers : List (Option Tester)) → count ≡ length terms.bidders
     → testers ≡ replicate count None → AreTesters terms clock testers
 testers-start terms clock count testers all is =

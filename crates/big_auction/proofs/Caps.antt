@@ -34,7 +34,7 @@ enough-append points (s ∷ rounds) r reached =
 pub constraining-last : (points : ℕ) (rounds : List OwnRound) (r : OwnRound) → points ≤ r.eligibility → constraining points (rounds ++ r ∷ []) ≡ r
 constraining-last points rounds r reached = ap (last_or no_round) (enough-append points rounds r reached) ∙ last_or-append no_round (enough points rounds) r
 
--- where no bid for a package is above an amount, the greatest isn't
+-- if no bid for a package is above an amount, the greatest isn't
 pub greatest-few : (lots : List ℕ) (most : ℕ) (bids : List BookBid) → AllByRecursion (λ b. is_same b.lots lots ≡ true → b.amount ≤ most) bids
     → greatest lots bids ≤ most
 greatest-few lots most [] few = omega arith

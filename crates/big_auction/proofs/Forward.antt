@@ -16,7 +16,7 @@ abbrev pub after : DeskState → List Event → DeskState
 after st [] = st
 after st (e ∷ es) = after (taken st e) es
 
--- each of the lines is answered Ok
+-- each of the lines has the reply Ok
 abbrev pub AllPass : DeskState → List Event → Type 0
 AllPass st [] = Unit {0}
 AllPass st (e ∷ es) = (reply_in st e ≡ Ok) × AllPass (taken st e) es
@@ -26,12 +26,12 @@ pub after-append : (st : DeskState) (xs ys : List Event) → after st (xs ++ ys)
 after-append st [] ys = refl
 after-append st (e ∷ xs) ys = after-append (taken st e) xs ys
 
--- lines and more lines are answered Ok, where the latter are from the state after the former
+-- lines and more lines have the reply Ok, if the latter are from the state after the former
 pub AllPass-append : (st : DeskState) (xs ys : List Event) → AllPass st xs → AllPass (after st xs) ys → AllPass st (xs ++ ys)
 AllPass-append st [] ys pass more = more
 AllPass-append st (e ∷ xs) ys pass more = (pass.0, AllPass-append (taken st e) xs ys pass.1 more)
 
--- from a state the lines are answered Ok, and the state after them is of this kind
+-- from a state the lines have the reply Ok, and the state after them is of this kind
 pub record Goes (st : DeskState) (es : List Event) (To : DeskState → Type 0) : Type 0 where
   pub pass : AllPass st es
   pub to : To (after st es)
@@ -43,7 +43,7 @@ goes-on st xs ys Via To first next =
     let then : Goes (after st xs) ys To = next (after st xs) first.to in
     record { pass = AllPass-append st xs ys first.pass then.pass; to = subst To (sym (after-append st xs ys)) then.to }
 
--- a line that is answered Ok leads to the state that has taken it
+-- a line that has the reply Ok leads to the state that has taken it
 pub goes-one : (st : DeskState) (e : Event) (To : DeskState → Type 0) → reply_in st e ≡ Ok → To (taken st e) → Goes st (e ∷ []) To
 goes-one st e To ok to = record { pass = (ok, tt); to = to }
 

@@ -139,7 +139,7 @@ staying-more i =
       | inr high ↦ rw (lt-leb (i + 1) 4 (omega arith)) (omega arith)
     ]
 
--- the lines of one bidder more, with 500 draws, and one more where it stays
+-- the lines of one bidder more, with 500 draws, and one more if it stays
 pub sealed-more : (s : ℕ) (prices : List ℕ) (xs : List Lots) (i state next : ℕ) (p : Lots) (last old now new : List ℕ) → i < length xs → p ≡ get_or xs i p
     → last ≡ last_of (i + 1) (counts_of p) → IsSealed s prices (map counts_of xs) i state old now
     → new ≡ now ++ log_text (lines_from state prices (i + 1) (counts_of p) last) → next ≡ advanced state (500 + (if nat_le (i + 1) 4 then 1 else 0))

@@ -1,4 +1,4 @@
--- The drafts of a made auction are answered Ok.
+-- The drafts of a made auction have the reply Ok.
 use Rattle.std.proofs.Common.{List, [], arith, false, inl, inr, map, min, refl, subst, suc, sym, true, ℕ, ◌*◌, ◌++◌, ◌+◌, ◌-◌, ◌/◌, ◌<◌, ◌||◌, ◌∙◌}
 use Rattle.std.proofs.Common.{◌∷◌, ◌≡◌, ◌≤◌}
 use Rattle.std.specs.Prelude.{◌⊎◌, nat_le, slice_index, sum}
@@ -94,7 +94,7 @@ reduced-points own is =
 
 -- ---- amounts
 
--- a clock round in which the bidder held one of its two packages, which costs no more in it than at last
+-- a clock round where the bidder held one of its two packages, which costs no more in it than at last
 pub record IsClockRound (prices own final : List ℕ) (r : OwnRound) : Type 0 where
   pub held : (r.held ≡ own) ⊎ (r.held ≡ final)
   pub cost : cost_of r.prices r.held ≤ cost_of prices r.held
@@ -156,7 +156,7 @@ pub record IsBidding (rounds : List OwnRound) (prices own final : List ℕ) (k :
   pub last : HasRounds rounds (last_with prices own final)
   pub stays : nat_le k staying ≡ true → final ≡ reduced own
 
--- a drawn draft is answered Ok
+-- a drawn draft has the reply Ok
 pub due-drawn : (rounds : List OwnRound) (prices own final : List ℕ) (k state permille : ℕ) → permille ≤ 1000 → IsBidding rounds prices own final k
     → IsDue rounds (last_with prices own final) (drawn_package state own) (amount_of prices own final (drawn_package state own) permille)
 due-drawn rounds prices own final k state permille few bidding =
@@ -231,7 +231,7 @@ last-goes rounds prices eligibility held state q own final k n s few known biddi
       | inr go ↦ rw go (submit-goes rounds prices eligibility held (last_with q own final) k n s known bidding.last within)
     ]
 
--- all lines of a bidder in the sealed round are answered Ok, after those of the bidder before it
+-- all lines of a bidder in the sealed round have the reply Ok, after those of the bidder before it
 pub part-goes : (rounds : List Round) (prices eligibility : List ℕ) (held : List (List ℕ)) (state : ℕ) (q own final : List ℕ) (k : ℕ) (s : DeskState)
     → IsKnown k
     → IsBidding (map (own_of k) rounds) q own final k → Between rounds prices eligibility held (k - 1) s

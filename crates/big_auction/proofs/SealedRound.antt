@@ -23,7 +23,7 @@ use Rattle.big_auction.proofs.Caps.{IsFair, no-fault, each-with_entry, length-wi
 use Rattle.big_auction.proofs.ClockRounds.{sealed_state}
 use Rattle.big_auction.proofs.Forward.{Goes, goes-one}
 
--- where no condition holds, the reply is Ok
+-- if no condition holds, the reply is Ok
 none-holds : (replies : List (Option Reply)) → AllByRecursion (λ (r : Option Reply). r ≡ None) replies → first_reply replies ≡ reply.Ok
 none-holds [] none = refl
 none-holds (r ∷ replies) none = rw none.0 (none-holds replies none.1)
@@ -44,7 +44,7 @@ pub record HasRounds (rounds : List OwnRound) (last : OwnRound) : Type 0 where
   pub before : List OwnRound
   pub are : rounds ≡ before ++ last ∷ []
 
--- a draft that is answered Ok, and that may be submitted
+-- a draft that has the reply Ok, and that may be submitted
 pub record IsDue (rounds : List OwnRound) (last : OwnRound) (lots : List ℕ) (amount : ℕ) : Type 0 where
   pub within : first_over 1 lots made_terms.supply ≡ None
   pub points : cost_of made_terms.points lots ≤ 73

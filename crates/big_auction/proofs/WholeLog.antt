@@ -62,7 +62,7 @@ end-goes number s parts =
     subst (λ (s : DeskState). Goes s (Close ∷ []) (IsEnd number)) (sym parts.is)
     (goes-one st Close (IsEnd number) refl (record { terms = refl; closed = refl; rounds = refl; lots = parts.lots_submitted }))
 
--- from the beginning on all lines are answered Ok
+-- from the beginning on all lines have the reply Ok
 pub log-goes : (number : ℕ) → Goes (state_of made_terms []) (made_log number) (IsEnd number)
 unfolding made_log
 log-goes number =
@@ -82,7 +82,7 @@ end_state number = after (state_of made_terms []) (made_log number)
 log-stands : (number : ℕ) → Stands made_terms (reverse (made_log number)) (end_state number)
 log-stands number = stands-all made_terms (made_log number) (IsEnd number) (log-goes number)
 
--- all lines of the made log are answered Ok
+-- all lines of the made log have the reply Ok
 pub log-answered : (number : ℕ) → AreAnsweredOk made_terms (reverse (made_log number))
 log-answered number = (log-stands number).answered
 

@@ -28,12 +28,12 @@ module _ (m : Market) (lawful : IsMarket m) (z : List ℕ) (win : IsWinning m z)
   own : IsPaid m z (record { den = den; at = at }) (surpluses_of m z den at)
   own = surpluses-are m z (record { den = den; at = at }) c.asks
 
-  -- where the greatest lowered sum isn't above all payments, nothing blocks the point
+  -- if the greatest lowered sum isn't above all payments, nothing blocks the point
   pub look-free : sum ≤ℤ paid m (record { den = den; at = at }) → IsUnblocked m z (record { den = den; at = at })
   look-free le = let is = found.sum in free-unblocked m lawful z (record { den = den; at = at }) (surpluses_of m z den at) own f found.first
       (omega (arith, ints))
 
-  -- where it is above them, something does
+  -- if it is above them, something does
   pub look-blocks : paid m (record { den = den; at = at }) <ℤ sum → ¬ IsUnblocked m z (record { den = den; at = at })
   look-blocks lt free = let is = found.sum in let h = unblocked-free m lawful z (record { den = den; at = at })
       (surpluses_of m z den at) own f found.first free in absurd (omega (arith, ints))
@@ -71,7 +71,7 @@ module _ (m : Market) (lawful : IsMarket m) (z : List ℕ) (win : IsWinning m z)
   same-row : (j : ℕ) → 0 < j → idle_row m z (record { den = den; at = at }) f j ≡ has_member z (bits_after z (idle_row m z (record { den = den; at = at }) f) 0) j
   same-row j q = sym (bits-are_row m z (record { den = den; at = at }) f j q)
 
-  -- and it isn't empty where the excess is above 0
+  -- and it isn't empty if the excess is above 0
   some-member : paid m (record { den = den; at = at }) <ℤ sum → (x : ℕ) → bits_after z (idle_row m z (record { den = den; at = at }) f) 0 ≡ x → 0 < x
   some-member above zero e =
       let is = found.sum in

@@ -77,7 +77,7 @@ module _ (book : Book) (z : List ℕ) (whole : TableValue) (alone : VickreyValue
   table : IsExactTable (menu_of book) (net_of book) book.supply whole.lines
   table = table_of-all book whole found.table found.plain
 
-  -- there is a table for each winner alone
+  -- there is a table for each single winner
   pub count : length alone.tables ≡ length alone.singles
   count = found.tables.count ∙ ap (λ (l : List ℕ). length l) (sym found.singles.winners) ∙ mapped-length alone.singles
 

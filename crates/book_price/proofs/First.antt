@@ -74,7 +74,7 @@ module _ (m : Menu) (worth : ℕ → ℕ → ℤ) (supply z : List ℕ) (fits : 
     pub fits_too : IsTrue (fits_after m 0 supply (take k z ++ t))
     -- its sum is what the first k numbers of z are worth and what the others are
     pub sum_is : sum_after worth 0 (take k z ++ t) ≡ worth_before worth z k +ℤ sum_after worth k t
-    -- where the others come earlier than those of z, so does the choice
+    -- if the others come earlier than those of z, so does the choice
     pub earlier : IsTrue (is_earlier t (drop k z)) → IsTrue (is_earlier (take k z ++ t) z)
 
   swapped : (k : ℕ) → k ≤ length z → (t : List ℕ) → IsTrue (fits_after m k (left_after m supply z k) t) → Swapped k t

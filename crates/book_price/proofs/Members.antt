@@ -45,7 +45,7 @@ none-zero : (s : ℕ → Bool) (n : ℕ) → is_member (members_of s n) 0 ≡ fa
 none-zero s zero = refl
 none-zero s (suc n) = member-step s n 0 ∙ rw (none-zero s n, ne_eqb (suc n) 0 (λ e. absurd (omega arith))) (and_none (s (suc n)))
 
--- a bidder is in the list exactly where it is in the set
+-- a bidder is in the list exactly if it is in the set
 pub member-is : (s : ℕ → Bool) (n j : ℕ) → 0 < j → j ≤ n → is_member (members_of s n) j ≡ s j
 member-is s zero j some inside = absurd (omega arith)
 member-is s (suc n) j some inside = member-step s n j ∙ by (cases_eq (suc n) j) (λ below. member-is s n j some below)

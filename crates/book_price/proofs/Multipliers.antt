@@ -43,7 +43,7 @@ second-at rows i lt = get_or-map (λ r. r.second) rows i no_row (pos 0) lt
 pub members-at : (rows : List PricedRow) (i j : ℕ) → i < length rows → coefficients (rows_in rows) i j ≡ holds (priced_at rows i).row.members j
 members-at rows i j lt = ap (λ (r : Row). holds r.members j) (get_or-map (λ r. r.row) rows i no_row (record { members = 0; bound = pos 0 }) lt)
 
--- the rows that hold the bidder k + 1 are those that hold the winner at its place
+-- the rows that contain the bidder k + 1 are those that hold the winner at its place
 module _ (z : List ℕ) (k i : ℕ) (inside : k < length z) (place : IsPlace z k i) (rows : List PricedRow) where
   term : (r : PricedRow) (x : ℤ) → cond (is_member (row_from z r).members (suc k)) x (pos 0) ≡ x *ℤ holds r.row.members i
   term r x =
@@ -51,7 +51,8 @@ module _ (z : List ℕ) (k i : ℕ) (inside : k < length z) (place : IsPlace z k
       let bit = member-is (has_member z r.row.members) (length z) (suc k) (omega arith) (omega arith) ∙ ap (has_bit z r.row.members) b in
       ap (λ t. cond t x (pos 0)) bit ∙ times_when (has_bit z r.row.members k) x ∙ ap (λ (y : ℤ). x *ℤ y) (sym (place.member r.row.members))
 
-  -- the sum over the first n rows that hold the bidder is that by the coefficients of the winner
+  -- the sum over the first n rows that contain the bidder is that by the coefficients of the
+  -- winner
   pub holding-is : (number : RowValue → ℤ) (numbers : ℕ → ℤ) → ((q : ℕ) → q < length rows → numbers q ≡ number (row_from z (priced_at rows q))) → (n : ℕ)
       → n ≤ length rows
       → sum_holding (map (row_from z) rows) (suc k) number n ≡ sum_at n (coefficients (rows_in rows)) numbers i
@@ -65,7 +66,7 @@ module _ (z : List ℕ) (k i : ℕ) (inside : k < length z) (place : IsPlace z k
       let last = row ∙ term (priced_at rows n) x ∙ held ∙ counted in
       omega (arith, ints, before, last)
 
-  -- so is the sum over all rows that hold the bidder
+  -- so is the sum over all rows that contain the bidder
   pub all-holding : (number : RowValue → ℤ) (numbers : ℕ → ℤ) → ((q : ℕ) → q < length rows → numbers q ≡ number (row_from z (priced_at rows q)))
       → sum_holding (map (row_from z) rows) (suc k) number (length (map (row_from z) rows)) ≡ sum_at (length rows) (coefficients (rows_in rows)) numbers i
   all-holding number numbers h = ap (λ n. sum_holding (map (row_from z) rows) (suc k) number n) (length-map rows (row_from z))

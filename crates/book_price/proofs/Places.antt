@@ -30,7 +30,7 @@ each-at P (x ∷ xs) h (suc i) d lt = each-at P xs h.1 i d (omega arith)
 pub record IsPlace (z : List ℕ) (k i : ℕ) : Type 0 where
   -- the place is one of a winner
   pub inside : i < winners_in z
-  -- a set of winners holds that place exactly where it holds the bidder
+  -- a set of winners holds that place exactly if it holds the bidder
   pub member : (bits : ℕ) → holds bits i ≡ cond (has_bit z bits k) (pos 1) (pos 0)
   -- the bidder's number is the one at that place
   pub number : (xs : List ℤ) → nth (for_bidders z xs) k ≡ nth xs i

@@ -58,7 +58,7 @@ pub not_negative-small : (a : ℤ) → pos 0 ≤ℤ a → a <ℤ pos (2 ^ 120) �
 not_negative-small (pos a) low high = omega (arith, ints)
 not_negative-small (negsuc a) low high = absurd (omega (arith, ints))
 
--- the denominator and the value are in range where their product is
+-- the denominator and the value are in range if their product is
 pub numbers_shape : (den value : ℤ) → pos 1 ≤ℤ den → pos 0 ≤ℤ value → (den *ℤ (value +ℤ pos 1)) <ℤ pos (2 ^ 120) → InRange den × InRange value
 numbers_shape den value some low small =
     let apart = mul-add den value (pos 1) in
@@ -139,7 +139,7 @@ pub rows_shape : (m : Market) (z : List ℕ) → length z ≡ m.bidders → ((c 
 rows_shape m z long choices den at rows kept first sums small seconds_small =
     all-shape m z rows (λ i lt. row-shape m z long choices den at rows kept first sums small seconds_small i lt)
 
--- there are no more than ten rows where at most six win
+-- there are no more than ten rows if at most six win
 pub rows_few : (z : List ℕ) (rows : List PricedRow) → length rows ≤ winners_in z → winners_in z ≤ 6 → length (map (row_from z) rows) ≤ 10
 rows_few z rows count few = let e = length-map rows (row_from z) in omega (arith, e)
 

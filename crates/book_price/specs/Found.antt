@@ -16,7 +16,7 @@ use Rattle.value_table.specs.TableValue.{IsLoweredTable, IsPlain, IsTableOf, Tab
 use Rattle.vickrey.specs.VickreyValue.{AreTablesWithout, VickreyValue}
 use Rattle.book_price.specs.Made.{cert_made}
 
--- the winning choice z with the table of all bids, the winners each alone, and the prices by the weights
+-- the winning choice z with the table of all bids, the single winners, and the prices by the weights
 pub record AreFound (book : Book) (z : List ℕ) (whole : TableValue) (alone : VickreyValue) (weights : List ℕ) (priced : Priced TableValue) : Type 0 where
   pub winning : IsWinning (market_of book) z
   pub table : IsTableOf book whole

@@ -5,7 +5,7 @@ use Rattle.cert_grammar.specs.Certificate.{CertValue, RowValue, WithoutValue}
 use Rattle.core_price.specs.declared.priced.PricedRow.{PricedRow}
 use Rattle.core_laws.specs.Winners.{for_bidders, has_member, members_of}
 
--- a kept row; its bits are those of winners in order, its members the bidders, rising
+-- a kept row. Its bits are winners in order, its members the bidders, rising
 abbrev pub row_from : List ℕ → PricedRow → RowValue
 row_from z r = record { members = members_of (has_member z r.row.members) (length z); first = r.first; second = r.second; choice = r.choice }
 

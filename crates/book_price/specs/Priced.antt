@@ -14,7 +14,7 @@ use Rattle.std.specs.Prelude.{List, ℕ}
 use Rattle.book_price.specs.Reduced.{IsReduced}
 use Rattle.book_price.specs.declared.pricing.PricedBook.{PricedBook}
 
--- A certificate of this book that passes all tests, in lowest terms, of winners who can be priced by the weights; and the
+-- A certificate of this book that passes all tests, in lowest terms, of winners who can be priced by the weights, and the
 -- pricing run of its choice, with points of small numbers, which ends at its payments.
 pub record IsPricedBook (book : Book) (weights : List ℕ) (priced : PricedBook) : Type 0 where
   pub shape : IsFor (bidders_of book) (states book) priced.cert

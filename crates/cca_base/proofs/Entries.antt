@@ -136,7 +136,7 @@ views_same view name before after old new change same = λ i n. by_name n i
       | false ↦ λ f. ap view (change.others n (λ here. let t : bytes_eq n name ≡ true = (bytes_eq-Decides n name).1 here in cc))
     ] refl
 
--- a name is known where an entry of it is found
+-- a name is known if an entry of it is found
 pub found_any : {A : Type 0} (p : A → Bool) (xs : List A) → is_some (find p xs) ≡ list_any p xs
 found_any p [] = refl
 found_any p (x ∷ xs) =

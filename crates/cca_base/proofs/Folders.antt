@@ -68,7 +68,7 @@ module _ {A : Type 0} (fresh : A → Type 0) (p : A → Bool) where
         | false ↦ fresh_count count none xs (All-tail fresh x xs all)
       ]
 
-  -- what every fresh entry shows is shown where there is one
+  -- what every fresh entry shows is shown if there is one
   pub fresh_here : {B : Type 0} (view : A → Option B) (b : Option B) → ((f : A) → fresh f → view f ≡ b) → (xs : List A) → All fresh xs
       → is_some (find p xs) ≡ true → option_and_then view (find p xs) ≡ b
   fresh_here view b is [] all = λ some. absurd (cc)

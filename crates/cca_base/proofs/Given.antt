@@ -39,11 +39,11 @@ all_by : (files : Contents) (old new : Folder) (since : List Given) → new.gave
     → AllByRecursion (AgreesWith files) since
 all_by files old new since is agrees = subst (AllByRecursion (AgreesWith files)) (since_is old new since is) agrees.each
 
--- where the bytes are reported, the files agree with what was given
+-- if the bytes are reported, the files agree with what was given
 pub agrees_told : (old new : Folder) → KeepsFiles old new → IsTrue old.told → Agrees old.file old new
 agrees_told old new kept tells = agrees_by old.file old new kept.since kept.gave (kept.agrees tells)
 
--- a load that changed no file and gave what the files hold, where they are reported
+-- a load that changed no file and gave what the files hold, if they are reported
 pub keeps_given : (a b : Folder) (g : Given) → b.knows ≡ a.knows → b.told ≡ a.told → b.file ≡ a.file → b.room ≡ a.room → b.took ≡ a.took → b.gave ≡ g ∷ a.gave
     → (IsTrue a.told → AgreesWith a.file g) → KeepsFiles a b
 keeps_given a b g knows told file room took gave agrees = record {
@@ -86,7 +86,7 @@ whole_slice len new old same is =
     let all : new ++ drop (length new) old ≡ new = ap (λ (l : List _). new ++ l) none ∙ append-nil new in
     sym (ap (λ (l : List _). take len l) all ∙ ap (λ (k : ℕ). take k new) (is ∙ sym same) ∙ take-length new)
 
--- files that were kept are kept where both have given and taken the same besides
+-- files that were kept are kept if both have given and taken the same besides
 pub keeps_calls : (a b : Folder) (gave took : List Given) → KeepsFiles a b → KeepsFiles (with_calls a gave took) (with_calls b gave took)
 keeps_calls a b gave took kept = record {
   knows = kept.knows;
@@ -167,7 +167,7 @@ agrees_both files a b c first next one other =
     agrees_by files a c (next.since ++ first.since) (gave_both a b c first next)
     ((all_parts (AgreesWith files) next.since first.since).1 (all_by files b c next.since next.gave other, all_by files a b first.since first.gave one))
 
--- the same where as much was given by another moment
+-- the same if as much was given by another moment
 pub agrees_same : (files : Contents) (a b c : Folder) → c.gave ≡ b.gave → Agrees files a b → Agrees files a c
 agrees_same files a b c same agrees = record {
   each = subst (λ (l : List Given). AllByRecursion (AgreesWith files) (take (length l - length a.gave) l))
@@ -189,7 +189,7 @@ some_file (Some file) P h = (file, refl, h)
 pub is_file : (o : Option (List ℕ)) (P : List ℕ → Type 0) (file : List ℕ) → o ≡ Some file → P file → IsSomeAnd o P
 is_file o P file is h = subst (λ (x : Option (List ℕ)). IsSomeAnd x P) (sym is) h
 
--- the prefix of a buffer stands where the whole buffer's prefix is
+-- the prefix of a buffer stands if the whole buffer's prefix is
 pub stands_front : (file buffer : List ℕ) (at room n : ℕ) → n ≤ length buffer → Stands file at room (take n buffer) (length (take n buffer))
     → Stands file at room buffer n
 stands_front file buffer at room n le h =
@@ -359,7 +359,7 @@ all_of name a b bytes gave = record { agree = λ files hold. gave.enough files h
 pub all_some : (name : List ℕ) (a b : Folder) (bytes : List ℕ) → GaveAll name a b bytes → GaveSome name a b
 all_some name a b bytes gave = record { bytes = bytes; gave = all_of name a b bytes gave }
 
--- where nothing was given
+-- if nothing was given
 pub of_none : (a : Folder) → GaveOf [] a a
 of_none a = record { agree = λ files hold. agrees_still files a }
 
@@ -374,7 +374,7 @@ of_both xs ys a b c one other first next = record {
     held_in : Contents → Content → Type 0
     held_in files x = files x.name ≡ Some x.bytes
 
--- the same where as much was given by another moment
+-- the same if as much was given by another moment
 pub of_same : (xs : List Content) (a b c : Folder) → c.gave ≡ b.gave → GaveOf xs a b → GaveOf xs a c
 of_same xs a b c same of = record { agree = λ files hold. agrees_same files a b c same (of.agree files hold) }
 

@@ -144,7 +144,7 @@ fails b weights bytes c test place says first = inr (c, (stated c, says, refl), 
 pub judged-yes : (b : BookValue) (weights bytes : List ℕ) (v : Verdict) → v ≡ verdict.Yes → Judges b weights bytes v → PassesTests b weights bytes
 judged-yes b weights bytes v is said = (said.0, said.1, subst (IsVerdict b (weight_of weights) said.0) is said.2, said.3 is)
 
--- the facts of a certificate for which all tests hold
+-- the facts of a certificate for which all tests pass
 pub judged-shown : OneCert → (b : BookValue) (weights bytes : List ℕ) (facts : CertFacts) → PassesTests b weights bytes
     → (d : CertValue) × CertSays (bidders_of b) (states b) bytes (stated d) × AreFacts b d facts → ShowsFacts b weights bytes facts
 judged-shown one b weights bytes facts passes are = shows one b weights bytes passes.0 are.0 facts passes.1 passes.2 passes.3 are.1 are.2
@@ -154,7 +154,7 @@ pub judged-no : (b : BookValue) (weights bytes : List ℕ) (v : Verdict) (test p
     → StopsCheck b weights bytes (No certs.Book test place)
 judged-no b weights bytes v test place is said = fails b weights bytes said.0 test place said.1 (subst (IsVerdict b (weight_of weights) said.0) is said.2)
 
--- what the checker answers to which the file was fed is said of the file
+-- what the checker answers to which the file was fed is stated about the file
 judged-of :
     (b : BookValue) (weights name : List ℕ) (old new : Folder) (room room2 : List ℤ) (k : StreamCheck) (r : Result CertFacts Status)
     (f : IsFed b weights name old new room k) → room2 ≡ room
@@ -197,7 +197,7 @@ judged-stop b weights name old new room room2 k (Err status) f same judges =
       ))
     ]
 
--- out of memory comes only where the file is a certificate for which all tests hold
+-- out of memory comes only where the file is a certificate for which all tests pass
 pub judged-memory :
     (b : BookValue) (weights name : List ℕ) (old new : Folder) (room room2 : List ℤ) (k : StreamCheck) (f : IsFed b weights name old new room k)
     → room2 ≡ room → ((text : List ℕ) → HasTaken k room2 text → PassesTests k.book.now k.weights.now text) → IsFoundRight b weights name old new

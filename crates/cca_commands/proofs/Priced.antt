@@ -65,7 +65,7 @@ priced book weights form p text appended is printed written =
       ap (λ (t : List ℕ). done text (cert_file t ∷ [])) written,
     )
 
--- a certificate for which all tests hold has the facts that are printed
+-- a certificate for which all tests pass has the facts that are printed
 pub has-facts : (book : BookValue) (w : ℕ → ℕ) (cert : Certificate) → IsFor (bidders_of book) (states book) cert → Holds book w (cert_value cert)
     → HasFacts book (cert_value cert)
 has-facts book w cert shape holds = record {
@@ -82,7 +82,7 @@ pub can_print-facts : (book : BookValue) (c : CertValue) (facts : CertFacts) (tu
     → AllByRecursion (CanPrintTurn c.choice) turns → AllByRecursion (CanPrintTurn facts.choice) turns
 can_print-facts book c facts turns are can = subst (λ (z : List ℕ). AllByRecursion (CanPrintTurn z) turns) (sym are.choice) can
 
--- a certificate for which all tests hold gives yes
+-- a certificate for which all tests pass gives yes
 pub accepts : (book : BookValue) (weights : List ℕ) (c : CertValue) (text : List ℕ) (appended : List FileText) → appended ≡ []
     → Holds book (weight_of weights) c → IsSound book (weight_of weights) c
     → IsYesText book c text → VerdictGives book weights c (done text appended) × (map (λ t. t.kind) appended ≡ [])

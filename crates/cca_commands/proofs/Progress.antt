@@ -208,7 +208,7 @@ works command old new seen rest at kinds outputs result is = record { out = by r
         stopped-by stop files (inl memory) is_stop agrees = absurd (subst (λ (x : Stop). IsStop x.status) memory is_stop)
         stopped-by stop files (inr x) is_stop agrees = at.leads files agrees (contents_of command files) (agree-own command files seen) _ x.1
 
--- after some inputs there was no memory
+-- after some inputs it is out of memory
 pub no-memory :
     (command : CommandValue) (old new : Folder) (seen : List FileKind) (rest : Contents → Outcome → Type 0) → IsAt command old new seen rest
     → Works command old new (Err (bare Memory))
@@ -233,7 +233,7 @@ stop-given records (Rounds count) = tt
 stop-given records (Price price) = tt
 stop-given records Open = tt
 
--- the log that was read leads to no book, or there was no memory
+-- the log that was read leads to no book, or it is out of memory
 pub book-stops :
     (command : CommandValue) (old new : Folder) (seen : List FileKind) (terms : Terms) (events : List Event)
     (follows : Contents → Book → Outcome → Type 0) (stop : Stop)

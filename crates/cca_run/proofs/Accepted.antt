@@ -70,7 +70,7 @@ sizes-of book rules = record {
   amounts = λ j i le. net-small book j i rules le;
 }
 
--- the two prints, where the prices are one text
+-- the two prints, if the prices are one text
 pub yes-printed : (lines prices others printed : List ℕ) → lines ≡ [] → others ≡ prices → printed ≡ lines ++ prices
     → codes "yes\n" ++ others ≡ codes "yes\n" ++ printed
 yes-printed lines prices others printed none same whole = ap (λ (t : List ℕ). codes "yes\n" ++ t)
@@ -81,7 +81,7 @@ some-byte : (first rest : List ℕ) → 0 < length (first ++ 10 ∷ rest)
 some-byte [] rest = omega arith
 some-byte (b ∷ first) rest = omega arith
 
--- where some of the lines follow others, their text has a byte
+-- if some of the lines follow others, their text has a byte
 pub some-line : (before behind : List Line) → 0 < length behind → 0 < length (text_of (spelled (before ++ behind)))
 some-line [] [] some = absurd (omega (arith, some))
 some-line [] (l ∷ behind) some = some-byte (spell l) _
@@ -126,7 +126,7 @@ module _ (one_cert : (bidders number : ℕ) (bytes : List ℕ) (x y : Said CertV
     (one_prices : (book : Book) (z : List ℕ) (v w : ℕ → ℤ) (p q : Point) (t u : List ℕ) → length z ≡ (market_of book).bidders → pos 1 ≤ℤ p.den → pos 1 ≤ℤ q.den
     → SamePoint (market_of book) p q → ((j : ℕ) → 0 < j → j ≤ (market_of book).bidders → v j ≡ w j) → IsPriceText book z v p t → IsPriceText book z w q u
     → t ≡ u) where
-  -- the verdict on a certificate for which all tests hold
+  -- the verdict on a certificate for which all tests pass
   judged : (book : Book) (weights : List ℕ) (form : PriceForm) (c : CertValue) (t : List ℕ) (p : Outcome) → IsPricing book weights form c t
       → VerdictGives book weights c p
       → (p.status ≡ Done) × (form ≡ form_with false false → p.printed ≡ codes "yes\n" ++ t)

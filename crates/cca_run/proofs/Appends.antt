@@ -35,7 +35,7 @@ known-among words command folder known among = by (files_of command) among
     by [] rest = tt
     by (f ∷ files) rest = (All-contains (λ w. IsTrue (folder.knows w)) words f.name known rest.0, by files rest.1)
 
--- what holds where there is a name holds where there is one in another form
+-- what holds if there is a name holds if there is one in another form
 pub at-some : {A : Type 0} (f : A → List ℕ) (name : Option A) (other : Option (List ℕ)) (P : Type 0) → IsSome other → option_map f name ≡ other
     → IfSome name (λ _. P) → P
 at-some f None other P some is holds = absurd (true≢false (sym (subst IsSome (sym is) some)))

@@ -74,7 +74,7 @@ never-done {V} most says bytes s none answers is =
       | inr short ↦ none bytes (subst (λ (x : Status). says bytes (stops x)) is (answers.text short))
     ]
 
--- where no bytes say Done of themselves, each input of a run that is done has a value
+-- if no bytes say Done of themselves, each input of a run that is done has a value
 pub has-value : {V : Type 0} (kind : FileKind) (most : ℕ) (says : List ℕ → Answer V → Type 0) (content : Option (List ℕ)) (follows : V → Outcome → Type 0)
     (o : Outcome) → ((bytes : List ℕ) → says bytes (stops Done) → ⊥)
     → InputGives kind most says content follows o → o.status ≡ Done → HasValue most says content follows o
@@ -204,7 +204,7 @@ module _ (plain : (m : Market) (w : ℕ → ℕ) (z : List ℕ) (p : Point) → 
       → IsPricedCert book w c → winners_in c.choice ≤ MOST_WINNERS → length (cert_text c) < PRICED_CERT_BYTES)
       (rules_log : (terms : Terms) (rows : List (List (List ℕ))) (events : List Event) (book : Book) → IsAward terms → AreLog terms rows events
       → end_of terms (reverse events) ≡ Ok book → IsBidBook book) where
-    -- where `award` is done, its files state an auction, of whose outcome a certificate was appended
+    -- if `award` is done, its files state an auction, of whose outcome a certificate was appended
     pub awarded : (file : List ℕ → Option (List ℕ)) (terms log cert : List ℕ) (form : PriceForm) (o : Outcome) → FilesGive (award terms log cert form) file o
         → o.status ≡ Done
         → (text : List ℕ) × IsAwarded file terms log text × (o.appended ≡ cert_file text ∷ [])

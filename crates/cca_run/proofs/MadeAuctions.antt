@@ -25,7 +25,8 @@ use Rattle.log_replay.specs.declared.results.ReplayStop.{ReplayStop}
 use Rattle.cca_run.specs.Headline.{CanBeAwarded, IsAuction, book_of}
 use Rattle.cca_run.specs.Made.{HoldMade}
 
--- a line that is answered Ok is refused for no limit
+-- a line that has the reply Ok is refused for no
+-- limit
 none-of : (line : Event) → refusal_of line reply.Ok ≡ None
 none-of (Bid bidder lots) = refl
 none-of (Draft bidder lots amount) = refl

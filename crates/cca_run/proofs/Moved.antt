@@ -28,7 +28,7 @@ module _ (command : CommandValue) (old mid new : Folder) (kept : KeepsFiles old 
   all-to to [] k = keeps_more old mid to kept k
   all-to to (t ∷ texts) w = (w.0, record { name = w.1.name; output = w.1.output; whole = adds-on w.1.name t.text (length t.text) w.0 w.1.whole }, w.2)
 
-  -- where all texts were appended from the later files, they were from the earlier ones
+  -- if all texts were appended from the later files, they were from the earlier ones
   pub all-on : (texts : List FileText) → AppendsAll command texts mid new → AppendsAll command texts old new
   all-on texts all = all-to new texts all
 

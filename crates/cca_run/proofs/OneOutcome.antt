@@ -65,7 +65,7 @@ one-end records replies (Ok book) o p x y =
     (printed-same replies replies (book_file x.0 ∷ []) (book_file y.0 ∷ []) refl)
 one-end records replies (Err stop) o p x y = equal o p _ x y
 
--- what follows for the book that a log leads to gives one status and one text, where it does so for each book
+-- what follows for the book that a log leads to gives one status and one text, if it does so for each book
 one-ended : (records : ℕ) (end : Result Book ReplayStop) (follows : Book → Outcome → Type 0) (o p : Outcome)
     → ((b : Book) → end ≡ Ok b → follows b o → follows b p → Same o p)
     → EndGives records end follows o → EndGives records end follows p → Same o p

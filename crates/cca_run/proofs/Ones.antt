@@ -20,11 +20,11 @@ not_few_and_many z weights few (inr more) = by few.1
 alike-ones : (book : Book) (z : List ℕ) → length z ≡ bidders_of book → WeighAlike z (ones book)
 alike-ones book z long = winners-ones z (bidders_of book) (omega (arith, long))
 
--- where at most six bidders win, few enough do with weights of 1
+-- if at most six bidders win, few enough do with weights of 1
 pub six-few : (book : Book) (z : List ℕ) → length z ≡ bidders_of book → winners_in z ≤ 6 → FewWin z (ones book)
 six-few book z long six = (six, inl (alike-ones book z long))
 
--- where too many bidders win with weights of 1, more than six do
+-- if too many bidders win with weights of 1, more than six do
 pub many-six : (book : Book) (z : List ℕ) → length z ≡ bidders_of book → ManyWin z (ones book) → 6 < winners_in z
 many-six book z long (inl more) = more
 many-six book z long (inr more) = absurd (more.1 (alike-ones book z long))

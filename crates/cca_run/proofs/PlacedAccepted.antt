@@ -40,7 +40,7 @@ module _ (one_slots : (bytes : List ℕ) (x y : Said SlotList Excess) → Says I
     → pos 1 ≤ℤ q.den
     → SamePoint (market_of_slots slots) p q → ((j : ℕ) → 0 < j → j ≤ length slots.bidders → v j ≡ w j) → IsPlaceText slots order z v p t
     → IsPlaceText slots order z w q u → t ≡ u) where
-  -- the verdict on a certificate for which all tests hold
+  -- the verdict on a certificate for which all tests pass
   judged : (slots : SlotList) (rounds : Bool) (c : PlaceCertValue) (t : List ℕ) (p : Outcome) → IsPlacing slots rounds c t → PlaceVerdictGives slots c p
       → (p.status ≡ Done) × (rounds ≡ false → p.printed ≡ codes "yes\n" ++ t)
   judged slots rounds c t p is (inr fails) = absurd (not_both slots c fails.0 fails.1 is.priced.holds fails.2)

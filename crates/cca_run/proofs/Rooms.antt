@@ -143,7 +143,7 @@ module _ (words : List (List ℕ)) (old new : Folder) (before now : Output) (agr
   no-write kinds.Edits ends = no-append kinds.Edits (ends.write_fault kinds.Edits refl)
   no-write kinds.Out ends = no-put ends
 
-  -- so the status is decided, or there was no memory
+  -- so the status is decided, or out of memory
   pub run-roomy : (result : Status) → RunEnds (command_of words) old new before now result → (result ≡ Memory) ⊎ IsDecided result
   run-roomy Done ends = inr tt
   run-roomy (No of test place) ends = inr tt

@@ -140,7 +140,7 @@ no-write (Some command) old new before now kinds.Edits none fault = none.appends
     fault.rose
 no-write (Some command) old new before now kinds.Out none fault = none.puts fault
 
--- without a fault a status is decided, or there was no memory
+-- without a fault a status is decided, or out of memory
 pub run-complete :
     (command : Option CommandValue) (old new : Folder) (before now : Output) (result : Status) → RunEnds command old new before now result
     → HasNoFault command old new before now
@@ -230,7 +230,7 @@ module _ (audits : AuditLaw) (awards : AwardLaw) (limits : LimitLaw) (done_where
       → FilesGive c files o
   gives-of c is files o gives = subst (λ (k : Option CommandValue). WordsGive k files o) is gives
 
-  -- without a fault a run whose words and bytes give Done alone is Done, or there was no memory
+  -- without a fault a run whose words and bytes give Done alone is Done, or out of memory
   done_or_memory : (files : List ℕ → Option (List ℕ)) → Agrees files old new → HasNoFault (command_of said) old new before now
       → ((o : Outcome) → WordsGive (command_of said) files o → o.status ≡ Done) → (result ≡ Done) ⊎ (result ≡ Memory)
   done_or_memory files agrees none all =

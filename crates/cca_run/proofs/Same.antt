@@ -60,7 +60,7 @@ two-inputs {V} kind most says follows others (Some bytes) o p R one stop on (a, 
     go (value v) answers x y = on v bytes (within-says most says bytes v answers) x y
     go (stops s) answers x y = stop s x y
 
--- an input gives one status and one text, where each of its values does
+-- an input gives one status and one text, if each of its values does
 pub one-input : {V : Type 0} (kind : FileKind) (most : ℕ) (says : List ℕ → Answer V → Type 0) (follows : V → Outcome → Type 0)
     → ((bytes : List ℕ) (a b : Answer V) → says bytes a → says bytes b → a ≡ b) → (content : Option (List ℕ)) (o p : Outcome)
     → ((v : V) (bytes : List ℕ) → says bytes (value v) → follows v o → follows v p → Same o p)

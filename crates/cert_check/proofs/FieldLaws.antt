@@ -50,7 +50,7 @@ module _ (a : Claim) (c : CertValue) (is : IsOf a c) (Q : ℤ → ℤ → List �
       subst (λ (n : List ℕ). Q c.den c.value n) (sym is.choice_is)
       (subst (λ (z : ℤ). Q c.den z a.choice.now) (sym is.value_is) (subst (λ (z : ℤ). Q z a.value a.choice.now) (sym is.den_is) q))
 
--- C4 reads the choice and the parts without each winner alone
+-- C4 reads the choice and the parts without each single winner
 pub parts-of : (a : Claim) (c : CertValue) (withouts : List WithoutValue) (r : Option ℕ) → c.choice ≡ a.choice.now → c.withouts ≡ withouts
     → IsFirstFailing (C4 a.book.now (cert_with a withouts [] [])) r → IsFirstFailing (C4 a.book.now c) r
 parts-of a c withouts r choice_is withouts_is f = failing-same (C4 a.book.now (cert_of a.den a.value c.choice c.withouts [] [])) (C4 a.book.now c)

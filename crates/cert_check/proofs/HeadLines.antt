@@ -13,7 +13,7 @@ use Rattle.cert_check.proofs.ValueLaws.{obeys-all, obeys-none_less}
 use Rattle.cert_check.proofs.Worths.{obeys-same}
 
 module _ (book : Book) (w : ℕ → ℕ) (c : CertValue) (place : ℕ) where
-  -- where C3 holds at a place, what test 3 asks there holds
+  -- if C3 holds at a place, what test 3 asks there holds
   pub asks-C3 : C3 book c place → Asks book w c 3 place
   asks-C3 own = (
     λ e. absurd (omega (arith, e)),
@@ -27,7 +27,7 @@ module _ (book : Book) (w : ℕ → ℕ) (c : CertValue) (place : ℕ) where
     λ e. absurd (omega (arith, e)),
   )
 
-  -- where what test 3 asks at a place holds, C3 holds there
+  -- if what test 3 asks at a place holds, C3 holds there
   pub of-C3 : Asks book w c 3 place → C3 book c place
   of-C3 asks = asks.2 refl
 
@@ -56,7 +56,7 @@ module _ (o : TestedBids) (w : ℕ → ℕ) (c : CertValue) (nobody : o.skip ≡
     first = λ k lt e. absurd (omega (arith, e, low));
   })
 
-  -- where C3 holds at a place, the rules of the head's table hold there
+  -- if C3 holds at a place, the rules of the head's table hold there
   pub C3-rules : (place : ℕ) → Asks o.book.now w c 3 place → RulesAt o c.table place
   C3-rules place asks k s le lt e = from-net k s ((of-C3 o.book.now w c place asks).rules k s le lt e)
 

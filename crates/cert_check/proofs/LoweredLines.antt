@@ -56,7 +56,7 @@ module _ (o : TestedBids) (w : ℕ → ℕ) (c : CertValue) (nobody : o.skip ≡
     top = λ e. absurd (omega (arith, e, low));
   })
 
-  -- where C9 holds at a place, the rules of the lowered table hold there
+  -- if C9 holds at a place, the rules of the lowered table hold there
   pub C9-rules : (place : ℕ) → Asks o.book.now w c 9 place → RulesAt o c.lowered place
   C9-rules place asks k s le lt e = from-net k s ((of-C9 o.book.now w c place asks).rules k s le lt e)
 

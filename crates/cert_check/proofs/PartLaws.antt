@@ -46,7 +46,7 @@ IsFrom parts i j = part_of (map without_value parts) j ≡ part_of (map without_
 split-at : (parts : List WithoutPart) (i : ℕ) (part : WithoutPart) → i < length parts → part ≡ get_or parts i part → drop i parts ≡ part ∷ drop (suc i) parts
 split-at parts i part lt is = drop-cons parts i part lt ∙ ap (λ (p : WithoutPart). p ∷ drop (suc i) parts) (sym is)
 
--- where the part at i is of bidder j, it is the part of j
+-- if the part at i is of bidder j, it is the part of j
 pub from-found :
     (parts : List WithoutPart) (i j : ℕ) (part : WithoutPart) → i < length parts → part ≡ get_or parts i part → IsFrom parts i j
     → part.winner ≡ j → part_of (map without_value parts) j ≡ without_value part
@@ -54,7 +54,7 @@ from-found parts i j part lt is from own =
     from ∙ ap (λ (ps : List WithoutPart). part_of (map without_value ps) j) (split-at parts i part lt is)
     ∙ cond-true (part.winner == j) (without_value part) (part_of (map without_value (drop (suc i) parts)) j) (eq-eqb part.winner j own)
 
--- where the part at i is of another bidder, the part of j is among those from i + 1 on
+-- if the part at i is of another bidder, the part of j is among those from i + 1 on
 pub from-next :
     (parts : List WithoutPart) (i j : ℕ) (part : WithoutPart) → i < length parts → part ≡ get_or parts i part → IsFrom parts i j
     → (part.winner ≡ j → ⊥) → IsFrom parts (i + 1) j
@@ -85,14 +85,14 @@ module _ (book : Book) (j : ℕ) (part : WithoutValue) where
     top = (t ((bidders_of book + 1) * states book)).top refl;
   }
 
-  -- where the rules of its table or the entry of the whole supply fail, the part shows nothing
+  -- if the rules of its table or the entry of the whole supply fail, the part shows nothing
   pub part-fails : (p : ℕ) → IsFirstFailing ShowsBest (Some p) → IsPart book j part → ⊥
   part-fails p f is = f.0 (record {
     rules = λ k s le lt e. is.rules k s le lt;
     top = λ e. is.top;
   })
 
--- a part whose choice is allowed and doesn't use j is right exactly where the test of its table passes
+-- a part whose choice is allowed and doesn't use j is right exactly if the test of its table passes
 pub part-answer : (book : Book) (j : ℕ) (part : WithoutValue) (most : ℤ) (r : Option ℕ) (b : Bool) → most ≡ value_of (market_of book) part.choice
     → IsTrue ((market_of book).allowed part.choice) → number_of part.choice j ≡ 0
     → is_some r ≡ not b → IsFirstFailing (TableAt (without (menu_of book) j) (net_of book) book.supply part.table most) r → IsTrue b ↔ IsPart book j part
@@ -110,7 +110,7 @@ module _ (book : Book) (c : CertValue) where
   pub parts-start : PartsTo book c 0
   parts-start q le = record { part = λ some. absurd (omega (arith, some, le)) }
 
-  -- a bidder more, whose part is right where it wins
+  -- a bidder more, whose part is right if it wins
   pub parts-next : (k : ℕ) → PartsTo book c k → (IsTrue (uses c.choice (k + 1)) → IsPart book (k + 1) (part_of c.withouts (k + 1))) → PartsTo book c (k + 1)
   parts-next k to own q le =
       elim (cases_lt q (k + 1)) [
@@ -120,7 +120,7 @@ module _ (book : Book) (c : CertValue) where
             subst (C4 book c) same (record { part = λ some inside wins. own wins }))
       ]
 
-  -- where the parts of all bidders are right, C4 holds
+  -- if the parts of all bidders are right, C4 holds
   pub parts-all : (k : ℕ) → bidders_of book ≤ k → PartsTo book c k → IsFirstFailing (C4 book c) None
   parts-all k past to q =
       elim (cases_lt k q) [
@@ -128,7 +128,7 @@ module _ (book : Book) (c : CertValue) where
         | inr low ↦ to q low
       ]
 
-  -- the first winner whose part isn't right is the first place at which C4 fails
+  -- the first winner whose part isn't right is the first place where C4 fails
   pub parts-fail : (k : ℕ) → k < bidders_of book → PartsTo book c k → IsTrue (uses c.choice (k + 1)) → (IsPart book (k + 1) (part_of c.withouts (k + 1)) → ⊥)
       → IsFirstFailing (C4 book c) (Some (k + 1))
   parts-fail k in_book to wins fails = (

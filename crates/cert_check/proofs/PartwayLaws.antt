@@ -72,7 +72,7 @@ module _ (book : Book) (w : ℕ → ℕ) (c : CertValue) (test : ℕ) where
   pub late-kept : (base n p : ℕ) → IsLate book w c test base n (Some p) → IsLate book w c test base (n + 1) (Some p)
   late-kept base n p late = (omega (arith, late.0), late.1, late.2)
 
--- all tests hold
+-- all tests pass
 pub all-hold : (book : Book) (w : ℕ → ℕ) (c : CertValue) → HoldsTo book w c 10 0 → Holds book w c
 all-hold book w c before = record {
   c1 = λ place. (before 1 place (inl (omega arith))).0 refl;

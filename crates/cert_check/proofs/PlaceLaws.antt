@@ -12,7 +12,7 @@ use Rattle.cert_soundness.proofs.Winning.{known_from}
 use Rattle.cert_check.specs.Head.{HoldsBefore}
 
 module _ (book : Book) (c : CertValue) where
-  -- where C2 holds at the places of all bidders, the choice is known
+  -- if C2 holds at the places of all bidders, the choice is known
   pub known-before : (place : ℕ) → length c.choice ≡ bidders_of book → bidders_of book < place → HoldsBefore (C2 book c) place
       → IsTrue (is_known_after (menu_of book) 0 c.choice)
   known-before place length_is past before =

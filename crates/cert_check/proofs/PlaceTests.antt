@@ -5,15 +5,15 @@ use Rattle.std.proofs.lemmas.Bool.{cases_lt, iff_false}
 use Rattle.cert_check.specs.Head.{HoldsBefore}
 use Rattle.cert_check.specs.Places.{IsFirstFailing}
 
--- where a test passes at a place, and before it, it holds before the next place
+-- if a test passes at a place, and before it, it holds before the next place
 pub before-next : (P : ℕ → Type 0) (n : ℕ) (b : Bool) → HoldsBefore P n → (IsTrue b ↔ P n) → b ≡ true → HoldsBefore P (n + 1)
 before-next P n b before test passed = below_more P n before (test.0 passed)
 
--- where it passes before a place and fails there, this is the first place at which it fails
+-- if it passes before a place and fails there, this is the first place where it fails
 pub fails-here : (P : ℕ → Type 0) (n : ℕ) (b : Bool) → HoldsBefore P n → (IsTrue b ↔ P n) → b ≡ false → IsFirstFailing P (Some n)
 fails-here P n b before test failed = (iff_false test failed, before)
 
--- where it holds before a place, from there on too, it holds everywhere
+-- if it holds before a place, from there on too, it holds everywhere
 pub holds-everywhere : (P : ℕ → Type 0) (n : ℕ) → HoldsBefore P n → ((place : ℕ) → n ≤ place → P place) → IsFirstFailing P None
 holds-everywhere P n before rest place =
     elim (cases_lt place n) [

@@ -16,11 +16,11 @@ use Rattle.cert_check.specs.declared.sums.Multiplier.{Multiplier}
 use Rattle.cert_check.specs.declared.sums.Multiplier.TheVariants.{First, Second}
 use Rattle.cert_check.specs.Multipliers.{multiplier_of}
 
--- a sum over one bidder more adds its number where it is counted, else 0
+-- a sum over one bidder more adds its number if it is counted, else 0
 pub over-next : (s : ℕ → Bool) (f : ℕ → ℤ) (n : ℕ) → sum_over s f (n + 1) ≡ sum_over s f n +ℤ (if s (n + 1) then f (n + 1) else pos 0)
 over-next s f n = rw add-one refl
 
--- a sum over one row more adds its number where it holds bidder j, else 0
+-- a sum over one row more adds its number if it holds bidder j, else 0
 pub holding-next : (rows : List RowValue) (j : ℕ) (number : RowValue → ℤ) (n : ℕ) → sum_holding rows j number (n + 1) ≡ sum_holding rows j number n +ℤ
     (if is_member (row_of rows (n + 1)).members j then number (row_of rows (n + 1)) else pos 0)
 holding-next rows j number n = rw add-one refl
@@ -98,7 +98,7 @@ holding-same rows others j number e =
     ap (λ (l : List CertRow). sum_holding (map row_value l) j number (length l)) e
     ∙ ap (λ (n : ℕ). sum_holding (map row_value rows) j number n) (sym (length-map rows row_value))
 
--- numbers that fit are equal where their bits are
+-- numbers that fit are equal if their bits are
 pub bits-same : (a b x y : ℤ) → FitsSigned w128 a → FitsSigned w128 b → a ≡ x → b ≡ y → IsTrue (of_z w128 a == of_z w128 b) ↔ (x ≡ y)
 bits-same a b x y f g a_is b_is = (
   λ t. sym a_is ∙ sym (to_z-of_z w128 a f) ∙ ap (to_z w128) (eqb-true (of_z w128 a) (of_z w128 b) t) ∙ to_z-of_z w128 b g ∙ b_is,

@@ -1,4 +1,4 @@
--- A number is a weight times a sum exactly where the quotient is the sum and nothing is left over.
+-- A number is a weight times a sum exactly if the quotient is the sum and nothing is left over.
 use Rattle.std.specs.Prelude.{◌≡◌, ◌≢◌, ℕ, ◌≤◌, ◌==◌, ◌↔◌, Bool, IsTrue, false, ℤ, pos, ◌*ℤ◌, ◌+ℤ◌, refl}
 use Rattle.std.specs.Int.RustNames.{FitsSigned, int_div, int_rem}
 use Rattle.std.specs.Int.{w128}
@@ -46,7 +46,7 @@ module _ (number sum : ℤ) (w : ℕ) (some : 1 ≤ w) where
     rem-same : int_rem (to_z w128 (of_z w128 number)) (to_z w128 w) ≡ int_rem number (pos w)
     rem-same = ap (λ (x : ℤ). int_rem x (to_z w128 w)) number-back ∙ ap (λ (x : ℤ). int_rem number x) weight-back
 
-    -- where nothing is left over, the quotient is the sum exactly where the number is the weight times the sum
+    -- if nothing is left over, the quotient is the sum exactly if the number is the weight times the sum
     pub is-exact : of_z w128 (int_rem (to_z w128 (of_z w128 number)) (to_z w128 w)) ≡ 0
         → IsTrue (of_z w128 (int_div (to_z w128 (of_z w128 number)) (to_z w128 w)) == of_z w128 sum) ↔ (number ≡ pos w *ℤ sum)
     is-exact none =
@@ -62,7 +62,7 @@ module _ (number sum : ℤ) (w : ℕ) (some : 1 ≤ w) where
             weight-more : to_z w128 w ≡ to_z w128 (of_z w128 (pos w))
             weight-more = weight-back ∙ sym (to_z-of_z w128 (pos w) weight-fits)
 
-    -- where something is left over, the number isn't the weight times the sum
+    -- if something is left over, the number isn't the weight times the sum
     pub not-exact : of_z w128 (int_rem (to_z w128 (of_z w128 number)) (to_z w128 w)) ≢ 0 → IsTrue false ↔ (number ≡ pos w *ℤ sum)
     not-exact more = (λ t. cc, λ e. absurd (more (ap (of_z w128) (rem-same ∙ rest e))))
 

@@ -35,7 +35,7 @@ allowed-by book c length_is h2 =
     ((h2 (suc (0 + n))).known (omega arith) (omega (arith, length_is)))))
     ((h2 (bidders_of book + 1)).fits refl)
 
--- where bidder 0, which isn't there, has no bids
+-- if bidder 0, which isn't there, has no bids
 module _ (m : Menu) (worth : ℕ → ℕ → ℤ) (supply : List ℕ) (table : List (List ℤ)) where
   bids-all : (k : ℕ) → (without m 0).bids (suc k) ≡ m.bids (suc k)
   bids-all k = ap (λ (b : Bool). if b then 0 else m.bids (suc k)) (ne_eqb (suc k) 0 (λ e. omega (arith, e)))

@@ -30,7 +30,7 @@ module _ (book : Book) (w : ℕ → ℕ) (c : CertValue) (t : ℕ) (before : Hol
   pub held-head : 3 < t → HeadHolds book c
   held-head lt = record { sizes = held-C1 (omega arith); choice = held-C2 (omega arith); table = held-C3 lt }
 
-  -- where test t holds too, all tests before t + 1 do
+  -- if test t holds too, all tests before t + 1 do
   pub held-next : IsFirstFailing (Asks book w c t) None → HoldsUpTo book w c (t + 1)
   held-next all u place lt =
       elim (cases_lt u t) [
@@ -38,7 +38,7 @@ module _ (book : Book) (w : ℕ → ℕ) (c : CertValue) (t : ℕ) (before : Hol
         | inr past ↦ (let same : t ≡ u = omega arith in subst (λ (x : ℕ). Asks book w c x place) same (all place))
       ]
 
-  -- the first place at which test t fails is the first failure of all
+  -- the first place where test t fails is the first failure of all
   pub fails-first : (place : ℕ) → IsFirstFailing (Asks book w c t) (Some place) → FailsFirst book w c t place
   fails-first place first = record {
     fails = first.0;
@@ -48,7 +48,7 @@ module _ (book : Book) (w : ℕ → ℕ) (c : CertValue) (t : ℕ) (before : Hol
     ];
   }
 
-  -- after test 9 all tests hold
+  -- after test 9 all tests pass
   pub held-all : 9 < t → Holds book w c
   held-all lt = record {
     c1 = λ place. (before 1 place (omega arith)).0 refl;
@@ -64,7 +64,7 @@ module _ (book : Book) (w : ℕ → ℕ) (c : CertValue) (t : ℕ) (before : Hol
 
 -- the test of a number asks what that test asks
 module _ (book : Book) (w : ℕ → ℕ) (c : CertValue) (t : ℕ) (r : Option ℕ) where
-  -- test 1 fails first where C1 does
+  -- test 1 fails first if C1 does
   pub asks-C1 : t ≡ 1 → IsFirstFailing (C1 c) r → IsFirstFailing (Asks book w c t) r
   asks-C1 is f = failing-same (C1 c) (Asks book w c t) (λ p q. (
     λ _. q,
@@ -78,7 +78,7 @@ module _ (book : Book) (w : ℕ → ℕ) (c : CertValue) (t : ℕ) (r : Option �
     λ e. absurd (omega (arith, is, e)),
   )) (λ p q. q.0 is) r f
 
-  -- test 2 fails first where C2 does
+  -- test 2 fails first if C2 does
   pub asks-C2 : t ≡ 2 → IsFirstFailing (C2 book c) r → IsFirstFailing (Asks book w c t) r
   asks-C2 is f = failing-same (C2 book c) (Asks book w c t) (λ p q. (
     λ e. absurd (omega (arith, is, e)),
@@ -92,7 +92,7 @@ module _ (book : Book) (w : ℕ → ℕ) (c : CertValue) (t : ℕ) (r : Option �
     λ e. absurd (omega (arith, is, e)),
   )) (λ p q. q.1 is) r f
 
-  -- test 3 fails first where C3 does
+  -- test 3 fails first if C3 does
   pub asks-C3 : t ≡ 3 → IsFirstFailing (C3 book c) r → IsFirstFailing (Asks book w c t) r
   asks-C3 is f = failing-same (C3 book c) (Asks book w c t) (λ p q. (
     λ e. absurd (omega (arith, is, e)),
@@ -106,7 +106,7 @@ module _ (book : Book) (w : ℕ → ℕ) (c : CertValue) (t : ℕ) (r : Option �
     λ e. absurd (omega (arith, is, e)),
   )) (λ p q. q.2 is) r f
 
-  -- test 4 fails first where C4 does
+  -- test 4 fails first if C4 does
   pub asks-C4 : t ≡ 4 → IsFirstFailing (C4 book c) r → IsFirstFailing (Asks book w c t) r
   asks-C4 is f = failing-same (C4 book c) (Asks book w c t) (λ p q. (
     λ e. absurd (omega (arith, is, e)),
@@ -120,7 +120,7 @@ module _ (book : Book) (w : ℕ → ℕ) (c : CertValue) (t : ℕ) (r : Option �
     λ e. absurd (omega (arith, is, e)),
   )) (λ p q. q.3 is) r f
 
-  -- test 5 fails first where C5 does
+  -- test 5 fails first if C5 does
   pub asks-C5 : t ≡ 5 → IsFirstFailing (C5 book c) r → IsFirstFailing (Asks book w c t) r
   asks-C5 is f = failing-same (C5 book c) (Asks book w c t) (λ p q. (
     λ e. absurd (omega (arith, is, e)),
@@ -134,7 +134,7 @@ module _ (book : Book) (w : ℕ → ℕ) (c : CertValue) (t : ℕ) (r : Option �
     λ e. absurd (omega (arith, is, e)),
   )) (λ p q. q.4 is) r f
 
-  -- test 6 fails first where C6 does
+  -- test 6 fails first if C6 does
   pub asks-C6 : t ≡ 6 → IsFirstFailing (C6 book c) r → IsFirstFailing (Asks book w c t) r
   asks-C6 is f = failing-same (C6 book c) (Asks book w c t) (λ p q. (
     λ e. absurd (omega (arith, is, e)),
@@ -148,7 +148,7 @@ module _ (book : Book) (w : ℕ → ℕ) (c : CertValue) (t : ℕ) (r : Option �
     λ e. absurd (omega (arith, is, e)),
   )) (λ p q. q.5 is) r f
 
-  -- test 7 fails first where C7 does
+  -- test 7 fails first if C7 does
   pub asks-C7 : t ≡ 7 → IsFirstFailing (C7 book c) r → IsFirstFailing (Asks book w c t) r
   asks-C7 is f = failing-same (C7 book c) (Asks book w c t) (λ p q. (
     λ e. absurd (omega (arith, is, e)),
@@ -162,7 +162,7 @@ module _ (book : Book) (w : ℕ → ℕ) (c : CertValue) (t : ℕ) (r : Option �
     λ e. absurd (omega (arith, is, e)),
   )) (λ p q. q.6 is) r f
 
-  -- test 8 fails first where C8 does
+  -- test 8 fails first if C8 does
   pub asks-C8 : t ≡ 8 → IsFirstFailing (C8 book w c) r → IsFirstFailing (Asks book w c t) r
   asks-C8 is f = failing-same (C8 book w c) (Asks book w c t) (λ p q. (
     λ e. absurd (omega (arith, is, e)),
@@ -176,7 +176,7 @@ module _ (book : Book) (w : ℕ → ℕ) (c : CertValue) (t : ℕ) (r : Option �
     λ e. absurd (omega (arith, is, e)),
   )) (λ p q. q.7 is) r f
 
-  -- test 9 fails first where C9 does
+  -- test 9 fails first if C9 does
   pub asks-C9 : t ≡ 9 → IsFirstFailing (C9 book c) r → IsFirstFailing (Asks book w c t) r
   asks-C9 is f = failing-same (C9 book c) (Asks book w c t) (λ p q. (
     λ e. absurd (omega (arith, is, e)),

@@ -46,7 +46,7 @@ pub table_long : (a : List (List ℤ)) → length (table_lines a) ≡ length a
 table_long [] = refl
 table_long (x ∷ a) = ap suc (table_long a)
 
--- parts are the same where all that they hold is
+-- parts are the same if all that they hold is
 pub same_without : (w u : WithoutValue) → w.winner ≡ u.winner → w.choice ≡ u.choice → w.table ≡ u.table → w ≡ u
 same_without w u winner choice table =
     ap (λ (x : ℕ). record { winner = x; choice = w.choice; table = w.table }) winner

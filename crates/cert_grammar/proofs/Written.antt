@@ -61,7 +61,7 @@ rows_follow b (r ∷ rows) h = (
   (record { word = refl; numbers = refl }, (record { word = refl; numbers = choice_fits b r.choice h.0.choice }, rows_follow b rows h.1)),
 )
 
--- where there is a member there is a bidder
+-- if there is a member there is a bidder
 pub some_member : (b : ℕ) (js : List ℕ) → 0 < length js → AreMembers b 0 js → 0 < b
 some_member b [] some m = absurd (omega arith)
 some_member b (j ∷ js) some m = omega (arith, m.0, m.1)

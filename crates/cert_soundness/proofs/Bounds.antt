@@ -25,7 +25,7 @@ pub record First (m : Menu) (k : ℕ) (left : List ℕ) (i : ℕ) (c : List ℕ)
   pub own : IsTrue (is_within (m.lots (suc k) i) left)
   pub rest : IsTrue (fits_after m (suc k) (less left (m.lots (suc k) i)) c)
 
--- where a choice fits, its first number is known, that bid is within what is left, and the rest fits after it
+-- if a choice fits, its first number is known, that bid is within what is left, and the rest fits after it
 pub first_of_fitting : (m : Menu) (k : ℕ) (left : List ℕ) (i : ℕ) (c : List ℕ) → IsTrue (fits_after m k left (i ∷ c)) → First m k left i c
 first_of_fitting m k left i c t =
     let own = is_within (m.lots (suc k) i) left in
@@ -34,7 +34,7 @@ first_of_fitting m k left i c t =
     let q = and_parts own rest p.1 in
     record { known = leb-true i (m.bids (suc k)) p.0; own = q.0; rest = q.1 }
 
--- where a choice that fits has one more number, there is a bidder for it
+-- if a choice that fits has one more number, there is a bidder for it
 pub inside : (m : Menu) (k : ℕ) (left : List ℕ) (i : ℕ) (c : List ℕ) → k ≤ m.bidders → IsTrue (fits_after m k left (i ∷ c)) → k < m.bidders
 inside m k left i c le t = strict k m.bidders le (λ e. false≢true (sym (fits-past_end m left i c) ∙ subst
     (λ (n : ℕ). IsTrue (fits_after m n left (i ∷ c))) e t))

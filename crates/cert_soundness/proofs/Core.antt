@@ -65,7 +65,7 @@ module _ (m : Market) (none : (j : ℕ) → m.worth j 0 ≡ pos 0) (c : CertValu
   offer-term k j (suc i) some low has = used-most (c.den *ℤ m.worth j (suc i)) (kept m c j) (lowered_in m c j (suc i)) (uses c.choice j) (k j) refl
       (kept-loser j some low) (has (omega arith))
 
-  -- where no allowed choice counts more than is paid, no coalition blocks the payments
+  -- if no allowed choice counts more than is paid, no coalition blocks the payments
   unblocked : ((f : List ℕ) → IsTrue (m.allowed f) → length f ≡ m.bidders) →
       ((f : List ℕ) → IsTrue (m.allowed f) → sum_after (counted (lowered_in m c)) 0 f ≤ℤ sum_over everyone (of_bidder c.pay) m.bidders)
       → IsUnblocked m c.choice (cert_point c)

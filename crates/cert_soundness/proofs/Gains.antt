@@ -14,7 +14,7 @@ use Rattle.cert_soundness.specs.Sound.{cert_point}
 use Rattle.cert_soundness.specs.MarketPrices.{lowered_in}
 use Rattle.cert_soundness.proofs.Core.{kept, kept-least, kept-loser}
 
--- a bidder that gains something counts nothing where it isn't used
+-- a bidder that gains something counts nothing if it isn't used
 pub idle-none : (surplus : List ℤ) (j : ℕ) (den : ℤ) (worth : ℕ → ℕ → ℤ) → pos 0 ≤ℤ of_bidder surplus j → lowered den worth surplus j 0 ≡ pos 0
 idle-none surplus j den worth h = omega (arith, ints, clamps, h)
 
@@ -41,7 +41,7 @@ module _ (m : Market) (none : (j : ℕ) → m.worth j 0 ≡ pos 0) (c : CertValu
         omega (arith, ints, e))
   ]
 
-  -- no bidder counts anything where it isn't used
+  -- no bidder counts anything if it isn't used
   pub none-counted : (j : ℕ) → lowered c.den m.worth gains j 0 ≡ pos 0
   none-counted j = idle-none gains j c.den m.worth (gain-least (j - 1))
 

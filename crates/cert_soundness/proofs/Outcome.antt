@@ -27,7 +27,7 @@ lowered-most book c h9 f t =
     let top = (h9 ((bidders_of book + 1) * states book)).top refl in
     omega (arith, ints, b, top)
 
--- a certificate for which all tests hold is sound
+-- a certificate for which all tests pass is sound
 pub sound : (book : Book) (weights : List ℕ) (c : CertValue) → AreWeights (bidders_of book) weights → length c.choice ≡ bidders_of book
     → length c.pay ≡ bidders_of book
     → Holds book (weight_of weights) c → IsSound book (weight_of weights) c

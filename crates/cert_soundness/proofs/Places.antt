@@ -7,7 +7,7 @@ use Rattle.auction_model.specs.Menu.{Menu}
 use Rattle.auction_model.specs.Place.{states_of}
 use Rattle.cert_soundness.specs.Tests.{ObeysAt}
 
--- the number of a line and a place comes before that of another only where the line does, or the place in the same line
+-- the number of a line and a place comes before that of another only if the line does, or the place in the same line
 pub place_before : (S k s l t : ℕ) → s < S → t < S → k * S + s < l * S + t → (k < l) ⊎ ((k ≡ l) × (s < t))
 place_before S k s l t ls lt h =
     elim (cases_order k l) [

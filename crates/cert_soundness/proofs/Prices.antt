@@ -1,4 +1,4 @@
--- Where each part's choice is greatest of those without its winner, the parts give the Vickrey prices of any market.
+-- If each part's choice is greatest of those without its winner, the parts give the Vickrey prices of any market.
 use Rattle.std.specs.Prelude.{◌≡◌, ℕ, ◌≤◌, ◌<◌, Bool, IsTrue, ℤ, pos, ◌+ℤ◌, ◌-ℤ◌, ◌≤ℤ◌, if◌then◌else◌}
 use Rattle.std.proofs.Common.{sym, ap, subst, arith}
 use Rattle.std.proofs.lemmas.Int.{ints}
@@ -20,7 +20,7 @@ module _ (m : Market) (c : CertValue) (value_is : value_of m c.choice ≡ c.valu
         bound = λ d t. subst (λ (x : ℤ). value_of m d ≤ℤ x) is (part.greatest d t);
       }
 
-  -- where each part's choice is the greatest without its winner, the parts give the Vickrey prices
+  -- if each part's choice is the greatest without its winner, the parts give the Vickrey prices
   pub prices : ((j : ℕ) → 0 < j → j ≤ m.bidders → IsTrue (uses c.choice j) → IsGreatest (allowed_without m j) (value_of m) (part_of c.withouts j).choice)
       → AreVickreyPrices m c.choice (prices_in m c)
   prices parts j some low = (

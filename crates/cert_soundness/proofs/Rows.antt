@@ -15,7 +15,7 @@ use Rattle.core_laws.proofs.Rows.{excess-bound}
 use Rattle.cert_grammar.specs.Certificate.{CertValue, RowValue, is_member, row_of}
 use Rattle.cert_soundness.specs.MarketTests.{sum_holding, HasTightRow, IsTight as IsTightRow}
 
--- 1 where row i + 1 holds bidder j + 1, else 0
+-- 1 if row i + 1 holds bidder j + 1, else 0
 abbrev pub coefficient : List RowValue → ℕ → ℕ → ℤ
 coefficient rows i j = cond (is_member (row_of rows (suc i)).members (suc j)) (pos 1) (pos 0)
 
@@ -37,7 +37,7 @@ members-pay rows i n at =
     (λ j lt. one_times (holds (suc j)) (of_bidder at (suc j)))
     ∙ sym (over-is holds (of_bidder at) n)
 
--- the numbers of the rows that hold bidder j + 1
+-- the numbers of the rows that contain bidder j + 1
 pub holding-is : (rows : List RowValue) (j : ℕ) (number : RowValue → ℤ) (n : ℕ) → sum_holding rows (suc j) number n ≡ dot n
     (λ i. number (row_of rows (suc i))) (λ i. coefficient rows i j)
 holding-is rows j number zero = refl
@@ -62,7 +62,7 @@ split s f g (suc n) =
 pub offer-outside : (m : Market) (z : List ℕ) (p : Point) (s : ℕ → Bool) (f : List ℕ) → offer m z p (λ j. not (s j)) f -ℤ paid m p ≡ excess_of m z p s f
 offer-outside m z p s f = let a = split s (λ j. p.den *ℤ worth_in m z j) (of_bidder p.at) m.bidders in omega (arith, ints, a)
 
--- where a choice uses no member, a bidder that it uses is none
+-- if a choice uses no member, a bidder that it uses is none
 pub unused-one : (c : List ℕ) (j : ℕ) (member : Bool) → (IsTrue member → number_of c j ≡ 0) → IsTrue (uses c j) → IsTrue (not member)
 unused-one c j member unused used = not_from_false member (false_from_ne_true member (λ is. false≢true (sym (ap (λ (n : ℕ). not (n == 0)) (unused is)) ∙ used)))
 

@@ -36,7 +36,7 @@ AllParts T (w ∷ ws) = T w × AllParts T ws
 part-here : (w : WithoutValue) (ws : List WithoutValue) (j : ℕ) → w.winner ≡ j → part_of (w ∷ ws) j ≡ w
 part-here w ws j own = ap (λ b. cond b w (part_of ws j)) (eq-eqb w.winner j own)
 
--- the part of a bidder is not the first where that has another winner
+-- the part of a bidder is not the first if that has another winner
 pub part-later : (w : WithoutValue) (ws : List WithoutValue) (j : ℕ) → w.winner ≢ j → part_of (w ∷ ws) j ≡ part_of ws j
 part-later w ws j other = ap (λ b. cond b w (part_of ws j)) (ne_eqb w.winner j other)
 

@@ -6,7 +6,7 @@ use Rattle.auction_model.specs.Book.{Book}
 use Rattle.cert_grammar.specs.Certificate.{CertValue}
 use Rattle.cert_soundness.specs.Tests.{Asks, Holds, FailsFirst}
 
--- where all tests hold, so does what each asks at each place
+-- if all tests pass, each test passes at each place
 pub all_asked : (book : Book) (w : ℕ → ℕ) (c : CertValue) → Holds book w c → (t place : ℕ) → Asks book w c t place
 all_asked book w c h t place = (
   λ e. h.c1 place,
@@ -20,7 +20,7 @@ all_asked book w c h t place = (
   λ e. h.c9 place,
 )
 
--- where what each test asks holds at each place, all tests hold
+-- if each test passes at each place, all tests pass
 pub holds_all : (book : Book) (w : ℕ → ℕ) (c : CertValue) → ((t place : ℕ) → Asks book w c t place) → Holds book w c
 holds_all book w c all = record {
   c1 = λ p. (all 1 p).0 refl;
@@ -34,7 +34,7 @@ holds_all book w c all = record {
   c9 = λ p. (all 9 p).8 refl;
 }
 
--- where all tests hold, none fails first
+-- if all tests pass, none fails first
 pub not_both : (book : Book) (w : ℕ → ℕ) (c : CertValue) (t place : ℕ) → Holds book w c → FailsFirst book w c t place → ⊥
 not_both book w c t place h f = f.fails (all_asked book w c h t place)
 

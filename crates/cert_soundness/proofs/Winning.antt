@@ -20,7 +20,7 @@ use Rattle.cert_grammar.specs.Certificate.{CertValue, part_of}
 use Rattle.cert_soundness.specs.Tests.{Obeys, bidders_of, states, full, C2, C3, C4, IsPart, won}
 use Rattle.cert_soundness.proofs.Bounds.{counted, bounded, earlier_is_less}
 
--- where the number 0 is worth 0, a choice is worth the same with 0 counted for it
+-- if the number 0 is worth 0, a choice is worth the same with 0 counted for it
 pub sum-counted : (worth : ℕ → ℕ → ℤ) → ((j : ℕ) → worth j 0 ≡ pos 0) → (k : ℕ) (c : List ℕ) → sum_after (counted worth) k c ≡ sum_after worth k c
 sum-counted worth none k [] = refl
 sum-counted worth none k (zero ∷ c) = let a = sum-counted worth none (suc k) c in let b = none (suc k) in omega (arith, ints, a, b)
@@ -117,7 +117,7 @@ module _ (book : Book) (c : CertValue) (length_is : length c.choice ≡ bidders_
       let e = sum-counted (net_of book) (λ i. refl) 0 d in
       omega (arith, ints, b, e, part.top)
 
-  -- where C4 holds, the choice of a winner's part is greatest of those that don't use it
+  -- if C4 holds, the choice of a winner's part is greatest of those that don't use it
   pub part_greatest : ((place : ℕ) → C4 book c place) → (j : ℕ) → 0 < j → j ≤ bidders_of book → IsTrue (uses c.choice j)
       → IsGreatest (allowed_without (market_of book) j) (value_of (market_of book)) (part_of c.withouts j).choice
   part_greatest h4 j some le used =

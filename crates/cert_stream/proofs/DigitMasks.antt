@@ -10,7 +10,7 @@ use Rattle.std.specs.Int.{bit_at, trailing_ones, w64}
 use lib.Lanes.{zip2, mask_l, top}
 use Rattle.wide_num.proofs.Decimal.{IsDigit}
 
--- whether a byte less the first digit is below 10, where a byte below it comes out above
+-- whether a byte less the first digit is below 10, if a byte below it comes out above
 abbrev pub is_spelled : ℕ → Bool
 is_spelled byte = ltb ((byte + 208) % 256) 10
 
@@ -32,7 +32,7 @@ digit_of byte small is = grind (arith, nat_tests, small, is)
 pub mask_small : (v : List ℕ) → length v ≡ 8 → mask_l (map is_spelled v) < 2 ^ 8
 mask_small v long = subst (λ (n : ℕ). mask_l (map is_spelled v) < 2 ^ n) (length-map v is_spelled ∙ long) (mask_l-lt (map is_spelled v))
 
--- where a bit of it is set, its byte is a digit
+-- if a bit of it is set, its byte is a digit
 pub digit_set : (piece : List ℕ) (at i : ℕ) → at + 8 ≤ length piece → ((i : ℕ) → Fits w8 (get_or piece i 0))
     → bit_at (mask_l (map is_spelled (take 8 (drop at piece)))) i ≡ 1 → IsDigit (get_or piece (at + i) 0)
 digit_set piece at i room fits one =

@@ -123,7 +123,7 @@ has_room form ns z count room begins next many le = omega (
   le,
 )
 
--- no number follows where none is left
+-- no number follows if none is left
 pub none_next : (ns : List ℤ) (z : ℤ) → MayFollow (these []) ns z → ⊥
 none_next ns z (rest, e) = omega (arith, ap length e, more_long ns z rest)
 

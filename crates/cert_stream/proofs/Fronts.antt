@@ -58,7 +58,7 @@ minus_byte (negsuc n) c r s e =
     at (x ∷ []) is e = let same : x ≡ c = cc in subst (λ (b : ℕ). IsDigit b × (48 < b)) same (is.digits.0, omega (arith, is.value, is.digits.0))
     at (x ∷ y ∷ ds) is e = let same : x ≡ c = cc in subst (λ (b : ℕ). IsDigit b × (48 < b)) same (is.digits.0, is.leading (omega arith))
 
--- digits end where neither a digit nor a space follows
+-- digits end if neither a digit nor a space follows
 no_stop : (rest : List ℤ) (c : ℕ) (r xs ys : List ℕ) → c ≢ 32 → (IsDigit c → ⊥) → AreDigits xs → AreDigits ys → xs ++ c ∷ r ≡ ys ++ numbers_text rest → ⊥
 no_stop [] c r [] [] space digit dx dy e = cc e
 no_stop (n ∷ rest) c r [] [] space digit dx dy e = space cc

@@ -34,7 +34,7 @@ module _ (bytes : List ℕ) (place bidders states j : ℕ) where
       (leads_then bytes n1 (choice_kind bidders ∷ []) n2 (choice_line choice ∷ []) (table_kind ∷ table_plan bidders states) n3
       (line (codes "table") [] ∷ table_lines table) (b (chosen bidders) (plain_choice bidders)) c)
 
-  -- halts where the line that names the winner isn't there
+  -- halts if the line that names the winner isn't there
   pub part_first : (stop : CertStop) → Halts bytes place (without_kind j ∷ []) stop → Halts bytes place (part_plan bidders states j) stop
   part_first stop h = halts_before bytes place (without_kind j ∷ []) stop (choice_kind bidders ∷ table_kind ∷ table_plan bidders states) h
 
@@ -97,7 +97,7 @@ module _ (bytes : List ℕ) (place bidders states : ℕ) (choice : List ℕ) whe
   here done next parts lt h = subst (λ (ns : List ℕ). Leads bytes place (parts_plan bidders states 1 (as_numbers choice)) next (left_from done ns)
       (part_lines (map without_value parts))) (drop_more choice done 0 lt) h.leads
 
-  -- one bidder more, with a part where it wins
+  -- one bidder more, with a part if it wins
   pub parts_more : (done next : ℕ) (parts : List WithoutPart) (j number : ℕ) (new : List WithoutPart) (last : ℕ) → done < length choice
       → PartsSoFar bytes place bidders states choice done next parts → j ≡ done + 1 → number ≡ get_or choice done 0
       → AddsPart bytes next bidders states j number parts new last → last ≤ length bytes → PartsSoFar bytes place bidders states choice (done + 1) last new

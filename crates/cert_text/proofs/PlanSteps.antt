@@ -80,7 +80,7 @@ module _ (bytes : List ℕ) (place : ℕ) where
   halts_then kinds next read others stop first halt = halts_later (kinds ++ others) next others read stop (leads_before kinds next [] read others first) halt
 
   module _ (word : List ℕ) (n : Numbers) where
-    -- where no line feed is left, the line is of wrong form
+    -- if no line feed is left, the line is of wrong form
     pub line_missing : IsLine (drop place bytes) → Halts bytes place (kind word n ∷ []) (Form place)
     line_missing none = record { halts = λ whole plan items here. reached-missing bytes place (kind word n) plan items here none }
 
@@ -125,6 +125,6 @@ module _ (bytes : List ℕ) (place : ℕ) where
             (record { word = refl; numbers = fit at.numbers at.count }) at.spelled (at.out ∙ out);
       }
 
-      -- where none is out of range, the numbers kept are in range
+      -- if none is out of range, the numbers kept are in range
       pub line_range : beyond ≡ false → AllInRange kept
       line_range inside = all_in kept (ap any_out (at.same inside) ∙ at.out ∙ inside)

@@ -78,7 +78,7 @@ module _ (bytes : List ℕ) (place bidders : ℕ) (ns : List ℕ) (next : ℕ) w
       rises before [] are = tt
       rises before (n ∷ ns) are = (omega (arith, ints, are.0), omega (arith, ints, are.1), rises n ns are.2)
 
-  -- a line of other numbers is of wrong form where members are to come
+  -- a line of other numbers is of wrong form if members are to come
   pub members_other : IsLineAt bytes place (codes "row") (as_numbers ns) false next → ((0 < length ns) × AreMembers bidders 0 ns → ⊥)
       → Halts bytes place (kind (codes "row") (members bidders) ∷ []) (Form place)
   members_other at other = line_unfit bytes place (codes "row") (members bidders) (as_numbers ns) false next at
@@ -97,7 +97,7 @@ module _ (bytes : List ℕ) (place bidders : ℕ) (ns : List ℕ) (next : ℕ) w
       line_next bytes place (codes "rows") n (pos count ∷ []) false next (subst (λ (l : List ℤ). IsLineAt bytes place (codes "rows") l false next) one at)
       refl (like.from (pos count ∷ []) (count, refl, is.1, is.2))
 
-  -- a line of what is no count of rows is of wrong form where one is to come
+  -- a line of what is no count of rows is of wrong form if one is to come
   pub count_other : IsLineAt bytes place (codes "rows") (as_numbers ns) false next → (FitNumbers (counted bidders) (as_numbers ns) → ⊥)
       → HaltsCounted bytes place bidders (Form place)
   count_other at other = λ n like. line_unfit bytes place (codes "rows") n (as_numbers ns) false next

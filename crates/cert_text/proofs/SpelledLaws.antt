@@ -87,7 +87,7 @@ copied-piece ns piece done count n whole before behind so_far same copied step =
     next-piece ns done (done + count) whole before behind (omega arith) so_far
     (step ∙ ap (λ (l : List ℤ). before ++ numbers_text l) copied ∙ ap (λ (k : ℕ). before ++ numbers_text (take k (drop done ns))) back)
 
--- a room keeps its size where its first numbers are written
+-- a room keeps its size if its first numbers are written
 pub room-kept : (room piece : List ℤ) (count size : ℕ) → count ≤ size → length room ≡ size → length piece ≡ length (take count room)
     → length (piece ++ drop count room) ≡ size
 room-kept room piece count size within whole front =

@@ -45,7 +45,7 @@ first_feed (c ∷ bytes) = first (c == 10) refl (first_feed bytes)
         more : suc (found.0 + 1) ≡ suc found.0 + 1
         more = omega arith
 
--- where nothing is to come, bytes that are left are a faulty line
+-- if nothing is to come, bytes that are left are a faulty line
 pub end_halts : (bytes : List ℕ) (place : ℕ) → place < length bytes → HaltsAtEnd bytes place (Form place)
 end_halts bytes place lt whole items here = elim (first_feed (drop place bytes)) [
   | inl none ↦ reached-tail bytes place items here none (omega (arith, length-drop place bytes, lt))
@@ -123,7 +123,7 @@ module _ (b s : ℕ) (bytes : List ℕ) where
             pub end_stops : (stop : CertStop) → HaltsAtEnd bytes n4 stop → StopsAt b s bytes stop
             end_stops stop h = cert_stops b s bytes stop (h (cert_plan b s) (version_lines b s ++ body_lines value_read) reached)
 
-            -- where no bytes are left, they are the text of the certificate that was read
+            -- if no bytes are left, they are the text of the certificate that was read
             pub text_read : IsCertificate b s value_read → length (drop n4 bytes) ≡ 0 → IsTextOf (IsCertText b s) lines bytes (cert_lines value_read)
             text_read is none = reached-end bytes n4 (cert_lines value_read) (subst
                 (λ (ls : List Line). Reached b s bytes n4 [] (ls ++ body_lines value_read)) (sym (version_is b s value_read is)) reached) none

@@ -136,7 +136,7 @@ units-keep unit h w l above worth own test over size floor =
     let apart : (h + w) * unit ≡ h * unit + w * unit = omega arith in
     omega (arith, ints, product, apart, over, size, floor)
 
--- a block has the worth and what the line below has wherever the package fits, where it does so in units at each place that its
+-- a block has the worth and what the line below has wherever the package fits, if it does so in units at each place that its
 -- mask names
 pub coarse-keeps : (unit : ℕ) (supply p : List ℕ) (first w : ℕ) (line below : List ℤ) (low high mask : List ℕ) (worth : ℤ)
     → first ≡ place_of supply p → length line ≡ states_of supply → length below ≡ states_of supply → AreCoarse unit line below low high

@@ -94,7 +94,7 @@ module _ (m : Menu) (counts : ℕ → ℕ → ℤ) (k : ℕ) (left : List ℕ) w
                 rw is (omega (arith, ints, low))
           ]
 
-  -- all numbers but i + 1 are past i + 1 where they are past i
+  -- all numbers but i + 1 are past i + 1 if they are past i
   past-other : (i h : ℕ) (c : List ℕ) → (h ≡ suc i → ⊥) → IsTrue (fits_past m k left i (h ∷ c)) → IsTrue (fits_past m k left (suc i) (h ∷ c))
   past-other i h c other t = let p = past-says m k left h c i t in past-from m k left h c (suc i) (above p.0) p.1
     where

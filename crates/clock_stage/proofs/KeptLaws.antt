@@ -87,7 +87,7 @@ length-raised_prices tick thresholds (p ∷ prices) [] supply = refl
 length-raised_prices tick thresholds (p ∷ prices) (n ∷ d) [] = refl
 length-raised_prices tick thresholds (p ∷ prices) (n ∷ d) (s ∷ supply) = ap suc (length-raised_prices tick thresholds prices d supply)
 
--- no price is above the greatest one where a close is admitted
+-- no price is above the greatest one if a close is admitted
 tops : (category : ℕ) (prices : List ℕ) → first_reply (price_top category prices ∷ []) ≡ reply.Ok → AllByRecursion (λ p. p ≤ 2 ^ 36) prices
 tops category [] ok = tt
 tops category (p ∷ prices) ok =

@@ -19,7 +19,7 @@ use Rattle.core_laws.proofs.Sums.{over-is}
 pub holds-front : (bits : ℕ) → holds bits 0 ≡ pos (bits % 2)
 holds-front bits = rw (div-one bits) refl
 
--- each later winner is in a set of bits where it is, one place lower, in half of them
+-- each later winner is in a set of bits if it is, one place lower, in half of them
 pub holds-rest : (bits j : ℕ) → holds bits (suc j) ≡ holds (bits / 2) j
 holds-rest bits j =
     let e : bits / 2 ^ suc j ≡ bits / 2 / 2 ^ j = ap (λ n. bits / n) (pow-suc 2 j ∙ (let a : 2 ^ j * 2 ≡ 2 * 2 ^ j = omega arith in a))

@@ -45,13 +45,13 @@ pub row-asks : (m : Market) (z : List ℕ) → length z ≡ m.bidders → (at : 
     (of_bidder (for_bidders z at)) m.bidders ≡ dot (winners_in z) (holds bits) (nth at)
 row-asks m z len at bits = sym (ap (sum_over (has_member z bits) (of_bidder (for_bidders z at))) len) ∙ row-sum z at bits
 
--- the winners' numbers meet the row where the bidders' do
+-- the winners' numbers meet the row if the bidders' do
 pub meets-winners :
     (m : Market) (z : List ℕ) → length z ≡ m.bidders → (den : ℤ) (at : List ℤ) (row : Row)
     → MeetsRow m (record { den = den; at = for_bidders z at }) (row_in z row) → Meets z row den at
 meets-winners m z len den at row h = let e = row-asks m z len at row.members in omega (arith, ints)
 
--- the bidders' numbers meet the row where the winners' do
+-- the bidders' numbers meet the row if the winners' do
 pub meets-bidders :
     (m : Market) (z : List ℕ) → length z ≡ m.bidders → (den : ℤ) (at : List ℤ) (row : Row)
     → Meets z row den at → MeetsRow m (record { den = den; at = for_bidders z at }) (row_in z row)

@@ -8,7 +8,7 @@ use Rattle.wide_num.proofs.Ints.{swap_mul}
 cancel : (u v : ℤ) → (pos 232792560 *ℤ u) <ℤ (pos 232792560 *ℤ v) → u <ℤ v
 cancel u v less = omega (arith, ints, less)
 
--- the same where each side has it inside
+-- the same if each side has it inside
 pub less-plain : (a b s t x y : ℤ) → x ≡ pos 232792560 *ℤ s → y ≡ pos 232792560 *ℤ t → (a *ℤ x) <ℤ (b *ℤ y) → (a *ℤ s) <ℤ (b *ℤ t)
 less-plain a b s t x y first second less =
     let left : a *ℤ x ≡ pos 232792560 *ℤ (a *ℤ s) = ap (λ z. a *ℤ z) first ∙ swap_mul a (pos 232792560) s in

@@ -9,7 +9,7 @@ use Rattle.wide_num.specs.Sums.{total}
 use Rattle.wide_num.proofs.Sums.{total-first, total-same}
 use Rattle.projection_laws.proofs.Sums.{total-le}
 
--- a sum over the bidders that pass is a total over the numbers from 0, where others count 0
+-- a sum over the bidders that pass is a total over the numbers from 0, if others count 0
 pub over-is : (s : ℕ → Bool) (f : ℕ → ℤ) (n : ℕ) → sum_over s f n ≡ total n (λ k. cond (s (suc k)) (f (suc k)) (pos 0))
 over-is s f zero = refl
 over-is s f (suc n) = ap (λ (x : ℤ). x +ℤ cond (s (suc n)) (f (suc n)) (pos 0)) (over-is s f n)

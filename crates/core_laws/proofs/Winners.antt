@@ -15,7 +15,7 @@ use Rattle.core_laws.proofs.Sums.{over-is}
 joined : (a b c d e : ℤ) → a ≡ c +ℤ d → d ≡ e → b ≡ c +ℤ e → a ≡ b
 joined a b c d e p q r = omega (arith, ints, p, q, r)
 
--- a function of two numbers that is 0 where both are
+-- a function of two numbers that is 0 if both are
 module _ (h : ℤ → ℤ → ℤ) (none : h (pos 0) (pos 0) ≡ pos 0) where
   -- a sum over the winners of two lists is one over the bidders, if losers add 0
   pub zip-sum : (z : List ℕ) (xs vs : List ℤ)

@@ -27,7 +27,7 @@ use Rattle.core_price.specs.Turns.{point_of}
 use Rattle.core_price.proofs.Places.{place-of}
 use Rattle.core_price.proofs.Points.{at-bidder, asks-winners}
 
--- where one number of a sum changes, the sum changes by as much
+-- if one number of a sum changes, the sum changes by as much
 pub sum-change : (n : ℕ) (f g : ℕ → ℤ) (k : ℕ) → k < n → ((i : ℕ) → i < n → ¬ (i ≡ k) → f i ≡ g i) → total n g ≡ total n f +ℤ (g k -ℤ f k)
 sum-change zero f g k lt h = absurd (omega arith)
 sum-change (suc n) f g k lt h =

@@ -48,7 +48,7 @@ below-size (negsuc x) n p h = absurd (omega (arith, ints))
 some-product : (g x : ℤ) → pos 0 <ℤ g → g *ℤ x ≡ pos 0 → x ≢ pos 0 → ⊥
 some-product g x p e d = d (mul-zero_cases g x e (not-zero g p))
 
--- a number is 0 just where its product with a positive number is
+-- a number is 0 just if its product with a positive number is
 zero_same : (g x y : ℤ) → pos 0 <ℤ g → g *ℤ x ≡ y → is_zero x ≡ is_zero y
 zero_same g (pos zero) y p e = ap is_zero (sym (*ℤ-zero g) ∙ e)
 zero_same g (pos (suc x)) (pos zero) p e = absurd (some-product g (pos (suc x)) p e (λ h. let k : suc x ≡ 0 = ap unsigned_abs h in omega (arith, k)))

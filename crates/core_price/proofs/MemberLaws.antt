@@ -4,7 +4,7 @@ use Rattle.std.proofs.Common.{◌==◌, ◌∙◌, ◌∷◌, ◌≡◌}
 use Rattle.std.proofs.lemmas.List.{append-nil, drop_more}
 use Rattle.core_laws.specs.Winners.{has_bit, has_member, members_of}
 
--- the bidder, where the lowest bit is set
+-- the bidder, if the lowest bit is set
 abbrev pub lowest_member : ℕ → ℕ → List ℕ
 lowest_member bits bidder = cond ((bits % 2) == 1) (bidder ∷ []) []
 
@@ -36,7 +36,7 @@ module _ (z : List ℕ) (bits k rest : ℕ) (others : (i : ℕ) → has_bit (dro
         ap (members_of (has_member z bits)) up ∙ ap (λ (b : Bool). cond b (members_of (has_member z bits) k ++ suc k ∷ []) (members_of (has_member z bits) k)) out in
         is ∙ made ∙ sym same
 
-    -- a winner is one member more where the lowest bit that is left is set
+    -- a winner is one member more if the lowest bit that is left is set
     pub winner-made : (n : ℕ) → k < length z → get_or z k 0 ≡ suc n → new ≡ list ++ lowest_member rest (k + 1) → new ≡ members_of (has_member z bits) (k + 1)
     winner-made n inside some is =
         let split : drop k z ≡ suc n ∷ drop (k + 1) z = drop_more z k 0 inside ∙ ap (λ (x : ℕ). x ∷ drop (k + 1) z) some in

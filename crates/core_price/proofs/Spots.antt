@@ -1,4 +1,4 @@
--- The winners in order, as bidders: where each is, and the row of each alone.
+-- The winners in order, as bidders: the place and the row of each.
 use Rattle.std.specs.Prelude.{◌≡◌, ◌≢◌, ℕ, zero, suc, ◌+◌, ◌-◌, ◌*◌, ◌/◌, ◌%◌, ◌^◌, ◌<◌, ◌==◌, true, false, not, List, [], ◌∷◌, length, get_or, ℤ, refl}
 use Rattle.std.proofs.Common.{sym, ◌∙◌, ap, arith, ◌⊎◌, inl, inr}
 use Rattle.std.proofs.Math.Nat.{pow-suc}

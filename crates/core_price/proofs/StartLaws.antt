@@ -1,4 +1,5 @@
--- The first rows: each winner alone with its Vickrey price, and that turns go on from them.
+-- The first rows: each single winner with its Vickrey price, and that turns go on from
+-- them.
 use Rattle.std.specs.Prelude.{◌≡◌, ℕ, zero, suc, ◌+◌, ◌-◌, ◌*◌, ◌^◌, ◌<◌, ◌≤◌, ◌==◌, true, false, eqb, List, [], ◌∷◌, length, map, get_or, ℤ, pos, ◌≤ℤ◌, refl}
 use Rattle.std.specs.List.{AllByRecursion, IsDistinct}
 use Rattle.std.proofs.Common.{sym, ◌∙◌, ap, arith, subst, ◌⊎◌, inl, inr}

@@ -6,7 +6,7 @@ use Rattle.core_laws.specs.Weights.{FewWin}
 use Rattle.core_price.specs.declared.priced.PriceStop.{PriceStop}
 use Rattle.core_price.specs.declared.priced.PriceStop.TheVariants.{Memory}
 
--- where few enough win, out of memory is why there are no prices
+-- if few enough win, out of memory is why there are no prices
 pub memory-stop : {T : Type 0} (r : Result T PriceStop) (z weights : List ℕ) → IsErrAnd r (λ e. e ≡ Memory) → FewWin z weights
     → IfErr r (λ e. IsStop z weights e)
 memory-stop (Ok x) z weights h few = tt

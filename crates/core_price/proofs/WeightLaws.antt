@@ -33,7 +33,7 @@ weights-at (suc n ∷ z) (w ∷ ws) (suc i) lt = weights-at z ws i (omega arith)
 pub weight-is : (ws : List ℕ) (k : ℕ) → weight_of ws (suc k) ≡ get_or ws k 0
 weight-is ws k = let b : suc k - 1 ≡ k = omega arith in rw b refl
 
--- where all bidders have weights of 1 to 20, the winners have too
+-- if all bidders have weights of 1 to 20, the winners have too
 pub can-weigh : (m : Market) (z ws : List ℕ) → length z ≡ m.bidders → AreWeights m.bidders ws → CanWeigh m z ws
 can-weigh m z ws len are = record {
   long = are.long;
@@ -47,7 +47,7 @@ can-weigh m z ws len are = record {
         let d = weights-at z ws i lt in
         rw d (are.some (spot z i) inside, are.most (spot z i) inside)
 
--- a sum over all bidders, where losers count nothing, is one over the winners
+-- a sum over all bidders, if losers count nothing, is one over the winners
 pub sum-spots : (z : List ℕ) (f t : ℕ → ℤ) → ((i : ℕ) → i < winners_in z → f (spot z i) ≡ t i)
     → ((k : ℕ) → k < length z → uses z (suc k) ≡ false → f k ≡ pos 0) → total (length z) f ≡ total (winners_in z) t
 sum-spots [] f t won lost = refl
@@ -102,11 +102,11 @@ wins-by z k u e = let b : suc k - 1 ≡ k = omega arith in lie (sym u ∙ rw (b,
 by-wins : (z : List ℕ) (k : ℕ) → get_or z k 0 ≢ 0 → uses z (suc k) ≡ true
 by-wins z k d = let b : suc k - 1 ≡ k = omega arith in rw b (ap not (ne_eqb (get_or z k 0) 0 d))
 
--- where each bidder that wins weighs 1, all winners weigh 1
+-- if each bidder that wins weighs 1, all winners weigh 1
 pub all-alike : (z ws : List ℕ) (k : ℕ) → k ≡ length z → AlikeTo z ws k → WeighAlike z ws
 all-alike z ws k e h i lt = weights-at z ws i lt ∙ h (spot z i) (let s = spot-inside z i lt in omega (arith, s, e)) (wins-by z (spot z i) (spot-wins z i lt))
 
--- where a bidder that wins weighs something else, not all winners weigh 1
+-- if a bidder that wins weighs something else, not all winners weigh 1
 pub not-alike : (z ws : List ℕ) (k : ℕ) → k < length z → get_or z k 0 ≢ 0 → get_or ws k 0 ≢ 1 → WeighAlike z ws → ⊥
 not-alike z ws k lt wins d h =
     let s = spot-of z k lt (by-wins z k wins) in

@@ -57,7 +57,7 @@ heads_one name other xs ys a b is_name is_other same lx ly ea eb is =
     let rest = counts_one xs ys a b same lx ly ea eb parts.1 in
     (parts.0, rest.0, rest.1)
 
--- what the first field of a text is, where it is a number
+-- what the first field of a text is, if it is a number
 pub number_field : (text behind field after rest : List ℕ) (n most : ℕ) → text ≡ codes " " ++ behind → behind ≡ field ++ after → NoSpace field
     → FieldEnds after → most < 2 ^ 64 → BeginsWithNumber most text n rest
     → (field ≡ decimal n) × (after ≡ rest)
@@ -67,7 +67,7 @@ number_field text behind field after rest n most spaced parted own ends fits is 
     let tails : field ++ after ≡ decimal n ++ rest = cc in
     one_field field (decimal n) after rest own (number_own n (omega (arith, low, fits))) ends is.ends tails
 
--- where the first field of a text is no name, the text begins with none
+-- if the first field of a text is no name, the text begins with none
 pub no_name : (text front back : List ℕ) → text ≡ front ++ back → NoSpace front → FieldEnds back → (IsName front → ⊥) → (name rest : List ℕ) → IsName name
     → FieldEnds rest → text ≡ name ++ rest → ⊥
 no_name text front back parted own ends none name rest is_name stops is =
@@ -97,7 +97,7 @@ next_of (m ∷ had) (n ∷ lots) rest other lt lh ll er eo is =
     (ends_front lots other eo) (sym (first_of m had rest) ∙ is ∙ first_of n lots other) in
     next_of had lots rest other (omega (arith, lt)) lh.1 ll.1 er eo first.1
 
--- where no count follows the first ones, there are no more
+-- if no count follows the first ones, there are no more
 pub counts_stop : (k categories : ℕ) (text had rest : List ℕ) → k < categories → BeginsWithCounts k text had rest
     → ((n : ℕ) (more : List ℕ) → BeginsWithNumber MOST_STATED_COUNT rest n more → ⊥)
     → (lots other : List ℕ) → BeginsWithCounts categories text lots other → ⊥
@@ -144,7 +144,7 @@ package_head book fields bidder lots is = record {
   bidder_is = is.bidder_is;
 }
 
--- where the rest after the counts is no amount, the fields are no bid
+-- if the rest after the counts is no amount, the fields are no bid
 pub no_bid : (book : Book) (fields : List ℕ) (j : ℕ) (q rest : List ℕ) → IsHead book fields j q rest
     → ((n : ℕ) → BeginsWithNumber MOST_STATED_AMOUNT rest n [] → ⊥)
     → (bidder : ℕ) (lots : List ℕ) (amount : ℕ) → StatesBid book fields bidder lots amount → ⊥
@@ -152,7 +152,7 @@ no_bid book fields j q rest head none bidder lots amount is =
     let one = rest_one book fields j bidder q lots rest (32 ∷ decimal amount) head (bid_head book fields bidder lots amount is) in
     none amount (record { low = is.top; spelled = one.1 ∙ sym (append-nil (32 ∷ decimal amount)); ends = tt })
 
--- where the rest after the counts is an amount, the fields are a bid
+-- if the rest after the counts is an amount, the fields are a bid
 pub made_bid : (book : Book) (fields : List ℕ) (bidder : ℕ) (lots rest : List ℕ) (amount : ℕ) → IsHead book fields bidder lots rest
     → BeginsWithNumber MOST_STATED_AMOUNT rest amount [] → StatesBid book fields bidder lots amount
 made_bid book fields bidder lots rest amount head is = record {
@@ -164,7 +164,7 @@ made_bid book fields bidder lots rest amount head is = record {
   bidder_is = head.bidder_is;
 }
 
--- where something is after the counts, the fields are no package
+-- if something is after the counts, the fields are no package
 pub no_package : (book : Book) (fields : List ℕ) (j : ℕ) (q rest : List ℕ) → IsHead book fields j q rest → 0 < length rest → (bidder : ℕ) (lots : List ℕ)
     → StatesPackage book fields bidder lots → ⊥
 no_package book fields j q rest head some bidder lots is =

@@ -90,7 +90,7 @@ marked : (book : Book) (s : NamedStage) (l : List ℕ) (next : Stage) (mark : Op
     → named_excess up.to ≡ mark
 marked book s l next mark up is = sym (excess_held book up.to) ∙ ap excess (sym up.is) ∙ is
 
--- where the reader has ended, the named edits have
+-- if the reader has ended, the named edits have
 ended_held : (book : Book) (s : NamedStage) (edits : List Edit) → held book s ≡ stage.Ended edits
     → (named : List NamedEdit) × (s ≡ ended named) × (edits ≡ edits_of book named)
 ended_held book beginning edits is = absurd (cc is)
@@ -115,7 +115,7 @@ many_edits had e many = over (length (had ++ e ∷ [])) (omega (arith, many, len
     over : (n : ℕ) → 1000 < n → edit_excess n ≡ Some (Records, 1001)
     over n lt = grind (arith, nat_tests)
 
--- an edit more where there may be one
+-- an edit more if there may be one
 pub few_edits : (had : List Edit) (e : Edit) → length had < 1000 → edit_excess (length (had ++ e ∷ [])) ≡ None
 few_edits had e few = under (length (had ++ e ∷ [])) (omega (arith, few, length-append had (e ∷ [])))
   where
@@ -152,7 +152,7 @@ module _ (book : Book) (bytes : List ℕ) where
       let end = ended_held book up.0 edits (sym up.2) in
       (end.0, subst (λ (u : NamedStage). SoFar (NamedStep (length book.supply)) named_excess begin bytes (length bytes) u) end.1 up.1, end.2)
 
-  -- where the reader halts, the named stages do
+  -- if the reader halts, the named stages do
   pub named_halts : (place : ℕ) → HaltsAt (Step book) excess stage.Start stage.Ended bytes place
       → HaltsAt (NamedStep (length book.supply)) named_excess begin finish bytes place
   named_halts place halts =

@@ -50,7 +50,7 @@ passed_other members xs n sum left h bit =
       inside = stays_more members xs n h.inside (subst IsInRange (sym same) (h.inside n (omega arith)));
     }
 
--- past a member the sum grows by its pair, where that stays in the range, and one bit fewer is left
+-- past a member the sum grows by its pair, if that stays in the range, and one bit fewer is left
 pub passed_member : (members : ℕ) (xs : List Far) (n : ℕ) (sum next x : Far) (left : ℕ) → IsAtEntry members xs n sum left → left % 2 ≡ 1 → x ≡ pair_at xs n
     → next ≡ sum_of sum x → IsInRange (sum_of sum x) → IsAtEntry members xs (suc n) next (left / 2)
 passed_member members xs n sum next x left h bit item is here =

@@ -25,7 +25,7 @@ Solves-lin n s t z y (a ∷ rows) h k = (
     zeros : (s t x w : ℤ) → x ≡ pos 0 → w ≡ pos 0 → s *ℤ x -ℤ t *ℤ w ≡ pos 0
     zeros s t x w e f = omega (arith, lin, ap (λ (d : ℤ). s *ℤ d) e, ap (λ (d : ℤ). t *ℤ d) f, *ℤ-zero s, *ℤ-zero t)
 
--- where a multiple of v is y, and y is a solution, so is v
+-- if a multiple of v is y, and y is a solution, so is v
 pub Solves-part : (n : ℕ) (g : ℤ) (v y : ℕ → ℤ) (rows : List (ℕ → ℤ)) → g ≢ pos 0 → ((i : ℕ) → i < n → g *ℤ v i ≡ y i) → Solves n y rows → Solves n v rows
 Solves-part n g v y [] ne h k = tt
 Solves-part n g v y (a ∷ rows) ne h k = (
@@ -47,7 +47,7 @@ pub record Basis (n : ℕ) (free : ℕ → Bool) (kept : List (ℕ → ℤ)) (v 
   pub only : (z : ℕ → ℤ) → Solves n z kept → ((l : ℕ) → l < n → free l ≡ true → z l ≡ pos 0) → (l : ℕ) → l < n → z l ≡ pos 0
   pub count : length kept ≤ taken n free
 
--- where all coordinates are free, their unit rows are a basis for no rows at all
+-- if all coordinates are free, their unit rows are a basis for no rows at all
 pub start : (n : ℕ) (free : ℕ → Bool) (v : ℕ → ℕ → ℤ) → ((j : ℕ) → j < n → free j ≡ true) → ((j : ℕ) → j < n → v j j ≡ pos 1)
     → ((j l : ℕ) → j < n → l < n → l ≢ j → v j l ≡ pos 0) → Basis n free [] v
 start n free v all one none = record {
@@ -78,7 +78,7 @@ left_zero s t x y e h = omega (arith, lin, ap (λ (d : ℤ). t *ℤ d) e, *ℤ-z
 right_zero : (s t x y : ℤ) → x ≡ pos 0 → s *ℤ x -ℤ t *ℤ y ≡ pos 0 → t *ℤ y ≡ pos 0
 right_zero s t x y e h = omega (arith, lin, ap (λ (d : ℤ). s *ℤ d) e, *ℤ-zero s, h)
 
--- where one free coordinate is free no more and all others stay as they are, one more is taken
+-- if one free coordinate is free no more and all others stay as they are, one more is taken
 pub taken_one : (n p : ℕ) (f g : ℕ → Bool) → p < n → f p ≡ true → g p ≡ false → ((i : ℕ) → i ≢ p → g i ≡ f i) → taken n g ≡ suc (taken n f)
 taken_one zero p f g l a b h = absurd (omega arith)
 taken_one (suc n) zero f g l a b h =

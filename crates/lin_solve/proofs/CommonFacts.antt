@@ -30,7 +30,7 @@ pub den_common : (ps : List Pivot) (den : ℤ) (h : HaveCommon ps) → ((k : ℤ
     → unsigned_abs den ≤ unsigned_abs h.k
 den_common ps den h least = den_small ps den h.k (unsigned_abs h.k) least h.positive h.whole (omega arith)
 
--- where t times the size of y is in the range, so is the size of y times that of an x of at most t in size
+-- if t times the size of y is in the range, so is the size of y times that of an x of at most t in size
 pub room_by : (x y : ℤ) (t : ℕ) → unsigned_abs x ≤ t → t * unsigned_abs y < 2 ^ 120 → unsigned_abs x * unsigned_abs y < 2 ^ 120
 room_by x y t l h = go (unsigned_abs x) (unsigned_abs y) t l h
   where
@@ -52,7 +52,7 @@ scaled : (c u k f q d : ℤ) → k *ℤ q ≡ d → c *ℤ u ≡ k *ℤ f → c 
 scaled c u k f q d e h =
     sym (mul_assoc c u q) ∙ ap (λ (x : ℤ). x *ℤ q) h ∙ mul_assoc k f q ∙ ap (λ (x : ℤ). k *ℤ x) (*ℤ_comm f q) ∙ sym (mul_assoc k q f) ∙ ap (λ (x : ℤ). x *ℤ f) e
 
--- where the first i pivots are whole over a denominator, one pivot more is whole over the grown one
+-- if the first i pivots are whole over a denominator, one pivot more is whole over the grown one
 pub whole_more : (i : ℕ) (ps : List Pivot) (den d : ℤ) → AreWhole i ps den → IsGrown den (pivot ps i).c (pivot ps i).far (pivot ps i).near d
     → AreWhole (i + 1) ps d
 whole_more i ps den d h g =
@@ -63,7 +63,7 @@ whole_more i ps den d h g =
     ))
     ((g.far_part, g.fars), (g.near_part, g.nears))
 
--- where a denominator divides each k over which all are whole, so does the grown one
+-- if a denominator divides each k over which all are whole, so does the grown one
 pub least_more : (i : ℕ) (ps : List Pivot) (den d : ℤ) → i < length ps → ((k : ℤ) → AreWhole (length ps) ps k → (q : ℤ) × (k ≡ den *ℤ q))
     → IsGrown den (pivot ps i).c (pivot ps i).far (pivot ps i).near d → (k : ℤ) → AreWhole (length ps) ps k → (q : ℤ) × (k ≡ d *ℤ q)
 least_more i ps den d l least g k h =

@@ -369,7 +369,7 @@ module _ (n s d : ℕ) (a : ℕ → ℕ → ℕ) (p q b c : ℕ → ℤ) (s1 : 1
       pair_same : (i ≡ i') × (j ≡ j')
       pair_same = (first second, second)
 
-    -- where d and the numerators of both solutions combine to 1, d is at most the limit to the power of the lines
+    -- if d and the numerators of both solutions combine to 1, d is at most the limit to the power of the lines
     pub least_den : d ≤ s ^ n
     least_den =
         elim (cases_lt (s ^ n) d) [

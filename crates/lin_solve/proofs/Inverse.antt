@@ -73,7 +73,7 @@ abbrev beside : (ℕ → ℕ → ℤ) → (ℕ → ℤ) → ℕ → ℕ → ℤ
 beside a b k zero = b k
 beside a b k (suc i) = a k i
 
--- where the matrix sends only 0 to 0, each right side has a solution over some d other than 0
+-- if the matrix sends only 0 to 0, each right side has a solution over some d other than 0
 pub solvable : (n : ℕ) (a : ℕ → ℕ → ℤ) → Injective n a → (b : ℕ → ℤ) → Solvable n a b
 solvable n a inj b =
     let w = few_rows (suc n) n (beside a b) (omega arith) in
@@ -130,7 +130,7 @@ pick n a f z i l h =
     ∙ total-one n i (λ (k : ℕ). dot n f (λ (m : ℕ). a m k) *ℤ z k) l
     (λ k b ne. *ℤ_comm (dot n f (λ (m : ℕ). a m k)) (z k) ∙ ap (λ (x : ℤ). z k *ℤ x) (h k b ne) ∙ *ℤ-zero (z k))
 
--- where the matrix sends only 0 to 0, a clearing row and the column that it leaves have a product other than 0
+-- if the matrix sends only 0 to 0, a clearing row and the column that it leaves have a product other than 0
 pub pivot : (n : ℕ) (a : ℕ → ℕ → ℤ) → Injective n a → (f : ℕ → ℤ) (i : ℕ) → i < n → Clears n a f i → dot n f (λ (m : ℕ). a m i) ≢ pos 0
 pivot n a inj f i l c e =
     let w : Solvable n a (unit c.place) = solvable n a inj (unit c.place) in

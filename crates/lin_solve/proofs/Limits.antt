@@ -45,7 +45,7 @@ module _ (count top edge : ℕ) (m : List (List ℤ)) (right : List Far) (ys zs 
   pub most_le : most (count * top) edge (length m) ≤ most (count * top) edge count
   most_le = mul-le-mul den_le (mul-le-mul (mul-le-mul sys.lines bound_le) (le_refl edge))
 
-  -- where the limit leaves room for as many lines as the count, the lines and both parts are a system
+  -- if the limit leaves room for as many lines as the count, the lines and both parts are a system
   pub is_system : 2 * (count * top * (bound (count * top) count * bound (count * top) count)) < 2 ^ 120 → most (count * top) edge count < 2 ^ 119
       → (count * top) ^ count * (count * top * bound (count * top) count) < 2 ^ 120 → IsSystem m ys zs
   is_system room parts cs = record {
@@ -107,7 +107,7 @@ module _ (m : List (List ℤ)) (right : List Far) (ys zs : List ℤ) (long : len
     (square : (k : ℕ) → k < length m → length (slice_index_or m k []) ≡ length m)
     (py : AreParts (length right) (far_at right) ys) (pz : AreParts (length right) (near_at right) zs) (s : Solved)
     (small : (limit edge : ℕ) → IsWithinLimits limit edge m ys zs → IsSmallAnswer (limit ^ length m + 1) (most limit edge (length m) + 1) s) where
-  -- where all winners weigh 1, the answer is small by the bounds 2^32 and 2^106
+  -- if all winners weigh 1, the answer is small by the bounds 2^32 and 2^106
   pub first_case : IsPlainSystem m right → IsSmallAnswer (2 ^ 32) (2 ^ 106) s
   first_case sys = small_of MOST_WINNERS MOST_WINNERS MOST_VALUE m right ys zs long sys square py pz (omega arith) s small (2 ^ 32) (2 ^ 106) (omega arith) (omega arith)
 

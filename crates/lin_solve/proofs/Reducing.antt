@@ -12,7 +12,7 @@ use Rattle.wide_num.proofs.Sums.{dot-same, dot-scale}
 pub content_apart : (v : List ℤ) (g : ℤ) → ContentOf (length v) (nth v) g → (p : ℕ) → p < length v → nth v p ≢ pos 0 → g ≢ pos 0
 content_apart v g c p l ne e = ne (sym (c.parts p l) ∙ ap (λ (x : ℤ). x *ℤ c.part p) e ∙ *ℤ_comm (pos 0) (c.part p) ∙ *ℤ-zero (c.part p))
 
--- the quotients of a row by its content, where that isn't 0, are the primitive part of the row
+-- the quotients of a row by its content, if that isn't 0, are the primitive part of the row
 pub primitive_part : (v y : List ℤ) (g : ℤ) → g ≢ pos 0 → ContentOf (length v) (nth v) g → AreQuotients g v y → IsPrimitivePart v y
 primitive_part v y g ne c p = record {
   long = p.long;
@@ -43,7 +43,7 @@ reduces s t v w m y h p = record {
   primitive = (p.primitive.0, subst (λ (n : ℕ). dot n p.primitive.0 (nth y) ≡ pos 1) h.long p.primitive.1);
 }
 
--- s times x less t times y is in the range where the sizes of the two products sum to a number in the range
+-- s times x less t times y is in the range if the sizes of the two products sum to a number in the range
 pub mix_small : (s t x y z : ℤ) → z ≡ s *ℤ x -ℤ t *ℤ y → unsigned_abs s * unsigned_abs x + unsigned_abs t * unsigned_abs y < 2 ^ 120 → unsigned_abs z < 2 ^ 120
 mix_small s t x y z e h =
     let k : unsigned_abs (s *ℤ x -ℤ t *ℤ y) ≤ unsigned_abs (s *ℤ x) + unsigned_abs (t *ℤ y) = minus_abs (s *ℤ x) (t *ℤ y) in
@@ -52,7 +52,7 @@ mix_small s t x y z e h =
     minus_abs : (x y : ℤ) → unsigned_abs (x -ℤ y) ≤ unsigned_abs x + unsigned_abs y
     minus_abs x y = omega (arith, ints)
 
--- where each value with P has Q too, a call whose value has P, if there is one, is a call whose value has Q
+-- if each value with P has Q too, a call whose value has P, if there is one, is a call whose value has Q
 pub if_ok : {T E : Type 0} (r : Result T E) (P Q : T → Type 0) → ((x : T) → P x → Q x) → IfOk r P → IfOk r Q
 if_ok (Ok x) P Q f h = f x h
 if_ok (Err e) P Q f h = h

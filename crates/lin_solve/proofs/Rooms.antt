@@ -37,11 +37,11 @@ four x y v w s h a b c d =
     let q : y * w ≤ s * h * h = mul-le-mul b d in
     omega (arith, p, q)
 
--- two products of a number up to s times h and one up to h sum to less than 2^120 where 2 s h h is less than that
+-- two products of a number up to s times h and one up to h sum to less than 2^120 if 2 s h h is less than that
 pub mixed_room : (x y v w s h : ℕ) → x ≤ s * h → y ≤ s * h → v ≤ h → w ≤ h → 2 * (s * (h * h)) < 2 ^ 120 → x * v + y * w < 2 ^ 120
 mixed_room x y v w s h a b c d r = omega (arith, four x y v w s h a b c d, r)
 
--- a number up to s times h, with h at least 1, is less than 2^120 where 2 s h h is
+-- a number up to s times h, with h at least 1, is less than 2^120 if 2 s h h is
 pub reach_room : (s h r : ℕ) → 1 ≤ h → r ≤ s * h → 2 * (s * (h * h)) < 2 ^ 120 → r < 2 ^ 120
 reach_room s zero r one a b = absurd (omega arith)
 reach_room s (suc h) r one a b = omega (arith, a, b)

@@ -19,7 +19,7 @@ abbrev SameOn : ℕ → (ℕ → ℤ) → (ℕ → ℤ) → List (ℕ → ℤ) �
 SameOn n z y [] = Unit {0}
 SameOn n z y (a ∷ rows) = (dot n a z ≡ dot n a y) × SameOn n z y rows
 
--- where each number of f is at most that of g, the sum of f is at most that of g
+-- if each number of f is at most that of g, the sum of f is at most that of g
 pub nat_total-le : (n : ℕ) (f g : ℕ → ℕ) → ((i : ℕ) → i < n → f i ≤ g i) → nat_total n f ≤ nat_total n g
 nat_total-le zero f g h = omega arith
 nat_total-le (suc n) f g h = omega (arith, h zero (omega arith), nat_total-le n (λ (i : ℕ). f (suc i)) (λ (i : ℕ). g (suc i)) (λ i l. h (suc i) (omega arith)))
@@ -218,7 +218,7 @@ minus_solves n z y (a ∷ rows) h = (omega (arith, ints, dot-lin n (pos 1) (pos 
 gap : (p q b : ℕ) → p ≤ b → q ≤ b → unsigned_abs (pos 1 *ℤ pos p -ℤ pos 1 *ℤ pos q) ≤ b
 gap p q b h k = omega (arith, ints)
 
--- where the rows have fewer values than the box has points, they have a solution other than 0 up to the sides u
+-- if the rows have fewer values than the box has points, they have a solution other than 0 up to the sides u
 pub siegel : (n : ℕ) (u : ℕ → ℕ) (rows : List (ℕ → ℤ)) → room n u rows < box n u → Solution n u rows
 siegel n u rows h =
     let w : Collision (λ (t : ℕ). images n u rows (digit u t)) (box n u) =

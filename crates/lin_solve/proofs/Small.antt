@@ -1,4 +1,4 @@
--- The rows of a basis are small where they are primitive.
+-- The rows of a basis are small if they are primitive.
 use Rattle.std.proofs.Common.{Bool, List, [], ap, arith, cond, false, inl, inr, length, pos, subst, suc, sym, true, unsigned_abs, zero, zero-add, ℕ}
 use Rattle.std.proofs.Common.{ℤ, ◌*ℤ◌, ◌*◌, ◌+◌, ◌-ℤ◌, ◌<◌, ◌^◌, ◌∙◌, ◌∷◌, ◌≡◌, ◌≢◌, ◌≤◌}
 use Rattle.std.proofs.lemmas.Int.{unsigned_abs-mul}
@@ -117,7 +117,7 @@ module _ (n : ℕ) (free one_less : ℕ → Bool) (kept : List (ℕ → ℤ)) (v
       minus_out : (x y : ℤ) → x -ℤ y ≡ pos 0 → x ≡ y
       minus_out x y h = omega (arith, lin, h)
 
-  -- the row of j, where it is primitive, has numbers of at most s to the power of the kept rows in size
+  -- the row of j, if it is primitive, has numbers of at most s to the power of the kept rows in size
   pub small : (i : ℕ) → i < n → unsigned_abs (v j i) ≤ s ^ length kept
   small i li =
       let m : (i : ℕ) → i < n → v j j *ℤ some.z i ≡ some.z j *ℤ v j i =

@@ -15,7 +15,7 @@ module _ {S : Type 0} (Sound : S → Type 0) (Step : S → List ℕ → S → Ty
   abbrev pub StepsDecided : Type 0
   StepsDecided = (s : S) (l : List ℕ) → Sound s → Decided ((t : S) × Step s l t)
 
--- what holds exactly where a thing holds that is decided
+-- what is equivalent to a decided condition
 pub decided_as : {A B : Type 0} → Decided A → (A → B) → (B → A) → Decided B
 decided_as (inl a) on back = inl (on a)
 decided_as (inr never) on back = inr (λ b. never (back b))

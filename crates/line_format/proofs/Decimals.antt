@@ -19,7 +19,7 @@ decimal_numeral n small = decimal_by_steps_wide IsOf one more n small
     more : (m : ℕ) (ds : List ℕ) → 10 ≤ m → IsOf (m / 10) ds → IsOf m (ds ++ (48 + m % 10) ∷ [])
     more m ds high is = ap (λ (l : List ℕ). l ++ (48 + m % 10) ∷ []) is ∙ sym (numeral-more m high)
 
--- the library's text of a signed number is its signed numeral, where the absolute value is below 10^64
+-- the library's text of a signed number is its signed numeral, if the absolute value is below 10^64
 pub signed_decimal_numeral : (z : ℤ) → unsigned_abs z < 10 ^ 64 → signed_decimal z ≡ signed_numeral z
 signed_decimal_numeral (pos n) small = decimal_numeral n small
 signed_decimal_numeral (negsuc n) small = ap (λ (l : List ℕ). 45 ∷ l) (decimal_numeral (suc n) small)

@@ -50,7 +50,7 @@ next_in_run ns i start before behind all inside so_far step =
     ∙ append_assoc start (numbers_text (take i ns)) (32 ∷ signed_numeral n)
     ∙ ap (λ (t : List ℕ). start ++ t) (sym one)
 
--- the numbers from here on, as a slice that ends where the list does
+-- the numbers from here on, as a slice that ends if the list does
 tail_whole : (ns : List ℤ) (done : ℕ) → take (length ns - done) (drop done ns) ≡ drop done ns
 tail_whole ns done = take_all (length ns - done) (drop done ns) (omega (arith, length-drop done ns))
 
@@ -59,7 +59,7 @@ range_drop zero ns all = all
 range_drop (suc done) [] all = tt
 range_drop (suc done) (n ∷ ns) all = range_drop done ns all.1
 
--- where all numbers are in range, those from a place on are
+-- if all numbers are in range, those from a place on are
 pub tail_range : (ns : List ℤ) (done : ℕ) → AllInRange ns → AllInRange (take (length ns - done) (drop done ns))
 tail_range ns done all = subst AllInRange (sym (tail_whole ns done)) (range_drop done ns all)
 

@@ -69,7 +69,7 @@ pub record FrontOf {V O : Type 0} (IsValid : V → Type 0) (lines : V → List (
 module _ {S V O : Type 0} (Sound : S → Type 0) (Step : S → List ℕ → S → Type 0) (excess : S → Option O) (behind : S → List (List ℕ × Option O))
     (IsValid : V → Type 0) (lines : V → List (List ℕ × Option O)) (steps : StepsBehind Sound Step excess behind)
     (front_of : (s : S) → Sound s → FrontOf IsValid lines (behind s)) where
-  -- where each sound stage has the prefix of a text after it, the lines of a run are one
+  -- if each sound stage has the prefix of a text after it, the lines of a run are one
   pub front_reached : (begin : S) → Sound begin → behind begin ≡ [] → (ms : List (List ℕ × Option O)) (s : S) → Runs Step excess begin ms s
       → (v : V) × (k : ℕ) × IsValid v × (take k (lines v) ≡ ms)
   front_reached begin sound nothing ms s run =
@@ -77,7 +77,7 @@ module _ {S V O : Type 0} (Sound : S → Type 0) (Step : S → List ℕ → S �
       let front = front_of s is.0 in
       (front.value, front.count, front.valid, front.same ∙ is.1 ∙ ap (λ (r : List (List ℕ × Option O)). r ++ ms) nothing)
 
--- The reader reads this form: over the lines of a value it comes to the value's end, and where it has come from the
+-- The reader reads this form: over the lines of a value it comes to the value's end, and if it has come from the
 -- beginning, the lines are the prefix of some text. From an end it goes no further.
 pub record Reads {S V O : Type 0} (Sound : S → Type 0) (Step : S → List ℕ → S → Type 0) (excess : S → Option O) (begin : S) (finish : V → S)
     (IsValid : V → Type 0) (lines : V → List (List ℕ × Option O)) : Type 0 where
@@ -263,7 +263,7 @@ module _ {S O : Type 0} (Step : S → List ℕ → S → Type 0) (excess : S →
           here = long;
         }
 
-    -- where the next line has a step to a stage that exceeds a limit, the bytes exceed that limit first
+    -- if the next line has a step to a stage that exceeds a limit, the bytes exceed that limit first
     pub next_exceeds : (t : S) (o : O) → Step s (take n (drop place bytes)) t → excess t ≡ Some o → ExceedsFirst Step excess begin bytes o
     next_exceeds t o step over = record {
       stage = t;
@@ -302,7 +302,7 @@ module _ {S V O : Type 0} {Sound : S → Type 0} {Step : S → List ℕ → S �
   text_read v end = is_text Sound Step excess begin finish IsValid lines reads bytes (drop (length bytes) bytes) end.behind
       (finish v) end.run end.split v refl (drop_all (length bytes) bytes (omega arith)) end.within
 
-  -- where the reader halts, the first faulty line begins
+  -- if the reader halts, the first faulty line begins
   pub fault_read : (place : ℕ) → HaltsAt Step excess begin finish bytes place → FaultAt IsValid lines bytes place
   fault_read place halts = fault_at Sound Step excess begin finish IsValid lines reads bytes (drop place bytes) halts.so_far.behind halts.stage
       halts.so_far.run halts.so_far.split place halts.so_far.within halts.so_far.here halts.blocked halts.open_end

@@ -1,4 +1,4 @@
--- Bytes always say something, where each line is known to lead on or not.
+-- Bytes always say something, if each line is known to lead on or not.
 use Rattle.std.proofs.Common.{List, None, Option, Some, [], ap, arith, drop, inl, inr, length, length-drop, refl, suc, take, zero, ℕ, ◌+◌, ◌<◌, ◌∙◌}
 use Rattle.std.proofs.Common.{◌∷◌, ◌≡◌, ◌≤◌, ◌⊎◌}
 use Rattle.std.proofs.lemmas.Bool.{cases_eq}

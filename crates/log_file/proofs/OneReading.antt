@@ -27,7 +27,7 @@ states_length terms (r ∷ rows) (e ∷ es) s = ap suc (states_length terms rows
 pub one_log : (terms : Terms) (rows : Rows) (es fs : List Event) → AreLog terms rows es → AreLog terms rows fs → es ≡ fs
 one_log terms rows es fs s t = states_one terms rows es fs s.0 t.0
 
--- where a record states nothing, no list of events is that of all records
+-- if a record states nothing, no list of events is that of all records
 short : (terms : Terms) (before : Rows) (es : List Event) (r : List (List ℕ)) (later : Rows) (gs : List Event) → AllState terms before es → StatesNone terms r
     → AllState terms (before ++ r ∷ later) gs → ⊥
 short terms [] [] r later [] s none all = all

@@ -129,7 +129,7 @@ pub found_one :
 found_one known reader rows true fields is taken = taken
 found_one known reader rows false fields is taken = absurd (false≢true is)
 
--- where a read found no record none was left
+-- if a read found no record none was left
 pub found_none :
     {R : Type 0} (known : R → Option (List ℕ)) (reader : Reader R) (rows : List (List (List ℕ))) (found : Bool) (fields : List (List ℕ))
     → found ≡ false → Takes known reader rows found fields → rows ≡ []

@@ -57,7 +57,7 @@ line-told terms log line answer new is =
     ∙ ap (λ (k : ℕ). reply_line n (reply_to terms log line) (done_by line (reply_to terms log line) (log_stage terms whole) k) new.prices) round
     ∙ ap (reply_line n (reply_to terms log line) (done_by line (reply_to terms log line) (log_stage terms whole) (log_round terms whole))) prices
 
--- what a line makes of the replies and of the first refusal, where the desk answered it
+-- what a line makes of the replies and of the first refusal, if the desk answered it
 pub takes-line : (old new : ReplayState) (number : ℕ) (line : Event) (answer : Reply) → Answers old.desk line answer new.desk
     → new.replies ≡ old.replies ++ line_at number line answer new.desk → new.stop ≡ option_or old.stop (refusal_of line answer)
     → TakesLine old number line new

@@ -50,12 +50,12 @@ within-step p s i h e =
     let own : i < length s = omega arith in
     rw (drop-at p i h, drop-at s i own) refl
 
--- where a count is above the supply's, the package from there on isn't within it
+-- if a count is above the supply's, the package from there on isn't within it
 pub within-fails : (p s : List ℕ) (i : ℕ) → i < length p → length p ≡ length s → get_or s i 0 < get_or p i 0 → is_within (drop i p) (drop i s) ≡ false
 within-fails p s i h e low =
     within-step p s i h e ∙ and_left _ (is_within (drop (i + 1) p) (drop (i + 1) s)) (lt-leb (get_or p i 0) (get_or s i 0) low)
 
--- where a count isn't above the supply's, the categories after show whether the package is within it
+-- if a count isn't above the supply's, the categories after show whether the package is within it
 pub within-goes_on : (p s : List ℕ) (i : ℕ) → i < length p → length p ≡ length s → get_or p i 0 ≤ get_or s i 0
     → is_within (drop i p) (drop i s) ≡ is_within (drop (i + 1) p) (drop (i + 1) s)
 within-goes_on p s i h e low =

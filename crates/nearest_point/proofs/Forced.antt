@@ -11,12 +11,12 @@ use Rattle.wide_num.proofs.Sums.{total-same, total-scale, total-zero}
 use Rattle.projection_laws.proofs.Sums.{total-sub, total-nonneg, total-le, term-le, dual}
 use Rattle.projection_laws.proofs.PointLaws.{gap_of, dot-gap, times_zero}
 
--- a number is 0 where its square times a positive weight is at most 0
+-- a number is 0 if its square times a positive weight is at most 0
 pub nothing_left : (w u : ℤ) → pos 0 <ℤ w → (w *ℤ (u *ℤ u)) ≤ℤ pos 0 → u ≡ pos 0
 nothing_left w u p h =
     elim (zero_or u) [ inl e ↦ e | inr n ↦ absurd (let k = mul_positive w (u *ℤ u) p (square_positive u n) in omega (arith, ints)) ]
 
--- two solved points are one where no term of the first is positive and none of the second is negative
+-- two solved points are one if no term of the first is positive and none of the second is negative
 pub coincide : (m : ℕ) (target weight : ℕ → ℤ) → ((j : ℕ) → j < m → pos 0 <ℤ weight j)
     → (rx : ℕ) (ax : ℕ → ℕ → ℤ) (dx : ℤ) (x lx : ℕ → ℤ) → Solved m rx ax dx x lx target weight
     → (ry : ℕ) (ay : ℕ → ℕ → ℤ) (dy : ℤ) (y ly : ℕ → ℤ) → Solved m ry ay dy y ly target weight

@@ -62,7 +62,7 @@ solved-at_t m n a den t pf pn lf ln tf tn weight f g = record {
       ∙ ap (λ (z : ℤ). den *ℤ at_t t tf tn j +ℤ weight j *ℤ z) (sym c));
 }
 
--- the order of Far is that of the numbers at t, where the near part is less than t in size
+-- the order of Far is that of the numbers at t, if the near part is less than t in size
 pub far_nonneg : (t far near : ℤ) → pos 0 <ℤ t → near <ℤ t → pos 0 ≤ℤ (far *ℤ t +ℤ near) → pos 0 ≤ℤ far
 far_nonneg t far near tp h k = by_lt_z far (pos 0)
     (λ (low : far <ℤ pos 0).
@@ -72,7 +72,7 @@ far_nonneg t far near tp h k = by_lt_z far (pos 0)
     absurd (omega (arith, ints)))
     (λ (high : pos 0 ≤ℤ far). high)
 
--- the near part isn't negative where the far part is 0 and the number at t isn't negative
+-- the near part isn't negative if the far part is 0 and the number at t isn't negative
 pub near_nonneg : (t far near : ℤ) → far ≡ pos 0 → pos 0 ≤ℤ (far *ℤ t +ℤ near) → pos 0 ≤ℤ near
 near_nonneg t far near e k = let p : far *ℤ t ≡ pos 0 *ℤ t = ap (λ (z : ℤ). z *ℤ t) e in omega (arith, ints)
 

@@ -23,7 +23,7 @@ numbers_step list count n r rows l v len e lt ve h q lq = go (eqb_tells r q) ∙
         get_or-set_other list r q v (pos 0) (λ x. d (sym x)) ∙ h q lq
         ∙ (let z : when (eqb (rows n) q) (l n) ≡ pos 0 = ap (λ (b : Bool). when b (l n)) (ap (λ (k : ℕ). eqb k q) e ∙ t) in omega (arith, ints))
 
--- sizes of at most n times 2^106 become at most n + 1 times where a number below 2^106 is added at a place
+-- sizes of at most n times 2^106 become at most n + 1 times if a number below 2^106 is added at a place
 pub small_step : (list : List ℤ) (n r : ℕ) (v x : ℤ) → r < length list → v ≡ nth list r +ℤ x → unsigned_abs x < 2 ^ 106
     → ((q : ℕ) → unsigned_abs (nth list q) ≤ n * 2 ^ 106) → (q : ℕ) → unsigned_abs (nth (slice_set list r v) q) ≤ (n + 1) * 2 ^ 106
 small_step list n r v x lt e w h q = go (eqb_tells r q)

@@ -222,7 +222,7 @@ module _ (target : List ℤ) (weights : List ℕ) (rows : List Row) (forced : Li
       parts.far parts.near)
       tight ind)
 
-  -- what is settled has its parts and sizes, where forced places are of rows and its point's parts below 2^113
+  -- what is settled has its parts and sizes, if forced places are of rows and its point's parts below 2^113
   pub settled_parts : AreWithin forced rows → AreBelow (2 ^ 113) h.far.items → AreBelow (2 ^ 113) h.near.items → HasParts target weights rows h
   settled_parts within far near = record {
     long_far = s.far.long ∙ s.long;

@@ -30,10 +30,10 @@ product_back d b p q r s =
     ap (λ (z : ℤ). to_z w128 (of_z w128 (z *ℤ to_z w128 (of_z w128 b)))) e ∙ ap (λ (z : ℤ). to_z w128 (of_z w128 (d *ℤ z))) f
     ∙ back (d *ℤ b) (product_within d b p q r s)
 
--- a number is below another where far and near parts equal to its own come to less at the large t
+-- a number is below another if far and near parts equal to its own come to less at the large t
 pub less_is : (f n l x y p s : ℤ) → f ≡ x → n ≡ y → l ≡ p → s ≡ x *ℤ large +ℤ y → (f *ℤ large +ℤ n) <ℤ l → s <ℤ p
 less_is f n l x y p s e g h o lt = omega (arith, ints)
 
--- a number is at least another where far and near parts equal to its own come to no less at the large t
+-- a number is at least another if far and near parts equal to its own come to no less at the large t
 pub more_is : (f n l x y p s : ℤ) → f ≡ x → n ≡ y → l ≡ p → s ≡ x *ℤ large +ℤ y → l ≤ℤ (f *ℤ large +ℤ n) → p ≤ℤ s
 more_is f n l x y p s e g h o le = omega (arith, ints)

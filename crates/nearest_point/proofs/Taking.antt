@@ -10,7 +10,7 @@ use Rattle.nearest_point.specs.Found.{HasParts, IsNear, IsOwed, point_at, multip
 use Rattle.nearest_point.proofs.Steps.{near_force, near_take, owed_force, owed_less}
 use Rattle.nearest_point.proofs.Whole.{have_weights}
 
--- where the point violates row k, what is owed is owed with row k forced and the rows after it
+-- if the point violates row k, what is owed is owed with row k forced and the rows after it
 pub force_owed : (target : List ℤ) (weights : List ℕ) (rows : List Row) (forced : List ℕ) (from k q : ℕ) (h : Held) → q ≡ suc k → k < length rows → from ≤ k
     → IsOwed target rows forced from → IsNear target weights rows forced q h → HasParts target weights rows h
     → dot (length h.far.items) (coefficients rows k) (point_at h) <ℤ (h.den *ℤ bounds rows k)
@@ -25,7 +25,7 @@ force_owed target weights rows forced from k q h e lt le (d, (x, owed)) near par
     forced k lt d x less h.rows.items h.den (point_at h) (multiplier_at h) near' violated' in
     rw add-one (_, (_, o))
 
--- where a point violates row k, the one found with row k forced is right from row k on without forcing it
+-- if a point violates row k, the one found with row k forced is right from row k on without forcing it
 pub force_near : (target : List ℤ) (weights : List ℕ) (rows : List Row) (forced : List ℕ) (k q : ℕ) (y x : Held) → q ≡ suc k → k < length rows
     → IsProblem target weights rows
     → IsNear target weights rows forced q y → HasParts target weights rows y

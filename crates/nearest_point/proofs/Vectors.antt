@@ -155,7 +155,7 @@ gram_times m n a weight c i =
     ∙ total-same m (λ j. total n (λ k. c k *ℤ a k j) *ℤ (a i j *ℤ weight j)) (λ j. a i j *ℤ (weight j *ℤ total n (λ k. c k *ℤ a k j)))
     (λ j lj. ring (total n (λ k. c k *ℤ a k j) ∷ a i j ∷ weight j ∷ []) (mul (var 0) (mul (var 1) (var 2))) (mul (var 1) (mul (var 2) (var 0))) refl)
 
--- where the rows are independent, the matrix sends no combination but zero to zero
+-- if the rows are independent, the matrix sends no combination but zero to zero
 pub never_dependent : (m n : ℕ) (a : ℕ → ℕ → ℤ) (weight c : ℕ → ℤ) → ((j : ℕ) → j < m → pos 0 <ℤ weight j) → Independent m n a
     → ((i : ℕ) → i < n → total n (λ k. gram m a weight i k *ℤ c k) ≡ pos 0) → (i : ℕ) → i < n → c i ≡ pos 0
 never_dependent m n a weight c wp h z i lt =
@@ -171,7 +171,7 @@ never_dependent m n a weight c wp h z i lt =
     let flat : (j : ℕ) → j < m → y j ≡ pos 0 = λ j lj. nothing_left (weight j) (y j) (wp j lj) (let b = term-le m q squares j lj in omega (arith, ints)) in
     h.only_zero c flat i lt
 
--- the point u * q + s * x dot e' = s * e + u * d, where q dot d is below row k by s and x dot e is above it by u
+-- the point u * q + s * x dot e' = s * e + u * d, if q dot d is below row k by s and x dot e is above it by u
 pub between : ℤ → (ℕ → ℤ) → ℤ → (ℕ → ℤ) → ℕ → ℤ
 between s x u q j = s *ℤ x j +ℤ u *ℤ q j
 

@@ -87,7 +87,7 @@ reply-ruled book (Remove j lots) =
     let all : AllByRecursion MayReply replies = (unfit-ruled book j lots, (absent-ruled had, tt)) in
     first-ruled replies all
 
--- out of memory comes only in place of Ok
+-- out of memory comes only instead of Ok
 pub memory-in_place : (book : Book) (e : Edit) (r : EditReply) → r ≡ reply.Memory
     → (r ≡ edit_reply book e) ⊎ ((r ≡ reply.Memory) × (edit_reply book e ≡ reply.Ok)) → edit_reply book e ≡ reply.Ok
 memory-in_place book e r is (inl same) = absurd (subst IsRuled (sym same ∙ is) (reply-ruled book e))

@@ -24,7 +24,7 @@ use Rattle.outcome.proofs.WinnerLaws.{bid-in, winner-in}
 abbrev pub names : List Single → List ℕ
 names = map (λ s. s.winner)
 
--- none where no bidder is left
+-- none if no bidder is left
 pub no-winner : (s : Single) (ss : List Single) → names (s ∷ ss) ≡ [] → ⊥
 no-winner s ss e = cc
 
@@ -87,7 +87,7 @@ module _ (book : Book) (z : List ℕ) (p : Point) where
         subst (λ (l : List WinnerPrice). AreWinnerPrices book z p (take (i + 1) all) l) (sym made)
         (subst (λ (ss : List Single). AreWinnerPrices book z p ss (before ++ price ∷ [])) (sym more) (prices-push (take i all) before s price so-far is))
 
-    -- where no winner is left, the prices are those of all
+    -- if no winner is left, the prices are those of all
     pub all-prices : (i : ℕ) → length items ≤ i → (prices : List WinnerPrice) → AreWinnerPrices book z p (take i all) prices
         → AreWinnerPrices book z p all prices
     all-prices i past prices are =

@@ -21,7 +21,7 @@ use Rattle.review.specs.declared.edit.EditReply.TheVariants as reply
 use Rattle.outcome.specs.ReviewText.{AreEditLines, IsReplyLine, IsReviewText, IsStateLine, book_after, book_after_all, book_after_reply, state_line}
 use Rattle.outcome.proofs.ReviewLines.{behind_supply}
 
--- an edit that is answered Ok keeps the rules of a book
+-- an edit that has the reply Ok keeps the rules of a book
 edited-within : (book : Book) (e : Edit) → IsBookWithinLimits book → length (edit_lots e) ≡ length book.supply → edit_reply book e ≡ reply.Ok
     → IsBookWithinLimits (edited book e)
 edited-within book (Add j lots amount) is count ok = put-within book j (record { lots = lots; amount = amount }) is (add-can book j lots amount count ok)
@@ -98,7 +98,7 @@ module _ (choices : (m : Market) (c d : List ℕ) → IsMarket m → IsWinning m
       let rest = one-lines (suc before) (book_after book e) edits q t next (counted-behind book e edits are.1) xs ys in
       whole ∙ (λ i. first i ++ rest i) ∙ sym other
 
-  -- edits of a book within its limits have one text, where each has a count for each category
+  -- edits of a book within its limits have one text, if each has a count for each category
   pub one-text : (book : Book) (edits : List Edit) (a b : List ℕ) → IsBookWithinLimits book → AreCounted book edits → IsReviewText book edits a
       → IsReviewText book edits b → a ≡ b
   one-text book edits a b is are x y =

@@ -33,7 +33,7 @@ module _ (den : ℤ) (at : List ℤ) (i : ℕ) (start text : List ℕ) (so-far :
       grouped : (a b c d : List ℕ) → ((a ++ b) ++ c) ++ d ≡ a ++ (b ++ (c ++ d))
       grouped a b c d = simp append_assoc
 
-  -- where no payment is left, the text has grown by all
+  -- if no payment is left, the text has grown by all
   pub all-payments : length at ≤ i → Grows start text (AreFractions den at)
   all-payments past =
       let all = so-far [] (subst (λ (l : List ℤ). AreFractions den l []) (sym (nothing-left i at past)) refl) in
@@ -98,7 +98,7 @@ module _ (z : List ℕ) (turns : List Turn) (i : ℕ) (text : List ℕ) (so-far 
       (grown.0, rest, own, tail, refl)) in
       subst (AreTurnLines z 0 (turns_of z turns)) (sym (append_assoc text grown.0 rest) ∙ ap (λ (l : List ℕ). l ++ rest) (sym grown.2)) all
 
-  -- where no turn is left, the text has the lines of all
+  -- if no turn is left, the text has the lines of all
   pub all-turns : length turns ≤ i → AreTurnLines z 0 (turns_of z turns) text
   all-turns past =
       subst (AreTurnLines z 0 (turns_of z turns)) (append-nil text) (so-far [] (subst (λ (l : List Turn). AreTurnLines z i (turns_of z l) [])

@@ -27,7 +27,7 @@ use Rattle.slot_places.specs.Board.{board_of, market_of_slots}
 use Rattle.slot_places.specs.SetTable.{IsSetTable}
 use Rattle.slot_places.specs.Slots.{SlotList, amount_of}
 
--- where never too many win, only memory can be wanting
+-- if never too many win, only memory can be wanting
 pub stop-memory : (z weights : List ℕ) (stop : PriceStop) → (ManyWin z weights → ⊥) → IsStop z weights stop → stop ≡ Memory
 stop-memory z weights (Winners n) none is = absurd (none is.0)
 stop-memory z weights Memory none is = refl

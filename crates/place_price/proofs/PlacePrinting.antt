@@ -28,7 +28,7 @@ order-bidders : (n : ℕ) (s : ℕ → Bool) (order : List ℕ) → IsTrue (are_
 order-bidders n s [] new = tt
 order-bidders n s (j ∷ order) new = let p = new-parts n s j order new in ((p.0, p.1), order-bidders n (joined j s) order p.3)
 
--- a certificate for which all tests hold can be printed
+-- a certificate for which all tests pass can be printed
 pub can-print : (slots : SlotList) (c : PlaceCertificate) → length c.choice ≡ length slots.bidders → PlacementHolds slots (place_cert_value c) → CanPrint slots c
 can-print slots c shape holds =
     let n = length slots.bidders in

@@ -72,7 +72,7 @@ core-each m lawful z p core (suc k) some inside =
           omega (arith, ints, none, worth))
     ]
 
--- what is paid is in range where the denominator times one more than the value is
+-- what is paid is in range if the denominator times one more than the value is
 paid-below : (den value paid : ℤ) → pos 1 ≤ℤ den → paid ≤ℤ (den *ℤ value) → (den *ℤ (value +ℤ pos 1)) <ℤ pos (2 ^ 120) → paid <ℤ pos (2 ^ 120)
 paid-below den value paid some most small =
     let apart = mul-add den value (pos 1) in

@@ -1,4 +1,4 @@
--- Exact tables over sets have the shape that a placement certificate keeps, where their first entry is in range.
+-- Exact tables over sets have the shape that a placement certificate keeps, if their first entry is in range.
 use Rattle.std.specs.Prelude.{ℕ, suc, ◌^◌, ◌<◌, not, List, [], ◌∷◌, length, slice_index_or, ℤ, pos, ◌≤ℤ◌, ◌<ℤ◌, refl}
 use Rattle.std.proofs.Common.{arith}
 use Rattle.std.proofs.lemmas.Bool.{and_parts}

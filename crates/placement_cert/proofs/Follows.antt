@@ -55,7 +55,7 @@ rows_follow b (r ∷ rows) (order ∷ orders) h = (
   ),
 )
 
--- where there is a row there is a bidder
+-- if there is a row there is a bidder
 some_bidder : (b : ℕ) (rows : List RowValue) (orders : List (List ℕ)) → AreOrderedRows b rows orders → 0 < length rows → 0 < b
 some_bidder b [] orders h some = absurd (omega arith)
 some_bidder b (r ∷ rows) [] h some = absurd h

@@ -120,7 +120,7 @@ module _ (b : ℕ) (bytes : List ℕ) where
             pub end_stops : (stop : CertStop) → HaltsAtEnd bytes n4 stop → PlaceStopsAt b bytes stop
             end_stops stop h = place_stops b bytes stop (h (places_plan b) (place_lines value_read) reached)
 
-            -- where nothing follows the last line, the bytes are the text of the certificate that was read
+            -- if nothing follows the last line, the bytes are the text of the certificate that was read
             pub text_read : length (drop n4 bytes) ≡ 0 → IsTextOf (IsPlacesText b) lines bytes (place_lines value_read)
             text_read none = reached-end bytes n4 (place_lines value_read) reached none
 

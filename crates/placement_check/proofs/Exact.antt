@@ -26,7 +26,7 @@ pub without-obeys : (slots : SlotList) (j : ℕ) (table : List (List ℤ)) → I
 without-obeys slots j table exact = set-obeys (board_without slots j) (slots-ask slots j) (idle-always slots j) (amount_of slots) table exact
     (λ h some low. refl)
 
--- where payments are within the bids, the exact table of the lowered worths obeys the rules for these
+-- if payments are within the bids, the exact table of the lowered worths obeys the rules for these
 pub lowered-obeys : (slots : SlotList) (c : CertValue) (table : List (List ℤ)) → length c.pay ≡ length slots.bidders
     → ((place : ℕ) → PaysWithinBids (market_of_slots slots) c place)
     → IsSetTable (board_of slots) (lowered c.den (amount_of slots) (surpluses_of (market_of_slots slots) c.choice c.den c.pay)) table

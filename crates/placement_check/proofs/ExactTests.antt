@@ -23,7 +23,7 @@ use Rattle.placement_check.specs.PlaceTests.{P2, P3, IsPlacedPart, P5, P9}
 use Rattle.placement_check.proofs.Exact.{plain-obeys, without-obeys, lowered-obeys}
 use Rattle.placement_check.proofs.FirstEntry.{whole-entry, without-entry}
 
--- where the order allows the choice and the value is its worth, P2 holds
+-- if the order allows the choice and the value is its worth, P2 holds
 pub head-choice : (slots : SlotList) (p : PlaceCertValue) → IsTrue (allows slots p.order p.cert.choice)
     → value_of (market_of_slots slots) p.cert.choice ≡ p.cert.value → (place : ℕ) → P2 slots p place
 head-choice slots p allowed value place = record {
@@ -32,7 +32,7 @@ head-choice slots p allowed value place = record {
   value = λ e. value;
 }
 
--- where the choice is greatest, the value is its worth and the table is exact, P3 holds
+-- if the choice is greatest, the value is its worth and the table is exact, P3 holds
 pub head-table : (slots : SlotList) (p : PlaceCertValue) → IsGreatest (market_of_slots slots).allowed (value_of (market_of_slots slots)) p.cert.choice
     → value_of (market_of_slots slots) p.cert.choice ≡ p.cert.value
     → IsSetTable (board_of slots) (amount_of slots) p.cert.table → (place : ℕ) → P3 slots p place
@@ -59,7 +59,7 @@ part-passes slots j part order some best =
           omega (arith, ints, most, first.2);
     }
 
--- where payments are within the bids, no choice counts more than is paid, and the table is exact, P9 holds
+-- if payments are within the bids, no choice counts more than is paid, and the table is exact, P9 holds
 pub lowered-table : (slots : SlotList) (p : PlaceCertValue) → length p.cert.pay ≡ length slots.bidders → ((place : ℕ) → P5 slots p place)
     → IsSetTable (board_of slots) (lowered p.cert.den (amount_of slots) (surpluses_of (market_of_slots slots) p.cert.choice p.cert.den p.cert.pay)) p.cert.lowered
     → ((f : List ℕ) → IsTrue ((market_of_slots slots).allowed f) → lowered_sum (market_of_slots slots) p.cert.choice (cert_point p.cert) f ≤ℤ paid (market_of_slots slots)

@@ -16,7 +16,7 @@ nobody-same i positive = holds-nobody i
 pub nobody-outside : (n : ℕ) → outside (holds 0) n ≡ n
 nobody-outside n = outside-same (holds 0) nobody n nobody-same ∙ outside-nobody n
 
--- all bidders can be placed after the set of no bits just where they can after nobody
+-- all bidders can be placed after the set of no bits just if they can after nobody
 pub nobody-place : (b : Board) → AsksBidders b → (c : List ℕ) → can_place b c b.bidders (holds 0) ≡ can_place b c b.bidders nobody
 nobody-place b asks c = place-same b asks c b.bidders (holds 0) nobody nobody-same
 

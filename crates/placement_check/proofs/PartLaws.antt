@@ -59,7 +59,7 @@ module _ (parts : List PlaceWithout) (i j : ℕ) (part : PlaceWithout) (lt : i <
       (map part_order (part ∷ drop (suc i) parts)) j
   order-here = from.order ∙ ap (λ (ps : List PlaceWithout). order_without (map part_value ps) (map part_order ps) j) (split-at parts i part lt is)
 
-  -- where no earlier part is the winner's and the part at hand is, it is the part without the winner
+  -- if no earlier part is the winner's and the part at hand is, it is the part without the winner
   pub found-part : part.winner ≡ j → part_of (map part_value parts) j ≡ part_value part
   found-part own = part-here ∙ cond-true (part.winner == j) (part_value part) (part_of (map part_value (drop (suc i) parts)) j) (eq-eqb part.winner j own)
 
@@ -68,7 +68,7 @@ module _ (parts : List PlaceWithout) (i j : ℕ) (part : PlaceWithout) (lt : i <
   found-order own = order-here ∙ cond-true (part.winner == j) (part_order part) (order_without (map part_value (drop (suc i) parts))
       (map part_order (drop (suc i) parts)) j) (eq-eqb part.winner j own)
 
-  -- where the part at hand is another winner's, the part and the order are those of the parts after it
+  -- if the part at hand is another winner's, the part and the order are those of the parts after it
   pub from-next : (part.winner ≡ j → ⊥) → IsFrom parts (i + 1) j
   from-next other =
       let up : suc i ≡ i + 1 = omega arith in

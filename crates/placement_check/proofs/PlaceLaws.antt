@@ -63,7 +63,7 @@ module _ (m : Market) (c : CertValue) where
     λ h. test.1 (subst (λ (r : RowValue). pos 0 ≤ℤ r.first) same (h.sign some le)),
   )
 
-  -- P7 asks of a winner that the first multipliers of the rows that hold it come to the denominator
+  -- P7 asks of a winner that the first multipliers of the rows that contain it come to the denominator
   pub first-sum : (place j : ℕ) (b : Bool) → place ≡ length c.rows + j → 0 < j → j ≤ m.bidders
       → (IsTrue b ↔ (IsTrue (uses c.choice j) → sum_holding c.rows j (λ row. row.first) (length c.rows) ≡ c.den)) → IsTrue b ↔ ShowsLeastSum m c place
   first-sum place j b here some le test = (

@@ -1,4 +1,4 @@
--- A table over sets that obeys the rules bounds what the bidders outside each set count where they can be placed after it.
+-- A table over sets that obeys the rules bounds what the bidders outside each set count if they can be placed after it.
 use Rattle.std.specs.Prelude.{◌≡◌, ℕ, zero, suc, ◌+◌, ◌-◌, ◌^◌, ◌≤◌, ◌<◌, Bool, true, false, cond, IsTrue, List, [], ◌∷◌, length, ℤ, pos, ◌+ℤ◌, ◌≤ℤ◌, refl}
 use Rattle.std.proofs.Common.{inl, inr, sym, ◌∙◌, ap, subst, arith}
 use Rattle.std.proofs.lemmas.Bool.{and_parts, cases_lt}
@@ -55,7 +55,7 @@ module _ (b : Board) (asks : AsksBidders b) (idle : (s : ℕ → Bool) (j : ℕ)
     count : length c ≡ b.bidders
     count = let e = known-length (menu_of b) 0 c known in omega (arith, e)
 
-    -- where nobody is outside
+    -- if nobody is outside
     behind-all : (bits : ℕ) → bits < 2 ^ b.bidders → bits ≡ 2 ^ b.bidders - 1 → sum_outside (holds bits) (counted worth) c ≤ℤ entry_at table 0 bits
     behind-all bits below whole =
         let last = (rules bits below).last whole in

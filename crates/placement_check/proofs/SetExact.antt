@@ -28,7 +28,7 @@ module _ (b : Board) (asks : AsksBidders b) (idle : (s : ℕ → Bool) (j : ℕ)
       let moved = sum_outside-same counts (holds more) (joined j (holds bits)) same d in
       omega (arith, ints, bound, sums, moved, rest.2)
 
-  -- an exact table obeys the rules, where number 0 counts nothing
+  -- an exact table obeys the rules, if number 0 counts nothing
   pub set-obeys : ((j : ℕ) → 0 < j → j ≤ b.bidders → counts j 0 ≡ pos 0) → ObeysSets b counts table
   set-obeys none bits below = record {
     last = λ whole.

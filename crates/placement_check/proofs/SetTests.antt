@@ -104,11 +104,11 @@ set-same b f g table bits same o = record {
       omega (arith, ints, own, e);
 }
 
--- where nobody is left out, each bidder has all its bids
+-- if nobody is left out, each bidder has all its bids
 pub bids-same : (slots : SlotList) (j : ℕ) → 0 < j → (board_without slots 0).bids j ≡ (board_of slots).bids j
 bids-same slots j some = cond-false (eqb j 0) 0 (length (bids_of slots j)) (ne_eqb j 0 (omega (arith, some)))
 
--- where nobody is left out, all bids are there
+-- if nobody is left out, all bids are there
 whole-set : (slots : SlotList) (f : ℕ → ℕ → ℤ) (table : List (List ℤ)) (bits : ℕ)
     → ObeysSet (board_without slots 0) f table bits ↔ ObeysSet (board_of slots) f table bits
 whole-set slots f table bits = (
@@ -124,7 +124,7 @@ whole-set slots f table bits = (
   },
 )
 
--- a place of a table where nobody is left out, with equal worths and the same most
+-- a place of a table if nobody is left out, with equal worths and the same most
 pub whole-table : (slots : SlotList) (f g : ℕ → ℕ → ℤ) (table : List (List ℤ)) (most top : ℤ) (place : ℕ)
     → ((j i : ℕ) → 0 < j → j ≤ length slots.bidders → f j i ≡ g j i) → most ≡ top
     → SetTableAt (board_without slots 0) f table most place ↔ SetTableAt (board_of slots) g table top place

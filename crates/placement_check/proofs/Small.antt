@@ -51,7 +51,7 @@ module _ (slots : SlotList) (p : PlaceCertValue) (numbers : length p.cert.choice
       let whole = (p2 (length slots.bidders + 2)).value refl in
       omega (arith, ints, one, whole)
 
-  -- where P1 and P2 hold, the denominator times what a bidder wins stays in the range
+  -- if P1 and P2 hold, the denominator times what a bidder wins stays in the range
   pub small-products : HasSmallProducts slots p
   small-products j some low =
       let won = worth_in (market_of_slots slots) p.cert.choice j in
@@ -60,7 +60,7 @@ module _ (slots : SlotList) (p : PlaceCertValue) (numbers : length p.cert.choice
         scaled-small p.cert.den won p.cert.value ((p1 1).den refl) least (won-most j some low) ((p1 3).size refl),
       )
 
-  -- where P1, P2, P3 and P5 hold, no lowered worth leaves the range
+  -- if P1, P2, P3 and P5 hold, no lowered worth leaves the range
   pub can-lower : ((place : ℕ) → P3 slots p place) → ((place : ℕ) → P5 slots p place) → CanLower slots p
   can-lower p3 p5 = record {
     products = small-products;

@@ -25,7 +25,7 @@ module _ (slots : SlotList) (p : PlaceCertValue) (t : ℕ) (before : HoldsUpTo s
   pub held-P5 : 5 < t → (place : ℕ) → P5 slots p place
   held-P5 lt place = (before 5 place lt).4 refl
 
-  -- where a test fails nowhere, all tests up to it hold
+  -- if a test fails nowhere, all tests up to it hold
   pub held-next : IsFirstFailing (Asks slots p t) None → HoldsUpTo slots p (t + 1)
   held-next all u place lt =
       elim (cases_lt u t) [
@@ -33,7 +33,7 @@ module _ (slots : SlotList) (p : PlaceCertValue) (t : ℕ) (before : HoldsUpTo s
         | inr past ↦ (let same : t ≡ u = omega arith in subst (λ (x : ℕ). Asks slots p x place) same (all place))
       ]
 
-  -- where a test fails first at a place, and all tests before it hold, that is the first failure
+  -- if a test fails first at a place, and all tests before it hold, that is the first failure
   pub fails-first : (place : ℕ) → IsFirstFailing (Asks slots p t) (Some place) → FailsFirst slots p t place
   fails-first place first = record {
     fails = first.0;
@@ -43,7 +43,7 @@ module _ (slots : SlotList) (p : PlaceCertValue) (t : ℕ) (before : HoldsUpTo s
     ];
   }
 
-  -- after test 9 all tests hold
+  -- after test 9 all tests pass
   pub held-all : 9 < t → PlacementHolds slots p
   held-all lt = record {
     p1 = λ place. (before 1 place (omega arith)).0 refl;

@@ -1,4 +1,4 @@
--- A placement certificate of the band of the worked cases for which all tests hold. Its tables are tested by a computation.
+-- A placement certificate of the band of the worked cases for which all tests pass. Its tables are tested by a computation.
 use Rattle.std.specs.Prelude.{Bool, IsTrue, List, [], false, int_le, length, nat_le, not, pos, refl, suc, true, zero, ℕ, ℤ, ◌&&◌, ◌*ℤ◌, ◌+ℤ◌, ◌+◌}
 use Rattle.std.specs.Prelude.{◌-ℤ◌, ◌-◌, ◌<ℤ◌, ◌<◌, ◌==◌, ◌^◌, ◌||◌, ◌∷◌, ◌≡◌, ◌≤ℤ◌, ◌≤◌, ◌⊎◌}
 use Rattle.std.proofs.Common.{inl, inr, sym, subst, arith}

@@ -47,7 +47,7 @@ over-both d e bound p q x y f g same =
       same,
     )
 
--- where each of two numbers is at most what the other gives, it is that
+-- if each of two numbers is at most what the other gives, it is that
 reached-by : (d e x y given taken : ℤ) → pos 1 ≤ℤ d → pos 1 ≤ℤ e → x *ℤ e ≡ given *ℤ d → taken *ℤ e ≡ y *ℤ d → given ≤ℤ y → taken ≤ℤ x → given ≡ y
 reached-by d e x y given taken dp ep first second low high =
     let up = mul_nonneg d (y -ℤ given) (omega (arith, lin, dp)) (omega (arith, lin, low)) in
@@ -159,7 +159,7 @@ module _ (m : Market) (law : IsMarket m) (z : List ℕ) (p q : Point) (dp : pos 
         ∙ ap (λ (x : ℤ). x *ℤ p.den) (reaches m z p q dp dq same b c of-p of-q);
   }
 
--- where nothing has an excess at one point, nothing blocks the other
+-- if nothing has an excess at one point, nothing blocks the other
 pub free-both : (m : Market) (z : List ℕ) (p q : Point) → pos 1 ≤ℤ p.den → pos 1 ≤ℤ q.den → SamePoint m p q → IsGreatestExcess m z p (pos 0) → (c : BidderBlock)
     → IsBlockOf m z q c → ⊥
 free-both m z p q dp dq same none c of-q =

@@ -68,7 +68,7 @@ module _ (book : Book) (z : List ℕ) (v w : ℕ → ℤ) (p q : Point) (dp : po
       let rest : these.1 ≡ those.1 = same-winners (suc k) c these.1 those.1 (omega arith) these.3 those.3 in
       these.4 ∙ same-winner k i these.0 those.0 these.1 those.1 (omega arith) pays rest ∙ sym those.4
 
-  -- where the members after the revenue are the same for the same winners
+  -- if the members after the revenue are the same for the same winners
   pub same-json : (turns others : Option (List BidderTurn)) → ((winners : List Data) (a b : Members) → AreLastMembers z turns winners a
       → AreLastMembers z others winners b → a ≡ b)
       → (t u : List ℕ) → length z ≡ (market_of book).bidders → IsOutcomeJson book z v p turns t → IsOutcomeJson book z w q others u → t ≡ u

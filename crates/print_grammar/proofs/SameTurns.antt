@@ -28,7 +28,7 @@ Follows m w z v rows p turns block = MatchOption block ((turns ≡ []) × IsGrea
     (λ b. IsBlockOf m z p b × GoOn m w z v (rows ++ b.row ∷ []) turns)
 
 module _ (m : Market) (law : IsMarket m) (w : ℕ → ℕ) (z : List ℕ) (v : ℕ → ℤ) where
-  -- one point more gives the same end, and the same turns after it where those of alike rows are
+  -- one point more gives the same end, and the same turns after it if those of alike rows are
   module _ (p q : Point) (dp : pos 1 ≤ℤ p.den) (dq : pos 1 ≤ℤ q.den) (same : SamePoint m p q) (rows others : List BidderRow) (alike : AreAlike m rows others)
       (turns these : List BidderTurn)
       (next : (rows' others' : List BidderRow) → AreAlike m rows' others' → GoOn m w z v rows' turns → GoOn m w z v others' these → AreSameTurns m turns these) where

@@ -11,7 +11,7 @@ added : (x y u w a b : ℤ) → x *ℤ a ≡ y *ℤ b → u *ℤ a ≡ w *ℤ b 
 added x y u w a b e f =
     omega (arith, lin, *ℤ_comm (x +ℤ u) a, *ℤ_comm (y +ℤ w) b, mul-add a x u, mul-add b y w, *ℤ_comm x a, *ℤ_comm y b, *ℤ_comm u a, *ℤ_comm w b, e, f)
 
--- where each pair of fractions is equal, so are their sums over a set of bidders
+-- if each pair of fractions is equal, so are their sums over a set of bidders
 pub sums : (s : ℕ → Bool) (f g : ℕ → ℤ) (a b : ℤ) (n : ℕ) → ((j : ℕ) → 0 < j → j ≤ n → f j *ℤ a ≡ g j *ℤ b) → sum_over s f n *ℤ a ≡ sum_over s g n *ℤ b
 sums s f g a b zero same = zero-times a ∙ sym (zero-times b)
 sums s f g a b (suc n) same =

@@ -28,7 +28,7 @@ square_positive (pos zero) h = absurd (h refl)
 square_positive (pos (suc a)) h = omega (arith, ints)
 square_positive (negsuc a) h = omega (arith, ints)
 
--- a number isn't negative where a positive multiple of it isn't
+-- a number isn't negative if a positive multiple of it isn't
 pub cancel_nonneg : (d y : ℤ) → pos 0 <ℤ d → pos 0 ≤ℤ (d *ℤ y) → pos 0 ≤ℤ y
 cancel_nonneg (pos zero) y h k = absurd (omega (arith, ints))
 cancel_nonneg (negsuc d) y h k = absurd (omega (arith, ints))

@@ -42,11 +42,11 @@ dot-tight m a b d n e x dp t h =
     let t' : e *ℤ dot m a n ≡ e *ℤ (d *ℤ b) = ap (λ (z : ℤ). e *ℤ z) t in
     omega (arith, ints)
 
--- a product is 0 where its left factor is
+-- a product is 0 if its left factor is
 pub zero_times : (s t : ℤ) → s ≡ pos 0 → s *ℤ t ≡ pos 0
 zero_times s t z = let q : s *ℤ t ≡ pos 0 *ℤ t = ap (λ (y : ℤ). y *ℤ t) z in omega (arith, ints)
 
--- a product is 0 where its right factor is
+-- a product is 0 if its right factor is
 pub times_zero : (s t : ℤ) → t ≡ pos 0 → s *ℤ t ≡ pos 0
 times_zero s t z = let q : s *ℤ t ≡ s *ℤ pos 0 = ap (λ (y : ℤ). s *ℤ y) z in omega (arith, ints)
 
@@ -76,7 +76,7 @@ first_sum m r a d n first e x h =
     column c p q (inl s) = ap (λ (z : ℤ). z *ℤ (p -ℤ q)) (sym s)
     column c p q (inr s) = let z : p -ℤ q ≡ pos 0 = omega (arith, ints) in times_zero d (p -ℤ q) z ∙ sym (times_zero c (p -ℤ q) z)
 
--- the point with its first multipliers, and another that meets the rows and is the same where the sums aren't d
+-- the point with its first multipliers, and another that meets the rows and is the same if the sums aren't d
 pub record Compared (m r : ℕ) (a : ℕ → ℕ → ℤ) (bound : ℕ → ℤ) (d : ℤ) (n first : ℕ → ℤ) (e : ℤ) (x : ℕ → ℤ) : Type 0 where
   pub firsts : AreFirst m r a bound d n first
   pub sums : SumsToOrStands m r a d n first e x
@@ -123,7 +123,7 @@ same_or (suc m) d n e x = both (same_or m d n e x) (equal_or (d *ℤ x m) (e *�
         at j lt (inl same) = ap (λ (k : ℕ). d *ℤ x k) same ∙ last ∙ sym (ap (λ (k : ℕ). e *ℤ n k) same)
         at j lt (inr ne) = s j (omega arith)
 
--- first multipliers show the least sum of all that meet the rows and stay where they don't come to d
+-- first multipliers show the least sum of all that meet the rows and stay if they don't come to d
 pub least : (m r : ℕ) (a : ℕ → ℕ → ℤ) (bound : ℕ → ℤ) (d : ℤ) (n first : ℕ → ℤ) → AreFirst m r a bound d n first
     → HasLeastSum m (λ e x. MeetsRows m r a bound e x × SumsToOrStands m r a d n first e x) d n
 least m r a bound d n first f e x among = least_sum m r a bound d n first e x (record { firsts = f; sums = among.1; meets = among.0 })
@@ -198,6 +198,6 @@ module _ (m r : ℕ) (a : ℕ → ℕ → ℤ) (bound : ℕ → ℤ) (d : ℤ) (
         | inr (j, lt, ne) ↦ farther l share e x (record { firsts = f; sums = among.1; meets = among.0 }) s w same j lt ne
       ]
 
--- where the first multipliers come to d at each coordinate, any point that meets the rows will do
+-- if the first multipliers come to d at each coordinate, any point that meets the rows will do
 pub at_each : (m r : ℕ) (a : ℕ → ℕ → ℤ) (d : ℤ) (n first : ℕ → ℤ) (e : ℤ) (x : ℕ → ℤ) → SumsTo m r a d first → SumsToOrStands m r a d n first e x
 at_each m r a d n first e x h j lt = inl (h j lt)

@@ -193,7 +193,7 @@ all_zero-is env (t ∷ ts) e =
     let m : t.coef *ℤ mono env t.vars ≡ pos 0 *ℤ mono env t.vars = ap (λ (x : ℤ). x *ℤ mono env t.vars) z in
     omega (arith, ints)
 
--- two expressions have the same value where all terms of their difference cancel out
+-- two expressions have the same value if all terms of their difference cancel out
 pub ring : (env : List ℤ) (a b : Expr) → all_zero (norm (sub a b)) ≡ true → value env a ≡ value env b
 ring env a b e =
     let h = norm-is env (sub a b) in

@@ -19,7 +19,7 @@ total-nonneg (suc n) f h =
     let b : pos 0 ≤ℤ f n = h n (omega arith) in
     omega (arith, ints)
 
--- where each term is at most another, so is the sum
+-- if each term is at most another, so is the sum
 pub total-le : (n : ℕ) (f g : ℕ → ℤ) → ((i : ℕ) → i < n → f i ≤ℤ g i) → total n f ≤ℤ total n g
 total-le zero f g h = omega (arith, ints)
 total-le (suc n) f g h =

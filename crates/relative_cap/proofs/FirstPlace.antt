@@ -1,4 +1,4 @@
--- The first place at which a package was held.
+-- The first place where a package was held.
 use Rattle.std.proofs.Common.{List, [], ap, arith, drop, false, get_or, inl, inr, length, subst, suc, sym, true, zero, ℕ, ◌+◌, ◌-◌, ◌<◌, ◌∙◌}
 use Rattle.std.proofs.Common.{◌∷◌, ◌≡◌, ◌≤◌}
 use Rattle.std.specs.Prelude.{if◌then◌else◌}

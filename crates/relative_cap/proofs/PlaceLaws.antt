@@ -1,4 +1,4 @@
--- Lists in order: where a package is, and its amount.
+-- Lists in order: the place and the amount of a package.
 use Rattle.std.proofs.Common.{List, [], ap, arith, false, get_or, inl, inr, length, map, refl, subst, suc, sym, true, zero, ℕ, ◌+◌, ◌<◌, ◌∙◌, ◌∷◌}
 use Rattle.std.proofs.Common.{◌≡◌, ◌≤◌, ◌⊎◌}
 use Rattle.std.proofs.lemmas.Bool.{cases_Bool, cases_order}
@@ -22,7 +22,7 @@ order-at (p ∷ ps) k zero order less inside = absurd (omega arith)
 order-at (p ∷ ps) zero (suc m) order less inside = after-at p ps m order.0 (omega arith)
 order-at (p ∷ ps) (suc k) (suc m) order less inside = order-at ps k m order.1 (omega arith) (omega arith)
 
--- where the package in the middle comes before this one, so do all up to it
+-- if the package in the middle comes before this one, so do all up to it
 pub before-more : (list : List Bid) (lots : List ℕ) (middle : ℕ) → InOrder (map entry_lots list) → middle < length list
     → is_before (lots_at list middle) lots ≡ true → AreBefore list lots (middle + 1)
 before-more list lots middle order inside own k low =
@@ -35,7 +35,7 @@ before-more list lots middle order inside own k low =
       ]
     ]
 
--- where the package in the middle doesn't come before this one, none after it does
+-- if the package in the middle doesn't come before this one, none after it does
 pub behind-more : (list : List Bid) (lots : List ℕ) (middle : ℕ) → InOrder (map entry_lots list) → is_before (lots_at list middle) lots ≡ false
     → AreBehind list lots middle
 behind-more list lots middle order own k low inside =

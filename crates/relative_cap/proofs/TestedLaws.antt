@@ -96,7 +96,7 @@ raised-same place amount highs inside =
       | inr past ↦ absurd (omega (arith, ltb-false place (length highs) past))
     ]
 
--- where the package is that of the entry
+-- if the package is that of the entry
 raise-own : (history : List Round) (points : List ℕ) (j : ℕ) (bids : List BookBid) (highs lots : List ℕ) (e : TestedEntry) → IsTested history points j e
     → AreHighs history j bids highs
     → e.bid.«package» ≡ lots → is_empty lots ≡ false → first_place (rounds_of j history) lots < length history
@@ -114,7 +114,7 @@ raise-own history points j bids highs lots e tested are own some inside =
       most = omega (arith, new, (are.each lots inside).most, tested.entry.amount);
     }
 
--- where it isn't, or is empty
+-- if it isn't, or is empty
 raise-other : (history : List Round) (j : ℕ) (bids : List BookBid) (highs lots : List ℕ) (e : TestedEntry) → AreHighs history j bids highs
     → (first_place (rounds_of j history) lots ≡ e.terms.own → ⊥) → highest (rounds_of j history) (bids ++ tested_bid e ∷ []) lots ≡ highest
     (rounds_of j history) bids lots
@@ -278,7 +278,7 @@ front-inserted history points j place before entries new e b front is own =
     ∙ ap (λ (bs : List BookBid). bs ++ tested_bid e ∷ []) (sym (take-map tested_bid place entries) ∙ front.same)
     ∙ ap (λ (x : BookBid). before ++ x ∷ []) own
 
--- where a tested entry is put in, all entries are tested ones
+-- if a tested entry is put in, all entries are tested ones
 pub inserted-each :
     (history : List Round) (points : List ℕ) (j place : ℕ) (before : List BookBid) (entries new : List TestedEntry) (e : TestedEntry)
     → IsFront history points j place before entries → new ≡ insert entries place e → IsTested history points j e → All (IsTested history points j) new

@@ -41,7 +41,7 @@ net-at book j (suc i) = refl
 
 -- ---- numbers with one more among them
 
--- a number, and the one that it becomes where number `put` is put in
+-- a number, and the one that it becomes if number `put` is put in
 abbrev pub Shifted : ℕ → ℕ → ℕ → Type 0
 Shifted put low high = ((low < put) × (high ≡ low)) ⊎ ((put ≤ low) × (high ≡ low + 1))
 
@@ -147,7 +147,7 @@ pub record OwnPairs (old bids : List BookBid) (Own : ℕ → ℕ → Type 0) : T
   pub one : (g h e : ℕ) → Own g h → Own e h → g ≡ e
 
 module _ (old : List BookBid) (p : ℕ) (x : BookBid) where
-  -- where a bid is put in
+  -- if a bid is put in
   abbrev pub PutPair : ℕ → ℕ → Type 0
   PutPair g h = (g ≤ length old) × Shifted (suc p) g h
 
@@ -173,7 +173,7 @@ module _ (old : List BookBid) (p : ℕ) (x : BookBid) where
         | inr high ↦ (h - 1, (omega (arith, known, length-insert old p x inside), inr (omega (arith, high, other), omega (arith, high))))
       ]
 
-  -- where one is taken out
+  -- if one is taken out
   abbrev pub GonePair : ℕ → ℕ → Type 0
   GonePair g h = (g ≤ length old) × Shifted (suc p) h g
 
@@ -199,7 +199,7 @@ module _ (old : List BookBid) (p : ℕ) (x : BookBid) where
         | inr high ↦ (h + 1, (omega (arith, known, length-remove old p inside), inr (high, refl)))
       ]
 
-  -- where one is replaced
+  -- if one is replaced
   abbrev pub SetPair : ℕ → ℕ → Type 0
   SetPair g h = (g ≡ h) × ((h ≢ suc p) × (h ≤ length old))
 
@@ -224,7 +224,7 @@ none-there (b ∷ bids) lots (suc i) none inside own =
       | inr apart ↦ none-there bids lots i (rw apart at none) (omega (arith, inside)) own
     ]
 
--- with a bid put in, the one for its package stands where it was put in
+-- with a bid put in, the one for its package stands if it was put in
 abbrev IsPutAt : List BookBid → List ℕ → ℕ → ℕ → Type 0
 IsPutAt bids lots amount p = (p ≤ length bids) × (with_entry lots amount bids ≡ insert bids p (record { lots = lots; amount = amount }))
 

@@ -1,4 +1,4 @@
--- Which lines of both sides stay where one bidder has other bids.
+-- Which lines of both sides stay if one bidder has other bids.
 use Rattle.std.specs.Prelude.{◌≡◌, ◌≢◌, ℕ, zero, suc, ◌-◌, ◌≤◌, ◌<◌, true, List, length, get_or, ℤ, pos, ◌-ℤ◌, refl}
 use Rattle.std.proofs.Common.{sym, ◌∙◌, ap, subst, arith}
 use Rattle.std.proofs.lemmas.List.{get_or-set_other}
@@ -48,7 +48,7 @@ module _ (book : Book) (j : ℕ) (bids : List BookBid) (some : 0 < j) where
         worths = λ i h from inside. sym (net-other (suc i) h (omega arith) (other i from));
       }
 
-  -- so the line of the bidders after k stays, where k is at least j
+  -- so the line of the bidders after k stays, if k is at least j
   pub right-stays : (k : ℕ) (line : List ℤ) → j ≤ k → IsRightLine book k line → IsRightLine (with_bids book j bids) k line
   right-stays k line low e = line-same (menu_of book) (menu_of (with_bids book j bids)) (net_of book) (net_of (with_bids book j bids)) book.supply k line
       (right-after k low) e
@@ -73,7 +73,7 @@ module _ (book : Book) (j : ℕ) (bids : List BookBid) (some : 0 < j) where
             ∙ net-other (suc (length book.bidders) - suc i) h (first i inside) (other i from));
       }
 
-  -- so the line of the bidders up to k stays, where k is before j
+  -- so the line of the bidders up to k stays, if k is before j
   pub left-stays : (k : ℕ) (line : List ℤ) → k < j → j ≤ length book.bidders → IsLeftLine book k line → IsLeftLine (with_bids book j bids) k line
   left-stays k line low last e =
       let new = with_bids book j bids in

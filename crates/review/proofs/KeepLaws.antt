@@ -1,4 +1,4 @@
--- The winning choice goes on to be one where a bid is put in that is beaten, and where one is taken out that it doesn't use.
+-- The winning choice goes on to be one if a bid is put in that is beaten, and where one is taken out that it doesn't use.
 use Rattle.std.specs.Prelude.{◌≡◌, ◌≢◌, ◌⊎◌, ℕ, suc, ◌+◌, ◌-◌, ◌≤◌, ◌<◌, true, IsTrue, None, List, length, get_or, ℤ, ◌-ℤ◌, ◌<ℤ◌, refl}
 use Rattle.std.proofs.Common.{inl, inr, set, sym, ◌∙◌, ap, subst, arith}
 use Rattle.std.specs.List.{insert, remove}
@@ -80,7 +80,8 @@ module _ (book : Book) (j : ℕ) (bids : List BookBid) (some : 0 < j) (inside : 
           ];
     }
 
-    -- so the winning choice with the number that its bid has now is the winning one, where each other choice goes with one of before or is worth less
+    -- so the winning choice with the number that its bid has now is the winning one, if each other choice goes with one of
+    -- before or is worth less
     pub goes-on : (choice : List ℕ) (h : ℕ) → IsWinning (market_of book) choice → Own (number_of choice j) h
         → ((d : List ℕ) → IsTrue (fits_after (menu_of (with_bids book j bids)) 0 book.supply d) → ((g : ℕ) × Own g (number_of d j))
         ⊎ (sum_after (net_of (with_bids book j bids)) 0 d <ℤ value_of (market_of book) choice))

@@ -26,7 +26,7 @@ module _ (book : Book) (k : ℕ) (lines : List (List ℤ)) (line : List ℤ) (kn
     ];
   }
 
-  -- with the line of the bidders after k in place, the right side holds from k on where it held after k
+  -- with the line of the bidders after k in place, the right side holds from k on if it held after k
   pub right-set : AreRightLines book (k + 1) lines → IsRightLine book k line → AreRightLines book k (set lines k line)
   right-set are is = record {
     full = full-set are.full is.places;
@@ -40,7 +40,7 @@ module _ (book : Book) (k : ℕ) (lines : List (List ℤ)) (line : List ℤ) (kn
     ];
   }
 
-  -- with the line of the bidders up to k in place, the left side holds up to k where it held before k
+  -- with the line of the bidders up to k in place, the left side holds up to k if it held before k
   pub left-set : 0 < k → AreLeftLines book (k - 1) lines → IsLeftLine book k line → AreLeftLines book k (set lines k line)
   left-set some are is = record {
     full = full-set are.full is.places;

@@ -87,7 +87,7 @@ module _ (m o : Menu) (worth other : ℕ → ℕ → ℤ) (P : ℕ → ℕ → �
             subst (λ (n : ℕ). IsTrue (is_earlier (g ∷ a) (n ∷ c))) own (earlier-rest g a c (earlier-both (suc k) a d c e are.1 also.1 same.1))
       ]
 
-  -- the winning choice goes over where each other choice goes together with one of the first menu, or is worth less
+  -- the winning choice goes over if each other choice goes together with one of the first menu, or is worth less
   pub stays : (supply c e : List ℕ) → IsFirstGreatest (fits_after m 0 supply) (sum_after worth 0) c → AreMatched P 0 c e
       → ((d : List ℕ) → IsTrue (fits_after o 0 supply d) → ((a : List ℕ) × AreMatched P 0 a d) ⊎ (sum_after other 0 d <ℤ sum_after worth 0 c))
       → IsFirstGreatest (fits_after o 0 supply) (sum_after other 0) e
@@ -142,7 +142,7 @@ module _ (m : Menu) (j : ℕ) (Own : ℕ → ℕ → Type 0) where
       let other : suc k ≢ j = λ e. absurd (omega (arith, place, e)) in
       (inr (other, (refl, leb-true g (m.bids (suc k)) p.0)), set-matched (suc k) h n c (omega (arith, place)) (omega (arith, place)) inside p.1 own)
 
-  -- a choice goes together with one, where its number for bidder j does
+  -- a choice goes together with one, if its number for bidder j does
   pub has-match : (o : Menu) (k : ℕ) (d : List ℕ) → ((q : ℕ) → 0 < q → q ≢ j → m.bids q ≡ o.bids q) → IsTrue (is_known_after o k d)
       → (k < j → (g : ℕ) × Own g (get_or d (j - suc k) 0))
       → (a : List ℕ) × AreMatched (ButFor j Own m.bids) k a d

@@ -1,4 +1,4 @@
--- What it says of an edit that it is answered Ok.
+-- What the reply Ok says about an edit.
 use Rattle.std.specs.Prelude.{Bool, IsTrue, List, None, Option, Some, [], drop, false, get_or, length, nat_le, nat_lt, not, pos, refl, suc, true}
 use Rattle.std.specs.Prelude.{zero, ℕ, ◌&&◌, ◌+◌, ◌-ℤ◌, ◌<◌, ◌^◌, ◌∷◌, ◌≡◌, ◌≤ℤ◌, ◌≤◌}
 use Rattle.std.proofs.Common.{inl, inr, subst, arith}
@@ -18,7 +18,7 @@ use Rattle.review.specs.declared.edit.EditReply.TheVariants as reply
 use Rattle.review.specs.Edits.{absent, amount_for, amount_top, below_reserve, edit_bidder, edit_lots, edit_reply, first_refusal, first_reply, full}
 use Rattle.review.specs.Edits.{not_higher, present, supply_reply, unfit, unknown, when}
 
--- the reply, where there is one, isn't Ok
+-- the reply, if there is one, isn't Ok
 abbrev NeverOk : Option EditReply → Type 0
 NeverOk None = Unit {0}
 NeverOk (Some r) = r ≡ reply.Ok → ⊥
@@ -59,7 +59,7 @@ never-unfit book j lots =
     (never-first (supply_reply (first_over 1 lots book.supply)) (when (is_empty lots) reply.Empty ∷ []) (never-supply (first_over 1 lots book.supply))
     (never-first (when (is_empty lots) reply.Empty) [] (never-when (is_empty lots) reply.Empty (λ is. cc)) tt))
 
--- what all edits that are answered Ok keep
+-- what all edits that have the reply Ok keep
 pub record IsFit (book : Book) (j : ℕ) (lots : List ℕ) : Type 0 where
   pub some : 0 < j
   pub known : j ≤ length book.bidders
@@ -69,7 +69,7 @@ pub record IsFit (book : Book) (j : ℕ) (lots : List ℕ) : Type 0 where
 known-of : (j n : ℕ) → not (nat_lt 0 j && nat_le j n) ≡ false → (0 < j) × (j ≤ n)
 known-of j n is = (grind (arith, nat_tests), grind (arith, nat_tests))
 
--- where an edit for a package isn't unfit, the bidder is known, and the package is within the supply and not empty
+-- if an edit for a package isn't unfit, the bidder is known, and the package is within the supply and not empty
 pub fit-of : (book : Book) (j : ℕ) (lots : List ℕ) → unfit book j lots ≡ None → IsFit book j lots
 fit-of book j lots is =
     let first = none-step (unknown book j) (supply_reply (first_over 1 lots book.supply) ∷ when (is_empty lots) reply.Empty ∷ []) is in
@@ -90,7 +90,7 @@ pub record HasAmount (bids : List BookBid) (lots : List ℕ) (amount : ℕ) : Ty
   pub own : (get_or bids place no_bid).lots ≡ lots
   pub is : (get_or bids place no_bid).amount ≡ amount
 
--- where there is an amount for a package, one of the bids has this package and this amount
+-- if there is an amount for a package, one of the bids has this package and this amount
 pub amount-bid : (bids : List BookBid) (lots : List ℕ) (amount : ℕ) → amount_for lots bids ≡ Some amount → HasAmount bids lots amount
 amount-bid [] lots amount is = absurd (cc is)
 amount-bid (b ∷ bids) lots amount is =
@@ -146,7 +146,7 @@ add-can book j lots amount categories is =
       room = inr (below-top (length bids) 600 (none-when (nat_le 600 (length bids)) (reply.Full 600) s5.0));
     }
 
--- the amount of the bid, where it isn't absent
+-- the amount of the bid, if it isn't absent
 absent-none : (o : Option ℕ) → absent o ≡ None → (was : ℕ) × (o ≡ Some was)
 absent-none None is = absurd (cc is)
 absent-none (Some was) is = (was, refl)
@@ -221,7 +221,7 @@ amount-passed lots (b ∷ bids) (suc i) inside other = amount-passed lots bids i
 pub bid-next : (book : Book) (j i : ℕ) → bid_of book j (i + 1) ≡ get_or (bids_of book j) i no_bid
 bid-next book j i = let up : i + 1 ≡ suc i = omega arith in rw up refl
 
--- each edit that is answered Ok
+-- each edit that has the reply Ok
 pub edit-fit : (book : Book) (edit : Edit) → edit_reply book edit ≡ reply.Ok → IsFit book (edit_bidder edit) (edit_lots edit)
 edit-fit book (Add j lots amount) is = fit-of book j lots (ok-step (unfit book j lots)
     (present (amount_for lots (bids_of book j)) ∷ below_reserve book lots amount ∷ amount_top amount ∷ full (bids_of book j) ∷ [])

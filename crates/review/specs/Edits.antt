@@ -1,4 +1,4 @@
--- Edits of a book: what each is answered, and the book that it gives.
+-- Edits of a book: the reply to each, and the edited book.
 use Rattle.std.specs.Prelude.{ℕ, Bool, not, ◌&&◌, nat_le, nat_lt, Option, Some, None, List, [], ◌∷◌, length, if◌then◌else◌}
 use Rattle.auction_model.specs.Book.{Book, BookBid, bids_of}
 use Rattle.auction_model.specs.Package.{cost_of}
@@ -34,7 +34,7 @@ abbrev pub amount_for : List ℕ → List BookBid → Option ℕ
 amount_for lots [] = None
 amount_for lots (b ∷ bids) = if is_same b.lots lots then Some b.amount else amount_for lots bids
 
--- the first reply whose condition holds, and Ok if none holds
+-- the first reply whose condition is true, and Ok if none is
 abbrev pub first_reply : List (Option EditReply) → EditReply
 first_reply [] = reply.Ok
 first_reply (None ∷ rest) = first_reply rest
@@ -83,7 +83,7 @@ first_refusal (Some r ∷ rest) = Some r
 abbrev pub unfit : Book → ℕ → List ℕ → Option EditReply
 unfit book j lots = first_refusal (unknown book j ∷ supply_reply (first_over 1 lots book.supply) ∷ when (is_empty lots) reply.Empty ∷ [])
 
--- what an edit of this book is answered: Ok if the book can have it
+-- the reply to an edit of this book: Ok if the book can have it
 abbrev pub edit_reply : Book → Edit → EditReply
 edit_reply book (Add j lots amount) = first_reply (
     unfit book j lots

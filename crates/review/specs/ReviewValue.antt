@@ -1,4 +1,4 @@
--- What a review is: a book and its winning choice; and lines of both sides of the book.
+-- What a review is: a book and its winning choice, and lines of both sides of the book.
 use Rattle.std.specs.Prelude.{◌≡◌, ℕ, ◌+◌, ◌≤◌, List, [], length, map, slice_index_or, ℤ, Vec}
 use Rattle.std.specs.Global.{Global}
 use Rattle.auction_model.specs.Place.{states_of}
@@ -9,7 +9,7 @@ pub record ReviewValue : Type 0 where
   pub book : Book
   pub choice : List ℕ
 
--- lines as the code holds them
+-- the lines of the code's vectors
 abbrev pub lines_of : List (Vec ℤ Global) → List (List ℤ)
 lines_of lines = map (λ l. l.items) lines
 
@@ -18,12 +18,12 @@ pub record AreFull (book : Book) (lines : List (List ℤ)) : Type 0 where
   pub count : length lines ≡ length book.bidders + 1
   pub places : (k : ℕ) → k ≤ length book.bidders → length (slice_index_or lines k []) ≡ states_of book.supply
 
--- the lines from the one with number `from` on are those of the bidders after each
+-- the lines from the one with number `from` on are for the bidders after each
 pub record AreRightLines (book : Book) (from : ℕ) (lines : List (List ℤ)) : Type 0 where
   pub full : AreFull book lines
   pub exact : (k : ℕ) → from ≤ k → k ≤ length book.bidders → IsRightLine book k (slice_index_or lines k [])
 
--- the lines up to the one with number `to` are those of the bidders up to each
+-- the lines up to the one with number `to` are for the bidders up to each
 pub record AreLeftLines (book : Book) (to : ℕ) (lines : List (List ℤ)) : Type 0 where
   pub full : AreFull book lines
   pub exact : (k : ℕ) → k ≤ to → k ≤ length book.bidders → IsLeftLine book k (slice_index_or lines k [])

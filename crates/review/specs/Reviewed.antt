@@ -10,7 +10,7 @@ use Rattle.value_table.specs.SideLines.{IsLeftLine, IsRightLine}
 use Rattle.review.specs.ReviewValue.{AreLeftLines, AreRightLines, lines_of}
 use Rattle.review.specs.declared.lines.SideLines.{SideLines}
 
--- the lines are those of the book, except for the ones that are stale
+-- the lines are the book's, except for the stale ones
 pub record AreSideLines (book : Book) (lines : SideLines) : Type 0 where
   pub from : lines.right_from ≤ length book.bidders
   pub to : lines.left_to ≤ length book.bidders
@@ -23,13 +23,13 @@ pub record IsReviewed (book : Book) (lines : SideLines) (choice : List ℕ) : Ty
   pub winning : IsWinning (market_of book) choice
   pub sides : AreSideLines book lines
 
--- if the package fits at a place, the best of both sides beside it are together below the limit
+-- if the package fits at a place, the best of both sides around it are together below the limit
 abbrev pub IsBelowAt : List ℕ → List ℕ → List ℤ → List ℤ → ℤ → ℕ → Type 0
 IsBelowAt supply lots before after limit s = IsTrue (is_within lots (left_at supply s))
     → (slice_index_or before (states_of supply - 1 - s) (pos 0)
     +ℤ slice_index_or after (place_of supply (less (left_at supply s) lots)) (pos 0)) <ℤ limit
 
--- the same at each place
+-- they are below the limit at each place
 abbrev pub AreBelow : List ℕ → List ℕ → List ℤ → List ℤ → ℤ → Type 0
 AreBelow supply lots before after limit = (s : ℕ) → s < states_of supply → IsBelowAt supply lots before after limit s
 
@@ -50,7 +50,7 @@ moved_up put number = if nat_le put number then number + 1 else number
 abbrev pub moved_down : ℕ → ℕ → ℕ
 moved_down gone number = if nat_lt gone number then number - 1 else number
 
--- the amount of the bid that is there is no higher than this
+-- the amount of the present bid is at most this
 abbrev pub IsHigher : Option ℕ → ℕ → Type 0
 IsHigher None amount = Unit {0}
 IsHigher (Some was) amount = was ≤ amount

@@ -18,7 +18,7 @@ same-number i j r e = false_or_true (is_number_before i j) (i == j) r (false_fro
     (eq-eqb i j e)
 
 module _ (c d : List ℕ) (k : ℕ) (inside : k < length c) (within : k < length d) where
-  -- where two choices have the same number at a place, the numbers after it decide which comes first
+  -- if two choices have the same number at a place, the numbers after it decide which comes first
   pub earlier-goes_on : get_or c k 0 ≡ get_or d k 0 → is_earlier (drop k c) (drop k d) ≡ is_earlier (drop (k + 1) c) (drop (k + 1) d)
   earlier-goes_on e = rw (add-one, drop-cons c k 0, drop-cons d k 0) (same-number (get_or c k 0) (get_or d k 0)
       (is_earlier (drop (suc k) c) (drop (suc k) d)) e)

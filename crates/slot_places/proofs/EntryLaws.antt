@@ -45,7 +45,7 @@ many_bidders n many = grind (arith, nat_tests)
 pub few_bidders : (n : ℕ) → n < 6 → bidder_excess (n + 1) ≡ None
 few_bidders n few = grind (arith, nat_tests)
 
--- a search for the name finds nothing exactly where no bidder has it
+-- a search for the name finds nothing exactly if no bidder has it
 pub none_named : (name : List ℕ) (bidders : List BandBidder)
     → list_any (λ (b : BandBidder). bytes_eq b.name name) bidders ≡ false ↔ AllByRecursion (λ (b : SlotBidder). b.name ≢ name) (map bidder_value bidders)
 none_named name [] = (λ _. tt, λ _. refl)

@@ -143,7 +143,7 @@ pub record Parts (bidders : List SlotBidder) : Type 0 where
   pub bidder : SlotBidder
   pub whole : bidders ≡ front ++ bidder ∷ []
 
--- where there are bidders, there is a last one
+-- if there are bidders, there is a last one
 pub parts_of : (bidders : List SlotBidder) → 0 < length bidders → Parts bidders
 parts_of bidders some =
     let all : take (length bidders - 1 + 1) bidders ≡ bidders = take_all (length bidders - 1 + 1) bidders (omega arith) in

@@ -77,7 +77,7 @@ module _ (b : Board) (idle : (s : ℕ → Bool) (j : ℕ) → IsTrue (b.may s j 
 pub slots-idle : (slots : SlotList) (s : ℕ → Bool) (j : ℕ) → IsTrue ((board_of slots).may s j 0)
 slots-idle slots s j = refl
 
--- slots are a lawful market where there are fewer than 2^16 bidders
+-- slots are a lawful market if there are fewer than 2^16 bidders
 pub market-of_slots : (slots : SlotList) → length slots.bidders < 2 ^ 16 → IsMarket (market_of_slots slots)
 market-of_slots slots few =
     let b = board_of slots in

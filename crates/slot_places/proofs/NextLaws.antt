@@ -25,7 +25,7 @@ none-more b c left s k none own h low next =
       | inr other ↦ none h (omega (arith, low, other)) next
     ]
 
--- where no bidder can be next none is placed
+-- if no bidder can be next none is placed
 pub none-placed : (b : Board) (c : List ℕ) (left : ℕ) (s : ℕ → Bool) (k : ℕ) → NoneTo b c left s k → b.bidders ≤ k → can_place b c (suc left) s ≡ false
 none-placed b c left s k none all =
     elim (cases_Bool (can_place b c (suc left) s)) [
@@ -52,17 +52,17 @@ module _ (b : Board) (asks : AsksBidders b) (c : List ℕ) (left n j : ℕ) wher
   pub next-places : Next b c left (holds n) j → IsTrue (can_place b c left (holds (n + 2 ^ (j - 1))))
   next-places next = sym (place-same b asks c left (joined j (holds n)) (holds (n + 2 ^ (j - 1))) (joined-is next.some next.new)) ∙ next.rest
 
-  -- where a bidder can be next, that many and one more can be placed
+  -- if a bidder can be next, that many and one more can be placed
   pub placed-by : Next b c left (holds n) j → IsTrue (can_place b c (suc left) (holds n))
   placed-by next = next-from b c left (holds n) j next
 
   -- the same with the weight of the bidder
   module _ (w : ℕ) (is : w ≡ 2 ^ (j - 1)) where
-    -- a bidder that can follow can be next, where the others can be placed after the set with its weight
+    -- a bidder that can follow can be next, if the others can be placed after the set with its weight
     pub next-by : CanFollow b c (holds n) j → IsTrue (can_place b c left (holds (n + w))) → Next b c left (holds n) j
     next-by f rest = next-is f (subst (λ m. IsTrue (can_place b c left (holds (n + m)))) is rest)
 
-    -- where a bidder can be next, the others can be placed after the set with its weight
+    -- if a bidder can be next, the others can be placed after the set with its weight
     pub places-by : Next b c left (holds n) j → IsTrue (can_place b c left (holds (n + w)))
     places-by next = subst (λ m. IsTrue (can_place b c left (holds (n + m)))) (sym is) (next-places next)
 

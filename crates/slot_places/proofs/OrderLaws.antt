@@ -1,4 +1,4 @@
--- Bidders can be placed exactly where some order gives each its number.
+-- Bidders can be placed exactly if some order gives each its number.
 use Rattle.std.specs.Prelude.{◌≡◌, ℕ, zero, suc, ◌≤◌, ◌<◌, Bool, false, ◌&&◌, not, nat_lt, nat_le, ◌==◌, IsTrue, List, [], ◌∷◌, length, refl}
 use Rattle.std.proofs.Common.{arith}
 use Rattle.std.proofs.lemmas.Bool.{and_parts, and_from, not_from_false, not-true, lt-ltb, le-leb, ltb-true, leb-true, eqb-true, eq-eqb}
@@ -31,7 +31,7 @@ new-from n s j order some low new rest =
     (and_from (nat_lt 0 j) (nat_le j n) (lt-ltb 0 j some) (le-leb j n low))
     (and_from (not (s j)) (are_new n (joined j s) order) (not_from_false (s j) new) rest)
 
--- where that many bidders can be placed, an order gives each its number
+-- if that many bidders can be placed, an order gives each its number
 pub order-exists : (b : Board) (c : List ℕ) (left : ℕ) (s : ℕ → Bool) → IsTrue (can_place b c left s) → (order : List ℕ) × Order b c left s order
 order-exists b c zero s t = ([], record { count = refl; new = refl; gives = refl })
 order-exists b c (suc left) s t =
@@ -46,7 +46,7 @@ order-exists b c (suc left) s t =
       },
     )
 
--- where an order of that many bidders gives each its number, they can be placed
+-- if an order of that many bidders gives each its number, they can be placed
 pub order-places : (b : Board) (c : List ℕ) (left : ℕ) (s : ℕ → Bool) (order : List ℕ) → Order b c left s order → IsTrue (can_place b c left s)
 order-places b c zero s order o = refl
 order-places b c (suc left) s [] o = absurd (omega (arith, o.count))

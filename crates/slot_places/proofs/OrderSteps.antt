@@ -38,7 +38,7 @@ so-more slots c order new rest left less n j w more fewer pushed weight so is =
     (subst (λ m. SoPlaced slots c (order ++ j ∷ []) m (n + 2 ^ (j - 1))) fewer
     (so-next slots c order left n j (subst (λ m. SoPlaced slots c order m n) more so) is)))
 
--- Of an order that many entries are tested: the whole passes just where what is left passes after their set.
+-- Of an order that many entries are tested: the whole passes just if what is left passes after their set.
 pub record SoTested (slots : SlotList) (c order : List ℕ) (i n : ℕ) : Type 0 where
   pub whole : Passes (board_of slots) c (holds n) (drop i order) → Passes (board_of slots) c nobody order
   pub part : Passes (board_of slots) c nobody order → Passes (board_of slots) c (holds n) (drop i order)

@@ -7,7 +7,7 @@ use Rattle.slot_places.specs.Steps.{Next}
 use Rattle.slot_places.specs.Board.{Board, joined, outside, can_place}
 use Rattle.slot_places.proofs.SetLaws.{joined-new, some-at, some-which, outside-joined, outside-some}
 
--- where one bidder more can be placed, one can be next
+-- if one bidder more can be placed, one can be next
 pub next-which : (b : Board) (c : List ℕ) (left : ℕ) (s : ℕ → Bool) → IsTrue (can_place b c (suc left) s) → (j : ℕ) × Next b c left s j
 next-which b c left s t =
     let q = some-which (λ j. not (s j) && (b.may s j (number_of c j) && can_place b c left (joined j s))) b.bidders t in
@@ -16,7 +16,7 @@ next-which b c left s t =
     let r = and_parts (b.may s j (number_of c j)) (can_place b c left (joined j s)) p.1 in
     (j, record { some = q.1; low = q.2; new = not-true (s j) p.0; may = r.0; rest = r.1 })
 
--- where a bidder can be next, one more can be placed
+-- if a bidder can be next, one more can be placed
 pub next-from : (b : Board) (c : List ℕ) (left : ℕ) (s : ℕ → Bool) (j : ℕ) → Next b c left s j → IsTrue (can_place b c (suc left) s)
 next-from b c left s j n =
     some-at (λ i. not (s i) && (b.may s i (number_of c i) && can_place b c left (joined i s))) b.bidders j n.some n.low

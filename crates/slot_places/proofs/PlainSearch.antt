@@ -117,7 +117,7 @@ module _ (slots : SlotList) (skip : ℕ) (surplus : List ℤ) (zeros : (k : ℕ)
         bound = λ c t. subst (λ (x : ℤ). x ≤ℤ most) (same c) (e.bound c t);
       }
 
--- where a bidder has no bids the placed choices are those that don't use it
+-- if a bidder has no bids the placed choices are those that don't use it
 no-packages : (b : Board) (k : ℕ) (c : List ℕ) → packages_after (menu_of b) k c ≡ []
 no-packages b k [] = refl
 no-packages b k (i ∷ c) = no-packages b (suc k) c
@@ -134,7 +134,7 @@ known-without slots skip c some =
     sym (fits-known (board_without slots skip) c) ∙ (fits-skip (menu_of (board_of slots)) skip [] c some
     ∙ ap (λ x. x && not (uses c skip)) (fits-known (board_of slots) c))
 
--- a choice is placed without a bidder's bids just where it is allowed and doesn't use the bidder
+-- a choice is placed without a bidder's bids just if it is allowed and doesn't use the bidder
 pub placed-without : (slots : SlotList) (skip : ℕ) (c : List ℕ) → 0 < skip → is_placed (board_without slots skip) c ≡ allowed_without (market_of_slots slots) skip c
 placed-without slots skip c some =
     let n = length slots.bidders in

@@ -13,7 +13,7 @@ use Rattle.slot_places.proofs.StepLaws.{sum-same}
 abbrev pub IsSame : (ℕ → Bool) → (ℕ → Bool) → Type 0
 IsSame s t = (i : ℕ) → 0 < i → s i ≡ t i
 
--- where two tests say the same, some bidder passes the one just where some bidder passes the other
+-- if two tests say the same, some bidder passes the one just if some bidder passes the other
 pub some-same : (p q : ℕ → Bool) (n : ℕ) → ((j : ℕ) → 0 < j → p j ≡ q j) → some_of p n ≡ some_of q n
 some-same p q zero same = refl
 some-same p q (suc n) same = rw (some-same p q n same, same (suc n) (omega arith)) refl
@@ -54,7 +54,7 @@ sum_outside-same counts s t same d = sum-same (counts_outside s counts) (counts_
     (λ j i some. ap (λ x. cond x (pos 0) (counts j i)) (same j some))
 
 module _ (b : Board) (asks : AsksBidders b) where
-  -- that many others can be placed after the one just where they can after the other
+  -- that many others can be placed after the one just if they can after the other
   pub place-same : (c : List ℕ) (left : ℕ) (s t : ℕ → Bool) → IsSame s t → can_place b c left s ≡ can_place b c left t
   place-same c zero s t same = refl
   place-same c (suc left) s t same =
@@ -66,7 +66,7 @@ module _ (b : Board) (asks : AsksBidders b) where
       three : (x y z u v w : Bool) → x ≡ u → y ≡ v → z ≡ w → not x && (y && z) ≡ not u && (v && w)
       three x y z u v w p q r = rw (p, q, r) refl
 
-  -- a choice fits after the one just where it fits after the other
+  -- a choice fits after the one just if it fits after the other
   pub fits-same : (s t : ℕ → Bool) → IsSame s t → (c : List ℕ) → fits_behind b s c ≡ fits_behind b t c
   fits-same s t same c =
       ap (λ x. (is_known b c && x) && can_place b c (outside s b.bidders) s) (idle-same s t 0 c same)

@@ -24,7 +24,7 @@ joined-new j s i f =
 pub joined-differs : (j : ℕ) (s : ℕ → Bool) (i : ℕ) → joined j s i ≡ false → i ≡ j → ⊥
 joined-differs j s i f same = false≢true (sym f ∙ or_left (i == j) (s i) (eq-eqb i j same))
 
--- where a bidder passes, some bidder passes
+-- if a bidder passes, some bidder passes
 pub some-at : (p : ℕ → Bool) (n j : ℕ) → 0 < j → j ≤ n → IsTrue (p j) → IsTrue (some_of p n)
 some-at p zero j some low t = absurd (omega (arith, some, low))
 some-at p (suc n) j some low t =
@@ -33,7 +33,7 @@ some-at p (suc n) j some low t =
       | inr other ↦ or_left (some_of p n) (p (suc n)) (some-at p n j some (omega (arith, low, other)) t)
     ]
 
--- where some bidder passes, there is one that does
+-- if some bidder passes, there is one that does
 pub some-which : (p : ℕ → Bool) (n : ℕ) → IsTrue (some_of p n) → (j : ℕ) × (0 < j) × (j ≤ n) × IsTrue (p j)
 some-which p zero t = absurd (false≢true t)
 some-which p (suc n) t =
@@ -72,7 +72,7 @@ outside-joined j s (suc n) some low new =
           omega (arith, rest, own)
     ]
 
--- where some are outside there is one
+-- if some are outside there is one
 pub outside-some : (s : ℕ → Bool) (n : ℕ) → 0 < outside s n → (j : ℕ) × (0 < j) × (j ≤ n) × (s j ≡ false)
 outside-some s zero some = absurd (omega (arith, some))
 outside-some s (suc n) some =

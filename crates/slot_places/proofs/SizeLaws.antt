@@ -94,7 +94,7 @@ module _ (b : Board) (asks : AsksBidders b) (idle : (s : ℕ → Bool) (j : ℕ)
           ap (λ x. can_place b c x (up_to s k)) (sym (outside-same (up_to s (suc k)) (up_to s k) b.bidders same))
           ∙ (sym (place-same b asks c (outside (up_to s (suc k)) b.bidders) (up_to s (suc k)) (up_to s k) same) ∙ rest)
 
-  -- where those outside the set can be placed after it, all bidders can be placed after nobody
+  -- if those outside the set can be placed after it, all bidders can be placed after nobody
   pub place-whole : IsTrue (can_place b c (outside s b.bidders) s) → IsTrue (can_place b c b.bidders nobody)
   place-whole t =
       let same : IsSame (up_to s 0) nobody = λ i some. up_to-past s 0 i some in

@@ -177,7 +177,7 @@ module _ (b : Board) (idle : (s : ℕ → Bool) (j : ℕ) → IsTrue (b.may s j 
       more : (h : ℕ) (t : ℕ → Bool) → 0 < h → joined j s h ≡ false → IsTrue (b.may t h (number_of c h)) → IsTrue (b.may t h (number_of (set c (j - 1) 0) h))
       more h t positive out may = subst (λ n. IsTrue (b.may t h n)) (sym (other-number c 0 h positive (joined-differs j s h out))) may
 
-  -- the best of the choices that give j the number i where j is next
+  -- the best of the choices that give j the number i if j is next
   pub step-bound : (d : List ℕ) (i : ℕ) → IsSetBest b counts (joined j s) d → (c : List ℕ) → IsTrue (fits_behind b s c)
       → Next b c (outside (joined j s) b.bidders) s j → number_of c j ≡ i → IsBefore (sum_outside s counts) (set d (j - 1) i) c
   step-bound d i best c t n is =

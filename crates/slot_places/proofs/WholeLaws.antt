@@ -64,11 +64,11 @@ module _ (b : Board) (idle : (s : ℕ → Bool) (j : ℕ) → IsTrue (b.may s j 
           let e : outside s b.bidders ≡ suc (outside s b.bidders - 1) = omega (arith, some) in
           by d (outside s b.bidders - 1) t e (subst (λ n. IsTrue (can_place b d n s)) e (fits-says b s d t).place)
 
-  -- where all bidders are in the set the choice of nobody is the only one
+  -- if all bidders are in the set the choice of nobody is the only one
   pub sum-full : (s : ℕ → Bool) → ((j : ℕ) → 0 < j → j ≤ b.bidders → s j ≡ true) → sum_outside s counts (replicate b.bidders 0) ≡ pos 0
   sum-full s all = sum-zeros (counts_outside s counts) 0 b.bidders (λ j some low. ap (λ t. cond t (pos 0) (counts j 0)) (all j some (omega (arith, low))))
 
-  -- where all bidders are in the set the choice of nobody is the best
+  -- if all bidders are in the set the choice of nobody is the best
   pub best-full : (s : ℕ → Bool) → ((j : ℕ) → 0 < j → j ≤ b.bidders → s j ≡ true) → IsSetBest b counts s (replicate b.bidders 0)
   best-full s all = first-of (sum_outside s counts) (fits_behind b s) (replicate b.bidders 0) (none-fits s) each
     where

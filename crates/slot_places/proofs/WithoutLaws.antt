@@ -34,7 +34,7 @@ place-without slots skip c (suc left) s =
     (λ j. not (s j) && ((board_of slots).may s j (number_of c j) && can_place (board_of slots) c left (joined j s))) (length slots.bidders)
     (λ j some. ap (λ x. not (s j) && ((board_of slots).may s j (number_of c j) && x)) (place-without slots skip c left (joined j s)))
 
--- where nobody is left out, the placed choices are those of the slots
+-- if nobody is left out, the placed choices are those of the slots
 pub placed-none : (slots : SlotList) (c : List ℕ) → is_placed (board_without slots 0) c ≡ is_placed (board_of slots) c
 placed-none slots c =
     ap (λ x. x && can_place (board_without slots 0) c (length slots.bidders) nobody) (known-none slots 0 c)
@@ -72,7 +72,7 @@ sum-at_most f g m (suc n) h =
 mul-assoc : (a b c : ℕ) → a * (b * c) ≡ a * b * c
 mul-assoc a b c = sym (mul_assoc a b c)
 
--- where the amounts can be lowered, no sum of a placed choice leaves the range
+-- if the amounts can be lowered, no sum of a placed choice leaves the range
 pub range-of : (slots : SlotList) (z : List ℕ) (den : ℤ) (surplus : List ℤ) → IsWinning (market_of_slots slots) z → CanLower (market_of_slots slots) z den surplus
     → StaysInRange (board_without slots 0) (amount_of slots) den surplus
 range-of slots z den surplus winning can c t =
@@ -100,7 +100,7 @@ fits-none slots s c =
     ap (λ x. (x && is_idle_in s 0 c) && can_place (board_without slots 0) c (outside s (length slots.bidders)) s) (known-none slots 0 c)
     ∙ ap (λ x. (is_known (board_of slots) c && is_idle_in s 0 c) && x) (place-without slots 0 c (outside s (length slots.bidders)) s)
 
--- the exact table where nobody is left out is that of the slots
+-- the exact table if nobody is left out is that of the slots
 pub table-none : (slots : SlotList) (counts : ℕ → ℕ → ℤ) (table : List (List ℤ)) → IsSetTable (board_without slots 0) counts table
     → IsSetTable (board_of slots) counts table
 table-none slots counts table is = record {
@@ -110,7 +110,7 @@ table-none slots counts table is = record {
       (sum_outside (holds bits) counts) (get_or (get_or table 0 []) bits (pos 0)) (fits-none slots (holds bits)) (is.exact bits low);
 }
 
--- the first of the greatest where nobody is left out is that of the slots
+-- the first of the greatest if nobody is left out is that of the slots
 pub first-none : (slots : SlotList) (value : List ℕ → ℤ) (c : List ℕ) → IsFirstGreatest (is_placed (board_without slots 0)) value c
     → IsFirstGreatest (is_placed (board_of slots)) value c
 first-none slots value c g = IsFirstGreatest-same (is_placed (board_without slots 0)) (is_placed (board_of slots)) value value c (placed-none slots)

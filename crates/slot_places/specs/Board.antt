@@ -42,7 +42,7 @@ abbrev pub can_place : Board → List ℕ → ℕ → (ℕ → Bool) → Bool
 can_place b c zero s = true
 can_place b c (suc left) s = some_of (λ j. not (s j) && (b.may s j (number_of c j) && can_place b c left (joined j s))) b.bidders
 
--- a known choice for which all bidders can be placed
+-- a known choice that lets all bidders be placed
 abbrev pub is_placed : Board → List ℕ → Bool
 is_placed b c = is_known b c && can_place b c b.bidders nobody
 
@@ -62,7 +62,7 @@ board_of slots = record {
   may = λ s. starts_at slots (start_after slots s);
 }
 
--- the same, but bidder `skipped` has no bids
+-- the board of the slots, but bidder `skipped` has no bids
 abbrev pub board_without : SlotList → ℕ → Board
 board_without slots skipped = record {
   bidders = length slots.bidders;
@@ -70,8 +70,8 @@ board_without slots skipped = record {
   may = λ s. starts_at slots (start_after slots s);
 }
 
--- The market of slots: a choice is allowed when some order of all bidders gives each bidder with a number other than 0 the start
--- of that bid, and a bid is worth its amount. A bidder with 0 is placed too.
+-- The market of slots: a choice is allowed when some order of all bidders places each bidder with a number other than 0 at the
+-- start of this bid, and a bid is worth its amount. A bidder with 0 is placed too.
 abbrev pub market_of_slots : SlotList → Market
 market_of_slots slots = record {
   bidders = length slots.bidders;

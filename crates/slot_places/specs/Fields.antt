@@ -1,4 +1,4 @@
--- The slots that the fields hold.
+-- The slots in the fields.
 use Rattle.std.specs.Prelude.{map}
 use Rattle.slot_places.specs.Slots.{SlotBid, SlotBidder, SlotList}
 use Rattle.slot_places.specs.declared.slots.Place.{Place}

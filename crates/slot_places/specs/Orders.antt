@@ -13,12 +13,13 @@ are_new bidders s (j ∷ order) = (nat_lt 0 j && nat_le j bidders) && (not (s j)
 abbrev pub is_order : ℕ → List ℕ → Bool
 is_order bidders order = (length order == bidders) && are_new bidders nobody order
 
--- after the bidders of a set, the order gives each what the choice says
+-- after the bidders of a set, the order places each as the choice says
 abbrev pub gives : Board → List ℕ → (ℕ → Bool) → List ℕ → Bool
 gives b c s [] = true
 gives b c s (j ∷ order) = b.may s j (number_of c j) && gives b c (joined j s) order
 
--- the order lists each bidder once and gives each bidder with a number other than 0 the start of that bid
+-- the order lists each bidder once and places each bidder with a number other than 0 at the start of this
+-- bid
 abbrev pub allows : SlotList → List ℕ → List ℕ → Bool
 allows slots order c = is_order (length slots.bidders) order && (is_known (board_of slots) c && gives (board_of slots) c nobody order)
 

@@ -1,5 +1,5 @@
--- The exact table over sets of bidders: for each set the greatest sum that the bidders outside it can still count, if those of
--- the set are placed first. Bit j - 1 of a set stands for bidder j.
+-- The exact table over sets of bidders: for each set the greatest sum that the bidders outside it can still count, if the
+-- bidders of the set are placed first. Bit j - 1 of a set stands for bidder j.
 use Rattle.std.specs.Prelude.{◌≡◌, ℕ, suc, ◌+◌, ◌-◌, ◌*◌, ◌^◌, ◌<◌, ◌≤◌, Bool, true, ◌&&◌, ◌||◌, not, ◌==◌, if◌then◌else◌, IsTrue, List, [], ◌∷◌, length, slice_index_or, ℤ, pos, unsigned_abs}
 use Rattle.std.specs.Int.{bit_at}
 use Rattle.auction_model.specs.Lowered.{of_bidder, sum_to}
@@ -16,7 +16,7 @@ abbrev pub is_idle_in : (ℕ → Bool) → ℕ → List ℕ → Bool
 is_idle_in s k [] = true
 is_idle_in s k (i ∷ c) = (not (s (suc k)) || (i == 0)) && is_idle_in s (suc k) c
 
--- a known choice in which the bidders of the set have 0, and for which those outside can be placed after it
+-- a known choice where the bidders of the set have 0, and those outside can be placed after it
 abbrev pub fits_behind : Board → (ℕ → Bool) → List ℕ → Bool
 fits_behind b s c = (is_known b c && is_idle_in s 0 c) && can_place b c (outside s b.bidders) s
 

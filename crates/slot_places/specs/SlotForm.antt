@@ -1,4 +1,4 @@
--- The form of slots: which slots have a text, and its lines. Beside a line stands the limit that it exceeds.
+-- The form of slots: which slots have a text, and its lines, each with the limit that it exceeds.
 use Rattle.std.specs.Prelude.{◌≡◌, ◌≢◌, ℕ, ◌+◌, ◌≤◌, ◌<◌, Option, Some, None, List, [], ◌∷◌, ◌++◌, codes, nat_le, if◌then◌else◌}
 use Rattle.std.specs.Fmt.{decimal}
 use Rattle.std.specs.List.{AllByRecursion}
@@ -70,7 +70,7 @@ head_lines slots = (codes "slots 1", None) ∷ band_line slots.band ∷ []
 abbrev pub slot_lines : SlotList → List Line
 slot_lines slots = head_lines slots ++ bidder_lines 0 slots.bidders ++ (codes "end", None) ∷ []
 
--- slots that have a text, in which nothing exceeds a limit
+-- slots that have a text where nothing exceeds a limit
 pub record AreSlotsWithinLimits (slots : SlotList) : Type 0 where
   pub form : IsSlotText slots
   pub limits : first_excess (slot_lines slots) ≡ None

@@ -1,5 +1,5 @@
--- The stages of reading slots, and which lines bring the reader from one to the next. They serve the reader's own contracts; what
--- bytes say of slots is said without them.
+-- The stages of reading slots, and which lines bring the reader from one to the next. They serve the reader's own contracts.
+-- The meaning of bytes as slots is defined without them.
 use Rattle.std.specs.Prelude.{◌≡◌, ◌≢◌, ◌⊎◌, ℕ, ◌+◌, ◌-◌, ◌<◌, ◌≤◌, Option, None, List, [], ◌∷◌, ◌++◌, codes, length, slice_set}
 use Rattle.std.specs.Fmt.{decimal}
 use Rattle.std.specs.List.{AllByRecursion}
@@ -26,7 +26,7 @@ with_bidders slots bidders = record { band = slots.band; bidders = bidders }
 abbrev pub opened : ℕ → SlotList
 opened band = record { band = band; bidders = [] }
 
--- these fields state a bidder that may follow those of the slots
+-- these fields state a bidder that may follow the bidders of the slots
 pub record IsEntrant (slots : SlotList) (fields name : List ℕ) (width : ℕ) : Type 0 where
   pub spelled : fields ≡ name ++ 32 ∷ decimal width
   pub valid : IsName name
@@ -59,7 +59,7 @@ with_bid slots bid =
     let bidder = bidder_with (bidder_of slots (length slots.bidders)).name (last_width slots) (last_bids slots ++ bid ∷ []) in
     with_bidders slots (slice_set slots.bidders (length slots.bidders - 1) bidder)
 
--- this line states a bid that may follow those of the last bidder
+-- this line states a bid that may follow the bids of the last bidder
 pub record IsNextPlace (slots : SlotList) (line : List ℕ) (bid : SlotBid) : Type 0 where
   pub spelled : line ≡ (place_line bid).0
   pub valid : IsSlotBid slots.band (last_width slots) (start_before slots) bid

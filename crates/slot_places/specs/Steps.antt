@@ -1,4 +1,4 @@
--- The steps by which the table over sets is filled: words of private contracts.
+-- The steps that fill the table over sets: terms of private contracts.
 use Rattle.std.specs.Prelude.{◌≡◌, ℕ, ◌+◌, ◌^◌, ◌<◌, ◌≤◌, Bool, false, IsTrue, List, length, slice_index_or, ℤ, ◌≤ℤ◌, ◌<ℤ◌}
 use Rattle.auction_model.specs.Lowered.{lowered}
 use Rattle.auction_model.specs.Market.{is_earlier, number_of}
@@ -39,13 +39,13 @@ pub record IsBestOf (l : Search) (set : ℕ) (best : Best) : Type 0 where
   pub first : IsSetBest (searched l) (counted l) (holds set) best.numbers.items
   pub sum : best.sum ≡ sum_outside (holds set) (counted l) best.numbers.items
 
--- no worse than each choice that fits after the set, in which bidder j is next with a number that passes
+-- no worse than each choice that fits after the set with bidder j next, with a number that passes
 abbrev pub IsBestNext : Search → ℕ → ℕ → (ℕ → Type 0) → List ℕ → Type 0
 IsBestNext l set j Passes best = (c : List ℕ) → IsTrue (fits_behind (searched l) (holds set) c)
     → Next (searched l) c (outside (joined j (holds set)) (searched l).bidders) (holds set) j → Passes (number_of c j)
     → IsBefore (sum_outside (holds set) (counted l)) best c
 
--- no worse than each in which one of the bidders 1 to k is next
+-- no worse than each where one of the bidders 1 to k is next
 abbrev pub IsBestTo : Search → ℕ → ℕ → List ℕ → Type 0
 IsBestTo l set k best = (j : ℕ) → j ≤ k → IsBestNext l set j (λ i. i ≤ (searched l).bids j) best
 

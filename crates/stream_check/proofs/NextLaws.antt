@@ -65,7 +65,7 @@ part-choice b s c kept j some inside wins =
     subst (λ (n : ℕ). IsChoice b (part_of c.withouts n).choice) {x = j - 1 + 1} {y = j} (omega (arith, some)) found.1.choice
 
 module _ (book : Book) (w : ℕ → ℕ) (c : CertValue) where
-  -- where C4 holds at a place, what test 4 asks there holds
+  -- if C4 holds at a place, what test 4 asks there holds
   pub asks-C4 : (place : ℕ) → C4 book c place → Asks book w c 4 place
   asks-C4 place own = (
     λ e. absurd (omega (arith, e)),

@@ -95,7 +95,7 @@ module _ (at : LineContext) (c : CertValue) (is : IsAt at c) (due : at.due ≡ R
   pub count-next : (next : NextLine) → IsNext at.book.now c at.due next → IsRowNext (length c.rows) next
   count-next next follows = next-due at c Rows next due follows (length c.rows) refl is.kept.few
 
-  -- where there are rows, nothing more fails when their count has come
+  -- if there are rows, nothing more fails when their count has come
   pub some-shows : (next : NextLine) → IsNext at.book.now c at.due next → (length c.rows ≡ 0 → ⊥) → IsFound at.book.now (weight_of at.weights.now) c next None None
   some-shows next follows some =
       rows-next at.book.now (weight_of at.weights.now) c (length c.rows) next (count-next next follows) (positive (length c.rows) some)
@@ -143,7 +143,7 @@ module _ (at : LineContext) (c : CertValue) (is : IsAt at c) (r : ℕ) (due : at
   pub row-order : (next : NextLine) → IsNext at.book.now c at.due next → IsRowNext (r - 1) next
   row-order next follows = next-due at c (RowChoice r) next due follows
 
-  -- where a row that isn't the last is tight, nothing fails up to the next one
+  -- if a row that isn't the last is tight, nothing fails up to the next one
   pub more-shows : (next : NextLine) → IsNext at.book.now c at.due next → (r ≡ 1 → ⊥) → IsTightRow at.book.now c (row_at c r)
       → IsFound at.book.now (weight_of at.weights.now) c next None None
   more-shows next follows other tight =
@@ -156,7 +156,7 @@ module _ (at : LineContext) (c : CertValue) (is : IsAt at c) (r : ℕ) (due : at
       above (suc zero) some other = absurd (other refl)
       above (suc (suc r)) some other = omega arith
 
-  -- where the last row is tight, the first six tests hold
+  -- if the last row is tight, the first six tests hold
   pub last-holds : r ≡ 1 → IsTightRow at.book.now c (row_at c r) → HoldsTo at.book.now (weight_of at.weights.now) c 7 0
   last-holds one tight = all-rows at.book.now (weight_of at.weights.now) c (suc (length c.rows - r) + 1) (omega (arith, one, row-inside))
       (row-more at.book.now (weight_of at.weights.now) c r row-before tight)

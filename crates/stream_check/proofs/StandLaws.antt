@@ -114,10 +114,10 @@ module _ (book : Book) (w : ℕ → ℕ) where
     pub says : CertSays (bidders_of book) (states book) text (stated cert)
     -- no line of it is to come, and this is known of it
     pub come : HasCome book w cert [] Nothing failed late members grows totals room
-    -- either all nine tests hold, or what fails first is known
+    -- either all nine tests pass, or what fails first is known
     pub judged : IsJudged book w cert 10 0 failed
 
-  -- where no line is due, the text states such a certificate
+  -- if no line is due, the text states such a certificate
   pub at-end : (due : NextLine) (part : LinePart) (place read : ℕ) (room : List ℤ) (text : List ℕ) (items : List Line) (failed : Option Failure) (late : Option ℕ)
       (members : ℕ) (grows : Bool) (totals : RowTotals) → due ≡ Nothing
       → IsReading (bidders_of book) (states book) due part place read room text items → IsKnown book w due failed late members grows totals room items
@@ -159,7 +159,7 @@ one-number zero (x ∷ room) z e = cc
 one-number (suc n) [] z e = cc
 one-number (suc n) (x ∷ room) z e = one-number n room z e
 
--- what the room says of the next line, where the numbers of the line are in it
+-- what the room says of the next line, if the numbers of the line are in it
 told : (b s : ℕ) (c : CertValue) (due : NextLine) (members : ℕ) (room numbers : List ℤ) (rest : List Line) → line_with due numbers ∷ rest ≡ lines_left b s c due
     → HasRoom b s c due members room → (due ≡ Rows → segment b s due room ≡ numbers)
     → Tells c due (take b room) (get_or room (start_due b s due) (pos 0))

@@ -79,7 +79,7 @@ module _ (at : LineContext) (c : CertValue) (is : IsAt at c) (table : Table) (k 
           subst (λ (n : ℕ). segment (bidders_of at.book.now) (states at.book.now) (Entries table n) at.room.now ≡ slice_index_or (table_in c table) n []) back
           has
 
-  -- it never falls where this was seen
+  -- it never falls if this was seen
   pub known-before : 0 < k → IsTrue at.grows
       → Grows at.book.now.supply (segment (bidders_of at.book.now) (states at.book.now) (Entries table (k - 1)) at.room.now)
   known-before some seen =

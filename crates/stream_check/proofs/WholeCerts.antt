@@ -36,7 +36,7 @@ pub record HasEnded (k : StreamCheck) : Type 0 where
   -- no test fails
   pub none : k.failed ≡ None
 
--- no line is to come where none can be
+-- no line is to come if none can be
 all-come : (due : NextLine) → ((due ≡ Nothing → ⊥) → ⊥) → due ≡ Nothing
 all-come Version not = absurd (not (λ e. cc e))
 all-come Limits not = absurd (not (λ e. cc e))

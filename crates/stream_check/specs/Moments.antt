@@ -29,7 +29,7 @@ abbrev pub Shows : LineContext → Finding → Type 0
 Shows at f = (c : CertValue) (next : NextLine) → IsAt at c → IsNext at.book.now c at.due next
     → IsFound at.book.now (weight_of at.weights.now) c next f.failed f.late × IsGrown at.book.now c next f.grows
 
--- the claim is that of each such certificate
+-- the claim is each such certificate's
 pub record IsClaimOf (at : LineContext) (a : Claim) : Type 0 where
   pub book : a.book.now ≡ at.book.now
   pub each : (c : CertValue) → IsAt at c → IsOf a c

@@ -7,7 +7,8 @@ use Rattle.cert_stream.specs.declared.due.NextLine.TheVariants.{Entries}
 use Rattle.cert_stream.specs.declared.due.Table.{Table}
 use Rattle.cert_stream.specs.Rooms.{segment}
 
--- of the numbers from one up to another this is the first at which P fails, or none does
+-- of the numbers from one up to another this is the first where P fails, or it fails at
+-- none
 abbrev pub IsFirstBetween : (ℕ → Type 0) → ℕ → ℕ → Option ℕ → Type 0
 IsFirstBetween P from to None = (q : ℕ) → from ≤ q → q < to → P q
 IsFirstBetween P from to (Some p) = (from ≤ p) × (p < to) × (P p → ⊥) × ((q : ℕ) → from ≤ q → q < p → P q)

@@ -1,4 +1,4 @@
--- For which text a checker is.
+-- The text that a checker stands for.
 use Rattle.std.specs.Prelude.{◌≡◌, ℕ, List, Option, Some, None, ℤ}
 use Rattle.auction_model.specs.Prices.{AreWeights, weight_of}
 use Rattle.cert_grammar.specs.Lines.{Line}

@@ -9,7 +9,8 @@ use Rattle.cert_stream.specs.declared.due.NextLine.TheVariants.{Title, Entries, 
 use Rattle.cert_stream.specs.declared.due.Table.TheVariants.{Lowered}
 use Rattle.stream_check.specs.declared.row_totals.RowTotals.{RowTotals}
 
--- those of the first n rows, and for each bidder the sum over those that hold it
+-- the totals of the first n rows, and for each bidder the sum over the rows that
+-- contain it
 pub record AreTotals (c : CertValue) (n : ℕ) (t : RowTotals) : Type 0 where
   pub count : t.count ≡ n
   pub long : (length t.firsts ≡ 10) × (length t.seconds ≡ 10)

@@ -10,7 +10,7 @@ use Rattle.cert_stream.specs.declared.due.NextLine.TheVariants.{Den, Value, Choi
 use Rattle.cert_stream.specs.Rooms.{segment}
 use Rattle.choices.specs.declared.chooser.Single.{Single}
 
--- A certificate of which the facts can be reported, and of which the room has what they are reported from.
+-- A certificate whose facts can be reported, and a room with what they are reported from.
 pub record HasAll (book : Book) (c : CertValue) (room : List ℤ) : Type 0 where
   pub of : HasFacts book c
   pub den : segment (bidders_of book) (states book) Den room ≡ c.den ∷ []
@@ -20,6 +20,6 @@ pub record HasAll (book : Book) (c : CertValue) (room : List ℤ) : Type 0 where
   pub parts : (j : ℕ) → 0 < j → j ≤ bidders_of book → IsTrue (uses c.choice j)
       → segment (bidders_of book) (states book) (PartChoice j) room ≡ as_numbers (part_of c.withouts j).choice
 
--- winner j alone, by the part without it
+-- the single winner j, by the part without it
 abbrev pub single_at : Book → CertValue → ℕ → Single
 single_at book c j = record { winner = j; price = vickrey_of book c j; choice = (part_of c.withouts j).choice }

@@ -54,7 +54,7 @@ module _ (supply p : List ℕ) (s : ℕ) (low : s < states_of supply) where
       subst (λ (k : List ℕ). IsTrue (is_within k (left_at supply (H - place_of supply p)))) (sym (left_at-less supply p s low))
       (subst (λ (k : List ℕ). IsTrue (is_within (less (left_at supply s) p) k)) (sym left) more)
 
--- where no line falls the corners show that the rule holds in a block
+-- if no line falls the corners show that the rule holds in a block
 pub corner-keeps : (supply spans p : List ℕ) (first from S : ℕ) (grow : Bool) (line below : List ℤ) (worth : ℤ) → IsBlock supply spans p first
     → BothGrow supply grow line below → IsTrue grow → from ≡ first → S ≡ states_of supply
     → (worth +ℤ nth below (S - 1 - from)) ≤ℤ nth line from → KeepsBlock supply p line below worth
@@ -86,7 +86,7 @@ grows-part b supply line part q high reads grows = λ s t s_low t_low within.
     (and_from (nat_le q q) (is_within (left_at supply s) (left_at supply t)) (le-leb q q (omega arith)) within) in
     rw (reads s s_low, reads t t_low) (grows (q * W + s) (q * W + t) s_in t_in same)
 
--- where neither line falls no part of them does
+-- if neither line falls no part of them does
 both-parts : (supply : List ℕ) (q r : ℕ) (grow : Bool) (line below : List ℤ) → 0 < length supply → q < get_or supply 0 0 + 1 → r ≤ q
     → BothGrow supply grow line below → BothGrow (drop 1 supply) grow (take (states_of (drop 1 supply)) (drop (q * states_of (drop 1 supply)) line))
     (take (states_of (drop 1 supply)) (drop (r * states_of (drop 1 supply)) below))
@@ -97,7 +97,7 @@ both-parts (b ∷ supply) q r grow line below some high low both = record {
       (both.below_grows g);
 }
 
--- a part of a line, by where it is
+-- a part of a line, by its place
 part-at : (line part : List ℤ) (here q width S : ℕ) → here ≡ q * S → width ≡ S → part ≡ take width (drop here line) → part ≡ take S (drop (q * S) line)
 part-at line part here q width S here_is width_is part_is =
     part_is ∙ ap (λ (n : ℕ). take n (drop here line)) width_is ∙ ap (λ (n : ℕ). take S (drop n line)) here_is
@@ -129,7 +129,7 @@ abbrev pub PartsKeep : List ℕ → List ℕ → ℕ → ℕ → ℕ → List �
 PartsKeep others few a S stop line below worth = (q : ℕ) → a ≤ q → q < stop
     → KeepsBlock others few (take S (drop (q * S) line)) (take S (drop ((q - a) * S) below)) worth
 
--- a block keeps the rule where each of its parts does in which the package fits
+-- a block keeps the rule if each of its parts does in which the package fits
 parts-keep : (supply p : List ℕ) (S : ℕ) (line below : List ℤ) (worth : ℤ) → 0 < length p → length p ≤ length supply → S ≡ states_of (drop 1 supply)
     → PartsKeep (drop 1 supply) (drop 1 p) (get_or p 0 0) S (get_or supply 0 0 + 1) line below worth → KeepsBlock supply p line below worth
 parts-keep supply [] S line below worth some few width parts n low fits = absurd (omega (arith, some))
@@ -163,7 +163,7 @@ parts-keep (b ∷ supply) (a ∷ p) S line below worth some few width parts n lo
         let whole : q * W ≡ d * W + a * W = ap (λ (x : ℕ). x * W) (sym is) ∙ sum in
         omega (arith, whole, n_is, inside)
 
--- where these are all of its parts
+-- if these are all of its parts
 pub block-keeps : (supply spans p others few : List ℕ) (first a stop : ℕ) (line below : List ℤ) (worth : ℤ) → IsBlock supply spans p first
     → others ≡ drop 1 supply → few ≡ drop 1 p → a ≡ get_or p 0 0 → get_or supply 0 0 + 1 ≤ stop
     → PartsKeep others few a (states_of (drop 1 supply)) stop line below worth → KeepsBlock supply p line below worth
@@ -190,7 +190,7 @@ parts-more others few a S d here back width line below part rest worth w_is here
       (subst (λ (l : List ℤ). KeepsBlock others few part l worth) rest_at own)))
 ]
 
--- a block of one category keeps the rule where the run of its places does
+-- a block of one category keeps the rule if the run of its places does
 run-keeps : (supply p : List ℕ) (from : ℕ) (line below : List ℤ) (worth : ℤ) → length p ≡ 1 → length p ≤ length supply → from ≡ place_of supply p
     → ((n : ℕ) → from ≤ n → n < states_of supply → (worth +ℤ nth below (n - from)) ≤ℤ nth line n) → KeepsBlock supply p line below worth
 run-keeps supply [] from line below worth one few is run n low fits = absurd (omega (arith, one))

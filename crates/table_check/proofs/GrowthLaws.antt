@@ -92,7 +92,7 @@ grows-list (b ∷ supply) line W n some is places all rises blocks =
     grows-cons b supply line places (subst (λ (m : ℕ). RisesBy m line) is rises)
     (λ q low. subst (λ (m : ℕ). Grows supply (take m (drop (q * m) line))) is (blocks q (omega (arith, low, all))))
 
--- a bid is needless where an earlier one takes no more and offers as much
+-- a bid is needless if an earlier one takes no more and offers as much
 pub needless-better : (o : TestedBids) (j i h : ℕ) → IsBidBook o.book.now → i ≤ length (bids_of o.book.now j) → 0 < h → pos 0 ≤ℤ o.den → IsBetter o.book.now j i h
     → IsNeedless o j i
 needless-better o j i h kept known some den better = record {

@@ -4,8 +4,9 @@ use Rattle.auction_model.specs.Package.{is_within}
 use Rattle.auction_model.specs.Place.{place_of, states_of, widths_of}
 use Rattle.limits.specs.declared.TheConstants.{MOST_STATES}
 
--- the supply of some categories, of which a lot spans that many places, and the lots of a package of the first of these, which fit
--- and have the place `first`. `value_table` has the same record on purpose, since a checker shares no code with what it checks.
+-- the supply of some categories, how many places a lot of each spans, and the lots of a package of the first of these
+-- categories, which fit and have the place `first`. `value_table` has the same record on purpose, since a checker shares no
+-- code with what it checks.
 pub record IsBlock (supply spans lots : List ℕ) (first : ℕ) : Type 0 where
   pub widths : spans ≡ widths_of supply
   pub some : 0 < length lots

@@ -1,11 +1,11 @@
--- The first place of a line at which a rule fails.
+-- The first place of a line where a rule fails.
 use Rattle.std.specs.Prelude.{◌≡◌, ℕ, ◌+◌, ◌-◌, ◌≤◌, ◌<◌, IsTrue, List, ◌+ℤ◌, ◌≤ℤ◌}
 use Rattle.auction_model.specs.Package.{is_within}
 use Rattle.auction_model.specs.Place.{left_at, states_of}
 use Rattle.wide_num.specs.Sums.{nth}
 use Rattle.table_check.specs.declared.rule.LineRule.{LineRule}
 
--- r is the first number below `stop` at which P fails, or `stop` if there is none
+-- r is the first number below `stop` where P fails, or `stop` if there is none
 pub record FirstFault (P : ℕ → Type 0) (stop r : ℕ) : Type 0 where
   pub within : r ≤ stop
   pub before : (s : ℕ) → s < r → P s

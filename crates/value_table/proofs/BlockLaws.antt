@@ -35,7 +35,7 @@ whole-block supply lots radices spans counts first used same widths all states c
   place = rw (all, same) place ∙ sym (trim-place used radices counts rest);
 }
 
--- the block of the other categories, where the lots are of more than one
+-- the block of the other categories, if the lots are of more than one
 pub rest-block : (supply widths lots : List ℕ) (first : ℕ) → 1 < length lots → IsBlock supply widths lots first
     → IsBlock (take (length supply - 1) (drop 1 supply)) (take (length widths - 1) (drop 1 widths)) (take (length lots - 1) (drop 1 lots))
     (first - get_or lots 0 0 * get_or widths 0 0)
@@ -83,7 +83,7 @@ module _ {A : Type 0} (number : A → ℤ) (most : ℕ) (supply widths lots : Li
         sizes = small-numbers number below from (from + get_or widths 0 0 - from) most can.sizes;
       }
 
-  -- neither line falls in such a block, where the line has there what it had at first
+  -- neither line falls in such a block, if the line has there what it had at first
   pub block-grows : (q : ℕ) (line : List A) → get_or lots 0 0 ≤ q → q < get_or supply 0 0 + 1
       → ((s : ℕ) → q * get_or widths 0 0 ≤ s → get_or (map number line) s (pos 0) ≡ get_or (map number initial) s (pos 0))
       → BothGrow supply (map number initial) (map number below)
@@ -104,7 +104,7 @@ module _ {A : Type 0} (number : A → ℤ) (most : ℕ) (supply widths lots : Li
   pub first-inside : first < length initial
   first-inside = omega (arith, is.place, can.line, place-below supply lots is.fits)
 
-  -- where the corners show it the bid changes nothing
+  -- if the corners show it the bid changes nothing
   pub reached-none : BothGrow supply (map number initial) (map number below)
       → (number worth +ℤ get_or (map number below) (length initial - 1 - first) (pos 0)) ≤ℤ get_or (map number initial) first (pos 0)
       → (s : ℕ) → s < length initial

@@ -78,7 +78,7 @@ floor-put unit a k line ys low zs room same count counted floor part s inside so
       ]
     ]
 
--- a bid changes nothing where the line has at least its worth and what the line below has
+-- a bid changes nothing if the line has at least its worth and what the line below has
 pub kept-none : (supply p : List ℕ) (line below : List ℤ) (worth : ℤ)
     → ((n : ℕ) → n < states_of supply → IsTrue (is_within p (left_at supply n)) → (worth +ℤ nth below (n - place_of supply p)) ≤ℤ nth line n)
     → (s : ℕ) → s < states_of supply → get_or line s (pos 0) ≡ raised supply below p worth s (get_or line s (pos 0))
@@ -151,7 +151,7 @@ module _ {A : Type 0} (number : A → ℤ) (shift : ℕ) where
     places_below = c.places_below;
   }
 
--- where there is still a shift, it is the one before
+-- if there is still a shift, it is the one before
 pub units-kept : {A : Type 0} (number : A → ℤ) (before after : Option ℕ) (line below : List A) (low high : List ℕ) → IfSome after (λ k. before ≡ Some k)
     → MayBeInUnits number before line below low high → MayBeInUnits number after line below low high
 units-kept number before None line below low high same units = tt

@@ -40,7 +40,7 @@ module _ (supply : List ℕ) (below : List ℤ) (lots : List ℕ) (worth : ℤ) 
     | inr misses ↦ rw (cond-false (is_within lots (left_at supply s)) (int_max old sum) old misses) (omega (arith, ints))
   ]
 
-  -- it is at least what the bid counts where it fits
+  -- it is at least what the bid counts if it fits
   raised-covers : IsTrue (is_within lots (left_at supply s)) → sum ≤ℤ raised supply below lots worth s old
   raised-covers fits = rw (cond-true (is_within lots (left_at supply s)) (int_max old sum) old fits) (raised-other old sum)
 
@@ -195,7 +195,7 @@ module _ (m : Menu) (counts : ℕ → ℕ → ℤ) (supply : List ℕ) (k : ℕ)
   }
 
   module _ (line : List ℤ) (was : IsLineFrom 0 line) where
-    -- a beaten bid is counted where the one that beats it is
+    -- a beaten bid is counted if the one that beats it is
     counted-beaten : (g : ℕ) (beaten : IsBeaten m counts (suc k) g) → g ≤ m.bids (suc k) → IsCounted beaten.other line → IsCounted g line
     counted-beaten g beaten most h s low c p =
         let left = left_at supply s in

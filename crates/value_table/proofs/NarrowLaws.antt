@@ -33,6 +33,6 @@ module _ (l : LoweredBids) where
             (2 ^ 55 + 2 ^ 56) one,
       )
 
-  -- so none does where bids count their net amounts
+  -- so none does if bids count their net amounts
   pub plain-narrow : IsBidBook l.book.now → l.den ≡ pos 1 → ((k : ℕ) → get_or l.surplus.now k (pos 0) ≡ pos 0) → IsNarrow l
   plain-narrow kept den zeros = narrow-spread kept (rw den (omega arith)) (λ k. rw (zeros k) (omega arith))

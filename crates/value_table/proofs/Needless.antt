@@ -17,7 +17,7 @@ counted-in_order l j zero h some low den own le = absurd (omega (arith, low))
 counted-in_order l j (suc i) zero some low den own le = absurd (omega (arith, some))
 counted-in_order l j (suc i) (suc h) some low den own le = lowered-in_order l.den (net_at l j (suc i)) (net_at l j (suc h)) _ den own le
 
--- a bid is needless where an earlier one asks for no more and is worth at least as much
+-- a bid is needless if an earlier one asks for no more and is worth at least as much
 pub needless-better : (l : LoweredBids) (j i h : ℕ) → IsBidBook l.book.now → i ≤ length (bids_of l.book.now (seat l j)) → 0 < h → pos 0 ≤ℤ l.den
     → IsBetter l.book.now (seat l j) i h → IsNeedless l j i
 needless-better l j i h kept known some den better = record {
@@ -27,7 +27,7 @@ needless-better l j i h kept known some den better = record {
   worth = counted-in_order l j i h some better.earlier den (kept.not_negative (seat l j) i known) better.worth;
 }
 
--- a bid is needless where it counts no more than having none
+-- a bid is needless if it counts no more than having none
 pub needless-idle : (l : LoweredBids) (j i : ℕ) → 0 < i → counted l j i ≤ℤ counted l j 0 → IsNeedless l j i
 needless-idle l j i some le = record { other = 0; earlier = some; smaller = refl; worth = le }
 

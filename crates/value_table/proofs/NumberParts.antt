@@ -6,7 +6,7 @@ use Rattle.auction_model.proofs.PartReads.{read-part}
 use Rattle.auction_model.proofs.RunLaws.{small-part}
 use borrow.Rule.Slice.PartMut.{put_mid, post_of}
 
--- what is read where each number is the whole number itself
+-- what is read if each number is the whole number itself
 pub read-plain : (xs : List ℤ) (s : ℕ) → get_or (map (λ z. z) xs) s (pos 0) ≡ get_or xs s (pos 0)
 read-plain xs s = ap (λ l. get_or l s (pos 0)) (map-id xs)
 

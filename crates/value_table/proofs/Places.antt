@@ -15,7 +15,7 @@ module _ (f : ℕ → ℤ → ℤ) (line initial : List ℤ) (p : ℕ) (x : ℤ)
   pub rest-more : (s : ℕ) → p + 1 ≤ s → get_or (set line p x) s (pos 0) ≡ get_or initial s (pos 0)
   rest-more s h = let other : s ≢ p = omega arith in rw get_or-set_other (rest s (omega arith))
 
-  -- where the element at p is already what the rule makes of it, the first p + 1 are done
+  -- if the element at p is already what the rule makes of it, the first p + 1 are done
   pub done-kept : ((s : ℕ) → s < p → get_or line s (pos 0) ≡ f s (get_or initial s (pos 0))) → get_or line p (pos 0) ≡ f p (get_or line p (pos 0)) → (s : ℕ)
       → s < p + 1 → get_or line s (pos 0) ≡ f s (get_or initial s (pos 0))
   done-kept done is = below_more (λ s. get_or line s (pos 0) ≡ f s (get_or initial s (pos 0))) p done (is ∙ ap (f p) (rest p (omega arith)))

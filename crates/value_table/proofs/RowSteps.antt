@@ -103,7 +103,7 @@ module _ (supply p : List ℕ) (below : List ℤ) (worth : ℤ) (two : length p 
   abbrev skip : ℕ
   skip = get_or (drop 1 p) 0 0 * states_of (drop 1 (drop 1 supply))
 
-  -- changes nothing where a row has too few of the second
+  -- changes nothing if a row has too few of the second
   row-kept : (q i : ℕ) (old : ℤ) → get_or p 0 0 ≤ q → i < width → i < skip → raised supply below p worth (q * width + i) old ≡ old
   row-kept q i old high low front =
       let part = drop ((q - get_or p 0 0) * width) below in

@@ -16,7 +16,7 @@ use Rattle.value_table.specs.declared.lowered_bids.LoweredBids.{LoweredBids}
 use Rattle.value_table.specs.Counted.{net_at, counted_bids, counted, IsCountedLine, IsWithin, IsLineWithin}
 
 module _ (l : LoweredBids) where
-  -- where all sums are below a number in size, so is each number of a line
+  -- if all sums are below a number in size, so is each number of a line
   pub line-within : (most : ℕ) → IsWithin l most → (k : ℕ) (line : List ℤ) → IsCountedLine l k line → (s : ℕ) → unsigned_abs (get_or line s (pos 0)) ≤ most
   line-within most within k line e s =
       let caps = caps_of (counted_bids l).bids (net_at l) l.den l.surplus.now in
@@ -80,7 +80,7 @@ pub lowered-at : (den : ℤ) (worth : ℕ → ℕ → ℤ) (surplus : List ℤ) 
 lowered-at den worth surplus j zero h = absurd (omega arith)
 lowered-at den worth surplus j (suc i) h = refl
 
--- a choice in which nobody has a bid counts at least 0, where nobody counts less
+-- a choice in which nobody has a bid counts at least 0, if nobody counts less
 none-least : (worth : ℕ → ℕ → ℤ) (k n : ℕ) → ((j : ℕ) → pos 0 ≤ℤ worth j 0) → pos 0 ≤ℤ sum_after worth k (replicate n 0)
 none-least worth k zero least = omega (arith, ints)
 none-least worth k (suc n) least = omega (arith, ints, least (suc k), none-least worth (suc k) n least)

@@ -73,7 +73,7 @@ sum-turned n counts (i ∷ front) back h =
     let rest : sum_after turned (suc (n - suc k)) front ≡ sum_after turned (n - k) front = ap (λ j. sum_after turned j front) (turn-next n k h) in
     omega (arith, ints, was, own, rest)
 
--- such a choice is known where both parts are, and takes what both take
+-- such a choice is known if both parts are, and takes what both take
 pub record IsOfBoth (m : Menu) (front back : List ℕ) : Type 0 where
   pub known : is_known_after m 0 (onto front back) ≡ is_known_after (in_order true m) (m.bidders - length front) front && is_known_after m (length front) back
   pub taken : packages_after m 0 (onto front back) ≡ together (packages_after (in_order true m) (m.bidders - length front) front)
@@ -138,7 +138,7 @@ module _ (m : Menu) (bids : ℕ → ℕ) (k : ℕ) (inside : k ≤ m.bidders) (n
       (m.bidders - k) front
   taken-near front = taken-same (in_order true (with_bids m bids)) (in_order true m) (m.bidders - k) front (λ j i. refl)
 
-  -- so where only their bids are the same, a choice is known where its parts are
+  -- so if only their bids are the same, a choice is known if its parts are
   pub known-parts : (front back : List ℕ) → length front ≡ k → is_known_after (with_bids m bids) 0 (onto front back) ≡ is_known_after (in_order true m)
       (m.bidders - k) front && is_known_after (with_bids m bids) k back
   known-parts front back count =

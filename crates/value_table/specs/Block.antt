@@ -4,7 +4,7 @@ use Rattle.auction_model.specs.Package.{is_within}
 use Rattle.auction_model.specs.Place.{place_of, states_of, widths_of}
 use Rattle.limits.specs.declared.TheConstants.{MOST_STATES}
 
--- the widths are those of the supply, and the lots, of its first categories, are within it and have this place
+-- the widths are the supply's, and the lots, of its first categories, are within it and have this place
 pub record IsBlock (supply spans lots : List ℕ) (first : ℕ) : Type 0 where
   pub widths : spans ≡ widths_of supply
   pub some : 0 < length lots

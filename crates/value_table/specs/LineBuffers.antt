@@ -1,4 +1,4 @@
--- Buffers in which a line of one side of a book is computed.
+-- Buffers to compute a line of one side of a book.
 use Rattle.std.specs.Prelude.{◌≡◌, ℕ, length}
 use Rattle.value_table.specs.declared.buffers.LineBuffers.{LineBuffers}
 

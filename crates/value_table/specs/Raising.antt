@@ -1,4 +1,4 @@
--- What is asked if one more bid is counted in a line, and what is done.
+-- The conditions and the result of adding one more bid to a line.
 use Rattle.std.specs.Prelude.{◌≡◌, ℕ, ◌≤◌, ◌<◌, ◌^◌, IfSome, List, Option, length, map, slice_index_or, ℤ, pos, unsigned_abs}
 use Rattle.auction_model.specs.Steps.{raised}
 use Rattle.choices.specs.Coarse.{AreCoarse}
@@ -11,7 +11,7 @@ pub record CanRaise {A : Type 0} (number : A → ℤ) (most states : ℕ) (own r
   pub worth : unsigned_abs (number amount) ≤ most
   pub sizes : (s : ℕ) → unsigned_abs (slice_index_or (map number rest) s (pos 0)) ≤ most
 
--- a bid of some lots and a worth is counted at each place of a line where it fits
+-- a bid of some lots and a worth is added at each place of a line where it fits
 abbrev pub IsRaisedBy : {A : Type 0} → (A → ℤ) → List ℕ → List ℕ → List A → A → List A → List A → Type 0
 IsRaisedBy number supply lots below worth old new = (s : ℕ) → s < length old
     → slice_index_or (map number new) s (pos 0)

@@ -1,4 +1,4 @@
--- The rows of a block of two categories, of which a bid raises the prefix.
+-- The rows of a block of two categories. A bid raises their prefix.
 use Rattle.std.specs.Prelude.{◌≡◌, ℕ, ◌+◌, ◌-◌, ◌*◌, ◌≤◌, ◌<◌, List, slice_index_or, ℤ, pos, ◌+ℤ◌}
 use Rattle.std.specs.Int.{int_max}
 use Rattle.value_table.specs.declared.shape.Rows.{Rows}

@@ -7,7 +7,7 @@ use Rattle.auction_model.specs.Table.{IsEntry, IsExactTable, entry_at}
 use Rattle.value_table.specs.TableValue.{TableValue, IsTableOf, IsPlain}
 use Rattle.value_table.specs.Turned.{in_order, worths_in_order}
 
--- the same bids, but the bidders after `last` have none
+-- these bids, but the bidders after `last` have none
 abbrev pub up_to : Menu → ℕ → Menu
 up_to m last = record { bidders = m.bidders; bids = λ j. if nat_le j last then m.bids j else 0; lots = m.lots }
 
@@ -31,7 +31,7 @@ pub record SidesValue : Type 0 where
 abbrev pub IsTurnedTable : Book → List (List ℤ) → Type 0
 IsTurnedTable book lines = IsExactTable (in_order true (menu_of book)) (worths_in_order true (length book.bidders) (net_of book)) book.supply lines
 
--- the sides are those of this book
+-- the sides are this book's
 pub record AreSidesOf (book : Book) (sides : SidesValue) : Type 0 where
   pub bidders : sides.bidders ≡ length book.bidders
   pub states : sides.states ≡ states_of book.supply

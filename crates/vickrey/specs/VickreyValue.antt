@@ -1,4 +1,4 @@
--- What is kept of the winners of a book, each alone.
+-- What is kept for the single winners of a book.
 use Rattle.std.specs.Prelude.{◌≡◌, ℕ, ◌<◌, List, [], length, replicate, slice_index, slice_index_or, ℤ, pos}
 use Rattle.auction_model.specs.Book.{Book}
 use Rattle.choices.specs.declared.chooser.Single.{Single}

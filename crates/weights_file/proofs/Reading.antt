@@ -50,7 +50,7 @@ all_ones : (n : ℕ) → AllByRecursion IsWeight (replicate n 1)
 all_ones zero = tt
 all_ones (suc n) = ((omega arith, omega arith), all_ones n)
 
--- where a bidder has no weight yet, the next line is its
+-- if a bidder has no weight yet, the next line is its
 pub weighs-next : (book : Book) (given line : List ℕ) (t : Stage) → length given < length book.bidders → Step book (Listing given) line t
     → Weighs book given line t
 weighs-next book given line t lt (inl step) = step

@@ -1,5 +1,5 @@
--- The stages of reading weights, and which lines bring the reader from one to the next. They serve the reader's own contracts; what
--- bytes say of weights is said without them.
+-- The stages of reading weights, and which lines bring the reader from one to the next. They serve the reader's own contracts.
+-- The meaning of bytes as weights is defined without them.
 use Rattle.std.specs.Prelude.{◌≡◌, ◌⊎◌, ℕ, ◌+◌, ◌<◌, ◌≤◌, Option, None, List, [], ◌∷◌, ◌++◌, codes, length}
 use Rattle.auction_model.specs.Book.{Book, bidder_of}
 use Rattle.weights_file.specs.WeightsForm.{IsWeight, weight_line}
@@ -13,7 +13,7 @@ Weighs book given line next =
     × ((w : ℕ) × IsWeight w × (line ≡ (weight_line (bidder_of book (length given + 1)).name w).0)
     × (next ≡ Listing (given ++ w ∷ [])))
 
--- the last line, after those of all bidders
+-- the last line, after the lines of all bidders
 abbrev pub Ends : Book → List ℕ → List ℕ → Stage → Type 0
 Ends book given line next = (length book.bidders ≤ length given) × (line ≡ codes "end") × (next ≡ Ended given)
 

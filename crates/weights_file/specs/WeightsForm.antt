@@ -26,6 +26,7 @@ weight_lines (b ∷ bidders) (w ∷ weights) = weight_line b.name w ∷ weight_l
 abbrev pub lines : Book → List ℕ → List Line
 lines book weights = (codes "weights 1", None) ∷ (weight_lines book.bidders weights ++ (codes "end", None) ∷ [])
 
--- what bytes say of the weights of a book: a list of one weight for each bidder, or the place of the first faulty line
+-- the reading of bytes as weights of a book: a list of one weight for each bidder, or the place of the first faulty
+-- line
 abbrev pub WeightsSay : Book → List ℕ → Said (List ℕ) ⊥ → Type 0
 WeightsSay book bytes said = Says (AreWeights (length book.bidders)) (lines book) bytes said
