@@ -77,8 +77,8 @@ before (suc n) zero room rest le inside = absurd (omega (arith, le))
 before (suc n) (suc start) [] rest le inside = absurd (omega (arith, inside))
 before (suc n) (suc start) (x ∷ room) rest le inside = ap (λ (l : List ℤ). x ∷ l) (before n start room rest (omega (arith, le)) (omega (arith, inside)))
 
--- what is stated about the line that is due, and about what was written into its part of the
--- room
+-- what is stated about the line that is due, and about what was written into its part of
+-- the room
 pub in_segment : (P : List ℕ → Form → List ℤ → Type 0) (b s : ℕ) (due : NextLine) (part : LinePart) (room out post : List ℤ) (bytes word : List ℕ) (form : Form)
     (start end : ℕ)
     → IsDue b due → word ≡ word_of due → form ≡ form_due b s due → start ≡ start_due b s due → end ≡ start_due b s due + room_for (form_due b s due)
