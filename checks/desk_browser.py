@@ -16,6 +16,7 @@ import time
 from collections.abc import Callable
 
 from checks import browser
+from checks.cases.interrupts import take_interrupts
 
 TOOLS = pathlib.Path(__file__).resolve().parents[1] / "tools"
 
@@ -38,11 +39,6 @@ def until(is_done: Callable[[], bool], what: str) -> None:
         if time.monotonic() > end:
             raise AssertionError(f"{what}: not within {SECONDS} s")
         time.sleep(0.01)
-
-
-def take_interrupts() -> None:
-    """Lets a process be ended by Ctrl-C, also where the shell has started this one in the background."""
-    signal.signal(signal.SIGINT, signal.SIG_DFL)
 
 
 class Desk:

@@ -15,6 +15,8 @@ import tempfile
 import time
 import unittest
 
+from checks.cases.interrupts import take_interrupts
+
 ROOT = pathlib.Path(__file__).resolve().parents[2]
 USES = {"low": "", "left": "low", "right": "low", "top": "left right", "cca": "top", "more_tests": "top"}
 PROGRAM = ["low", "left", "right", "top", "cca"]
@@ -76,11 +78,6 @@ sys.exit(bool(failed))
 """ % (
     sys.executable,
 )
-
-
-def take_interrupts() -> None:
-    """Lets a process be ended by Ctrl-C, also if the caller ignores that, as a job in the background does."""
-    signal.signal(signal.SIGINT, signal.SIG_DFL)
 
 
 class Case(unittest.TestCase):

@@ -15,6 +15,7 @@ from fractions import Fraction
 
 from checks.cases import many_winners
 from checks.cases.all_coalitions import faults, has_solution
+from checks.cases.interrupts import take_interrupts
 from checks.cases.many_winners import FAMILIES, at_limits, drawn, small, wide, with_few_winners
 from checks.cases.priced_runs import CHECKER
 from checks.cases.program import PROGRAM, with_program
@@ -22,11 +23,6 @@ from checks.cases.program import PROGRAM, with_program
 from cca_tools.rules.book import Book, book_text, read_book
 
 ROOT = pathlib.Path(__file__).resolve().parents[2]
-
-
-def take_interrupts() -> None:
-    """Lets a process be ended by Ctrl-C, also if the caller ignores that, as a job in the background does."""
-    signal.signal(signal.SIGINT, signal.SIG_DFL)
 
 
 class Books(unittest.TestCase):

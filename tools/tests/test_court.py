@@ -13,6 +13,7 @@ import tempfile
 import unittest
 import unittest.mock
 from checks.cases.court_cases import answers, cases
+from checks.cases.interrupts import take_interrupts
 from checks.cases.program import PROGRAM
 from checks.cases.samples import EXAMPLES, TOOLS, lines, sample
 from checks.cases.second_auctions import drawn
@@ -141,11 +142,6 @@ class Awards(unittest.TestCase):
         for award, numbers in REFUSED:
             with self.subTest(award=award):
                 self.assertEqual(self.answer(award), ((f"cca: refused award {numbers}", 3),) * 2)
-
-
-def take_interrupts() -> None:
-    """Lets a process be ended by Ctrl-C, also if the caller ignores that."""
-    signal.signal(signal.SIGINT, signal.SIG_DFL)
 
 
 class Files(unittest.TestCase):

@@ -20,6 +20,7 @@ import urllib.parse
 from collections.abc import Mapping
 
 from desk_client import HAS_ALL, PORT, WHY, Answer, DeskTest, Reader, matched, words
+from checks.cases.interrupts import take_interrupts
 from checks.cases.samples import EXAMPLES, TOOLS, taking
 
 from cca_tools.commands.desk import listener_on
@@ -381,11 +382,6 @@ class Room(DeskTest):
         """What the close on the page asks for."""
         found = re.search(r"Type: ([a-z ]+)<", self.client.page)
         return found[1] if found else "1"
-
-
-def take_interrupts() -> None:
-    """Has Ctrl-C end the program, also if the caller of the tests ignores it."""
-    signal.signal(signal.SIGINT, signal.SIG_DFL)
 
 
 @unittest.skipUnless(HAS_ALL, WHY)

@@ -16,6 +16,7 @@ import time
 import unittest
 import unittest.mock
 
+from checks.cases.interrupts import take_interrupts
 from checks.cases.samples import EXAMPLES, TOOLS
 from cca_tools.__main__ import COMMANDS
 from cca_tools.rules.scratch import scratch_folder
@@ -41,11 +42,6 @@ def in_shell(name: str, words: list[str], more: str) -> int:
         stdout=subprocess.DEVNULL,
     )
     return done.returncode
-
-
-def take_interrupts() -> None:
-    """Lets a process be ended by Ctrl-C, also if the caller ignores that, as a job in the background does."""
-    signal.signal(signal.SIGINT, signal.SIG_DFL)
 
 
 def interrupt_early() -> None:
