@@ -1,4 +1,4 @@
-"""Amounts net of reserve and gross ones are types of their own: mypy refuses one where the other is due."""
+"""Gross, net and scaled amounts are types of their own: mypy refuses one where another is due."""
 
 from __future__ import annotations
 
@@ -10,14 +10,17 @@ import tempfile
 import unittest
 from fractions import Fraction
 
-from cca_tools.rules.money import Gross, GrossPrice, gross_of, gross_price_of, net_of, net_price_of
+from cca_tools.rules.money import gross_of, gross_price_of, less, net_of, net_price_of, price_total, scaled, total
+from cca_tools.rules.money import unscaled
+from cca_tools.rules.types import Gross, GrossPrice, Net, NetPrice
 
 ROOT = pathlib.Path(__file__).resolve().parents[2]
 HEAD = """from fractions import Fraction
 
 from cca_tools.data.prices import Price
 from cca_tools.rules.certificate import BookCertificate
-from cca_tools.rules.money import GrossPrice, gross_of
+from cca_tools.rules.money import gross_of
+from cca_tools.rules.types import GrossPrice
 
 
 def price_of(certificate: BookCertificate, reserve: int) -> Price:
@@ -32,10 +35,16 @@ WRONG = """    return Price("east", (1,), reserve, bid, certificate.vickrey(1), 
 
 
 class Money(unittest.TestCase):
-    def test_conversions(self) -> None:
+    def test_reserve_is_added_and_taken_away(self) -> None:
         self.assertEqual(net_of(Gross(28), 10), 18)
         self.assertEqual(gross_of(net_of(Gross(28), 10), 10), 28)
         self.assertEqual(gross_price_of(net_price_of(GrossPrice(Fraction(20, 3)), 3), 3), Fraction(20, 3))
+
+    def test_amounts_are_scaled_and_summed_up(self) -> None:
+        self.assertEqual(scaled(Net(7), 3), 21)
+        self.assertEqual(unscaled(scaled(Net(7), 3), 6), Fraction(7, 2))
+        self.assertEqual((total([Net(7), Net(4)]), total(list[Net]()), less(Net(4), Net(7))), (11, 0, -3))
+        self.assertEqual(price_total([NetPrice(Fraction(1, 2)), NetPrice(Fraction(1, 3))]), Fraction(5, 6))
 
     @unittest.skipUnless(shutil.which("mypy"), "the package mypy isn't installed")
     def test_a_net_amount_is_refused_where_a_gross_one_is_due(self) -> None:

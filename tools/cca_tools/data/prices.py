@@ -20,11 +20,11 @@ from cca_tools.pricing.best import has_tie
 from cca_tools.pricing.judges import Asked
 from cca_tools.pricing.making import make_certificate
 from cca_tools.rules.book import Book, book_text, read_book
-from cca_tools.rules.money import Gross, GrossPrice, Net, NetPrice, gross_of, net_of, net_price_of
+from cca_tools.rules.money import gross_of, less, net_of, net_price_of
 from cca_tools.rules.program import program
 from cca_tools.rules.scratch import scratch_folder
 from cca_tools.rules.stops import CRASH, DONE, LIMIT, Stop, refused
-from cca_tools.rules.types import Amount, Package
+from cca_tools.rules.types import Amount, Gross, GrossPrice, Net, NetPrice, Package
 from cca_tools.rules.weights import read_weights
 
 BY_PROGRAM, BY_TOOL, BY_WIN = "cca", "tools/price", "cca win"
@@ -210,7 +210,7 @@ def vickrey_prices(book: Book, path: str) -> Prices:
         reserve = book.reserve(package)
         bids = [[] if j == k else of_one for j, of_one in enumerate(book.bids)]
         others = winners_of(Book(book.supply, book.reserves, book.names, bids), path)
-        vickrey = gross_of(Net(others.net - (won.net - net_of(bid, reserve))), reserve)
+        vickrey = gross_of(less(others.net, less(won.net, net_of(bid, reserve))), reserve)
         rows[k] = Price(book.names[k], package, reserve, bid, vickrey, GrossPrice(Fraction(vickrey)))
     return Prices(tuple(rows), won.net, BY_WIN)
 

@@ -16,9 +16,9 @@ from typing import Literal, TypeAlias, get_args
 from cca_tools.data.prices import BY_WIN, Price, Prices, winners_of
 from cca_tools.pricing.nearest import Demand, Nearest
 from cca_tools.rules.book import Book
-from cca_tools.rules.money import NetPrice, gross_price_of
+from cca_tools.rules.money import gross_price_of
 from cca_tools.rules.stops import CRASH, MOST, Stop, limit
-from cca_tools.rules.types import Amount, Bid, Package
+from cca_tools.rules.types import Amount, Bid, NetPrice, Package
 
 Reference: TypeAlias = Literal["zero", "reserve", "bids"]
 REFERENCES: tuple[Reference, ...] = get_args(Reference)

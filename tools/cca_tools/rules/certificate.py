@@ -12,9 +12,8 @@ from typing import Any, Generic, TypeVar
 
 from cca_tools.rules.book import Book, Menu
 from cca_tools.rules.lines import Text
-from cca_tools.rules.money import Net
 from cca_tools.rules.stops import MOST
-from cca_tools.rules.types import Amount, BidderNumber, Choice, Table
+from cca_tools.rules.types import Amount, BidderNumber, Choice, Net, Table
 
 MenuT = TypeVar("MenuT", bound=Menu[Any])
 ChoiceT = TypeVar("ChoiceT", bound=Choice)

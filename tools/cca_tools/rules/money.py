@@ -1,22 +1,16 @@
-"""Amounts with their reserve and net of it, as types of their own: mypy refuses one where the other is due.
-
-A bid, a Vickrey price and a price are gross: the reserve of the package is in them. A certificate has all of its
-amounts net of that reserve. At run time both are plain numbers.
-"""
+"""Where reserve is added or taken away, and where net amounts are scaled by the denominator of a certificate and back;
+and sums and differences of amounts of one kind. The kinds are told in `types`."""
 
 from __future__ import annotations
 
+from collections.abc import Iterable
 from fractions import Fraction
-from typing import NewType
+from typing import TypeVar, cast
 
-from cca_tools.rules.types import Amount
+from cca_tools.rules.types import Amount, Gross, GrossPrice, Net, NetPrice, ScaledNet
 
-# A whole amount with its reserve, and one net of it.
-Gross = NewType("Gross", int)
-Net = NewType("Net", int)
-# A price, which needn't be whole.
-GrossPrice = NewType("GrossPrice", Fraction)
-NetPrice = NewType("NetPrice", Fraction)
+WholeT = TypeVar("WholeT", Gross, Net, ScaledNet)
+PriceT = TypeVar("PriceT", GrossPrice, NetPrice)
 
 
 def net_of(gross: Gross, reserve: Amount) -> Net:
@@ -37,3 +31,28 @@ def net_price_of(gross: GrossPrice, reserve: Amount) -> NetPrice:
 def gross_price_of(net: NetPrice, reserve: Amount) -> GrossPrice:
     """A net price and the reserve of its package."""
     return GrossPrice(net + reserve)
+
+
+def scaled(net: Net, den: int) -> ScaledNet:
+    """A net amount times a denominator."""
+    return ScaledNet(den * net)
+
+
+def unscaled(amount: ScaledNet, den: int) -> NetPrice:
+    """The net price that an amount over its denominator is."""
+    return NetPrice(Fraction(amount, den))
+
+
+def total(amounts: Iterable[WholeT]) -> WholeT:
+    """The sum of amounts of one kind."""
+    return cast(WholeT, sum(amounts))
+
+
+def price_total(prices: Iterable[PriceT]) -> PriceT:
+    """The sum of prices of one kind."""
+    return cast(PriceT, sum(prices, Fraction(0)))
+
+
+def less(amount: WholeT, other: WholeT) -> WholeT:
+    """The difference of two amounts of one kind."""
+    return cast(WholeT, amount - other)

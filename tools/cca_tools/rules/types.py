@@ -1,13 +1,26 @@
-"""The types of values that the package shares. Categories, bidders, bids, rounds, rows and records are numbered from
-1."""
+"""The types of values that the package shares. Categories, bidders, bids, rounds, rows and records are numbered from 1.
+
+Money is in the award's unit. An amount is gross if the reserve of its package is in it: a bid, a draft, what a package
+costs in the clock, a value, a printed Vickrey price or price. An amount of a certificate or of a table is net of that
+reserve. Payments in a certificate, and what is compared with them, are scaled: net amounts times its denominator `den`.
+Each kind is a type of its own, so that mypy refuses one where another is due; at run time all are plain numbers. The
+functions of `money` lead from one kind to another.
+"""
 
 from __future__ import annotations
 
-from typing import Literal, TypeAlias
+from fractions import Fraction
+from typing import Literal, NewType, TypeAlias
 
-# Money in the award's unit: a price of a lot, a reserve, a bid. Reserves are in it (gross) where a name doesn't say
-# net.
+# A price of a lot, the reserve of a package, or the difference of two amounts of one kind.
 Amount: TypeAlias = int
+# A whole amount with its reserve, one net of it, and a net one times the denominator of a certificate.
+Gross = NewType("Gross", int)
+Net = NewType("Net", int)
+ScaledNet = NewType("ScaledNet", int)
+# A price of a package, which needn't be whole.
+GrossPrice = NewType("GrossPrice", Fraction)
+NetPrice = NewType("NetPrice", Fraction)
 # How many lots of each category.
 Package: TypeAlias = tuple[int, ...]
 # The price of a lot of each category.
@@ -18,7 +31,8 @@ BidderNumber: TypeAlias = int
 Bid: TypeAlias = tuple[Package, Amount]
 # For each bidder the number of its bid, 0 where it wins none.
 Choice: TypeAlias = tuple[int, ...]
-# A line of a table: an amount for each remaining supply, or for each set of bidders.
+# A line of a table: an amount for each remaining supply, or for each set of bidders. It is net, and scaled in a lowered
+# table; entries are plain numbers, since a table has millions.
 TableLine: TypeAlias = list[Amount]
 # A line for each bidder, and one more.
 Table: TypeAlias = list[TableLine]

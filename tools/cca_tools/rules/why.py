@@ -15,10 +15,10 @@ from fractions import Fraction
 
 from cca_tools.rules.book import Book
 from cca_tools.rules.certificate import BookCertificate
-from cca_tools.rules.money import Gross, GrossPrice, Net, NetPrice, gross_of, gross_price_of
+from cca_tools.rules.money import gross_of, gross_price_of
 from cca_tools.rules.printing import fraction
 from cca_tools.rules.ties import tie_sentences, ties_of
-from cca_tools.rules.types import Amount, Bid, BidderNumber, Choice, Package
+from cca_tools.rules.types import Amount, Bid, BidderNumber, Choice, Gross, GrossPrice, Net, NetPrice, Package
 
 
 @dataclass
