@@ -15,7 +15,7 @@ from typing import NamedTuple, TypeAlias
 from checks.cases import samples  # noqa: F401, finds cca_tools
 
 from cca_tools.rules.book import Book
-from cca_tools.rules.types import Choice
+from cca_tools.rules.types import Choice, Gross
 
 Members: TypeAlias = frozenset[int]
 
@@ -57,7 +57,7 @@ def printed_winners(book: Book, lines: Sequence[str]) -> list[Winner]:
         if line.startswith("winner "):
             _, name, *counts, _, amount, _, vickrey, _, pays = line.split(" ")
             k, package = book.names.index(name), tuple(map(int, counts))
-            reserve, bid = book.reserve(package), (package, int(amount))
+            reserve, bid = book.reserve(package), (package, Gross(int(amount)))
             whole, _, part = pays.partition("+")
             net = int(whole) + Fraction(part or 0) - reserve
             found.append(Winner(k, book.bids[k].index(bid) + 1, int(vickrey) - reserve, net))

@@ -5,7 +5,7 @@ from __future__ import annotations
 import pathlib
 import subprocess
 import tempfile
-from collections.abc import Iterator, Mapping, Sequence
+from collections.abc import Iterator, Sequence
 from fractions import Fraction
 
 from checks.cases import rehearsed
@@ -15,12 +15,11 @@ from checks.cases.program import PROGRAM
 from cca_tools.data.prices import Prices, prices_of
 from cca_tools.rules.auction import Auction
 from cca_tools.rules.award import Award, read_award
-from cca_tools.rules.types import Package
 from cca_tools.studies.rehearsal import held
 from cca_tools.studies.rows import best_of_values
 from cca_tools.studies.awarding import log_text
 from cca_tools.studies.strategies import Strategy
-from cca_tools.studies.values import values_of_seed
+from cca_tools.studies.values import Values, values_of_seed
 
 
 def awarded(award_bytes: bytes, auction: Auction) -> tuple[list[str], list[str]]:
@@ -62,7 +61,7 @@ def faults(number: int, is_small: bool = False) -> tuple[str, list[str]]:
     return form, found
 
 
-def differing(award: Award, values: Sequence[Mapping[Package, int]], prices: Prices) -> Iterator[str]:
+def differing(award: Award, values: Sequence[Values], prices: Prices) -> Iterator[str]:
     """What differs from going through all allocations of these values."""
     every = range(len(values))
     # What is worth less than its reserves can't be bid for, and is never in the best allocation.

@@ -8,7 +8,7 @@ import random
 from cca_tools.rules.auction import Auction, Reply
 from cca_tools.rules.award import read_award
 from cca_tools.rules.log import Line
-from cca_tools.rules.types import Kind, Package
+from cca_tools.rules.types import Gross, Kind, Package
 from cca_tools.rules.view import record_text
 
 NAMES = "east", "west", "north", "south"
@@ -40,7 +40,7 @@ class Drawing:
     def take(self, kind: Kind, j: int = 0, package: Package = (), amount: int = 0) -> Reply:
         """Takes a line, and gives its reply."""
         name = self.award.names[j - 1] if j else ""
-        self.auction.take(Line(len(self.auction.lines) + 1, 0, kind, name, j, package, amount))
+        self.auction.take(Line(len(self.auction.lines) + 1, 0, kind, name, j, package, Gross(amount)))
         return self.auction.replies[-1]
 
     def bidders(self) -> range:

@@ -28,7 +28,7 @@ from checks.cases import samples  # noqa: F401, finds cca_tools
 from cca_tools.pricing.tables import filler_of
 from cca_tools.rules.book import Book
 from cca_tools.rules.stops import MOST
-from cca_tools.rules.types import Amount, Package, Prices
+from cca_tools.rules.types import Amount, Gross, Package, Prices
 
 Bids: TypeAlias = dict[Package, Amount]
 GREAT, NOISE = 2**42 - 2**20, 2**20
@@ -243,7 +243,7 @@ def weights_of(rng: random.Random, book: Book) -> list[int]:
 
 def book_of(sale: Sale) -> Book:
     """The book of a sale: each bidder's packages rise, and no amount is below its reserve."""
-    bids = [sorted((p, max(a, cost(p, sale.reserves))) for p, a in of.items()) for of in sale.bids]
+    bids = [sorted((p, Gross(max(a, cost(p, sale.reserves)))) for p, a in of.items()) for of in sale.bids]
     return Book(sale.supply, sale.reserves, [f"b{j}" for j in range(1, len(bids) + 1)], bids)
 
 
@@ -256,7 +256,7 @@ def with_few_winners(number: int, seed: int = 1) -> Drawn:
     gone = {*winners} - {*rng.sample(winners, min(len(winners), rng.randint(1, 6)))}
     won = [made.book.bids[k][choice[k] - 1][0] for k in winners if k not in gone]
     supply = tuple(max(1, sum(counts)) for counts in zip(*won))
-    bids = [
+    bids: list[Bids] = [
         {p: a for p, a in of if all(have <= most for have, most in zip(p, supply))}
         for k, of in enumerate(made.book.bids)
         if k not in gone

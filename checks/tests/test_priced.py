@@ -21,6 +21,7 @@ from checks.cases.priced_runs import CHECKER
 from checks.cases.program import PROGRAM, with_program
 
 from cca_tools.rules.book import Book, book_text, read_book
+from cca_tools.rules.types import Gross
 
 ROOT = pathlib.Path(__file__).resolve().parents[2]
 
@@ -64,7 +65,7 @@ class Books(unittest.TestCase):
 class Coalitions(unittest.TestCase):
     """Two bid 20 and 30 for a lot of two, and a third 24 for both: they share 24 from Vickrey prices of 0 and 4."""
 
-    book = Book((2,), (0,), ["a", "b", "c"], [[((1,), 20)], [((1,), 30)], [((2,), 24)]])
+    book = Book((2,), (0,), ["a", "b", "c"], [[((1,), Gross(20))], [((1,), Gross(30))], [((2,), Gross(24))]])
 
     def found(self, pays: tuple[str, str], vickrey: tuple[int, int] = (0, 4), *, weights: tuple[int, ...] = ()) -> str:
         """What is wrong with these prices."""

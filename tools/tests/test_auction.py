@@ -11,6 +11,7 @@ from cca_tools.rules.log import read_log
 from cca_tools.rules.reasons import cap_words, reason
 from cca_tools.rules.sealed import Cap
 from cca_tools.rules.stops import Stop
+from cca_tools.rules.types import Gross, Package
 
 SMALL = sample("sample.award").decode()
 ROW = (
@@ -39,14 +40,14 @@ def book(text: str, award: str = SMALL) -> str:
 
 class CapWords(unittest.TestCase):
     def test_a_package_that_costs_less(self) -> None:
-        cap = Cap((1,), 1, (3,), 40, (10,), 20, 20)
+        cap = Cap((1,), 1, (3,), Gross(40), (10,), Gross(20), Gross(20))
         self.assertEqual(
             cap_words(read_award(SMALL.encode()), "east", cap),
             "Round 1 is the last in which east was eligible for the 1 points of 1. There east asked for 3, and the"
             " highest amount that it named for that is 40. At the prices of that round, 10, the package costs 20 less:"
             " 40 - 20 = 20.",
         )
-        same = Cap((3,), 1, (3,), 40, (10,), 40, 40)
+        same = Cap((3,), 1, (3,), Gross(40), (10,), Gross(40), Gross(40))
         self.assertIn("the package costs 0 more: 40 + 0 = 40.", cap_words(read_award(SMALL.encode()), "east", same))
 
 
@@ -198,13 +199,14 @@ class Caps(unittest.TestCase):
 
     def test_where_it_comes_from(self) -> None:
         auction = replay(*uk(33))
-        cap = auction.caps(1).cap({(1, 0, 3, 0): 420000, (2, 0, 4, 0): 760000}, (2, 0, 4, 0))
+        listed: dict[Package, Gross] = {(1, 0, 3, 0): Gross(420000), (2, 0, 4, 0): Gross(760000)}
+        cap = auction.caps(1).cap(listed, (2, 0, 4, 0))
         assert cap is not None
         self.assertEqual(
             (cap.constraining_round, cap.held, cap.standing, cap.amount), (3, (1, 0, 4, 0), 303800, 534800)
         )
         self.assertEqual(cap.prices[0], 231000)
-        cap = auction.caps(1).cap({(1, 0, 4, 0): 430000}, (2, 0, 4, 0))
+        cap = auction.caps(1).cap({(1, 0, 4, 0): Gross(430000)}, (2, 0, 4, 0))
         assert cap is not None
         self.assertEqual((cap.standing, cap.amount, cap.final), (430000, 661000, None))
 

@@ -6,7 +6,7 @@ from checks.cases.samples import lines, said, sample, taking
 from cca_tools.rules.auction import replay
 from cca_tools.rules.log import Line, read_log
 from cca_tools.rules.sealed import caps_if_ended
-from cca_tools.rules.types import Package
+from cca_tools.rules.types import Gross, Package
 from cca_tools.rules.view import record_text, view_line_of, view_text
 
 caps = taking("caps")
@@ -130,7 +130,7 @@ class Fit(unittest.TestCase):
     def refused(self, drawing: Drawing, log: bytes, j: int, package: Package, amount: int) -> None:
         """The list with this entry is above a cap."""
         name = drawing.award.names[j - 1]
-        tried = [Line(0, 0, "draft", name, j, package, amount), Line(0, 0, "submit", name, j)]
+        tried = [Line(0, 0, "draft", name, j, package, Gross(amount)), Line(0, 0, "submit", name, j)]
         more = "".join(record_text(line) + "\n" for line in tried).encode()
         replies = replay(drawing.award, read_log(log + more, drawing.award)).replies[-2:]
         self.assertEqual([reply.word for reply in replies], ["ok", "relative-cap"])

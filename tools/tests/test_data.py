@@ -25,7 +25,7 @@ from cca_tools.data.raw import Sold
 from cca_tools.rules.award import read_award
 from cca_tools.rules.book import book_text
 from cca_tools.rules.stops import Stop
-from cca_tools.rules.types import Package
+from cca_tools.rules.types import Gross, Package
 from cca_tools.studies.values import values_of_seed
 from test_rehearse import ONE
 
@@ -258,7 +258,10 @@ class Prices(unittest.TestCase):
         calls: list[tuple[Callable[[], object], str]] = [
             (lambda: cca_tools.price(book, weights={"b9": 2}), "`b9` is no bidder of the book"),
             (lambda: cca_tools.price(book, program="/nowhere/cca"), "`/nowhere/cca` can't be run"),
-            (lambda: cca_tools.price(cca_tools.Book((2,), (0,), ["a"], [[((2,), 5), ((1,), 3)]])), "package"),
+            (
+                lambda: cca_tools.price(cca_tools.Book((2,), (0,), ["a"], [[((2,), Gross(5)), ((1,), Gross(3))]])),
+                "package",
+            ),
         ]
         for call, why in calls:
             with self.assertRaises(Stop) as caught:

@@ -23,7 +23,7 @@ from checks.cases.program import PROGRAM, with_program
 from checks.cases.samples import EXAMPLES, TOOLS, called
 from checks.cases.searches import core_point as plain_point
 
-from cca_tools.rules.types import Bid
+from cca_tools.rules.types import Bid, Gross
 from cca_tools.pricing import certificates, files, program_rows, search
 from cca_tools.pricing.certificates import certificate_of
 from cca_tools.pricing.fewer_rows import (
@@ -57,14 +57,14 @@ def drawn(seed: int) -> Book:
     for _ in range(rng.randint(8, 14)):
         most = rng.choice([1, 1, 2 if is_long else 3])
         packages = {tuple(rng.randint(0, most) for _ in supply) for _ in range(rng.randint(1, 4))}
-        bids.append(sorted((p, sum(p) * rng.randint(3, 12)) for p in packages if any(p)))
+        bids.append(sorted((p, Gross(sum(p) * rng.randint(3, 12))) for p in packages if any(p)))
     return Book(supply, (1,) * len(supply), [f"b{j}" for j in range(1, len(bids) + 1)], bids)
 
 
 def singles(amounts: Sequence[int], supply: int, losers: Sequence[tuple[int, int]] = ()) -> Book:
     """A book of one category in which each bidder bids for one lot, and the losers for packages of their own."""
-    bids: list[list[Bid]] = [[((1,), amount)] for amount in amounts]
-    bids += [[((count,), amount)] for count, amount in losers]
+    bids: list[list[Bid]] = [[((1,), Gross(amount))] for amount in amounts]
+    bids += [[((count,), Gross(amount))] for count, amount in losers]
     return Book((supply,), (0,), [f"b{j}" for j, _ in enumerate(bids, 1)], bids)
 
 
@@ -117,8 +117,9 @@ class Tables(unittest.TestCase):
             self.assertEqual([filler.numbers(line) for line in scaled], expected)
 
     def test_undominated(self) -> None:
-        bids = [((0, 1), 5), ((1, 0), 7), ((1, 1), 7), ((1, 2), 13), ((2, 0), 6)]
-        self.assertEqual(undominated(bids, [5, 7, 7, 13, 6]), [0, 1, 3])
+        amounts = {(0, 1): 5, (1, 0): 7, (1, 1): 7, (1, 2): 13, (2, 0): 6}
+        bids = [(package, Gross(amount)) for package, amount in amounts.items()]
+        self.assertEqual(undominated(bids, list(amounts.values())), [0, 1, 3])
 
 
 class Points(unittest.TestCase):
@@ -595,7 +596,7 @@ class NewFiles(unittest.TestCase):
             book.supply,
             book.reserves,
             book.names,
-            [[(p, a * 2**120) for p, a in of_one] for of_one in book.bids],
+            [[(p, Gross(a * 2**120)) for p, a in of_one] for of_one in book.bids],
         )
         with self.assertRaises(Stop) as caught:
             certificates.certificate_of(great)

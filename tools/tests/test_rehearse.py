@@ -14,6 +14,7 @@ from cca_tools.rules.auction import replay
 from cca_tools.rules.award import read_award
 from cca_tools.rules.book import book_text
 from cca_tools.rules.log import read_log
+from cca_tools.rules.types import Gross, Package
 from cca_tools.studies.awarding import log_text
 from cca_tools.studies.bidding import Straightforward, sealed_list
 from cca_tools.studies.rehearsal import Rehearsal, held
@@ -62,10 +63,11 @@ class Bidders(unittest.TestCase):
         self.assertEqual(Straightforward(award, east).ask((10, 5), 6), (2, 0))
         self.assertEqual(Straightforward(award, east).ask((10, 5), 3), (1, 1))
         self.assertIsNone(Straightforward(award, east).ask((31, 5), 6))
-        self.assertEqual(Straightforward(award, {(0, 2): 20, (1, 0): 20, (1, 1): 25}).ask((10, 5), 6), (1, 1))
-        self.assertEqual(Straightforward(award, {(0, 2): 20, (1, 0): 20}).ask((10, 5), 6), (0, 2))
-        self.assertEqual(Straightforward(award, {(0, 1): 15, (1, 0): 20}).ask((10, 5), 6), (1, 0))
-        self.assertEqual(Straightforward(award, {(0, 1): 5}).ask((10, 5), 6), (0, 1))
+        even: dict[Package, Gross] = {(0, 2): Gross(20), (1, 0): Gross(20)}
+        self.assertEqual(Straightforward(award, {**even, (1, 1): Gross(25)}).ask((10, 5), 6), (1, 1))
+        self.assertEqual(Straightforward(award, even).ask((10, 5), 6), (0, 2))
+        self.assertEqual(Straightforward(award, {(0, 1): Gross(15), (1, 0): Gross(20)}).ask((10, 5), 6), (1, 0))
+        self.assertEqual(Straightforward(award, {(0, 1): Gross(5)}).ask((10, 5), 6), (0, 1))
 
     def test_a_share_of_the_values(self) -> None:
         """Half of 60 is above the reserves of 20; half of 30 is 15, the reserves of 1 1; 4 is below its reserve."""

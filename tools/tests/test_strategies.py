@@ -15,7 +15,7 @@ from checks.cases.samples import EXAMPLES, called, sample
 from checks.cases.searches import choices_of_book, core_point, winning
 
 import cca_tools
-from cca_tools.rules.types import Bid, Package
+from cca_tools.rules.types import Bid, Gross, Package
 from cca_tools.data.prices import price, vickrey_prices
 from cca_tools.data.references import REFERENCES, nearest_to
 from cca_tools.page import plain
@@ -43,14 +43,15 @@ GRID = (0, 172, 430)
 class Bidders(unittest.TestCase):
     def test_what_is_named(self) -> None:
         """90 percent of 205 is 184.5, rounded down, less 30."""
-        self.assertEqual(Strategy(90, 30).named(205), 154)
-        self.assertEqual((Strategy(90, 30, 100).named(205), Strategy(100, 300).named(205)), (100, 0))
+        self.assertEqual(Strategy(90, 30).named(Gross(205)), 154)
+        self.assertEqual(Strategy(90, 30, Gross(100)).named(Gross(205)), 100)
+        self.assertEqual(Strategy(100, 300).named(Gross(205)), 0)
 
     def test_a_budget_in_the_clock(self) -> None:
         """At 10 and 5 the package 2 0 costs 20 and gives 40; with 19 to spend, 1 1 for 15 is what is left."""
         award = read_award(ONE)
         east = values_of_seed(award, VALUES, 1)[0]
-        asked = [Straightforward(award, east, Strategy(budget=it)).ask((10, 5), 6) for it in (20, 19, 14)]
+        asked = [Straightforward(award, east, Strategy(budget=Gross(it))).ask((10, 5), 6) for it in (20, 19, 14)]
         self.assertEqual(asked, [(2, 0), (1, 1), None])
 
     def test_many_packages(self) -> None:
@@ -60,7 +61,7 @@ class Bidders(unittest.TestCase):
             for values, budget in zip(
                 values_of_seed(award, sample("final-cap.values"), seed), (None, 300, 90, 0, None)
             ):
-                strategy = Strategy(budget=budget)
+                strategy = Strategy(budget=None if budget is None else Gross(budget))
                 plain_one = Straightforward(award, values, strategy)
                 fast = FastStraightforward(award, values, strategy)
                 for number in range(40):
@@ -71,7 +72,7 @@ class Bidders(unittest.TestCase):
         """Values of 60, 30 and 4 less 20 are 40, 10 and 0; the last two are below the reserves of 15 and 5."""
         award = read_award(ONE)
         values = values_of_seed(award, VALUES, 1)
-        book = sealed_book(award, values, [Strategy(shade=20), Strategy(budget=12)])
+        book = sealed_book(award, values, [Strategy(shade=20), Strategy(budget=Gross(12))])
         self.assertEqual(book.bids[0], [((2, 0), 40)])
         self.assertEqual(
             book.bids[1],
@@ -88,7 +89,7 @@ class Bidders(unittest.TestCase):
         self.assertEqual({east.share for east, _ in drawn}, {80})
         self.assertTrue(all(50 <= west.share <= 90 for _, west in drawn) and len({it[1].share for it in drawn}) > 9)
         (_, west) = drawn_strategies(award, models, draws_of(1), Strategy(80), {"west": {"share": 7, "shade": 2}})
-        self.assertEqual(west, Strategy(7, 2, 70))
+        self.assertEqual(west, Strategy(7, 2, Gross(70)))
         for line in ("share = 0", "shade = -1", "budget = 1.5"):
             with self.assertRaises(Stop) as caught:
                 read_values(VALUES + line.encode() + b"\n", award)
@@ -249,7 +250,7 @@ def drawn_book(draw: random.Random) -> tuple[Package, Package, list[list[Bid]]]:
     bids = []
     for _ in range(draw.randint(2, 4)):
         some = sorted(draw.sample(packages, min(len(packages), draw.randint(1, 3))))
-        bids.append([(it, sum(map(int.__mul__, it, reserves)) + draw.randint(0, 20)) for it in some])
+        bids.append([(it, Gross(sum(map(int.__mul__, it, reserves)) + draw.randint(0, 20))) for it in some])
     return supply, reserves, bids
 
 
@@ -292,7 +293,7 @@ class References(unittest.TestCase):
         """Two locals that bid 8 and 2 beside a global's 6: Vickrey prices are 4 and 0, the core asks for 6. From there
         both pay half of what is missing, from zero each pays 3 but no more than its bid of 2, and from the bids, 8 and
         2, each pays 2 less until the first pays 6."""
-        book = Book((1, 1), (0, 0), ["a", "b", "g"], [[((1, 0), 8)], [((0, 1), 2)], [((1, 1), 6)]])
+        book = Book((1, 1), (0, 0), ["a", "b", "g"], [[((1, 0), Gross(8))], [((0, 1), Gross(2))], [((1, 1), Gross(6))]])
         prices = price(book)
         self.assertEqual([it.pays for it in prices.winners], [5, 1])
         found = {it: [row.pays for row in nearest_to(book, prices, it, PROGRAM).winners] for it in REFERENCES}

@@ -13,7 +13,7 @@ from cca_tools.rules.award import read_award
 from cca_tools.rules.book import Book, read_book
 from cca_tools.rules.log import read_log
 from cca_tools.rules.ties import tie_sentences, ties_of
-from cca_tools.rules.types import Choice
+from cca_tools.rules.types import Choice, Gross
 from cca_tools.rules.winners import winning_choice
 
 report, what_if, why = map(taking, ("report", "what-if", "why"))
@@ -48,7 +48,7 @@ def drawn_book(number: int) -> Book:
     bids = []
     for _ in range(draw.randint(1, 5)):
         own = sorted(draw.sample(packages, min(len(packages), draw.randint(0, 4))))
-        bids.append([(it, sum(it) + (draw.randint(0, sum(it) + 1) if number % 3 else 0)) for it in own])
+        bids.append([(it, Gross(sum(it) + (draw.randint(0, sum(it) + 1) if number % 3 else 0))) for it in own])
     return Book(supply, reserves, [f"b{j}" for j, _ in enumerate(bids, 1)], bids)
 
 
@@ -78,13 +78,13 @@ class Enumeration(unittest.TestCase):
         self.assertTrue(0 in found and 1 in found and max(found) > 3, found)
 
     def test_words(self) -> None:
-        book = Book((1,), (0,), ["a", "b", "c"], [[((1,), 5)], [((1,), 5)], [((1,), 5)]])
+        book = Book((1,), (0,), ["a", "b", "c"], [[((1,), Gross(5))]] * 3)
         head = f"There is a tie: 2 other choices have the same net value. {DECIDES}"
         rows = [head, "  b 1 instead of a 1", "  c 1 instead of a 1"]
         self.assertEqual(tie_sentences(book, ties_of(book)), rows)
         head = f"There is a tie: more than 1 other choices have the same net value. {DECIDES}"
         self.assertEqual(tie_sentences(book, ties_of(book, 1)), [head, rows[1]])
-        nothing = Book((1,), (3,), ["a"], [[((1,), 3)]])
+        nothing = Book((1,), (3,), ["a"], [[((1,), Gross(3))]])
         self.assertEqual(tie_sentences(nothing, ties_of(nothing))[1], "  nothing instead of a 1")
 
 

@@ -14,7 +14,7 @@ from cca_tools.rules.auction import Reply, replay
 from cca_tools.rules.award import read_award
 from cca_tools.rules.book import Book
 from cca_tools.rules.log import Line, read_log
-from cca_tools.rules.types import Kind, Package
+from cca_tools.rules.types import Gross, Kind, Package
 from cca_tools.rules.winners import winning_choice
 
 what_if = taking("what-if")
@@ -38,7 +38,7 @@ def submitted(award: bytes, log: bytes, j: int, listed: Mapping[Package, int]) -
     sent += [("drop", package, 0) for package, _ in auction.drafts(j) if package not in listed]
     sent += [("draft", package, amount) for package, amount in sorted(listed.items())]
     for kind, package, amount in sent:
-        auction.take(Line(0, 0, kind, name, j, package, amount))
+        auction.take(Line(0, 0, kind, name, j, package, Gross(amount)))
         assert auction.replies[-1].is_ok, auction.replies[-1].text()
     auction.take(Line(0, 0, "submit", name, j))
     reply = auction.replies[-1]
@@ -88,37 +88,37 @@ class Advice(unittest.TestCase):
         self.assertEqual(after.submitted(j), auction.submitted(j))  # what was submitted before still counts
         if f"No list of {name} with its other packages admits it." in rows:
             self.seen["none"] += 1
-            every = {it: 10**9 for it in listed} | self.all_packages(auction, j) | {package: amount}
+            every = {it: Gross(10**9) for it in listed} | self.all_packages(auction, j) | {package: Gross(amount)}
             most = auction.caps(j).fitted(every)
             self.assertNotEqual(most.get(package), amount)
             return
         self.check_mended(award, log, j, package, rows, listed)
 
-    def all_packages(self, auction: Auction, j: int) -> dict[Package, int]:
+    def all_packages(self, auction: Auction, j: int) -> dict[Package, Gross]:
         """Each package that bidder j may draft, at a great amount."""
         asked = {package for package, _ in auction.bids(j)}
         asked |= {closed.packages[j - 1] for closed in auction.rounds}
-        return {package: 10**9 for package in asked if any(package)}
+        return {package: Gross(10**9) for package in asked if any(package)}
 
     def check_none(self, auction: Auction, j: int, package: Package, text: str) -> None:
         """No amount wins: the package can't be drafted."""
-        draft = Line(0, 0, "draft", auction.award.names[j - 1], j, package, 10**6)
+        draft = Line(0, 0, "draft", auction.award.names[j - 1], j, package, Gross(10**6))
         fault = auction.package_fault(draft, auction.award.eligibility(j))
         self.assertTrue(fault or not any(package), text)
 
     def check_least(self, auction: Auction, j: int, package: Package, amount: int) -> None:
         """With the amount the bidder wins the package, and with one less it doesn't, or may not bid that."""
         book, low = auction.book(), least_to_draft(auction, j, package)
-        self.assertEqual(won(with_bid(book, j, package, amount), j), (package, amount))
+        self.assertEqual(won(with_bid(book, j, package, Gross(amount)), j), (package, amount))
         self.assertGreaterEqual(amount, low)
         if amount > low:
-            less = won(with_bid(book, j, package, amount - 1), j)
+            less = won(with_bid(book, j, package, Gross(amount - 1)), j)
             self.assertNotEqual(less and less[0], package)
 
     def check_note(self, auction: Auction, j: int, package: Package, amount: int, rows: Sequence[str]) -> None:
         """Where it is said that the amount may not be less, one less can't be drafted, and only there."""
         name, desk = auction.award.names[j - 1], auction.desks[j - 1]
-        fault = auction.amount_fault(Line(0, 0, "draft", name, j, package, amount - 1), desk)
+        fault = auction.amount_fault(Line(0, 0, "draft", name, j, package, Gross(amount - 1)), desk)
         is_least = fault is not None and fault.word in ("below-reserve", "below-clock")
         note = "A sealed amount for this package may not be less, by its reserve and the clock."
         self.assertEqual(note in rows, is_least)
@@ -219,9 +219,9 @@ class Advice(unittest.TestCase):
                 low, high = book.reserve(package), 10**6
                 while low < high:
                     middle = (low + high) // 2
-                    got = won(with_bid(book, j, package, middle), j)
+                    got = won(with_bid(book, j, package, Gross(middle)), j)
                     low, high = (low, middle) if got and got[0] == package else (middle + 1, high)
-                self.assertEqual(least_amount(book, j, package, book.reserve(package)), low)
+                self.assertEqual(least_amount(book, j, package, Gross(book.reserve(package))), low)
 
 
 if __name__ == "__main__":

@@ -46,7 +46,7 @@ from cca_tools.rules.reasons import cap_words, counts, reason
 from cca_tools.rules.sealed import Cap, caps_if_ended
 from cca_tools.rules.state import clock_states
 from cca_tools.rules.stops import NO, Stop, load
-from cca_tools.rules.types import Amount, BidderNumber, Package
+from cca_tools.rules.types import BidderNumber, Gross, Package
 from cca_tools.rules.view import read_log_or_view, record_text, view_text
 from cca_tools.rules.words import bidder_of, package_of
 
@@ -79,9 +79,9 @@ def read_auction(award_file: str, log_file: str, name: str) -> Auction:
     return replay(award, [line for line in lines if own(line, name)] if is_view else lines)
 
 
-def least_of(auction: Auction, j: BidderNumber, package: Package) -> Amount:
+def least_of(auction: Auction, j: BidderNumber, package: Package) -> Gross:
     """The least amount that may be drafted for a package: its reserve, and what it was asked for at in the clock."""
-    return max(auction.award.reserve_of(package), auction.highest_in_clock(j).get(package, 0))
+    return Gross(max(auction.award.reserve_of(package), auction.highest_in_clock(j).get(package, Gross(0))))
 
 
 def indented(sentences: str) -> Iterator[str]:
@@ -89,7 +89,7 @@ def indented(sentences: str) -> Iterator[str]:
     yield from ("  " + sentence for sentence in sentences.replace(". ", ".\n").split("\n"))
 
 
-def listed_words(listed: Mapping[Package, Amount], package: Package, cap: Cap | None) -> str:
+def listed_words(listed: Mapping[Package, Gross], package: Package, cap: Cap | None) -> str:
     """The amount of a package on the list, and by how much it is above its cap."""
     amount, most = listed.get(package), cap.amount if cap else None
     above = f" above by {amount - most}" if amount is not None and most is not None and amount > most else ""
@@ -97,7 +97,7 @@ def listed_words(listed: Mapping[Package, Amount], package: Package, cap: Cap | 
 
 
 def package_lines(
-    auction: Auction, j: BidderNumber, listed: Mapping[Package, Amount], package: Package
+    auction: Auction, j: BidderNumber, listed: Mapping[Package, Gross], package: Package
 ) -> Iterator[str]:
     """What may be offered for a package, as a line and in words."""
     award = auction.award

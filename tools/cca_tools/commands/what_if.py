@@ -25,11 +25,12 @@ from cca_tools.rules.book import Book
 from cca_tools.rules.edits import with_bids
 from cca_tools.rules.log import Line, read_log
 from cca_tools.rules.matching import matched
+from cca_tools.rules.money import gross_of, less
 from cca_tools.rules.program import MISSING, price_lines, program, wins
 from cca_tools.rules.reasons import cap_words, counts, reason
 from cca_tools.rules.stops import MOST, NO, Stop, load
 from cca_tools.rules.ties import tie_sentences, ties_of
-from cca_tools.rules.types import Amount, BidderNumber, Package
+from cca_tools.rules.types import BidderNumber, Gross, Net, Package
 from cca_tools.rules.view import record_text
 from cca_tools.rules.winners import table_of, winning_choice
 from cca_tools.rules.words import bidder_of, package_of
@@ -134,12 +135,12 @@ def read_edited(data: bytes, award: Award) -> list[Line]:
         raise
 
 
-def with_bid(book: Book, j: BidderNumber, package: Package, amount: Amount) -> Book:
+def with_bid(book: Book, j: BidderNumber, package: Package, amount: Gross) -> Book:
     """The book with this amount for a package of bidder j."""
     return with_bids(book, j, sorted({**dict(book.bids[j - 1]), package: amount}.items()))
 
 
-def least_amount(book: Book, j: BidderNumber, package: Package, low: Amount) -> Amount | None:
+def least_amount(book: Book, j: BidderNumber, package: Package, low: Gross) -> Gross | None:
     """The least amount from `low` on with which bidder j wins the package; None if none that may be bid does.
 
     With the amount the package has to bring as much as what would win without it; the order of ties decides whether
@@ -147,20 +148,22 @@ def least_amount(book: Book, j: BidderNumber, package: Package, low: Amount) -> 
     """
     others = table_of(with_bids(book, j, []))[0]  # by the supply that is left to them
 
-    def beside(taken: Package) -> Amount:
-        return others[book.place(most - count for most, count in zip(book.supply, taken))]
+    def beside(taken: Package) -> Net:
+        return Net(others[book.place(most - count for most, count in zip(book.supply, taken))])
 
-    rivals = [net + beside(own) for (own, _), net in zip(book.bids[j - 1], book.net[j - 1]) if own != package]
-    amount = max(low, max([others[-1], *rivals]) - beside(package) + book.reserve(package))
+    rivals = [Net(net + beside(own)) for (own, _), net in zip(book.bids[j - 1], book.net[j - 1]) if own != package]
+    needed = less(max([Net(others[-1]), *rivals]), beside(package))
+    amount = max(low, gross_of(needed, book.reserve(package)))
     if amount <= MOST["amount"] and not wins(with_bid(book, j, package, amount), j, package):
-        amount += 1
+        amount = Gross(amount + 1)
     return amount if amount <= MOST["amount"] else None
 
 
-def book_with_list(auction: Auction, j: BidderNumber, listed: Mapping[Package, Amount]) -> Book:
+def book_with_list(auction: Auction, j: BidderNumber, listed: Mapping[Package, Gross]) -> Book:
     """The book in which bidder j has submitted this list, all other bids as they are."""
     clock = auction.highest_in_clock(j)
-    amounts = {it: max(clock.get(it, 0), listed.get(it, 0)) for it in {*clock, *listed} if any(it)}
+    nothing = Gross(0)
+    amounts = {it: max(clock.get(it, nothing), listed.get(it, nothing)) for it in {*clock, *listed} if any(it)}
     return with_bids(auction.book(), j, sorted(amounts.items()))
 
 
@@ -173,12 +176,12 @@ def won_words(book: Book, j: BidderNumber, package: Package) -> str:
     return f"With that list {name} wins {f'{counts(won[0])} for {won[1]}' if won else 'nothing'} instead."
 
 
-def least_to_draft(auction: Auction, j: BidderNumber, package: Package) -> Amount:
+def least_to_draft(auction: Auction, j: BidderNumber, package: Package) -> Gross:
     """The least amount that bidder j may draft for a package."""
-    return max(auction.award.reserve_of(package), auction.highest_in_clock(j).get(package, 0))
+    return Gross(max(auction.award.reserve_of(package), auction.highest_in_clock(j).get(package, Gross(0))))
 
 
-def mended_list(auction: Auction, j: BidderNumber, package: Package, amount: Amount) -> dict[Package, Amount] | None:
+def mended_list(auction: Auction, j: BidderNumber, package: Package, amount: Gross) -> dict[Package, Gross] | None:
     """An admitted list with the amount and with the submitted packages: the entries on which its cap rests are raised
     by what it needs, and others are changed where their own caps ask for that. None if there is none."""
     caps = auction.caps(j)
@@ -190,7 +193,7 @@ def mended_list(auction: Auction, j: BidderNumber, package: Package, amount: Amo
     return mended if has_room and mended.get(package) == amount else None
 
 
-def change_words(before: Mapping[Package, Amount], after: Mapping[Package, Amount], package: Package) -> str:
+def change_words(before: Mapping[Package, Gross], after: Mapping[Package, Gross], package: Package) -> str:
     """What a list has otherwise than the submitted one, except for one package."""
     parts = []
     for it in sorted({*before, *after} - {package}):
@@ -201,9 +204,7 @@ def change_words(before: Mapping[Package, Amount], after: Mapping[Package, Amoun
     return f"They would admit it on that list {', '.join(parts)}."
 
 
-def refusal_words(
-    auction: Auction, j: BidderNumber, listed: Mapping[Package, Amount], fault: tuple[int, Amount]
-) -> str:
+def refusal_words(auction: Auction, j: BidderNumber, listed: Mapping[Package, Gross], fault: tuple[int, Gross]) -> str:
     """Why a submission of this list is refused."""
     name, caps = auction.award.names[j - 1], auction.caps(j)
     entry = sorted(listed)[fault[0] - 1]
@@ -224,7 +225,7 @@ class Admission(NamedTuple):
     book: Book
 
 
-def admission(auction: Auction, j: BidderNumber, package: Package, amount: Amount) -> Admission:
+def admission(auction: Auction, j: BidderNumber, package: Package, amount: Gross) -> Admission:
     """Whether a submission with the amount is admitted, all other entries of the submitted list as they are, and if it
     isn't, a list that is, and what that wins."""
     submitted, name, alone = dict(auction.submitted(j)), auction.award.names[j - 1], "with it, were it admitted"

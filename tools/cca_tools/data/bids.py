@@ -24,7 +24,7 @@ from cca_tools.rules.award import NAME
 from cca_tools.rules.book import Book, book_text, read_book
 from cca_tools.rules.printable import clipped
 from cca_tools.rules.stops import MOST, LineSpot, Stop, within
-from cca_tools.rules.types import Amount, Package
+from cca_tools.rules.types import Bid, Gross, Package
 
 LONGEST, MOST_DECIMALS = 20, 9
 MISSING = ("None", "nan", "<NA>", "NaT")  # what a frame has in cells without a value
@@ -130,9 +130,9 @@ def merged(bids: Sequence[RawBid], sold: Sold, changes: list[str]) -> Iterator[R
 def book_of(bids: Sequence[RawBid], sold: Sold, changes: list[str]) -> Made:
     """The book of bids, within the limits; bidders are in the order in which they come first, which decides ties."""
     names, scale = names_of(bids, changes), scale_of(bids, sold, changes)
-    listed: dict[str, list[tuple[Package, Amount]]] = {name: [] for name in names.values()}
+    listed: dict[str, list[Bid]] = {name: [] for name in names.values()}
     for bid in merged(bids, sold, changes):
-        listed[names[bid.bidder]].append((bid.package, int(bid.amount * scale)))
+        listed[names[bid.bidder]].append((bid.package, Gross(int(bid.amount * scale))))
     for name, of_one in listed.items():
         if of_one != sorted(of_one):
             changes.append(f"sorted the bids of {name} by their packages")

@@ -18,7 +18,7 @@ from cca_tools.pricing.nearest import Demand, Nearest
 from cca_tools.rules.book import Book
 from cca_tools.rules.money import gross_price_of
 from cca_tools.rules.stops import CRASH, MOST, Stop, limit
-from cca_tools.rules.types import Amount, Bid, NetPrice, Package
+from cca_tools.rules.types import Amount, Bid, Gross, NetPrice, Package
 
 Reference: TypeAlias = Literal["zero", "reserve", "bids"]
 REFERENCES: tuple[Reference, ...] = get_args(Reference)
@@ -78,7 +78,7 @@ def blocking(book: Book, prices: Prices, winners: Sequence[int], pays: Sequence[
 def lowered_bids(book: Book, k: int, den: int, less: int) -> list[Bid]:
     """The bids of a bidder, net, times `den` and less its surplus; those below 0 are left out."""
     worths = [(package, den * net - less) for (package, _), net in zip(book.bids[k], book.net[k])]
-    return [(package, worth) for package, worth in worths if worth >= 0]
+    return [(package, Gross(worth)) for package, worth in worths if worth >= 0]
 
 
 def net_of(book: Book, k: int, package: Package) -> Amount:

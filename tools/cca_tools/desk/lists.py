@@ -9,15 +9,15 @@ from cca_tools.page.words import number
 from cca_tools.rules.auction import Auction
 from cca_tools.rules.award import dot
 from cca_tools.rules.reasons import counts
-from cca_tools.rules.types import Amount, BidderNumber, Package
+from cca_tools.rules.types import BidderNumber, Gross, Package
 
 
-def amount_cell(amount: Amount | None, is_odd: bool = False) -> Cell:
+def amount_cell(amount: Gross | None, is_odd: bool = False) -> Cell:
     """An amount; a dash if there is none."""
     return Cell(NONE if amount is None else number(amount), "", "warm" if is_odd else "")
 
 
-def submitted_cell(drafted: Amount | None, submitted: Amount | None) -> Cell:
+def submitted_cell(drafted: Gross | None, submitted: Gross | None) -> Cell:
     """What is submitted, and whether it differs from what is drafted."""
     return Cell(NONE if submitted is None else number(submitted), "", "" if drafted == submitted else "warm")
 
@@ -36,7 +36,7 @@ def draft_table(auction: Auction, j: BidderNumber, speech: Speech) -> Table:
     packages = sorted({*desk.drafts, *desk.submitted, *(it for it in desk.highest_in_clock if any(it))})
     rows = []
     for package in packages:
-        drafted, price = desk.drafts.get(package), dot(prices, package)
+        drafted, price = desk.drafts.get(package), Gross(dot(prices, package))
         is_odd = drafted is not None and price > 0 and drafted > PROPORTION * price
         cells = [
             Cell(speech.package(package), counts(package)),

@@ -15,10 +15,10 @@ from cca_tools.rules.auction import Auction
 from cca_tools.rules.award import Award, SpectrumCap, dot
 from cca_tools.rules.log import Line
 from cca_tools.rules.stops import MOST
-from cca_tools.rules.types import Amount, BidderNumber, Kind, Package
+from cca_tools.rules.types import BidderNumber, Gross, Kind, Package
 
 Measure: TypeAlias = Callable[[Package], int]
-TOP = MOST["amount"]
+TOP = Gross(MOST["amount"])
 
 
 class Scale:
@@ -87,7 +87,7 @@ class Probes:
         yield self.line("draft", j, package, TOP)
         yield self.line("drop", j, package) if before is None else self.line("draft", j, package, before)
 
-    def line(self, kind: Kind, j: BidderNumber, package: Package = (), amount: Amount = 0) -> Line:
+    def line(self, kind: Kind, j: BidderNumber, package: Package = (), amount: Gross = Gross(0)) -> Line:
         """A line of bidder j. Its number has no meaning."""
         return Line(0, 0, kind, self.award.names[j - 1], j, package, amount)
 

@@ -20,7 +20,7 @@ from cca_tools.rules.award import Award
 from cca_tools.rules.names import LongNames
 from cca_tools.rules.printable import clipped
 from cca_tools.rules.reasons import counts
-from cca_tools.rules.types import Amount, BidderNumber, Package
+from cca_tools.rules.types import BidderNumber, Gross, Package
 
 MOST_FILE, MOST_ROW = 1 << 18, 1_000  # bytes of a file, characters of a row
 SEPARATORS = "\t;,"
@@ -68,7 +68,7 @@ class Row:
     number: int
     text: str
     package: Package
-    amount: Amount
+    amount: Gross
 
 
 @dataclass(frozen=True)
@@ -80,7 +80,7 @@ class Sheet:
     faults: Sequence[Fault]
 
     @property
-    def bids(self) -> dict[Package, Amount]:
+    def bids(self) -> dict[Package, Gross]:
         """The packages with their amounts, in the order of the list."""
         return {it.package: it.amount for it in self.rows}
 
@@ -88,7 +88,7 @@ class Sheet:
         """The rows by the drafts that they become in the log."""
         return {draft_of(bidder, it): it for it in self.rows}
 
-    def lines(self, bidder: str, drafts: Mapping[Package, Amount], is_whole: bool, submits: bool) -> str:
+    def lines(self, bidder: str, drafts: Mapping[Package, Gross], is_whole: bool, submits: bool) -> str:
         """The lines of the log: drafts to be dropped if the list is the whole one, then drafts, then a submission."""
         gone = sorted(drafts.keys() - self.bids.keys()) if is_whole else []
         found = [f"drop,{bidder},{counts(package)},\n" for package in gone]
@@ -175,7 +175,7 @@ def package_of(cells: Sequence[str], order: Sequence[int], width: int) -> Packag
 def row_of(number: int, text: str, cells: Sequence[str], order: Sequence[int], award: Award) -> Row:
     """A row that is a bid. Raises `NotLines`."""
     package = package_of(cells, order, len(award.categories))
-    row = Row(number, text, package, int(amount_of(cells[-1])))
+    row = Row(number, text, package, Gross(int(amount_of(cells[-1]))))
     if why := why_not(draft_of(award.names[0], row), award, False):
         raise NotLines(why)
     return row
@@ -241,7 +241,7 @@ class Handed:
     is_whole: bool
     submits: bool
 
-    def lines(self, drafts: Mapping[Package, Amount]) -> str:
+    def lines(self, drafts: Mapping[Package, Gross]) -> str:
         """The lines of the log."""
         has_all = not self.sheet.faults
         return self.sheet.lines(self.bidder, drafts, self.is_whole and has_all, self.submits and has_all)

@@ -15,7 +15,7 @@ from cca_tools.rules.award import Award, dot
 from cca_tools.rules.log import Line
 from cca_tools.rules.names import LongNames
 from cca_tools.rules.reasons import counts
-from cca_tools.rules.types import Amount, BidderNumber, Package
+from cca_tools.rules.types import Amount, Bid, BidderNumber, Gross, Package
 
 
 class Speech:
@@ -73,7 +73,7 @@ def times_words(amount: Amount, base: Amount) -> str:
     return f"{number(amount // base)} times"
 
 
-def proportion_warnings(speech: Speech, auction: Auction, j: BidderNumber, bid: tuple[Package, Amount]) -> list[str]:
+def proportion_warnings(speech: Speech, auction: Auction, j: BidderNumber, bid: Bid) -> list[str]:
     """Why an amount of a list is out of proportion to the package's price at the final clock prices, and to the amount
     that its list had before."""
     package, amount = bid
@@ -176,7 +176,7 @@ def submit_told(speech: Speech, auction: Auction, line: Line) -> Told:
     return Told(found, warnings)
 
 
-def changes_of(before: dict[Package, Amount], after: dict[Package, Amount]) -> Iterator[str]:
+def changes_of(before: dict[Package, Gross], after: dict[Package, Gross]) -> Iterator[str]:
     """How a list differs from the one before it."""
     both = before.keys() & after.keys()
     yield f"{count(len(after.keys() - before.keys()), 'package')} new"

@@ -14,7 +14,7 @@ from typing import Any
 from cca_tools.pricing.tables import filler_of, has_numpy
 from cca_tools.rules.book import Book
 from cca_tools.rules.ties import ties_of
-from cca_tools.rules.types import Amount, Package
+from cca_tools.rules.types import Net, Package
 
 MOST_PAIRS = 2_000_000  # of a supply and a package within it
 NONE = -(2**60)  # a value below all others: there is no bid for the package
@@ -71,19 +71,19 @@ def worths_of(book: Book, j: int) -> Any:
     return worths
 
 
-def best_value(book: Book) -> Amount:
+def best_value(book: Book) -> Net:
     """The greatest net value of a choice."""
     pairs = pairs_of(book.supply)
     if pairs is None:
         filler = filler_of(book)
-        return filler.top(filler.table(book.net))
+        return Net(filler.top(filler.table(book.net)))
     import numpy
 
     line = numpy.zeros(book.states, numpy.int64)
     for j in range(book.bidders):
         reached = worths_of(book, j)[pairs.packages] + line[pairs.rest]
         line = numpy.maximum.reduceat(reached, pairs.starts)
-    return int(line[-1])
+    return Net(int(line[-1]))
 
 
 def has_tie(book: Book) -> bool:

@@ -18,7 +18,7 @@ from cca_tools.pricing.program_rows import program_point
 from cca_tools.pricing.tables import NARROW, Filler, Lines, Worths, filler_of, most_worth
 from cca_tools.rules.book import Book
 from cca_tools.rules.stops import MOST
-from cca_tools.rules.types import Amount, Choice
+from cca_tools.rules.types import Amount, Choice, Net
 from cca_tools.terminal import progress
 
 
@@ -31,7 +31,7 @@ class Market:
     value: Amount
     table: Lines
     winners: list[int]  # bidders, from 0
-    won: list[Amount]  # the net amount of each winner's bid
+    won: list[Net]  # the net amount of each winner's bid
     without: list[tuple[Choice, Lines]]  # of each winner
     vickrey: list[Amount]  # of each winner
 

@@ -15,7 +15,7 @@ from cca_tools.rules.clock import Round, cost, first_round, next_round, price_fa
 from cca_tools.rules.log import Line, Posted
 from cca_tools.rules.sealed import Cap, Caps, caps_of
 from cca_tools.rules.stops import MOST, Stop, limit, refused
-from cca_tools.rules.types import Amount, Bid, BidderNumber, Kind, Package, Stage
+from cca_tools.rules.types import Bid, BidderNumber, Gross, Kind, Package, Stage
 
 STAGES: dict[Kind, tuple[Stage, ...]] = {
     "bid": ("clock",),
@@ -36,7 +36,7 @@ class Facts(TypedDict, total=False):
     weighted: int
     points: int
     cap: Cap | None
-    amount: Amount
+    amount: Gross
 
 
 @dataclasses.dataclass(frozen=True)
@@ -70,9 +70,9 @@ class Desk:
     clock."""
 
     def __init__(self) -> None:
-        self.drafts: dict[Package, Amount] = {}
-        self.submitted: dict[Package, Amount] = {}
-        self.highest_in_clock: dict[Package, Amount] = {}
+        self.drafts: dict[Package, Gross] = {}
+        self.submitted: dict[Package, Gross] = {}
+        self.highest_in_clock: dict[Package, Gross] = {}
         self.caps: Caps | None = None
         self.tested: Reply | None = None  # the answer to a submission of the drafts as they are
 
@@ -165,7 +165,7 @@ class Auction:
         """Why an amount can't be drafted for a package, or None."""
         if not any(line.package):
             return Reply("empty")
-        reserve, asked = self.award.reserve_of(line.package), desk.highest_in_clock.get(line.package, 0)
+        reserve, asked = self.award.reserve_of(line.package), desk.highest_in_clock.get(line.package, Gross(0))
         if line.amount < reserve:
             return Reply("below-reserve", (reserve,))
         if line.amount < asked:
@@ -242,7 +242,7 @@ class Auction:
         closed = self.running_round
         self.rounds.append(closed)
         for desk, package in zip(self.desks, closed.packages):
-            desk.highest_in_clock[package] = max(cost(closed, package), desk.highest_in_clock.get(package, 0))
+            desk.highest_in_clock[package] = max(cost(closed, package), desk.highest_in_clock.get(package, Gross(0)))
         if answer.word == "round":
             self.open_round = next_round(self.award, closed, answer.numbers[1:])
         else:
@@ -256,21 +256,21 @@ class Auction:
         """The submitted list of bidder j, in the order of packages."""
         return sorted(self.desks[j - 1].submitted.items())
 
-    def highest_in_clock(self, j: BidderNumber) -> dict[Package, Amount]:
+    def highest_in_clock(self, j: BidderNumber) -> dict[Package, Gross]:
         """The highest amount of each package that bidder j asked for in a closed round."""
         return self.desks[j - 1].highest_in_clock
 
-    def clock_bids(self, j: BidderNumber) -> list[tuple[int, Package, Amount]]:
+    def clock_bids(self, j: BidderNumber) -> list[tuple[int, Package, Gross]]:
         """What the bidder asked for in each closed round: the round, the package and what it came to."""
         return [(r.number, r.packages[j - 1], cost(r, r.packages[j - 1])) for r in self.rounds]
 
     def bids(self, j: BidderNumber) -> list[Bid]:
         """The bids of the book: each package that isn't empty, of the clock and of the submitted list, with its
         greatest amount."""
-        best: dict[Package, Amount] = {}
+        best: dict[Package, Gross] = {}
         for package, amount in [*self.highest_in_clock(j).items(), *self.submitted(j)]:
             if any(package):
-                best[package] = max(amount, best.get(package, 0))
+                best[package] = max(amount, best.get(package, Gross(0)))
         return sorted(best.items())
 
     def book(self) -> Book:

@@ -9,8 +9,9 @@ from dataclasses import dataclass, field
 from typing import Generic, TypeVar
 
 from cca_tools.rules.lines import Text
+from cca_tools.rules.money import net_of, total
 from cca_tools.rules.stops import MOST, within
-from cca_tools.rules.types import Amount, Bid, BidderNumber, Choice, Package, Prices
+from cca_tools.rules.types import Amount, Bid, BidderNumber, Choice, Gross, Net, Package, Prices
 
 # What a bid is for: a package, or the slot at which a bidder begins in a band.
 What = TypeVar("What")
@@ -21,27 +22,27 @@ class Menu(Generic[What]):
     none."""
 
     names: list[str]
-    bids: list[list[tuple[What, Amount]]]  # of each bidder
-    net: list[list[Amount]]  # of each bid
+    bids: list[list[tuple[What, Gross]]]  # of each bidder
+    net: list[list[Net]]  # of each bid
 
     @property
     def bidders(self) -> int:
         """How many bidders there are."""
         return len(self.names)
 
-    def value(self, choice: Choice) -> Amount:
+    def value(self, choice: Choice) -> Net:
         """The sum of the net amounts of a known choice."""
-        return sum(net[number - 1] for net, number in zip(self.net, choice) if number)
+        return total(net[number - 1] for net, number in zip(self.net, choice) if number)
 
-    def won_net(self, choice: Choice, j: BidderNumber) -> Amount:
+    def won_net(self, choice: Choice, j: BidderNumber) -> Net:
         """The net amount with which bidder j wins in a known choice, 0 where it doesn't."""
-        return self.net[j - 1][choice[j - 1] - 1] if choice[j - 1] else 0
+        return self.net[j - 1][choice[j - 1] - 1] if choice[j - 1] else Net(0)
 
-    def won(self, choice: Choice, j: BidderNumber) -> tuple[What, Amount] | None:
+    def won(self, choice: Choice, j: BidderNumber) -> tuple[What, Gross] | None:
         """The bid with which bidder j wins, or None."""
         return self.bids[j - 1][choice[j - 1] - 1] if choice[j - 1] else None
 
-    def winning(self, choice: Choice, j: BidderNumber) -> tuple[What, Amount]:
+    def winning(self, choice: Choice, j: BidderNumber) -> tuple[What, Gross]:
         """The bid with which a winner wins."""
         return self.bids[j - 1][choice[j - 1] - 1]
 
@@ -54,11 +55,11 @@ class Book(Menu[Package]):
     reserves: Prices
     names: list[str]
     bids: list[list[Bid]]
-    net: list[list[Amount]] = field(init=False)
+    net: list[list[Net]] = field(init=False)
     states: int = field(init=False)  # how many remaining supplies there are
 
     def __post_init__(self) -> None:
-        self.net = [[amount - self.reserve(package) for package, amount in bids] for bids in self.bids]
+        self.net = [[net_of(amount, self.reserve(package)) for package, amount in bids] for bids in self.bids]
         self.states = math.prod(count + 1 for count in self.supply)
 
     def reserve(self, package: Package) -> Amount:
@@ -142,7 +143,7 @@ def read_bid(text: Text, book: Book, fields: list[bytes]) -> None:
     rises = "the packages of a bidder rise, and this one isn't after the one before it"
     text.need(not bids or bids[-1][0] < package, rises)
     within("bids", len(bids) + 1, MOST["bids"])
-    bids.append((package, amount))
+    bids.append((package, Gross(amount)))
 
 
 def book_text(book: Book) -> bytes:

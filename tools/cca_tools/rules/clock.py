@@ -7,7 +7,7 @@ from collections.abc import Sequence
 
 from cca_tools.rules.award import Award, dot
 from cca_tools.rules.stops import MOST
-from cca_tools.rules.types import Amount, Package, Prices
+from cca_tools.rules.types import Amount, Gross, Package, Prices
 
 
 @dataclasses.dataclass
@@ -54,6 +54,6 @@ def price_fault(prices: Sequence[Amount]) -> tuple[int, Amount] | None:
     return next(((c, price) for c, price in enumerate(prices, 1) if price > MOST["price"]), None)
 
 
-def cost(closed: Round, package: Package) -> Amount:
+def cost(closed: Round, package: Package) -> Gross:
     """What a package costs at the prices of a round."""
-    return dot(closed.prices, package)
+    return Gross(dot(closed.prices, package))

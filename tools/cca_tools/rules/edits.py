@@ -9,7 +9,7 @@ from typing import Literal, TypeAlias, cast
 from cca_tools.rules.book import Book
 from cca_tools.rules.lines import Text
 from cca_tools.rules.stops import MOST, within
-from cca_tools.rules.types import Amount, Bid, Package
+from cca_tools.rules.types import Bid, Gross, Package
 
 EditKind: TypeAlias = Literal["add", "raise", "drop"]
 # Whether an edit has an amount.
@@ -25,7 +25,7 @@ class Edit:
     kind: EditKind
     name: str
     package: Package
-    amount: Amount
+    amount: Gross
 
     def text(self) -> str:
         """The line that states the edit."""
@@ -66,7 +66,7 @@ def read_edit(text: Text, fields: list[bytes], categories: int) -> Edit:
     name = text.name(fields[1])
     package = tuple(text.number(field, 0, MOST["count"], "a count") for field in fields[2 : 2 + categories])
     amount = text.number(fields[-1], 0, MOST["draft amount"], "an amount") if has_amount else 0
-    return Edit(text.row, kind, name, package, amount)
+    return Edit(text.row, kind, name, package, Gross(amount))
 
 
 def refusal_of(book: Book, edit: Edit) -> Refusal | None:
@@ -86,7 +86,7 @@ def refusal_of(book: Book, edit: Edit) -> Refusal | None:
     return {"add": add_refusal, "raise": raise_refusal, "drop": drop_refusal}[edit.kind](book, edit, bids)
 
 
-def add_refusal(book: Book, edit: Edit, bids: dict[Package, Amount]) -> Refusal | None:
+def add_refusal(book: Book, edit: Edit, bids: dict[Package, Gross]) -> Refusal | None:
     """Why a bid can't be added to these bids of its bidder."""
     reserve = book.reserve(edit.package)
     if edit.package in bids:
@@ -102,7 +102,7 @@ def add_refusal(book: Book, edit: Edit, bids: dict[Package, Amount]) -> Refusal 
     return None
 
 
-def raise_refusal(book: Book, edit: Edit, bids: dict[Package, Amount]) -> Refusal | None:
+def raise_refusal(book: Book, edit: Edit, bids: dict[Package, Gross]) -> Refusal | None:
     """Why one of these bids of a bidder can't be raised."""
     if edit.package not in bids:
         return absent(edit)
@@ -113,7 +113,7 @@ def raise_refusal(book: Book, edit: Edit, bids: dict[Package, Amount]) -> Refusa
     return amount_top() if edit.amount > MOST["amount"] else None
 
 
-def drop_refusal(book: Book, edit: Edit, bids: dict[Package, Amount]) -> Refusal | None:
+def drop_refusal(book: Book, edit: Edit, bids: dict[Package, Gross]) -> Refusal | None:
     """Why one of these bids of a bidder can't be dropped."""
     return None if edit.package in bids else absent(edit)
 

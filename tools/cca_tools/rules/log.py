@@ -12,7 +12,7 @@ from typing import Literal, TypeAlias, cast, get_args
 
 from cca_tools.rules.award import NAME, Award
 from cca_tools.rules.stops import MOST, RecordSpot, refused, within
-from cca_tools.rules.types import Amount, BidderNumber, Kind, Package, Prices
+from cca_tools.rules.types import BidderNumber, Gross, Kind, Package, Prices
 
 MARK = b"\xef\xbb\xbf"
 NUMBER = re.compile(rb"0|[1-9][0-9]{0,18}")  # no number of a log has more than 19 digits
@@ -40,7 +40,7 @@ class Line:
     name: str  # "" of a close
     bidder: BidderNumber  # 0 for a stranger, and for a close
     package: Package = ()  # of a bid, a draft and a drop
-    amount: Amount = 0  # of a draft
+    amount: Gross = Gross(0)  # of a draft
     posted: Posted | None = None  # of a close in a bidder's own view
 
 
@@ -127,10 +127,10 @@ def need_empty(kind: str, **fields: bytes) -> None:
             raise Faulty(name, text, f"a {kind} has no {name}")
 
 
-def amount_of(text: bytes) -> Amount:
+def amount_of(text: bytes) -> Gross:
     """The amount that a field states."""
     rule = f"an amount is a whole number of at most {MOST['draft amount']}"
-    return number_of(text, MOST["draft amount"], "amount", rule)
+    return Gross(number_of(text, MOST["draft amount"], "amount", rule))
 
 
 def name_of(text: bytes) -> str:
@@ -167,7 +167,8 @@ def line_of(number: int, row: int, fields: list[bytes], award: Award) -> Line:
     counts = counts_of(package, len(award.categories))
     if kind != "draft":
         need_empty(kind, amount=amount)
-    return Line(number, row, kind, name, award.number_of(name), counts, amount_of(amount) if kind == "draft" else 0)
+    named = amount_of(amount) if kind == "draft" else Gross(0)
+    return Line(number, row, kind, name, award.number_of(name), counts, named)
 
 
 def decoded(text: bytes) -> str:

@@ -12,22 +12,24 @@ from dataclasses import dataclass, field
 from cca_tools.rules.book import Menu
 from cca_tools.rules.certificate import Certificate, Reader
 from cca_tools.rules.lines import Text
+from cca_tools.rules.money import net_of
 from cca_tools.rules.stops import MOST, within
-from cca_tools.rules.types import Amount, BidderNumber, TableLine
+from cca_tools.rules.types import BidderNumber, Gross, Net, TableLine
 
 
 @dataclass
 class Slots(Menu[int]):
-    """A band of this many slots, and for each bidder its width and its bids for starts, which rise."""
+    """A band of this many slots, and for each bidder its width and its bids for starts, which rise. No start has a
+    reserve."""
 
     band: int
     names: list[str]
     widths: list[int]
-    bids: list[list[tuple[int, Amount]]]
-    net: list[list[Amount]] = field(init=False)
+    bids: list[list[tuple[int, Gross]]]
+    net: list[list[Net]] = field(init=False)
 
     def __post_init__(self) -> None:
-        self.net = [[amount for _, amount in bids] for bids in self.bids]
+        self.net = [[net_of(amount, 0) for _, amount in bids] for bids in self.bids]
 
     def width_of(self, members: int) -> int:
         """The widths of a set of bidders together."""
@@ -81,7 +83,7 @@ def read_place(text: Text, slots: Slots, fields: list[bytes]) -> None:
         not slots.bids[-1] or slots.bids[-1][-1][0] < start,
         "the starts of a bidder rise, and this one isn't after the one before it",
     )
-    slots.bids[-1].append((start, amount))
+    slots.bids[-1].append((start, Gross(amount)))
 
 
 class PlacedChoice(tuple[int, ...]):

@@ -13,7 +13,7 @@ from typing import TYPE_CHECKING
 
 from cca_tools.rules.award import Award, dot
 from cca_tools.rules.clock import Round, cost
-from cca_tools.rules.types import Amount, Bid, BidderNumber, Package, Prices
+from cca_tools.rules.types import Amount, Bid, BidderNumber, Gross, Package, Prices
 
 if TYPE_CHECKING:
     from cca_tools.rules.auction import Auction
@@ -26,10 +26,10 @@ class Cap:
     package: Package
     constraining_round: int
     held: Package  # what the bidder asked for in that round
-    standing: Amount  # the highest amount that its bidder named for what was held
+    standing: Gross  # the highest amount that its bidder named for what was held
     prices: Prices  # of that round
-    by_round: Amount  # the cap that this round gives
-    amount: Amount | None  # the cap; None for the package of the final round, which has none
+    by_round: Gross  # the cap that this round gives
+    amount: Gross | None  # the cap; None for the package of the final round, which has none
     final: Cap | None = None  # in an award of version 2 what the final round gives
 
 
@@ -42,7 +42,7 @@ class Caps:
         award: Award,
         rounds: Sequence[Round],
         j: BidderNumber,
-        highest_in_clock: Mapping[Package, Amount],
+        highest_in_clock: Mapping[Package, Gross],
     ) -> None:
         self.award, self.clock = award, highest_in_clock
         self.prices = [closed.prices for closed in rounds]
@@ -60,9 +60,11 @@ class Caps:
             self.last_rounds[points] = next((r for r in rounds if self.eligibility[r - 1] >= points), 0)
         return self.last_rounds[points]
 
-    def highest(self, amounts: Mapping[Package, Amount], package: Package) -> Amount:
+    def highest(self, amounts: Mapping[Package, Gross], package: Package) -> Gross:
         """The highest amount for a package, in the clock and in the list: 0 for the empty package."""
-        return max(self.clock.get(package, 0), amounts.get(package, 0)) if any(package) else 0
+        if not any(package):
+            return Gross(0)
+        return max(self.clock.get(package, Gross(0)), amounts.get(package, Gross(0)))
 
     def step(self, number: int, package: Package) -> tuple[Package, Amount]:
         """What was held in a round, and what the package cost more than that at the prices of the round."""
@@ -79,24 +81,24 @@ class Caps:
             )
         return self.steps[package]
 
-    def amount(self, amounts: Mapping[Package, Amount], package: Package) -> Amount | None:
+    def amount(self, amounts: Mapping[Package, Gross], package: Package) -> Gross | None:
         """The cap of a package where these amounts are listed, and None if it has none."""
-        return min((self.highest(amounts, held) + more for held, more in self.steps_of(package)), default=None)
+        return min((Gross(self.highest(amounts, held) + more) for held, more in self.steps_of(package)), default=None)
 
     def by(
         self,
         number: int,
-        amounts: Mapping[Package, Amount],
+        amounts: Mapping[Package, Gross],
         package: Package,
-        amount: Amount | None,
+        amount: Gross | None,
         final: Cap | None = None,
     ) -> Cap:
         """The cap that one round gives."""
         held, more = self.step(number, package)
         standing = self.highest(amounts, held)
-        return Cap(package, number, held, standing, self.prices[number - 1], standing + more, amount, final)
+        return Cap(package, number, held, standing, self.prices[number - 1], Gross(standing + more), amount, final)
 
-    def cap(self, amounts: Mapping[Package, Amount], package: Package) -> Cap | None:
+    def cap(self, amounts: Mapping[Package, Gross], package: Package) -> Cap | None:
         """The cap with all that it comes from; None if the bidder never had the points of the package."""
         number, last = self.constraining_round(package), len(self.prices)
         if not number:
@@ -112,7 +114,7 @@ class Caps:
             self.in_clock[package] = math.inf if amount is None else amount
         return self.in_clock[package]
 
-    def fault(self, listed: Sequence[Bid]) -> tuple[int, Amount] | None:
+    def fault(self, listed: Sequence[Bid]) -> tuple[int, Gross] | None:
         """The first entry of a list that is above its cap, by its number, and the cap; or None."""
         amounts = dict(listed)
         for entry, (package, amount) in enumerate(listed, 1):
@@ -122,7 +124,7 @@ class Caps:
                     return entry, most
         return None
 
-    def fitted(self, listed: Mapping[Package, Amount]) -> dict[Package, Amount]:
+    def fitted(self, listed: Mapping[Package, Gross]) -> dict[Package, Gross]:
         """The greatest list that is admitted of those in which no amount is above that of the given one.
 
         Lowering an entry lowers the caps that rest on it, so entries are lowered until none is above its cap. None
@@ -138,9 +140,7 @@ class Caps:
                     amounts[package], is_settled = cap, False
         return amounts
 
-    def raised(
-        self, listed: Mapping[Package, Amount], package: Package, amount: Amount
-    ) -> dict[Package, Amount] | None:
+    def raised(self, listed: Mapping[Package, Gross], package: Package, amount: Gross) -> dict[Package, Gross] | None:
         """An admitted list with this amount for a package, where `listed` is admitted: the entries on which its cap
         rests are raised by no more than it needs. None if its cap rests on a round in which nothing was held.
 
@@ -155,7 +155,7 @@ class Caps:
             if not any(entry):
                 return None
             amounts[entry] = needed
-            left += [(held, needed - more) for held, more in self.steps_of(entry)]
+            left += [(held, Gross(needed - more)) for held, more in self.steps_of(entry)]
         return amounts
 
 
@@ -168,5 +168,5 @@ def caps_if_ended(auction: Auction, j: BidderNumber) -> Caps:
     """The caps of bidder j as they would be if the clock ended with the open round as it is."""
     here, highest = auction.running_round, dict(auction.highest_in_clock(j))
     asked = here.packages[j - 1]
-    highest[asked] = max(cost(here, asked), highest.get(asked, 0))
+    highest[asked] = max(cost(here, asked), highest.get(asked, Gross(0)))
     return Caps(auction.award, [*auction.rounds, here], j, highest)

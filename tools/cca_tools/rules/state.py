@@ -11,11 +11,12 @@ from collections.abc import Sequence
 from typing import Literal, TypeAlias
 
 from cca_tools.rules.auction import Auction, Reply
+from cca_tools.rules.clock import cost
 from cca_tools.rules.log import Line
 from cca_tools.rules.pricing import winners_warning
 from cca_tools.rules.reasons import reason
 from cca_tools.rules.stops import MOST
-from cca_tools.rules.types import Amount, BidderNumber, Package
+from cca_tools.rules.types import Amount, BidderNumber, Gross, Package
 
 # What a bidder does in the open round: it asks for a package, it asked for nothing, it has sent no line that was
 # admitted, or it has no eligibility left.
@@ -53,7 +54,7 @@ class ClockState:
     activity: Activity
     package: Package
     points: int
-    cost: Amount
+    cost: Gross
     rooms: tuple[CapRoom, ...]
 
     @property
@@ -68,8 +69,8 @@ class Above:
 
     entry: int
     package: Package
-    amount: Amount
-    cap: Amount
+    amount: Gross
+    cap: Gross
 
     @property
     def by(self) -> Amount:
@@ -142,9 +143,8 @@ def clock_states(auction: Auction) -> list[ClockState]:
             CapRoom(number, cap.limit - award.weighted(cap, j, package), cap.limit)
             for number, cap in enumerate(award.caps, 1)
         )
-        paid = sum(count * price for count, price in zip(package, here.prices))
         activity = activity_of(package, may, j in sent)
-        found.append(ClockState(name, may, activity, package, award.points_of(package), paid, rooms))
+        found.append(ClockState(name, may, activity, package, award.points_of(package), cost(here, package), rooms))
     return found
 
 

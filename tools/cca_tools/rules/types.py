@@ -28,7 +28,7 @@ Prices: TypeAlias = tuple[Amount, ...]
 # The number of a bidder, 0 for none.
 BidderNumber: TypeAlias = int
 # A package and what is offered for it.
-Bid: TypeAlias = tuple[Package, Amount]
+Bid: TypeAlias = tuple[Package, Gross]
 # For each bidder the number of its bid, 0 where it wins none.
 Choice: TypeAlias = tuple[int, ...]
 # A line of a table: an amount for each remaining supply, or for each set of bidders. It is net, and scaled in a lowered

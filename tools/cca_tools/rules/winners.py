@@ -6,7 +6,7 @@ from collections.abc import Iterator
 
 from cca_tools.rules.book import Book
 from cca_tools.rules.tables import places_with
-from cca_tools.rules.types import Amount, BidderNumber, Choice, Table, TableLine
+from cca_tools.rules.types import BidderNumber, Choice, Net, Table, TableLine
 
 
 def line_before(book: Book, j: BidderNumber, line: TableLine) -> TableLine:
@@ -39,13 +39,13 @@ def number_at(book: Book, j: BidderNumber, table: Table, place: int) -> tuple[in
     return 0, place
 
 
-def winning_choice(book: Book) -> tuple[Choice, Amount]:
+def winning_choice(book: Book) -> tuple[Choice, Net]:
     """The number of each bidder's bid in the winning choice, or 0, and its net value."""
     table, place, choice = table_of(book), book.states - 1, list[int]()
     for j in range(1, book.bidders + 1):
         number, place = number_at(book, j, table, place)
         choice.append(number)
-    return tuple(choice), table[0][-1]
+    return tuple(choice), Net(table[0][-1])
 
 
 def winner_lines(book: Book) -> Iterator[str]:

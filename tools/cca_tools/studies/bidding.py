@@ -20,7 +20,7 @@ from cca_tools.rules.award import Award, dot
 from cca_tools.rules.book import Book
 from cca_tools.rules.sealed import caps_of
 from cca_tools.rules.stops import MOST
-from cca_tools.rules.types import Amount, BidderNumber, Package, Prices
+from cca_tools.rules.types import Amount, BidderNumber, Gross, Package, Prices
 from cca_tools.studies.strategies import Strategy
 from cca_tools.studies.values import Values
 
@@ -85,21 +85,20 @@ def bidder_of(award: Award, values: Values, strategy: Strategy) -> Straightforwa
 
 
 def wanted_list(
-    award: Award, values: Values, strategy: Strategy, clock: Mapping[Package, Amount], prices: Prices
-) -> dict[Package, Amount]:
+    award: Award, values: Values, strategy: Strategy, clock: Mapping[Package, Gross], prices: Prices
+) -> dict[Package, Gross]:
     """What a bidder lists before it looks at its caps, in the order of packages, after it asked for what `clock` has;
     the most profitable at these prices if there is no room for all."""
-    named = {package: max(strategy.named(value), clock.get(package, 0)) for package, value in values.items()}
-    listed = {
-        package: min(amount, MOST["amount"]) for package, amount in named.items() if amount >= award.reserve_of(package)
-    }
+    most = Gross(MOST["amount"])
+    named = {package: max(strategy.named(value), clock.get(package, Gross(0))) for package, value in values.items()}
+    listed = {package: min(amount, most) for package, amount in named.items() if amount >= award.reserve_of(package)}
     if len(listed) > MOST["drafts"]:
         ranks = sorted(listed, key=lambda it: (it not in clock, dot(prices, it) - listed[it], it))
         listed = {package: listed[package] for package in sorted(ranks[: MOST["drafts"]])}
     return listed
 
 
-def sealed_list(auction: Auction, j: BidderNumber, values: Values, strategy: Strategy) -> dict[Package, Amount]:
+def sealed_list(auction: Auction, j: BidderNumber, values: Values, strategy: Strategy) -> dict[Package, Gross]:
     """The list that bidder j submits, in the order of packages."""
     prices = auction.rounds[-1].prices
     listed = wanted_list(auction.award, values, strategy, auction.highest_in_clock(j), prices)

@@ -7,7 +7,7 @@ from collections.abc import Iterator, Sequence
 from cca_tools.rules.auction import Auction
 from cca_tools.rules.award import Award
 from cca_tools.rules.log import Line
-from cca_tools.rules.types import Amount, BidderNumber, Kind, Package
+from cca_tools.rules.types import BidderNumber, Gross, Kind, Package
 from cca_tools.studies.bidding import bidder_of, sealed_list
 from cca_tools.studies.strategies import Strategy
 from cca_tools.studies.values import Values
@@ -20,7 +20,7 @@ class Rehearsal:
         self.auction, self.values, self.strategies = Auction(award), values, strategies
         self.bidders = [bidder_of(award, *of_one) for of_one in zip(values, strategies)]
 
-    def line(self, kind: Kind, j: BidderNumber = 0, package: Package = (), amount: Amount = 0) -> Line:
+    def line(self, kind: Kind, j: BidderNumber = 0, package: Package = (), amount: Gross = Gross(0)) -> Line:
         """The next line of the log."""
         number = len(self.auction.lines) + 1
         return Line(number, number, kind, self.auction.award.names[j - 1] if j else "", j, package, amount)

@@ -19,8 +19,9 @@ from cca_tools.data.prices import BY_WIN, Price, Prices, need_program, price, vi
 from cca_tools.data.references import nearest_to
 from cca_tools.rules.award import Award, dot
 from cca_tools.rules.book import Book
+from cca_tools.rules.money import net_of, total
 from cca_tools.rules.stops import LIMIT, Stop
-from cca_tools.rules.types import Amount, Package
+from cca_tools.rules.types import Gross, Net, Package
 from cca_tools.studies.awarding import Held, audited, awarded, hold, need_bounds
 from cca_tools.pricing.best import best_value, has_tie
 from cca_tools.studies.draws import draws_of
@@ -176,9 +177,9 @@ def priced_cells(drawn: Drawn, prices: Prices, others: Others) -> Row:
 def outcome(held: Held, values: Sequence[Values], prices: Prices) -> Row:
     """The cells of the whole auction. Unsold lots are worth their reserves, to the seller."""
     award = held.award
-    won = [of_one[row.package] if row.package else 0 for of_one, row in zip(values, prices.rows)]
+    won = total(of_one[row.package] if row.package else Gross(0) for of_one, row in zip(values, prices.rows))
     kept = dot(award.reserves, award.supply)
-    value = kept + sum(won) - sum(row.reserve for row in prices.rows)
+    value = kept + net_of(won, sum(row.reserve for row in prices.rows))
     best = kept + best_of_values(award, values)
     sold = sum(sum(row.package or ()) for row in prices.rows)
     return {
@@ -191,14 +192,14 @@ def outcome(held: Held, values: Sequence[Values], prices: Prices) -> Row:
         "core_exact": exact(prices.revenue),
         "vickrey": str(sum(row.vickrey for row in prices.rows)),
         "bids": str(sum(row.bid for row in prices.rows)),
-        "profit": decimal(sum(won) - prices.revenue),
+        "profit": decimal(won - prices.revenue),
         "raised": "yes" if prices.raised else "no",
         "tie": "yes" if has_tie(held.book) else "no",
         "found_by": prices.found_by,
     }
 
 
-def best_of_values(award: Award, values: Sequence[Values]) -> Amount:
+def best_of_values(award: Award, values: Sequence[Values]) -> Net:
     """The greatest sum of values of an allocation, net of reserves."""
     return best_value(Book(award.supply, award.reserves, list(award.names), [list(it.items()) for it in values]))
 

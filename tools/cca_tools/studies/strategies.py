@@ -6,7 +6,7 @@ from __future__ import annotations
 from collections.abc import Mapping
 from dataclasses import dataclass
 
-from cca_tools.rules.types import Amount
+from cca_tools.rules.types import Amount, Gross
 from cca_tools.studies.draws import Draws
 from cca_tools.studies.fields import MOST_VALUE, Fields, Range
 
@@ -22,16 +22,16 @@ class Strategy:
 
     share: int = PERCENT
     shade: Amount = 0
-    budget: Amount | None = None
+    budget: Gross | None = None
     fit: bool = True
 
-    def within_budget(self, amount: Amount) -> Amount:
+    def within_budget(self, amount: Gross) -> Gross:
         """The amount, or the budget if that is less."""
         return amount if self.budget is None else min(amount, self.budget)
 
-    def named(self, value: Amount) -> Amount:
+    def named(self, value: Gross) -> Gross:
         """What is named of a value."""
-        return self.within_budget(max(0, value * self.share // PERCENT - self.shade))
+        return self.within_budget(Gross(max(0, value * self.share // PERCENT - self.shade)))
 
     def cells(self) -> tuple[str, str, str]:
         """The parts as cells of a table; no budget is an empty one."""
@@ -48,9 +48,8 @@ class StrategyModel:
         """A bidder's strategy: its parts are those of `fixed`, then those that the file states, then those of
         `base`."""
         parts = {part: draws.of(part).whole(*ends) for part, ends in self.ranges} | dict(fixed)
-        return Strategy(
-            parts.get("share", base.share), parts.get("shade", base.shade), parts.get("budget", base.budget), base.fit
-        )
+        budget = Gross(parts["budget"]) if "budget" in parts else base.budget
+        return Strategy(parts.get("share", base.share), parts.get("shade", base.shade), budget, base.fit)
 
 
 def read_strategy(table: Fields) -> StrategyModel:

@@ -9,14 +9,15 @@ from collections.abc import Mapping, Sequence
 from dataclasses import dataclass
 
 from cca_tools.rules.award import Award
-from cca_tools.rules.types import Amount, BidderNumber, Package
+from cca_tools.rules.types import BidderNumber, Gross, Package
 from cca_tools.studies.draws import Draws, draws_of
 from cca_tools.studies.fields import fields_of
 from cca_tools.studies.models import Model, Valuation, read_model
 from cca_tools.studies.strategies import Strategy, StrategyModel, read_strategy
 
-# What each package is worth to a bidder, of those that it may be allocated and that are worth something to it.
-Values = Mapping[Package, Amount]
+# What each package is worth to a bidder, of those that it may be allocated and that are worth something to it: gross,
+# as the bid that names it.
+Values = Mapping[Package, Gross]
 
 
 @dataclass(frozen=True)
@@ -65,7 +66,7 @@ def packages_of(award: Award, j: BidderNumber) -> list[Package]:
 
 def values_of(award: Award, j: BidderNumber, valuation: Valuation) -> Values:
     """The packages that bidder j may win and that are worth something, in order, with their values."""
-    worths = {package: valuation.value(package) for package in packages_of(award, j)}
+    worths = {package: Gross(valuation.value(package)) for package in packages_of(award, j)}
     return {package: worth for package, worth in worths.items() if worth > 0}
 
 
