@@ -23,7 +23,7 @@ from checks.cases.program import PROGRAM, with_program
 from checks.cases.samples import EXAMPLES, TOOLS, called
 from checks.cases.searches import core_point as plain_point
 
-from cca_tools.rules.types import Bid, Gross
+from cca_tools.rules.types import Bid, Gross, Net
 from cca_tools.pricing import certificates, files, program_rows, search
 from cca_tools.pricing.certificates import certificate_of
 from cca_tools.pricing.fewer_rows import (
@@ -128,10 +128,10 @@ class Points(unittest.TestCase):
         self.assertIsNone(solved([[1, 1], [1, 1]], [[1, 1]]))
 
     def test_two_winners_share_equally_or_by_their_weights(self) -> None:
-        rows = [Demand(1, 14, ()), Demand(2, 12, ()), Demand(3, 32, ())]
-        self.assertEqual(Nearest([14, 12], [1, 1], rows).point().pays, [17, 15])
+        rows, vickrey = [Demand(1, Net(14), ()), Demand(2, Net(12), ()), Demand(3, Net(32), ())], [Net(14), Net(12)]
+        self.assertEqual(Nearest(vickrey, [1, 1], rows).point().pays, [17, 15])
         self.assertEqual(
-            Nearest([14, 12], [1, 3], rows).point().pays,
+            Nearest(vickrey, [1, 3], rows).point().pays,
             [Fraction(31, 2), Fraction(33, 2)],
         )
 
@@ -139,15 +139,12 @@ class Points(unittest.TestCase):
         """All rows of three winners at once. The plain search goes through all sets of rows that may be tight."""
         rng = random.Random(4)
         for _ in range(60):
-            vickrey, weights = [rng.randint(0, 9) for _ in range(3)], [rng.randint(1, 5) for _ in range(3)]
+            vickrey, weights = [Net(rng.randint(0, 9)) for _ in range(3)], [rng.randint(1, 5) for _ in range(3)]
             sets = [m for m in range(1, 8) if m.bit_count() == 1 or rng.random() < 0.7]
             rows = [
-                Demand(
-                    m,
-                    sum(v for i, v in enumerate(vickrey) if m >> i & 1) + (m.bit_count() > 1) * rng.randint(0, 9),
-                    (),
-                )
+                Demand(m, Net(least + (m.bit_count() > 1) * rng.randint(0, 9)), ())
                 for m in sets
+                for least in [sum(v for i, v in enumerate(vickrey) if m >> i & 1)]
             ]
             plain = [([int(row.holds(i)) for i in range(3)], row.bound) for row in rows]
             self.assertEqual(
@@ -244,19 +241,19 @@ class Rows(unittest.TestCase):
         """Rows of these members, with first multipliers of 1 alone."""
         ones = [Fraction(1)] * len(sets)
         return Shown(
-            [Demand(members, 0, ()) for members in sets],
+            [Demand(members, Net(0), ()) for members in sets],
             ones,
             [Fraction(0)] * len(sets),
         )
 
     def test_exchanges_join_rows(self) -> None:
-        tight = [Demand(0b111111, 0, ())]
+        tight = [Demand(0b111111, Net(0), ())]
         self.assertEqual(len(fewer(self.shown([1 << i for i in range(6)]), tight, 1, 6).rows), 1)
         self.assertEqual(
             len(
                 fewer(
                     self.shown([1 << i for i in range(6)]),
-                    [Demand(0b000111, 0, ())],
+                    [Demand(0b000111, Net(0), ())],
                     1,
                     6,
                 ).rows
@@ -286,7 +283,7 @@ class Rows(unittest.TestCase):
     def test_a_search_joins_rows_that_no_single_exchange_joins(self) -> None:
         """Two ways to cover six winners: three pairs, or two triples that overlap each pair."""
         pairs, triples = [0b000011, 0b001100, 0b110000], [0b010101, 0b101010]
-        rows = [Demand(members, 0, ()) for members in [*triples, *(1 << i for i in range(6))]]
+        rows = [Demand(members, Net(0), ()) for members in [*triples, *(1 << i for i in range(6))]]
         found = searched(self.shown(pairs + []), Tight(rows, True), 2, 6, seconds=20)
         self.assertLessEqual(len(found.rows), 3)
         for i in range(6):
@@ -301,9 +298,9 @@ class Rows(unittest.TestCase):
         self.assertNotEqual(other.point.kept, found.point.kept)
 
     def test_independence(self) -> None:
-        rows = [Demand(members, 0, ()) for members in (0b011, 0b101, 0b110)]
+        rows = [Demand(members, Net(0), ()) for members in (0b011, 0b101, 0b110)]
         self.assertTrue(are_independent(rows))
-        self.assertFalse(are_independent([*rows, Demand(0b111, 0, ())]))
+        self.assertFalse(are_independent([*rows, Demand(0b111, Net(0), ())]))
 
 
 class Command(unittest.TestCase):

@@ -20,7 +20,7 @@ from cca_tools.pricing.best import has_tie
 from cca_tools.pricing.judges import Asked
 from cca_tools.pricing.making import make_certificate
 from cca_tools.rules.book import Book, book_text, read_book
-from cca_tools.rules.money import gross_of, less, net_of, net_price_of
+from cca_tools.rules.money import gross_of, less, net_of, net_price_of, price_total
 from cca_tools.rules.program import program
 from cca_tools.rules.scratch import scratch_folder
 from cca_tools.rules.stops import CRASH, DONE, LIMIT, Stop, refused
@@ -78,9 +78,9 @@ class Prices:
         return tuple(row for row in self.rows if row.package is not None)
 
     @property
-    def revenue(self) -> Fraction:
+    def revenue(self) -> GrossPrice:
         """What all winners pay, reserves included."""
-        return sum((row.pays for row in self.rows), Fraction(0))
+        return price_total(row.pays for row in self.rows)
 
     @property
     def raised(self) -> bool:
@@ -267,8 +267,8 @@ def cells_of(name: str, row: Price, unit: int, last: Sequence[str]) -> list[str]
     """The cells of a bidder, amounts divided by the unit, with these last ones. Prices that aren't known are empty."""
     package = " ".join(map(str, row.package)) if row.package else ""
     gross: list[int | Fraction] = [row.reserve, row.bid, row.vickrey, row.pays]
-    parts = [Fraction(value) / unit for value in gross]
-    nets = [value - parts[0] for value in parts[1:]]
+    net: list[int | Fraction] = [row.bid_net, row.vickrey_net, row.pays_net]
+    parts, nets = ([Fraction(value) / unit for value in values] for values in (gross, net))
     amounts = [*map(exact, parts), decimal(parts[3]), *map(exact, nets), decimal(nets[2])]
     if last[1] == BY_WIN:
         amounts = [cell if at in VICKREY_CELLS else "" for at, cell in enumerate(amounts)]

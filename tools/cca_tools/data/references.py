@@ -10,15 +10,14 @@ from __future__ import annotations
 
 import math
 from collections.abc import Sequence
-from fractions import Fraction
 from typing import Literal, TypeAlias, get_args
 
 from cca_tools.data.prices import BY_WIN, Price, Prices, winners_of
 from cca_tools.pricing.nearest import Demand, Nearest
 from cca_tools.rules.book import Book
-from cca_tools.rules.money import gross_price_of
+from cca_tools.rules.money import gross_price_of, less, net_of, price_total, scaled, total
 from cca_tools.rules.stops import CRASH, MOST, Stop, limit
-from cca_tools.rules.types import Amount, Bid, Gross, NetPrice, Package
+from cca_tools.rules.types import Bid, Gross, Net, NetPrice, Package, ScaledNet
 
 Reference: TypeAlias = Literal["zero", "reserve", "bids"]
 REFERENCES: tuple[Reference, ...] = get_args(Reference)
@@ -27,9 +26,9 @@ REFERENCES: tuple[Reference, ...] = get_args(Reference)
 # Other points of reference.
 
 
-def point_of(row: Price, reference: Reference) -> Amount:
+def point_of(row: Price, reference: Reference) -> Net:
     """What a winner would pay at the point of reference, net of its reserve."""
-    return {"zero": -row.reserve, "reserve": 0, "bids": row.bid_net}[reference]
+    return {"zero": net_of(Gross(0), row.reserve), "reserve": Net(0), "bids": row.bid_net}[reference]
 
 
 def nearest_to(book: Book, prices: Prices, reference: Reference, path: str) -> Prices:
@@ -47,7 +46,7 @@ def nearest_to(book: Book, prices: Prices, reference: Reference, path: str) -> P
             break
         nearest.rows.append(demand)
     paid = {
-        k: Price(row.bidder, row.package, row.reserve, row.bid, row.vickrey, gross_price_of(NetPrice(pay), row.reserve))
+        k: Price(row.bidder, row.package, row.reserve, row.bid, row.vickrey, gross_price_of(pay, row.reserve))
         for k, row, pay in zip(winners, rows, pays)
     }
     found = Prices(tuple(paid.get(k, row) for k, row in enumerate(prices.rows)), prices.net, BY_WIN)
@@ -57,30 +56,36 @@ def nearest_to(book: Book, prices: Prices, reference: Reference, path: str) -> P
     return found
 
 
-def blocking(book: Book, prices: Prices, winners: Sequence[int], pays: Sequence[Fraction], path: str) -> Demand | None:
-    """The row of a coalition that blocks these payments most, net, or None."""
+def blocking(book: Book, prices: Prices, winners: Sequence[int], pays: Sequence[NetPrice], path: str) -> Demand | None:
+    """The row of a coalition that blocks these payments most, or None."""
     den = math.lcm(1, *(pay.denominator for pay in pays))
-    surplus = {k: max(0, int(den * (prices.rows[k].bid_net - pay))) for k, pay in zip(winners, pays)}
-    lowered = [lowered_bids(book, k, den, surplus.get(k, 0)) for k, _ in enumerate(book.names)]
+    surplus = {k: surplus_of(prices.rows[k], pay, den) for k, pay in zip(winners, pays)}
+    lowered = [lowered_bids(book, k, den, surplus.get(k, ScaledNet(0))) for k, _ in enumerate(book.names)]
     if most := max((amount for bids in lowered for _, amount in bids if amount > MOST["amount"]), default=0):
         raise limit("amount", most, "lowered bids are above the greatest amount")
     won = winners_of(Book(book.supply, (0,) * len(book.supply), book.names, lowered), path)
     members = [
         i for i, (k, pay) in enumerate(zip(winners, pays)) if k not in won.packages and pay <= prices.rows[k].bid_net
     ]
-    value = sum(net_of(book, k, package) for k, (package, _) in won.packages.items())
-    bound = value - sum(prices.rows[k].bid_net for i, k in enumerate(winners) if i not in members)
-    if bound <= sum((pays[i] for i in members), Fraction(0)):
+    value = total(offered(book, k, package) for k, (package, _) in won.packages.items())
+    bound = less(value, total(prices.rows[k].bid_net for i, k in enumerate(winners) if i not in members))
+    if bound <= price_total(pays[i] for i in members):
         return None
     return Demand(sum(1 << i for i in members), bound, ())
 
 
-def lowered_bids(book: Book, k: int, den: int, less: int) -> list[Bid]:
-    """The bids of a bidder, net, times `den` and less its surplus; those below 0 are left out."""
-    worths = [(package, den * net - less) for (package, _), net in zip(book.bids[k], book.net[k])]
+def surplus_of(row: Price, pay: NetPrice, den: int) -> ScaledNet:
+    """How much less than its bid a winner pays, times `den`."""
+    return ScaledNet(max(0, int(den * (row.bid_net - pay))))
+
+
+def lowered_bids(book: Book, k: int, den: int, surplus: ScaledNet) -> list[Bid]:
+    """The bids of a bidder, net, times `den` and less its surplus, as bids of a book without reserves in this unit;
+    those below 0 are left out."""
+    worths = [(package, less(scaled(net, den), surplus)) for (package, _), net in zip(book.bids[k], book.net[k])]
     return [(package, Gross(worth)) for package, worth in worths if worth >= 0]
 
 
-def net_of(book: Book, k: int, package: Package) -> Amount:
-    """What a bidder offers for a package, net."""
+def offered(book: Book, k: int, package: Package) -> Net:
+    """What a bidder offers for a package."""
     return next(net for (of_bid, _), net in zip(book.bids[k], book.net[k]) if of_bid == package)

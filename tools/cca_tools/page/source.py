@@ -23,11 +23,12 @@ from cca_tools.rules.certificate import BookCertificate, read_certificate
 from cca_tools.rules.certificate_tests import Fault, first_fault
 from cca_tools.rules.clock import cost
 from cca_tools.rules.log import read_log
+from cca_tools.rules.money import gross_of, gross_price_of
 from cca_tools.rules.names import NO_NAMES, LongNames, read_names
 from cca_tools.rules.program import program
 from cca_tools.rules.scratch import need_written, scratch_folder
 from cca_tools.rules.stops import MOST, WORDS, Stop, load, unread, within
-from cca_tools.rules.types import Amount, Bid, BidderNumber, Choice
+from cca_tools.rules.types import Amount, Bid, BidderNumber, Choice, Gross, GrossPrice, NetPrice
 from cca_tools.rules.view import read_log_or_view
 from cca_tools.rules.why import Reasons
 from cca_tools.rules.words import bidder_of
@@ -45,7 +46,7 @@ class Turn:
     to pay more."""
 
     number: int
-    point: tuple[Fraction, ...]
+    point: tuple[NetPrice, ...]
     row: tuple[BidderNumber, ...] = ()
     choice: Choice = ()
     excess: Fraction = Fraction(0)
@@ -152,16 +153,15 @@ class Source:
         """The reserve of what a winner wins."""
         return given(self.book).reserve(self.won(j)[0])
 
-    def vickrey(self, j: BidderNumber) -> Amount:
+    def vickrey(self, j: BidderNumber) -> Gross:
         """The Vickrey price of a winner, gross as all that is shown."""
-        return given(self.certificate).vickrey(j) + self.reserve(j)
+        return gross_of(given(self.certificate).vickrey(j), self.reserve(j))
 
-    def pays(self, j: BidderNumber) -> Fraction:
+    def pays(self, j: BidderNumber) -> GrossPrice:
         """What a winner pays, gross."""
-        certificate = given(self.certificate)
-        return Fraction(certificate.pay[j - 1], certificate.den) + self.reserve(j)
+        return gross_price_of(given(self.certificate).pays(j), self.reserve(j))
 
-    def clock_price(self, j: BidderNumber) -> Amount | None:
+    def clock_price(self, j: BidderNumber) -> Gross | None:
         """What a winner's package costs at the final prices of the clock, where there was one."""
         return cost(self.auction.rounds[-1], self.won(j)[0]) if self.auction and self.auction.rounds else None
 
@@ -194,7 +194,7 @@ def turns_of(text: str) -> list[Turn]:
     found = []
     for number, point, row, choice, excess in TURN.findall(text):
         members, numbers = tuple(map(int, row.split())), tuple(map(int, choice.split()))
-        prices = tuple(map(fraction, point.split()))
+        prices = tuple(NetPrice(fraction(price)) for price in point.split())
         found.append(Turn(int(number), prices, members, numbers, fraction(excess or "0")))
     return found
 

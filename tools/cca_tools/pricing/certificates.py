@@ -16,7 +16,7 @@ from cca_tools.rules.certificate import Certificate, Row
 from cca_tools.rules.lines import WIDE
 from cca_tools.rules.printing import fraction
 from cca_tools.rules.stops import MOST, Stop, limit
-from cca_tools.rules.types import Amount, Choice
+from cca_tools.rules.types import Choice, ScaledNet
 
 GridCertificate: TypeAlias = Certificate[Book, Choice, Lines]
 
@@ -96,11 +96,11 @@ def row_of(market: Market, shown: Shown, i: int, den: int) -> Row[Choice]:
     return Row(members, whole(shown.first[i] * den), whole(shown.second[i] * den), row.choice)
 
 
-def pay_of(market: Market, found: Found, den: int) -> list[Amount]:
-    """What each bidder pays, net, times `den`."""
-    pay = [0] * market.book.bidders
+def pay_of(market: Market, found: Found, den: int) -> list[ScaledNet]:
+    """What each bidder pays, times `den`."""
+    pay = [ScaledNet(0)] * market.book.bidders
     for k, price in zip(market.winners, found.point.pays):
-        pay[k] = whole(price * den)
+        pay[k] = ScaledNet(whole(price * den))
     return pay
 
 

@@ -22,10 +22,11 @@ from fractions import Fraction
 from cca_tools.pricing.nearest import Demand, solved
 from cca_tools.pricing.search import Found, Market, missing
 from cca_tools.pricing.tables import rest_of
+from cca_tools.rules.money import less, total
 from cca_tools.rules.types import Choice, Package
 from cca_tools.terminal import progress
 
-FEW, MANY = 1_000, 65_536  # how many states or tight rows are kept: at first, and in a longer search
+FEW, MANY = (1_000, 65_536)  # how many states or tight rows are kept: at first, and in a longer search
 STEPS = 60  # exchanges that don't lower the number of rows
 
 
@@ -90,11 +91,11 @@ def rows_of_choice(market: Market, found: Found, used: int, choice: Choice) -> I
     """The tight rows of a choice at the top: its unused winners, with or without those that pay their whole bids."""
     unused = [i for i in range(len(market.winners)) if not used >> i & 1]
     free = [i for i in unused if found.point.pays[i] == market.won[i]]
-    value, total = market.book.value(choice), sum(market.won)
+    value, won = market.book.value(choice), total(market.won)
     for size in range(len(free) + 1):
         for left_out in itertools.combinations(free, size):
             members = [i for i in unused if i not in left_out]
-            bound = value - (total - sum(market.won[i] for i in members))
+            bound = less(value, less(won, total(market.won[i] for i in members)))
             yield Demand(sum(1 << i for i in members), bound, choice)
 
 

@@ -15,7 +15,8 @@ from collections.abc import Sequence
 from dataclasses import dataclass, field
 from fractions import Fraction
 
-from cca_tools.rules.types import Amount, Choice
+from cca_tools.rules.money import less, total
+from cca_tools.rules.types import Choice, Net, NetPrice
 
 
 @dataclass(frozen=True)
@@ -24,7 +25,7 @@ class Demand:
     which uses none of them, could otherwise block."""
 
     members: int
-    bound: Amount
+    bound: Net
     choice: Choice
 
     def holds(self, i: int) -> bool:
@@ -36,7 +37,7 @@ class Demand:
 class Point:
     """What each winner pays, and the rows, by their numbers, that show it, with both multipliers of each."""
 
-    pays: list[Fraction]
+    pays: list[NetPrice]
     kept: list[int]
     first: list[Fraction]
     second: list[Fraction]
@@ -64,7 +65,7 @@ class Nearest:
     """The reference (Vickrey prices or another point), the rows so far, and the active set of the last turn with its
     multipliers."""
 
-    reference: list[Amount]
+    reference: list[Net]
     weights: list[int]
     rows: list[Demand] = field(default_factory=list)
     great: int = 2**160
@@ -75,9 +76,9 @@ class Nearest:
         """The sum of the weights of members."""
         return sum(w for i, w in enumerate(self.weights) if members >> i & 1)
 
-    def gap(self, row: Demand) -> Amount:
+    def gap(self, row: Demand) -> Net:
         """How much the reference is short of a row."""
-        return row.bound - sum(v for i, v in enumerate(self.reference) if row.holds(i))
+        return less(row.bound, total(v for i, v in enumerate(self.reference) if row.holds(i)))
 
     def gram(self, kept: Sequence[int]) -> list[list[int]]:
         """The weighted products of rows."""
@@ -160,13 +161,13 @@ class Nearest:
         """Whether the multipliers show the least sum and the nearest point, so that `great` was great enough."""
         kept = [self.rows[r] for r in self.kept]
         sums = [sum(u for row, u in zip(kept, first) if row.holds(i)) for i in range(len(self.reference))]
-        return all(total == 1 for total in sums) and all(u > 0 or u == 0 <= w for u, w in zip(first, second))
+        return all(whole == 1 for whole in sums) and all(u > 0 or u == 0 <= w for u, w in zip(first, second))
 
     def made(self, kept: Sequence[int], first: list[Fraction], second: list[Fraction]) -> Point:
         """The point of these multipliers of rows."""
         rows = [self.rows[r] for r in kept]
         pays = [
-            Fraction(v) + w * sum(x for row, x in zip(rows, second) if row.holds(i))
+            NetPrice(Fraction(v) + w * sum(x for row, x in zip(rows, second) if row.holds(i)))
             for i, (v, w) in enumerate(zip(self.reference, self.weights))
         ]
         return Point(pays, list(kept), first, second)

@@ -12,14 +12,20 @@ import math
 from collections.abc import Sequence
 from dataclasses import dataclass
 from fractions import Fraction
+from typing import TypeAlias
 
 from cca_tools.pricing.nearest import Demand, Nearest, Point
 from cca_tools.pricing.program_rows import program_point
-from cca_tools.pricing.tables import NARROW, Filler, Lines, Worths, filler_of, most_worth
+from cca_tools.pricing.tables import NARROW, Filler, Lines, filler_of, most_worth
 from cca_tools.rules.book import Book
+from cca_tools.rules.money import less, price_total, scaled, total
 from cca_tools.rules.stops import MOST
-from cca_tools.rules.types import Amount, Choice, Net
+from cca_tools.rules.types import Choice, Net, NetPrice, ScaledNet
 from cca_tools.terminal import progress
+
+
+# For each bidder the lowered worth of each of its bids, times a denominator.
+ScaledWorths: TypeAlias = list[list[ScaledNet]]
 
 
 @dataclass(frozen=True)
@@ -28,12 +34,12 @@ class Market:
 
     filler: Filler
     choice: Choice
-    value: Amount
+    value: Net
     table: Lines
     winners: list[int]  # bidders, from 0
     won: list[Net]  # the net amount of each winner's bid
     without: list[tuple[Choice, Lines]]  # of each winner
-    vickrey: list[Amount]  # of each winner
+    vickrey: list[Net]  # of each winner
 
     @property
     def book(self) -> Book:
@@ -43,10 +49,10 @@ class Market:
 
 @dataclass(frozen=True)
 class Turn:
-    """The point of a turn, net, the coalition's row that was added, and how much its members paid too little; None
+    """The point of a turn, the coalition's row that was added, and how much its members paid too little; None
     after the last turn, in which no coalition blocks."""
 
-    pays: list[Fraction]
+    pays: list[NetPrice]
     demand: Demand | None = None
     excess: Fraction = Fraction(0)
 
@@ -54,12 +60,12 @@ class Turn:
 @dataclass(frozen=True)
 class Found:
     """The core point, all rows that were added, and the last table of lowered worths, which shows that no coalition
-    blocks. The worths and the table are times `den`."""
+    blocks. The table too is times `den`."""
 
     point: Point
     rows: list[Demand]
     den: int
-    worths: Worths
+    worths: ScaledWorths
     lowered: Lines
     turns: list[Turn]
 
@@ -69,7 +75,7 @@ def market_of(book: Book) -> Market:
     filler = filler_of(book)
     progress.step("finding the winners")
     table = filler.table(book.net)
-    choice, value = filler.picked(table, book.net), filler.top(table)
+    choice, value = filler.picked(table, book.net), Net(filler.top(table))
     winners = [k for k, number in enumerate(choice) if number]
     won = [book.net[k][choice[k] - 1] for k in winners]
     without = []
@@ -77,26 +83,27 @@ def market_of(book: Book) -> Market:
         progress.step(f"finding Vickrey price {place} of {len(winners)}")
         lines = filler.table_without(k, table, book.net)
         without.append((filler.picked(lines, book.net, k), lines))
-    vickrey = [filler.top(lines) - (value - b) for (_, lines), b in zip(without, won)]
+    vickrey = [less(Net(filler.top(lines)), less(value, b)) for (_, lines), b in zip(without, won)]
     return Market(filler, choice, value, table, winners, won, without, vickrey)
 
 
-def lowered_worths(market: Market, pays: Sequence[Amount], den: int) -> list[list[Amount]]:
+def lowered_worths(market: Market, pays: Sequence[ScaledNet], den: int) -> ScaledWorths:
     """The worths of all bids times `den`, those of winners less what they would lose at payments of `pays / den`."""
-    lost = {k: max(0, den * b - n) for k, b, n in zip(market.winners, market.won, pays)}
-    return [[den * net - lost.get(k, 0) for net in nets] for k, nets in enumerate(market.book.net)]
+    nothing = ScaledNet(0)
+    lost = {k: max(nothing, less(scaled(b, den), n)) for k, b, n in zip(market.winners, market.won, pays)}
+    return [[less(scaled(net, den), lost.get(k, nothing)) for net in nets] for k, nets in enumerate(market.book.net)]
 
 
-def demand_of(market: Market, choice: Choice, pays: Sequence[Fraction]) -> Demand:
+def demand_of(market: Market, choice: Choice, pays: Sequence[NetPrice]) -> Demand:
     """The row of a choice. Its members are the winners that the choice doesn't use and that pay at most their bids."""
     members = [i for i, k in enumerate(market.winners) if not choice[k] and pays[i] <= market.won[i]]
-    others = sum(b for i, b in enumerate(market.won) if i not in members)
-    return Demand(sum(1 << i for i in members), market.book.value(choice) - others, choice)
+    others = total(b for i, b in enumerate(market.won) if i not in members)
+    return Demand(sum(1 << i for i in members), less(market.book.value(choice), others), choice)
 
 
-def missing(demand: Demand, pays: Sequence[Fraction]) -> Fraction:
+def missing(demand: Demand, pays: Sequence[NetPrice]) -> Fraction:
     """How much the members of a row pay too little."""
-    return demand.bound - sum((p for i, p in enumerate(pays) if demand.holds(i)), Fraction(0))
+    return demand.bound - price_total(p for i, p in enumerate(pays) if demand.holds(i))
 
 
 def rough_den(market: Market, den: int) -> int:
@@ -105,10 +112,10 @@ def rough_den(market: Market, den: int) -> int:
     return den if den * most < NARROW else max(1, NARROW // most - 1)
 
 
-def most_blocking(market: Market, pays: Sequence[Fraction], den: int) -> tuple[Demand | None, Worths, Lines]:
+def most_blocking(market: Market, pays: Sequence[NetPrice], den: int) -> tuple[Demand | None, ScaledWorths, Lines]:
     """The row of a coalition that blocks most by payments rounded down to the denominator `den`, or None if that
     coalition doesn't block at `pays`; and the table that has found it."""
-    worths = lowered_worths(market, [math.floor(p * den) for p in pays], den)
+    worths = lowered_worths(market, [ScaledNet(math.floor(p * den)) for p in pays], den)
     lines = market.filler.table(worths)
     demand = demand_of(market, market.filler.picked(lines, worths), pays)
     return (demand if missing(demand, pays) > 0 else None), worths, lines

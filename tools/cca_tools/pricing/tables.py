@@ -2,7 +2,7 @@
 the bidders after k can reach.
 
 `filler_of` returns a filler that uses numpy, or one that uses Python's integers alone if numpy isn't installed. Both
-give equal tables. Amounts and worths are net of reserve; worths may be scaled by a denominator.
+give equal tables. Worths are net of reserve, and scaled for a lowered table; then its entries are scaled too.
 """
 
 from __future__ import annotations
@@ -23,7 +23,7 @@ if TYPE_CHECKING:
 # A line of a table: an array of numpy with an axis for each category, or a list by places.
 Line: TypeAlias = Any
 Lines: TypeAlias = list[Line]
-# For each bidder the worth of each of its bids.
+# For each bidder the worth of each of its bids: all `Net`, or all `ScaledNet`.
 Worths: TypeAlias = Sequence[Sequence[Amount]]
 # Sums below this are taken in 64 bits.
 NARROW = 2**62

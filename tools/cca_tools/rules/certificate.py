@@ -1,7 +1,7 @@
 """The certificate of the prices of a book: its parts, and how they are read from its text.
 
-All amounts in it are net of reserve. Bidders are numbered from 1, and so are the winners, the members of rows and the
-keys of `without`.
+All amounts in it are net of reserve, and payments are scaled: times its denominator. Bidders are numbered from 1, and
+so are the winners, the members of rows and the keys of `without`.
 """
 
 from __future__ import annotations
@@ -12,8 +12,9 @@ from typing import Any, Generic, TypeVar
 
 from cca_tools.rules.book import Book, Menu
 from cca_tools.rules.lines import Text
+from cca_tools.rules.money import less, scaled, unscaled
 from cca_tools.rules.stops import MOST
-from cca_tools.rules.types import Amount, BidderNumber, Choice, Net, Table
+from cca_tools.rules.types import BidderNumber, Choice, Net, NetPrice, ScaledNet, Table
 
 MenuT = TypeVar("MenuT", bound=Menu[Any])
 ChoiceT = TypeVar("ChoiceT", bound=Choice)
@@ -36,11 +37,11 @@ class Certificate(Generic[MenuT, ChoiceT, TableT]):
 
     book: MenuT
     den: int  # the denominator of the payments
-    value: Amount  # of the winning choice
+    value: Net  # of the winning choice
     choice: ChoiceT
     table: TableT
     without: dict[BidderNumber, tuple[ChoiceT, TableT]]  # of each winner the best choice without it
-    pay: list[Amount]  # of each bidder, times `den`
+    pay: list[ScaledNet]  # of each bidder
     rows: list[Row[ChoiceT]]
     lowered: TableT  # times `den`
 
@@ -51,15 +52,19 @@ class Certificate(Generic[MenuT, ChoiceT, TableT]):
 
     def won(self, j: BidderNumber) -> Net:
         """b_j: the net amount with which a bidder wins, 0 for a loser."""
-        return Net(self.book.won_net(self.choice, j))
+        return self.book.won_net(self.choice, j)
 
     def vickrey(self, j: BidderNumber) -> Net:
         """v_j: what would win without the winner, less what the others win with beside it."""
-        return Net(self.book.value(self.without[j][0]) - (self.value - self.won(j)))
+        return less(self.book.value(self.without[j][0]), less(self.value, self.won(j)))
 
-    def lost(self, j: BidderNumber) -> Amount:
+    def pays(self, j: BidderNumber) -> NetPrice:
+        """What a bidder pays, net."""
+        return unscaled(self.pay[j - 1], self.den)
+
+    def lost(self, j: BidderNumber) -> ScaledNet:
         """What a bidder would lose if it didn't win, times `den`: 0 for a loser."""
-        return self.den * self.won(j) - self.pay[j - 1] if self.choice[j - 1] else 0
+        return less(scaled(self.won(j), self.den), self.pay[j - 1]) if self.choice[j - 1] else ScaledNet(0)
 
 
 BookCertificate = Certificate[Book, Choice, Table]
@@ -102,11 +107,11 @@ class Reader(ABC, Generic[MenuT, ChoiceT, TableT]):
         (den,), (value,) = text.signed(b"den", 1), text.signed(b"value", 1)
         choice, table = self.choice(), self.table("table")
         without = {j: self.without(j) for j in winners_of(choice)}
-        pay = text.signed(b"pay", self.menu.bidders)
+        pay = [ScaledNet(amount) for amount in text.signed(b"pay", self.menu.bidders)]
         rows, lowered = self.rows(), self.table("lowered")
         text.words("end")
         text.no_more()
-        return Certificate(self.menu, den, value, choice, table, without, pay, rows, lowered)
+        return Certificate(self.menu, den, Net(value), choice, table, without, pay, rows, lowered)
 
     def without(self, j: BidderNumber) -> tuple[ChoiceT, TableT]:
         """The part without winner j."""

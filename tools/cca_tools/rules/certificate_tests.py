@@ -14,13 +14,14 @@ from typing import Generic, TypeAlias
 from cca_tools.rules.book import Book
 from cca_tools.rules.certificate import BookCertificate, Certificate, ChoiceT, MenuT, Row, TableT
 from cca_tools.rules.lines import WIDE
+from cca_tools.rules.money import less, scaled, total
 from cca_tools.rules.printing import fraction
 from cca_tools.rules.tables import Breach, first_breach
-from cca_tools.rules.types import Amount, BidderNumber, Choice, Table
+from cca_tools.rules.types import Amount, BidderNumber, Choice, Net, ScaledNet, Table
 
 # A place at which a test fails, and why.
 Failure: TypeAlias = tuple[int, str]
-# For each bidder what each of its bids is worth.
+# For each bidder what each of its bids is worth: net, and scaled for a lowered table.
 Worths: TypeAlias = Sequence[Sequence[Amount]]
 
 # What each test shows.
@@ -178,7 +179,7 @@ class Tests(ABC, Generic[MenuT, ChoiceT, TableT]):
 
     def table_fault(self, j: BidderNumber, choice: ChoiceT, table: TableT) -> str:
         """Why a table doesn't show that no choice without j is worth more than this one, or nothing."""
-        worths = [[] if k == j else net for k, net in enumerate(self.menu.net, 1)]
+        worths = [list[Net]() if k == j else net for k, net in enumerate(self.menu.net, 1)]
         if breach := self.breach(table, worths, self.lines_of_head(table)):
             return breach[1]
         top, value = self.top(table), self.menu.value(choice)
@@ -187,13 +188,13 @@ class Tests(ABC, Generic[MenuT, ChoiceT, TableT]):
 
     def payments(self) -> Iterator[Failure]:
         for j, pay in enumerate(self.pay, 1):
-            if not 0 <= pay <= self.den * self.won(j):
+            if not 0 <= pay <= scaled(self.won(j), self.den):
                 wins = f"wins with a bid of {self.won(j)}" if self.choice[j - 1] else "wins nothing, so it pays 0"
                 paid = f"{self.name(j)} pays {self.money(pay)} net of reserve, and it {wins}"
                 yield j, f"{paid}; a payment is at least 0 and at most the bid"
 
-    def money(self, amount: Amount) -> str:
-        """An amount over the denominator."""
+    def money(self, amount: ScaledNet) -> str:
+        """A scaled amount over the denominator."""
         return fraction(amount, self.den)
 
     def demands(self) -> Iterator[Failure]:
@@ -210,9 +211,9 @@ class Tests(ABC, Generic[MenuT, ChoiceT, TableT]):
 
     def demand_fault(self, row: Row[ChoiceT]) -> str:
         """Why the members of a row don't pay just what its choice asks of them, or nothing."""
-        paid, worth = sum(self.pay[j - 1] for j in row.members), self.menu.value(row.choice)
-        others = sum(self.won(j) for j in self.winners if j not in row.members)
-        if paid == self.den * (worth - others):
+        paid, worth = total(self.pay[j - 1] for j in row.members), self.menu.value(row.choice)
+        others = total(self.won(j) for j in self.winners if j not in row.members)
+        if paid == scaled(less(worth, others), self.den):
             return ""
         return (
             f"{self.names(row.members)} pay {self.money(paid)} net of reserve, and have to pay {worth - others}: the"
@@ -224,8 +225,8 @@ class Tests(ABC, Generic[MenuT, ChoiceT, TableT]):
             if row.first < 0:
                 yield r, f"the first multiplier of row {r} is {row.first}, below 0"
         for j in self.winners:
-            if (total := sum(row.first for row in self.rows if j in row.members)) != self.den:
-                has = f"the first multipliers of the rows of {self.name(j)} come to {total}"
+            if (whole := sum(row.first for row in self.rows if j in row.members)) != self.den:
+                has = f"the first multipliers of the rows of {self.name(j)} come to {whole}"
                 yield len(self.rows) + j, f"{has}, and have to come to the denominator {self.den}"
 
     def nearest(self) -> Iterator[Failure]:
@@ -234,12 +235,12 @@ class Tests(ABC, Generic[MenuT, ChoiceT, TableT]):
                 below = f"the second multiplier of row {r} is {row.second}, below 0"
                 yield r, f"{below}, and its first, {row.first}, isn't above 0"
         for j in self.winners:
-            above = self.pay[j - 1] - self.den * self.certificate.vickrey(j)
+            above = less(self.pay[j - 1], scaled(self.certificate.vickrey(j), self.den))
             pull = sum(row.second for row in self.rows if j in row.members)
             if above != self.weights[j - 1] * pull:
                 yield len(self.rows) + j, self.nearest_text(j, above, pull)
 
-    def nearest_text(self, j: BidderNumber, above: Amount, pull: int) -> str:
+    def nearest_text(self, j: BidderNumber, above: ScaledNet, pull: int) -> str:
         weight, where = self.weights[j - 1], f" (over the denominator {self.den})" if self.den != 1 else ""
         return (
             f"{self.name(j)} pays {above} more than its Vickrey price{where}. The second multipliers of its rows come"
@@ -247,17 +248,17 @@ class Tests(ABC, Generic[MenuT, ChoiceT, TableT]):
         )
 
     def unblocked(self) -> Iterator[Failure]:
-        table, paid = self.certificate.lowered, sum(self.pay)
+        table, paid = self.certificate.lowered, total(self.pay)
         if breach := self.breach(table, self.lowered_worths()):
             yield breach[0], f"in the lowered table {breach[1]}"
         if self.top(table) > paid:
             why = f"the lowered table says {self.top(table)} for all that can be sold, above the {paid} that is paid"
             yield self.past, why
 
-    def lowered_worths(self) -> Worths:
+    def lowered_worths(self) -> list[list[ScaledNet]]:
         """What each bid is worth, times the denominator, less what its bidder gets now."""
         lost = [self.certificate.lost(j) for j in range(1, self.menu.bidders + 1)]
-        return [[self.den * net - less for net in nets] for less, nets in zip(lost, self.menu.net)]
+        return [[less(scaled(net, self.den), gone) for net in nets] for gone, nets in zip(lost, self.menu.net)]
 
 
 class BookTests(Tests[Book, Choice, Table]):

@@ -7,7 +7,9 @@ from collections.abc import Iterator
 from fractions import Fraction
 
 from cca_tools.rules.certificate import BookCertificate
+from cca_tools.rules.money import gross_of, gross_price_of, total, unscaled
 from cca_tools.rules.placement import PlaceCertificate
+from cca_tools.rules.types import GrossPrice
 
 
 def fraction(top: int | Fraction, den: int = 1) -> str:
@@ -16,11 +18,11 @@ def fraction(top: int | Fraction, den: int = 1) -> str:
     return f"{whole}+{rest}" if rest else f"{whole}"
 
 
-def revenue(certificate: BookCertificate) -> Fraction:
+def revenue(certificate: BookCertificate) -> GrossPrice:
     """What all winners pay, reserves included."""
     book = certificate.book
     reserves = sum(book.reserve(book.winning(certificate.choice, j)[0]) for j in certificate.winners)
-    return Fraction(sum(certificate.pay), certificate.den) + reserves
+    return gross_price_of(unscaled(total(certificate.pay), certificate.den), reserves)
 
 
 def price_lines(certificate: BookCertificate) -> Iterator[str]:
@@ -29,7 +31,7 @@ def price_lines(certificate: BookCertificate) -> Iterator[str]:
     for j in certificate.winners:
         package, amount = book.winning(certificate.choice, j)
         reserve = book.reserve(package)
-        vickrey, pays = certificate.vickrey(j) + reserve, Fraction(certificate.pay[j - 1], certificate.den) + reserve
+        vickrey, pays = gross_of(certificate.vickrey(j), reserve), gross_price_of(certificate.pays(j), reserve)
         words = ["winner", book.names[j - 1], *package, "bid", amount, "vickrey", vickrey, "pays", fraction(pays)]
         yield " ".join(map(str, words))
     yield f"net {certificate.value}"
@@ -44,7 +46,7 @@ def place_lines(certificate: PlaceCertificate) -> Iterator[str]:
         yield f"placed {slots.names[j - 1]} {starts[j]} {slots.widths[j - 1]}"
     for j in certificate.winners:
         start, amount = slots.winning(choice, j)
-        pays = fraction(certificate.pay[j - 1], certificate.den)
+        pays = fraction(certificate.pays(j))
         yield f"winner {slots.names[j - 1]} {start} bid {amount} vickrey {certificate.vickrey(j)} pays {pays}"
     yield f"value {certificate.value}"
-    yield f"revenue {fraction(sum(certificate.pay), certificate.den)}"
+    yield f"revenue {fraction(unscaled(total(certificate.pay), certificate.den))}"

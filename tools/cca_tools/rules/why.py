@@ -15,7 +15,7 @@ from fractions import Fraction
 
 from cca_tools.rules.book import Book
 from cca_tools.rules.certificate import BookCertificate
-from cca_tools.rules.money import gross_of, gross_price_of
+from cca_tools.rules.money import gross_of, gross_price_of, less, net_of, net_price_of, total
 from cca_tools.rules.printing import fraction
 from cca_tools.rules.ties import tie_sentences, ties_of
 from cca_tools.rules.types import Amount, Bid, BidderNumber, Choice, Gross, GrossPrice, Net, NetPrice, Package
@@ -68,9 +68,10 @@ def offer_of(certificate: BookCertificate, members: Sequence[BidderNumber], choi
     same = [j for j in others if now[j - 1] and now[j - 1] == choice[j - 1]]
     unsold, then = book.left(now), book.left(choice)
     kept = book.reserve(then) - book.reserve(unsold)
-    net = book.value(choice) - sum(certificate.won(j) for j in certificate.winners if j not in members)
+    others_win = total(certificate.won(j) for j in certificate.winners if j not in members)
+    net = less(book.value(choice), others_win)
     gross = sum(change.more for change in changes) + kept
-    return Offer(members, changes, same, unsold, then, kept, Gross(gross), Net(net))
+    return Offer(members, changes, same, unsold, then, kept, Gross(gross), net)
 
 
 def change_of(book: Book, now: Choice, choice: Choice, j: BidderNumber) -> Change:
@@ -103,8 +104,7 @@ class Reasons:
 
     def pays(self, j: BidderNumber) -> GrossPrice:
         """What a winner pays, gross."""
-        net = NetPrice(Fraction(self.certificate.pay[j - 1], self.certificate.den))
-        return gross_price_of(net, self.reserve(j))
+        return gross_price_of(self.certificate.pays(j), self.reserve(j))
 
     def shares(self, j: BidderNumber) -> list[Share]:
         """What a winner pays above its Vickrey price, row by row."""
@@ -114,7 +114,7 @@ class Reasons:
 
     def excess(self, offer: Offer) -> Amount:
         """How much more a coalition offers than the Vickrey prices of what it asks for."""
-        return offer.gross - sum(map(self.vickrey, offer.members))
+        return less(offer.gross, total(map(self.vickrey, offer.members)))
 
     # Words.
 
@@ -194,15 +194,15 @@ class Reasons:
         (package, amount), reserve = self.book.winning(self.certificate.choice, j), self.reserve(j)
         offer = vickrey_offer(self.certificate, j)
         whole = ", all that it bid" if self.pays(j) == amount else ""
-        paid = both(self.pays(j), self.pays(j) - reserve)
+        paid = both(self.pays(j), net_price_of(self.pays(j), reserve))
         yield (
-            f"{self.name(j)} wins {counts(package)} with a bid of {both(amount, amount - reserve)}, and pays"
+            f"{self.name(j)} wins {counts(package)} with a bid of {both(amount, net_of(amount, reserve))}, and pays"
             f" {paid}{whole}."
         )
         yield f"  Without {self.name(j)}:"
         yield from self.offer_lines(offer)
         yield (
-            f"  So the others would bring {sum_of(offer)}{net_of(offer)} more. This is the Vickrey price of"
+            f"  So the others would bring {sum_of(offer)}{net_words(offer)} more. This is the Vickrey price of"
             f" {self.name(j)}."
         )
         for share in self.shares(j):
@@ -241,14 +241,15 @@ class Reasons:
     def coalition_lines(self, number: int) -> Iterator[str]:
         """What a coalition offers, and how that is shared."""
         offer = self.coalitions[number - 1]
-        vickrey = [self.vickrey(j) for j in offer.members]
-        reserves = sum(map(self.reserve, offer.members))
+        vickrey, reserves = [self.vickrey(j) for j in offer.members], sum(map(self.reserve, offer.members))
+        together = total(vickrey)
         yield f"Coalition {number}: {self.offering(offer)}, for what {self.names(offer.members)} win."
         yield from self.offer_lines(offer)
-        yield f"  That is {sum_of(offer)}{net_of(offer)}. {self.names(offer.members)} have to pay that much together."
+        members = self.names(offer.members)
+        yield f"  That is {sum_of(offer)}{net_words(offer)}. {members} have to pay that much together."
         yield (
             f"  Their Vickrey prices come to {' + '.join(map(str, vickrey))} ="
-            f" {both(sum(vickrey), sum(vickrey) - reserves)}: {self.excess(offer)} less."
+            f" {both(together, net_of(together, reserves))}: {self.excess(offer)} less."
         )
         yield f"  {self.sharing(number)}"
 
@@ -332,7 +333,7 @@ def counts(package: Package) -> str:
     return "`" + " ".join(map(str, package)) + "`"
 
 
-def both(gross: Amount | Fraction, net: Amount | Fraction) -> str:
+def both(gross: Gross | GrossPrice, net: Net | NetPrice) -> str:
     """An amount, and what it is net of reserve where that differs."""
     return f"{fraction(gross)} ({fraction(net)} net of reserve)" if gross != net else fraction(gross)
 
@@ -342,7 +343,7 @@ def more(amount: Amount) -> str:
     return f"{amount} more" if amount > 0 else f"{-amount} less" if amount else "as much"
 
 
-def net_of(offer: Offer) -> str:
+def net_words(offer: Offer) -> str:
     """What an offer is net of reserve, where that differs."""
     return f" ({offer.net} net of reserve)" if offer.gross - offer.net else ""
 
