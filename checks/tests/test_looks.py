@@ -15,6 +15,7 @@ from checks.cases import samples  # noqa: F401, finds cca_tools
 
 from cca_tools.page import charts, core
 from cca_tools.page.charts import Band
+from cca_tools.rules.types import Gross, GrossPrice
 
 SCRIPT = (pathlib.Path(__file__).resolve().parents[1] / "looks.js").read_text()
 PAGE = '<!DOCTYPE html><html lang="en"><meta charset="utf-8"><title>Pictures</title><div class="card">{}</div></html>'
@@ -30,15 +31,21 @@ def bands() -> str:
     return charts.bands("lots", "Lots", "Who has them", every, ["north", "south"], ["N", "S"])
 
 
+def gross(*amounts: int) -> list[Gross]:
+    """Gross amounts."""
+    return [Gross(amount) for amount in amounts]
+
+
 def two() -> str:
     """The core of two winners with bids of 28 and 20, as Day and Cramton have it."""
-    return core.two("core", "The core", "Payments", ["b1", "b2"], [14, 12], [28, 20], 32, [Fraction(17), Fraction(15)])
+    low, bid, pays = gross(14, 12), gross(28, 20), [GrossPrice(Fraction(17)), GrossPrice(Fraction(15))]
+    return core.two("core", "The core", "Payments", ["b1", "b2"], low, bid, Gross(32), pays)
 
 
 def three() -> str:
     """The core of three winners."""
-    pays = [Fraction(14), Fraction(12), Fraction(10)]
-    return core.three("core", "The core", "P", ["a", "b", "c"], [10, 8, 6], [30, 30, 30], [20, 18, 16], pays)
+    pays, names = [GrossPrice(Fraction(it)) for it in (14, 12, 10)], ["a", "b", "c"]
+    return core.three("core", "The core", "P", names, gross(10, 8, 6), gross(30, 30, 30), gross(20, 18, 16), pays)
 
 
 def report(name: str) -> str:

@@ -13,6 +13,7 @@ from checks.cases import samples  # noqa: F401, finds cca_tools
 
 from cca_tools.page import charts, core, winners
 from cca_tools.page.charts import Activity, Band, Paid
+from cca_tools.rules.types import Gross, GrossPrice
 from cca_tools.studies import pictures
 from cca_tools.studies.measures import Spread
 
@@ -66,6 +67,11 @@ def marks_of(picture: str) -> list[Mark]:
         if tag not in ("title", "desc", "defs", "style"):
             found.append(Mark(tag, it.attrib, "".join(it.itertext()) if len(it) else "", it.text or ""))
     return found
+
+
+def gross(amounts: Sequence[int]) -> list[Gross]:
+    """Gross amounts."""
+    return [Gross(amount) for amount in amounts]
 
 
 def numbers_of(letters: str) -> list[Fraction]:
@@ -273,8 +279,8 @@ class OfActivity(Pictures):
 class OfPayments(Pictures):
     def test_each_amount_is_at_its_place(self) -> None:
         """tarn of the sample, and a bidder that pays a third."""
-        tarn = Paid("tarn", 400000, 460000, Fraction(460200), 500000, 485200)
-        other = Paid("other", 0, 250000, Fraction(1000000, 3), 350000, None)
+        tarn = Paid("tarn", 400000, Gross(460000), GrossPrice(Fraction(460200)), Gross(500000), Gross(485200))
+        other = Paid("other", 0, Gross(250000), GrossPrice(Fraction(1000000, 3)), Gross(350000), None)
         marks = marks_of(charts.paid("p", "", "", [tarn, other]))
         place, numbers = scale_of(marks, is_across=True)
         self.assertIn(0, numbers)
@@ -375,9 +381,14 @@ class OfTheCore(Pictures):
         middle = (one[0] + other[0]) / 2 - tip[0], (one[1] + other[1]) / 2 - tip[1]
         self.assertLess(middle[0] * (u - x) + middle[1] * (v - y), 0)
 
+    def two(self, low: Sequence[int], bid: Sequence[int], both: int, pays: Sequence[int]) -> list[Mark]:
+        """The marks of a picture of two winners."""
+        names, prices = ("b1", "b2"), [GrossPrice(Fraction(it)) for it in pays]
+        return marks_of(core.two("k", "", "", names, gross(low), gross(bid), Gross(both), prices))
+
     def test_two_winners(self) -> None:
         """The example of Day and Cramton: b3 offers 32 for what b1 and b2 win."""
-        marks = marks_of(core.two("k", "", "", ("b1", "b2"), (14, 12), (28, 20), 32, (Fraction(17), Fraction(15))))
+        marks = self.two((14, 12), (28, 20), 32, (17, 15))
         at, across, up = self.places(marks)
         self.assertEqual((across, up), ({14, 17, 28}, {12, 15, 20}))
         right, top, left, bottom = *at(28, 20), *at(14, 12)
@@ -397,7 +408,7 @@ class OfTheCore(Pictures):
 
     def test_winners_of_unequal_size(self) -> None:
         """A bid of 10,000 above would make a demand of 6 invisible: the picture is of what is near the least sum."""
-        marks = marks_of(core.two("k", "", "", ("b1", "b2"), (14, 12), (10014, 20), 32, (Fraction(17), Fraction(15))))
+        marks = self.two((14, 12), (10014, 20), 32, (17, 15))
         at, across, up = self.places(marks)
         self.assertEqual((across, up), ({14, 17}, {12, 15, 20}))
         least = self.one(marks, "the least sum that nobody blocks: 32")
@@ -408,8 +419,7 @@ class OfTheCore(Pictures):
 
     def test_the_vickrey_point_is_seen_around_what_is_paid(self) -> None:
         """Both pay their Vickrey prices of 1,000: both marks are at one place, and the triangle is larger."""
-        pays = Fraction(1000), Fraction(1000)
-        marks = marks_of(core.two("k", "", "", ("b1", "b2"), (1000, 1000), (1100, 1100), 2000, pays))
+        marks = self.two((1000, 1000), (1100, 1100), 2000, (1000, 1000))
         triangle = self.one(marks, "Vickrey prices: b1 1,000, b2 1,000")
         (dot,) = [it for it in marks if it.tag == "circle"]
         self.assertGreater(max(x for x, _ in triangle.points) - dot.place("cx"), dot.place("r") + 3)
@@ -418,7 +428,8 @@ class OfTheCore(Pictures):
         self, low: Sequence[int], bid: Sequence[int], demands: Sequence[int], pays: Sequence[Fraction]
     ) -> tuple[list[Mark], Callable[..., Point]]:
         """The marks, and where payments are: the first winner's share is a height, and the others share the width."""
-        marks = marks_of(core.three("k", "", "", ("b1", "b2", "b3"), low, bid, demands, pays))
+        names, prices = ("b1", "b2", "b3"), [GrossPrice(it) for it in pays]
+        marks = marks_of(core.three("k", "", "", names, gross(low), gross(bid), gross(demands), prices))
         second, third, first = sorted(
             self.one(marks, "all ways to share the least sum").points, key=lambda it: (-it[1], it[0])
         )

@@ -11,7 +11,7 @@ from itertools import groupby
 from cca_tools.page import words
 from cca_tools.page.ink import WINNERS, as_picture
 from cca_tools.page.svg import Drawing, share, width_of
-from cca_tools.rules.types import Amount
+from cca_tools.rules.types import Amount, Gross, GrossPrice
 
 # The width of a picture in a card, which is that of a card on a phone, so that letters have their size there. Of a few
 # rounds each has its number, and of many a mark of its own; of more, rounds alike share one.
@@ -340,15 +340,15 @@ def activities(key: str, title: str, about: str, every: Sequence[Activity], most
 
 @dataclass(frozen=True)
 class Paid:
-    """What a winner's package costs in several ways, gross; the last one is what it costs at the final prices of the
+    """What a winner's package costs in several ways; the last one is what it costs at the final prices of the
     clock, where there was one."""
 
     name: str
     reserve: Amount
-    vickrey: Amount
-    pays: Fraction
-    bid: Amount
-    clock: Amount | None
+    vickrey: Gross
+    pays: GrossPrice
+    bid: Gross
+    clock: Gross | None
 
 
 def draw_paid(drawing: Drawing, one: Paid, top: float, scale: float) -> None:

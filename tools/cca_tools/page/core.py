@@ -15,7 +15,8 @@ from cca_tools.page.charts import WIDE, shortened
 from cca_tools.page.ink import as_picture
 from cca_tools.page.svg import Drawing, width_of
 from cca_tools.rules.book import Book
-from cca_tools.rules.types import Amount, BidderNumber, Choice
+from cca_tools.rules.money import less, total
+from cca_tools.rules.types import BidderNumber, Choice, Gross, GrossPrice, Net
 from cca_tools.rules.winners import line_before
 
 Number: TypeAlias = int | Fraction
@@ -27,7 +28,7 @@ MOST_TIMES = 8  # how many times what is paid above the Vickrey prices an axis m
 SMALL = 60_000  # states times bids up to which a book needs no numpy
 
 
-def best_without(book: Book, out: Collection[BidderNumber]) -> Amount:
+def best_without(book: Book, out: Collection[BidderNumber]) -> Net:
     """The greatest net value of a choice without bids of these bidders, by the remaining supplies one bidder after the
     other."""
     import numpy
@@ -39,15 +40,15 @@ def best_without(book: Book, out: Collection[BidderNumber]) -> Amount:
             into = tuple(slice(count, None) for count in package)
             rest = tuple(slice(0, most + 1 - count) for count, most in zip(package, book.supply))
             numpy.maximum(best[into], before[rest] + net, out=best[into])
-    return int(best.flat[-1])
+    return Net(int(best.flat[-1]))
 
 
-def best_plainly(book: Book, out: Collection[BidderNumber]) -> Amount:
+def best_plainly(book: Book, out: Collection[BidderNumber]) -> Net:
     """This value without numpy, for books that are small enough."""
     line = [0] * book.states
     for j in range(1, book.bidders + 1):
         line = line if j in out else line_before(book, j, line)
-    return line[-1]
+    return Net(line[-1])
 
 
 def effort(book: Book) -> int:
@@ -60,12 +61,12 @@ def is_known(book: Book) -> bool:
     return effort(book) < 10**6 or importlib.util.find_spec("numpy") is not None
 
 
-def bounds(book: Book, choice: Choice, winners: Sequence[BidderNumber]) -> dict[Group, Amount]:
-    """For each set of winners what they have to pay together, net, since a choice without them offers this much."""
+def bounds(book: Book, choice: Choice, winners: Sequence[BidderNumber]) -> dict[Group, Net]:
+    """For each set of winners what they have to pay together, since a choice without them offers this much."""
     bid = {j: book.net[j - 1][choice[j - 1] - 1] for j in winners}
     best = best_plainly if effort(book) < SMALL or not importlib.util.find_spec("numpy") else best_without
     sets = [chosen for size in range(1, len(winners) + 1) for chosen in combinations(winners, size)]
-    return {chosen: best(book, chosen) - sum(bid[j] for j in winners if j not in chosen) for chosen in sets}
+    return {chosen: less(best(book, chosen), total(bid[j] for j in winners if j not in chosen)) for chosen in sets}
 
 
 def clipped(polygon: list[Point], a: int, b: int, least: Number) -> list[Point]:
@@ -196,10 +197,10 @@ def two(
     title: str,
     about: str,
     names: Sequence[str],
-    low: Sequence[Amount],
-    bid: Sequence[Amount],
-    both: Amount,
-    pays: Sequence[Fraction],
+    low: Sequence[Gross],
+    bid: Sequence[Gross],
+    both: Gross,
+    pays: Sequence[GrossPrice],
 ) -> str:
     """The payments of two winners: Vickrey prices, bids, what they have to pay together, and what they pay."""
     most = shown(low, bid, both)
@@ -242,22 +243,22 @@ def three(
     title: str,
     about: str,
     names: Sequence[str],
-    low: Sequence[Amount],
-    bid: Sequence[Amount],
-    demands: Sequence[Amount],
-    pays: Sequence[Fraction],
+    low: Sequence[Gross],
+    bid: Sequence[Gross],
+    demands: Sequence[Gross],
+    pays: Sequence[GrossPrice],
 ) -> str:
     """The payments of least sum of three winners, if that is more than the sum of the Vickrey prices."""
-    total = sum(pays)
-    above = total - sum(low)
+    whole = sum(pays)
+    above = whole - sum(low)
     drawing, made = Drawing(key), Triangle(low, above)
     ends = [(low[0] + above, low[1]), (low[0], low[1] + above), (low[0], low[1])]
     core: list[Point] = [*ends]
     drawing.area([made.at(*it) for it in core], "ground", "rule", says="all ways to share the least sum")
-    for (a, b), least in zip(((-1, 0), (0, -1), (1, 1)), (-bid[0], -bid[1], total - bid[2])):
+    for (a, b), least in zip(((-1, 0), (0, -1), (1, 1)), (-bid[0], -bid[1], whole - bid[2])):
         core = clipped(core, a, b, least)
     drawing.area([made.at(*it) for it in core], "reddish", says="somebody blocks")
-    for (a, b), least in zip(((1, 1), (0, -1), (-1, 0)), (demands[0], demands[1] - total, demands[2] - total)):
+    for (a, b), least in zip(((1, 1), (0, -1), (-1, 0)), (demands[0], demands[1] - whole, demands[2] - whole)):
         core = clipped(core, a, b, least)
     if core:
         is_line = sum(x * v - u * y for (x, y), (u, v) in zip(core, core[1:] + core[:1])) == 0

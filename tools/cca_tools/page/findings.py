@@ -8,6 +8,7 @@ from fractions import Fraction
 from cca_tools.page.source import Source, given
 from cca_tools.page.words import count, listed, number, per_cent, price, spelled
 from cca_tools.rules.clock import Round
+from cca_tools.rules.money import price_total, total
 from cca_tools.rules.types import BidderNumber, Package
 
 NAMED = 3  # bidders or categories that a title names; of more it tells their number
@@ -70,7 +71,7 @@ def of_award(source: Source) -> str:
     every = {1: "the only lot", 2: "both lots"}.get(whole, f"all {number(whole)} lots")
     if not source.winners:
         return f"Nobody wins, and {every} stay{'s' if whole == 1 else ''} unsold"
-    pays = sum((source.pays(j) for j in source.winners), Fraction(0))
+    pays = price_total(map(source.pays, source.winners))
     who = f"{source.names.bidder(source.winners[0])} pays" if many == 1 else f"{capital(spelled(many))} winners pay"
     lots = f"{number(whole - left)} of {number(whole)} lots" if left else every
     return f"{who} {price(pays)}{source.units} for {lots}"
@@ -78,8 +79,8 @@ def of_award(source: Source) -> str:
 
 def of_payments(source: Source) -> str:
     """What the winners pay together, of what they bid."""
-    pays = sum((source.pays(j) for j in source.winners), Fraction(0))
-    bid = sum(source.won(j)[1] for j in source.winners)
+    pays = price_total(map(source.pays, source.winners))
+    bid = total(source.won(j)[1] for j in source.winners)
     one = len(source.winners) == 1
     return (
         f"{'The winner pays' if one else 'Winners pay'} {per_cent(pays, bid)} of what {'it' if one else 'they'} bid:"

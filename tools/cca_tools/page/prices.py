@@ -4,7 +4,6 @@ each winner's Vickrey price."""
 from __future__ import annotations
 
 from collections.abc import Iterable, Iterator, Mapping
-from fractions import Fraction
 
 from cca_tools.page import core, findings
 from cca_tools.page.document import (
@@ -25,7 +24,8 @@ from cca_tools.page.document import (
 )
 from cca_tools.page.source import Source, Turn, given
 from cca_tools.page.words import listed, minus, number, price, price_cell
-from cca_tools.rules.types import Amount, Bid, BidderNumber
+from cca_tools.rules.money import gross_of, gross_price_of, price_total, total
+from cca_tools.rules.types import Amount, Bid, BidderNumber, Gross
 from cca_tools.rules.why import LEGEND, Offer, offer_of, vickrey_offer
 
 ASKED_FIRST = "Each winner is asked for its Vickrey price"
@@ -79,7 +79,7 @@ def winner_card(source: Source, j: BidderNumber) -> Card:
 
 def turn_words(source: Source, turn: Turn) -> Iterator[str]:
     """A turn of pricing in sentences."""
-    gross = {j: net + source.reserve(j) for j, net in zip(source.winners, turn.point)}
+    gross = {j: gross_price_of(net, source.reserve(j)) for j, net in zip(source.winners, turn.point)}
     each = listed(f"{source.names.bidder(j)} {price(amount)}" for j, amount in gross.items())
     yield f"{ASKED_FIRST if turn.number == 1 else ASKED_LATER}: {each}; together {price(sum(gross.values()))}."
     yield block_words(source, turn) if turn.row else "No coalition blocks these prices, so pricing ends here."
@@ -110,7 +110,7 @@ def coalition_card(source: Source, place: int, offer: Offer) -> Card:
     """A coalition, and how what it asks for is shared."""
     table = offer_table(source, offer, f"What is offered for what {names_of(source, offer.members)} win", "offered")
     vickrey = " + ".join(number(source.vickrey(j)) for j in offer.members)
-    sums = f"Their Vickrey prices come to {vickrey} = {number(sum(map(source.vickrey, offer.members)))}."
+    sums = f"Their Vickrey prices come to {vickrey} = {number(total(map(source.vickrey, offer.members)))}."
     shared = source.told(source.reasons.sharing(place))
     return Card(f"Coalition {place}", [table, Words(f"{sums} {shared}")])
 
@@ -124,12 +124,12 @@ def coalitions(source: Source) -> list[Block]:
     return [Heading("The coalitions that raise prices"), Cards(cards, size="wide")]
 
 
-def core_table(source: Source, gross: Mapping[core.Group, Amount]) -> Table:
+def core_table(source: Source, gross: Mapping[core.Group, Gross]) -> Table:
     """What each group of winners has to pay, and pays."""
     heads = columns("Winners", "Have to pay at least #", "Pay #", "More than that #")
     rows: list[list[Content]] = []
     for members, least in gross.items():
-        paid = sum((source.pays(j) for j in members), Fraction(0))
+        paid = price_total(map(source.pays, members))
         rows.append(
             [
                 names_of(source, members),
@@ -148,7 +148,7 @@ def core_picture(source: Source) -> Picture:
     names = [source.names.bidder(j) for j in winners]
     low, pays = [source.vickrey(j) for j in winners], [source.pays(j) for j in winners]
     bid = [source.won(j)[1] for j in winners]
-    gross = {members: least + sum(source.reserve(j) for j in members) for members, least in demands.items()}
+    gross = {members: gross_of(least, sum(map(source.reserve, members))) for members, least in demands.items()}
     title = f"What {listed(names)} could pay that nobody blocks"
     paid = f"paid are {listed(map(price, pays))}, of bids of {listed(map(number, bid))}"
     about = f"Vickrey prices {listed(map(number, low))}; {paid}."
@@ -165,7 +165,7 @@ def core_picture(source: Source) -> Picture:
 
 def core_blocks(source: Source) -> list[Block]:
     """The core of two or three winners. Three that pay their Vickrey prices have no sum to share, so no picture."""
-    total = price(sum((source.pays(j) for j in source.winners), Fraction(0)))
+    least = price(price_total(map(source.pays, source.winners)))
     if len(source.winners) == 3 and all(source.pays(j) == source.vickrey(j) for j in source.winners):
         blocks: list[Block] = [core_picture(source).table]
         return [Heading("The core"), Words(f"{findings.of_core(source)}."), Cards([Card("", blocks)], size="wide")]
@@ -173,7 +173,7 @@ def core_blocks(source: Source) -> list[Block]:
         key = [
             ("greenish", "pale", "nobody blocks: the core"),
             ("reddish", "pale", "somebody blocks"),
-            ("red", "line", f"the least sum that nobody blocks, {total}"),
+            ("red", "line", f"the least sum that nobody blocks, {least}"),
             ("orange", "triangle", "Vickrey prices"),
             ("blue", "dot", "what is paid"),
         ]
@@ -189,7 +189,7 @@ def core_blocks(source: Source) -> list[Block]:
             ("orange", "triangle", "the Vickrey prices, each raised by the same amount"),
             ("blue", "dot", "what is paid"),
         ]
-        told = f"The least sum that nobody blocks is {total}."
+        told = f"The least sum that nobody blocks is {least}."
         reading = (
             "A place of the picture is how three winners could share it. At a corner one of them pays all that is above"
             " the Vickrey prices. Paid is the green place nearest to the triangle."

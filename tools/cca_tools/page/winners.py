@@ -32,9 +32,10 @@ from cca_tools.page.document import (
 from cca_tools.page.source import Source, given
 from cca_tools.page.words import count, listed, number, per_cent, price, price_cell, result_cell
 from cca_tools.rules.auction import Auction
+from cca_tools.rules.money import net_of, net_price_of, price_total, total
 from cca_tools.rules.stops import LIMIT
 from cca_tools.rules.ties import DECIDES, differences, how_many, ties_of
-from cca_tools.rules.types import Amount, BidderNumber, Package
+from cca_tools.rules.types import Amount, BidderNumber, Net, NetPrice, Package
 
 MOST_SHOWN = 60  # bids that the book shows at once
 MOST_TIES = 5  # other choices of the same net value that are told one by one
@@ -88,28 +89,23 @@ def winners_table(source: Source) -> Table:
     return Table(f"Winners and prices{source.unit}, reserves included", heads, list(winner_rows(source)))
 
 
+def net_row(name: str, reserve: Amount, bid: Net, vickrey: Net, pays: NetPrice) -> list[Content]:
+    """The reserve of a winner's package, and the winner's bid and prices net of it."""
+    return [name, number(reserve), number(bid), number(vickrey), price_cell(pays)]
+
+
 def net_table(source: Source) -> Table:
     """The bids and prices net of reserve."""
     heads = columns("Winner", "Reserve #", "Bid, net #", "Vickrey price, net #", "Pays, net #")
-    rows = list[list[Content]]()
+    certificate, rows = given(source.certificate), list[list[Content]]()
     for j in source.winners:
         reserve, bid = source.reserve(j), source.won(j)[1]
-        rows.append(
-            [
-                source.names.bidder(j),
-                number(reserve),
-                number(bid - reserve),
-                number(source.vickrey(j) - reserve),
-                price_cell(source.pays(j) - reserve),
-            ]
-        )
-    sums: list[Content] = [
-        number(sum(source.reserve(j) for j in source.winners)),
-        number(given(source.certificate).value),
-        number(sum(given(source.certificate).vickrey(j) for j in source.winners)),
-        price_cell(sum((source.pays(j) - source.reserve(j) for j in source.winners), Fraction(0))),
-    ]
-    return Table(f"The same net of reserve{source.unit}", heads, [*rows, ["together", *sums]])
+        nets = net_of(bid, reserve), net_of(source.vickrey(j), reserve), net_price_of(source.pays(j), reserve)
+        rows.append(net_row(source.names.bidder(j), reserve, *nets))
+    vickrey, pays = total(map(certificate.vickrey, source.winners)), price_total(map(certificate.pays, source.winners))
+    reserves = sum(map(source.reserve, source.winners))
+    rows.append(net_row("together", reserves, certificate.value, vickrey, pays))
+    return Table(f"The same net of reserve{source.unit}", heads, rows)
 
 
 def paid_picture(source: Source) -> Picture:
