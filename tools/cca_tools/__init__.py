@@ -1,7 +1,7 @@
 """The second program of `cca`: auctions, books and certificates in Python, written from the pages of `docs/` alone.
 
-What a caller needs is here: the readers, the auction, the tests of a certificate, and the stop that each of them may
-raise.
+What a caller needs is here: the readers, the auction, the tests of a certificate, the kinds of amounts, and the stop
+that each of them may raise.
 """
 
 import cca_tools.interrupts  # noqa: F401  (first, so that an import that fails after it ends with 70)
@@ -16,6 +16,7 @@ from cca_tools.rules.certificate_tests import first_fault
 from cca_tools.rules.log import Line, read_log
 from cca_tools.rules.stops import Stop, load
 from cca_tools.rules.ties import tie_sentences, ties_of
+from cca_tools.rules.types import Gross, GrossPrice, Net, NetPrice, ScaledNet
 from cca_tools.rules.weights import read_weights
 from cca_tools.version import version
 
@@ -26,10 +27,15 @@ __all__ = [
     "Award",
     "Book",
     "Certificate",
+    "Gross",
+    "GrossPrice",
     "Line",
+    "Net",
+    "NetPrice",
     "Price",
     "Prices",
     "Reply",
+    "ScaledNet",
     "Sold",
     "Stop",
     "__version__",

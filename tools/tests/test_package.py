@@ -18,14 +18,17 @@ from cca_tools.__main__ import COMMANDS
 ROOT = pathlib.Path(__file__).resolve().parents[2]
 VERSION = (ROOT / "VERSION").read_text().strip()
 CAN_BUILD = all(map(importlib.util.find_spec, ("pip", "setuptools", "wheel")))
-# A program of somebody else, which mixes up two sorts of amounts in its last line.
+# A program of somebody else, which mixes up two kinds of amounts in its last line.
 CALLER = """import cca_tools
-from cca_tools import Book, read_book
+from cca_tools import Book, Gross, read_book
 
 book: Book = read_book(open("{book}", "rb").read())
 reveal_type(book)
 reveal_type(cca_tools.__version__)
+bid: Gross = book.bids[0][0][1]
+bid = book.net[0][0]
 """
+MIXED = 'caller.py:8: error: Incompatible types in assignment (expression has type "Net", variable has type "Gross")'
 
 
 class OneVersion(unittest.TestCase):
@@ -164,7 +167,7 @@ class Installed(unittest.TestCase):
         said = self.run_there(*words).stdout
         self.assertIn('note: Revealed type is "cca_tools.rules.book.Book"', said)
         self.assertIn('note: Revealed type is "builtins.str"', said)
-        self.assertNotIn("error", said)
+        self.assertEqual([line for line in said.splitlines() if "error:" in line], [f"{MIXED}  [assignment]"])
 
 
 if __name__ == "__main__":
