@@ -12,8 +12,8 @@ import unittest
 from fractions import Fraction
 from typing import NamedTuple
 
-from cca_tools.rules.money import gross_of, gross_price_of, less, net_of, net_price_of, price_total, scaled, total
-from cca_tools.rules.money import unscaled
+from cca_tools.rules.money import difference, gross_of, gross_price_of, less, net_of, net_price_of, price_total
+from cca_tools.rules.money import scaled, total, unscaled
 from cca_tools.rules.types import Gross, GrossPrice, Net, NetPrice
 
 ROOT = pathlib.Path(__file__).resolve().parents[2]
@@ -32,7 +32,7 @@ from cca_tools.rules.certificate import BookCertificate
 from cca_tools.rules.certificate_tests import BookTests
 from cca_tools.rules.clock import cost
 from cca_tools.rules.log import Line
-from cca_tools.rules.money import gross_of, gross_price_of, less, net_of, net_price_of, scaled, total
+from cca_tools.rules.money import difference, gross_of, gross_price_of, less, net_of, net_price_of, scaled, total
 from cca_tools.rules.types import Bid, Choice, Gross, Net, NetPrice, Package, ScaledNet
 from cca_tools.rules.why import both
 from cca_tools.rules.winners import winning_choice
@@ -76,6 +76,11 @@ def mixed(name: str) -> str:
     return f'Value of type variable "WholeT" of "{name}" cannot be "int"'
 
 
+def unmatched(one: str, other: str) -> str:
+    """What mypy says of the difference of amounts of two kinds."""
+    return f'No overload variant of "difference" matches argument types "{one}", "{other}"'
+
+
 GROSS_ITEM = 'Dict entry 0 has incompatible type "Tuple[int, ...]": "Net"; expected "Tuple[int, ...]": "Gross"'
 RULES = (
     Case("is_net(@)", "net_of(bid, reserve)", "bid", argument(1, "is_net", "Gross", "Net")),
@@ -92,6 +97,8 @@ RULES = (
     Case("is_price(@)", "certificate.pays(1)", "certificate.pay[0]", argument(1, "is_price", "ScaledNet", "NetPrice")),
     Case("less(certificate.value, @)", "certificate.won(1)", "certificate.lost(1)", mixed("less")),
     Case("total([net, @])", "net_of(bid, reserve)", "bid", mixed("total")),
+    Case("difference(pays, @)", "low", "net", unmatched("GrossPrice", "Net")),
+    Case("difference(@, certificate.pays(1))", "net", "bid", unmatched("Gross", "NetPrice")),
     Case("net_of(@, reserve)", "bid", "net", argument(1, "net_of", "Net", "Gross")),
     Case("scaled(@, 2)", "net", "certificate.pay[0]", argument(1, "scaled", "ScaledNet", "Net")),
     Case(
@@ -212,6 +219,7 @@ class Money(unittest.TestCase):
         self.assertEqual(unscaled(scaled(Net(7), 3), 6), Fraction(7, 2))
         self.assertEqual((total([Net(7), Net(4)]), total(list[Net]()), less(Net(4), Net(7))), (11, 0, -3))
         self.assertEqual(price_total([NetPrice(Fraction(1, 2)), NetPrice(Fraction(1, 3))]), Fraction(5, 6))
+        self.assertEqual(difference(Net(7), NetPrice(Fraction(20, 3))), Fraction(1, 3))
 
     @unittest.skipUnless(shutil.which("mypy"), "the package mypy isn't installed")
     def test_another_kind_of_amount_is_refused_and_the_right_one_is_accepted(self) -> None:

@@ -25,7 +25,7 @@ from cca_tools.rules.book import Book
 from cca_tools.rules.edits import with_bids
 from cca_tools.rules.log import Line, read_log
 from cca_tools.rules.matching import matched
-from cca_tools.rules.money import gross_of, less
+from cca_tools.rules.money import gross_of, less, total
 from cca_tools.rules.program import MISSING, price_lines, program, wins
 from cca_tools.rules.reasons import cap_words, counts, reason
 from cca_tools.rules.stops import MOST, NO, Stop, load
@@ -151,7 +151,7 @@ def least_amount(book: Book, j: BidderNumber, package: Package, low: Gross) -> G
     def beside(taken: Package) -> Net:
         return Net(others[book.place(most - count for most, count in zip(book.supply, taken))])
 
-    rivals = [Net(net + beside(own)) for (own, _), net in zip(book.bids[j - 1], book.net[j - 1]) if own != package]
+    rivals = [total((net, beside(own))) for (own, _), net in zip(book.bids[j - 1], book.net[j - 1]) if own != package]
     needed = less(max([Net(others[-1]), *rivals]), beside(package))
     amount = max(low, gross_of(needed, book.reserve(package)))
     if amount <= MOST["amount"] and not wins(with_bid(book, j, package, amount), j, package):

@@ -20,7 +20,7 @@ from cca_tools.pricing.best import has_tie
 from cca_tools.pricing.judges import Asked
 from cca_tools.pricing.making import make_certificate
 from cca_tools.rules.book import Book, book_text, read_book
-from cca_tools.rules.money import gross_of, less, net_of, net_price_of, price_total
+from cca_tools.rules.money import difference, gross_of, less, net_of, net_price_of, price_total
 from cca_tools.rules.program import program
 from cca_tools.rules.scratch import scratch_folder
 from cca_tools.rules.stops import CRASH, DONE, LIMIT, Stop, refused
@@ -46,7 +46,7 @@ class Price:
     def regret(self) -> Fraction:
         """The price less the Vickrey price: the most that the winner gains if it alone bids otherwise (Day and Milgrom
         2008)."""
-        return self.pays - self.vickrey
+        return difference(self.pays, self.vickrey)
 
     @property
     def bid_net(self) -> Net:

@@ -15,7 +15,7 @@ from typing import Literal, TypeAlias, get_args
 from cca_tools.data.prices import BY_WIN, Price, Prices, winners_of
 from cca_tools.pricing.nearest import Demand, Nearest
 from cca_tools.rules.book import Book
-from cca_tools.rules.money import gross_price_of, less, net_of, price_total, scaled, total
+from cca_tools.rules.money import difference, gross_price_of, less, net_of, price_total, scaled, total
 from cca_tools.rules.stops import CRASH, MOST, Stop, limit
 from cca_tools.rules.types import Bid, Gross, Net, NetPrice, Package, ScaledNet
 
@@ -76,7 +76,7 @@ def blocking(book: Book, prices: Prices, winners: Sequence[int], pays: Sequence[
 
 def surplus_of(row: Price, pay: NetPrice, den: int) -> ScaledNet:
     """How much less than its bid a winner pays, times `den`."""
-    return ScaledNet(max(0, int(den * (row.bid_net - pay))))
+    return ScaledNet(max(0, int(den * difference(row.bid_net, pay))))
 
 
 def lowered_bids(book: Book, k: int, den: int, surplus: ScaledNet) -> list[Bid]:

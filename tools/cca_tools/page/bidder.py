@@ -33,6 +33,7 @@ from cca_tools.rules.auction import Auction, Reply
 from cca_tools.rules.award import Award
 from cca_tools.rules.clock import Round
 from cca_tools.rules.log import Line
+from cca_tools.rules.money import difference
 from cca_tools.rules.types import Amount, Bid, BidderNumber
 
 SHOWN = [
@@ -214,7 +215,7 @@ def own_words(view: View) -> Iterator[str]:
         yield "That is your Vickrey price: what the others would offer more for the same lots if you hadn't bid."
         return
     own = f"Your Vickrey price, what the others would offer more if you hadn't bid, is {number(vickrey)}{source.units}."
-    yield f"{own} You pay {price(pays - vickrey)}{source.units} more."
+    yield f"{own} You pay {price(difference(pays, vickrey))}{source.units} more."
     for share in source.reasons.shares(j):
         if share.coalition and share.amount > 0:
             offer = source.reasons.coalitions[share.coalition - 1]

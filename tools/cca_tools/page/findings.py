@@ -8,7 +8,7 @@ from fractions import Fraction
 from cca_tools.page.source import Source, given
 from cca_tools.page.words import count, listed, number, per_cent, price, spelled
 from cca_tools.rules.clock import Round
-from cca_tools.rules.money import price_total, total
+from cca_tools.rules.money import difference, price_total, total
 from cca_tools.rules.types import BidderNumber, Package
 
 NAMED = 3  # bidders or categories that a title names; of more it tells their number
@@ -36,7 +36,7 @@ def raising(source: Source, raised: Sequence[BidderNumber]) -> str:
 
 def raised_by(source: Source, raised: Sequence[BidderNumber]) -> str:
     """Whose prices are above the Vickrey prices, and by how much."""
-    above = {j: source.pays(j) - source.vickrey(j) for j in raised}
+    above = {j: difference(source.pays(j), source.vickrey(j)) for j in raised}
     names = [source.names.bidder(j) for j in raised]
     whole, is_all = sum(above.values(), Fraction(0)), len(raised) == len(source.winners)
     if len(raised) > NAMED:
@@ -175,7 +175,7 @@ def of_activity(points: Sequence[Sequence[int]], eligibility: Sequence[Sequence[
 
 def of_core(source: Source) -> str:
     """How far the least sum that nobody blocks is above the Vickrey prices."""
-    above = sum((source.pays(j) - source.vickrey(j) for j in source.winners), Fraction(0))
+    above = sum((difference(source.pays(j), source.vickrey(j)) for j in source.winners), Fraction(0))
     if not above:
         return "Nobody blocks the Vickrey prices"
     names = listed(source.names.bidder(j) for j in source.winners)

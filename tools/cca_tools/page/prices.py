@@ -24,7 +24,7 @@ from cca_tools.page.document import (
 )
 from cca_tools.page.source import Source, Turn, given
 from cca_tools.page.words import listed, minus, number, price, price_cell
-from cca_tools.rules.money import gross_of, gross_price_of, price_total, total
+from cca_tools.rules.money import difference, gross_of, gross_price_of, price_total, total
 from cca_tools.rules.types import Amount, Bid, BidderNumber, Gross
 from cca_tools.rules.why import LEGEND, Offer, offer_of, vickrey_offer
 
@@ -135,7 +135,7 @@ def core_table(source: Source, gross: Mapping[core.Group, Gross]) -> Table:
                 names_of(source, members),
                 number(least),
                 price_cell(paid),
-                price_cell(paid - least, "" if paid > least else "strong"),
+                price_cell(difference(paid, least), "" if paid > least else "strong"),
             ]
         )
     return Table(f"What each group of winners has to pay{source.unit}", heads, rows)

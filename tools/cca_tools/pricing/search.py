@@ -18,7 +18,7 @@ from cca_tools.pricing.nearest import Demand, Nearest, Point
 from cca_tools.pricing.program_rows import program_point
 from cca_tools.pricing.tables import NARROW, Filler, Lines, filler_of, most_worth
 from cca_tools.rules.book import Book
-from cca_tools.rules.money import less, price_total, scaled, total
+from cca_tools.rules.money import difference, less, price_total, scaled, total
 from cca_tools.rules.stops import MOST
 from cca_tools.rules.types import Choice, Net, NetPrice, ScaledNet
 from cca_tools.terminal import progress
@@ -103,7 +103,7 @@ def demand_of(market: Market, choice: Choice, pays: Sequence[NetPrice]) -> Deman
 
 def missing(demand: Demand, pays: Sequence[NetPrice]) -> Fraction:
     """How much the members of a row pay too little."""
-    return demand.bound - price_total(p for i, p in enumerate(pays) if demand.holds(i))
+    return difference(demand.bound, price_total(p for i, p in enumerate(pays) if demand.holds(i)))
 
 
 def rough_den(market: Market, den: int) -> int:

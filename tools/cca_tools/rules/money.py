@@ -5,7 +5,7 @@ from __future__ import annotations
 
 from collections.abc import Iterable
 from fractions import Fraction
-from typing import TypeVar, cast
+from typing import TypeVar, cast, overload
 
 from cca_tools.rules.types import Amount, Gross, GrossPrice, Net, NetPrice, ScaledNet
 
@@ -54,5 +54,20 @@ def price_total(prices: Iterable[PriceT]) -> PriceT:
 
 
 def less(amount: WholeT, other: WholeT) -> WholeT:
-    """The difference of two amounts of one kind."""
+    """An amount less another one of its kind."""
     return cast(WholeT, amount - other)
+
+
+@overload
+def difference(one: Gross | GrossPrice, other: Gross | GrossPrice) -> Fraction:
+    ...
+
+
+@overload
+def difference(one: Net | NetPrice, other: Net | NetPrice) -> Fraction:
+    ...
+
+
+def difference(one: int | Fraction, other: int | Fraction) -> Fraction:
+    """How much greater an amount or a price is than another one, both gross or both net."""
+    return Fraction(one) - other

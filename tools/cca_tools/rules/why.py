@@ -15,7 +15,7 @@ from fractions import Fraction
 
 from cca_tools.rules.book import Book
 from cca_tools.rules.certificate import BookCertificate
-from cca_tools.rules.money import gross_of, gross_price_of, less, net_of, net_price_of, total
+from cca_tools.rules.money import difference, gross_of, gross_price_of, less, net_of, net_price_of, total
 from cca_tools.rules.printing import fraction
 from cca_tools.rules.ties import tie_sentences, ties_of
 from cca_tools.rules.types import Amount, Bid, BidderNumber, Choice, Gross, GrossPrice, Net, NetPrice, Package
@@ -135,7 +135,7 @@ class Reasons:
 
     def above(self, j: BidderNumber) -> Fraction:
         """How much more than its Vickrey price a winner pays."""
-        return self.pays(j) - self.vickrey(j)
+        return difference(self.pays(j), self.vickrey(j))
 
     def group_of(self, j: BidderNumber) -> int:
         """What the winners of one reason have in common: 0 if they pay their Vickrey prices and no coalition asks them
@@ -275,7 +275,7 @@ class Reasons:
 
     def ends(self, members: Sequence[BidderNumber]) -> str:
         """How much more than its Vickrey price each of these pays in the end."""
-        above = {j: self.pays(j) - self.vickrey(j) for j in members}
+        above = {j: self.above(j) for j in members}
         return listed(
             [
                 f"{self.name(j)} pays {f'{fraction(more)} more than' if more else 'just'} its Vickrey price"

@@ -19,7 +19,7 @@ from cca_tools.data.prices import BY_WIN, Price, Prices, need_program, price, vi
 from cca_tools.data.references import nearest_to
 from cca_tools.rules.award import Award, dot
 from cca_tools.rules.book import Book
-from cca_tools.rules.money import net_of, total
+from cca_tools.rules.money import difference, net_of, total
 from cca_tools.rules.stops import LIMIT, Stop
 from cca_tools.rules.types import Gross, Net, Package
 from cca_tools.studies.awarding import Held, audited, awarded, hold, need_bounds
@@ -192,7 +192,7 @@ def outcome(held: Held, values: Sequence[Values], prices: Prices) -> Row:
         "core_exact": exact(prices.revenue),
         "vickrey": str(sum(row.vickrey for row in prices.rows)),
         "bids": str(sum(row.bid for row in prices.rows)),
-        "profit": decimal(won - prices.revenue),
+        "profit": decimal(difference(won, prices.revenue)),
         "raised": "yes" if prices.raised else "no",
         "tie": "yes" if has_tie(held.book) else "no",
         "found_by": prices.found_by,
@@ -211,12 +211,13 @@ def counts_text(package: Package | None) -> str:
 
 def bidder_cells(drawn: Drawn, k: int, values: Values, row: Price, others: Others) -> Row:
     """The cells of a bidder, without its name."""
-    worth = values[row.package] if row.package else 0
+    worth = values[row.package] if row.package else Gross(0)
     rounds = drawn.held.auction.rounds if drawn.held.auction else []
     asked = counts_text(rounds[-1].packages[k] if rounds else None)
     package = counts_text(row.package)
     is_won = "" if not asked else "yes" if asked == package else "no"
-    amounts = str(worth), str(row.bid), str(row.vickrey), *map(decimal, (row.pays, worth - row.pays, row.regret))
+    parts = row.pays, difference(worth, row.pays), row.regret
+    amounts = str(worth), str(row.bid), str(row.vickrey), *map(decimal, parts)
     cells = dict(zip(EACH, (*drawn.strategies[k].cells(), asked, is_won, package, *amounts)))
     rules = {f"price_{rule}": exact(it.rows[k].pays) for rule, it in others.items() if isinstance(it, Prices)}
     return {**cells, **rules}
