@@ -19,7 +19,7 @@ nothing-less (a ∷ p) (b ∷ l) h =
     let same : b - a ≡ b = omega (arith, h 0 (omega arith)) in
     rw (same, nothing-less p l (λ k low. h (suc k) (omega arith))) refl
 
--- a package cut if it has nothing more is within the same supplies
+-- a package cut where it has nothing more is within the same supplies
 pub trim-within : (n : ℕ) (p l : List ℕ) → IsNothingFrom n p → is_within (take n p) l ≡ is_within p l
 trim-within zero p l h = sym (nothing-within p l h)
 trim-within (suc n) [] l h = refl

@@ -90,7 +90,7 @@ alike j = 1
 abbrev pub share : ℕ → ℤ
 share weight = pos (232792560 / weight)
 
--- The square of the distance from the prices v, if the square of each bidder is divided by its weight; times the square of the
+-- The square of the distance from the prices v, with the square of each bidder divided by its weight; times the square of the
 -- denominator, and times 232,792,560, so that it is whole.
 abbrev pub square_distance : Market → (ℕ → ℕ) → (ℕ → ℤ) → Point → ℤ
 square_distance m w v p = sum_over everyone (λ j. let off = of_bidder p.at j -ℤ (p.den *ℤ v j) in share (w j) *ℤ (off *ℤ off)) m.bidders

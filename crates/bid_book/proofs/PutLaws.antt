@@ -1,4 +1,4 @@
--- The rules of a book go on to hold if a bid that keeps them is put in, and where a bid is taken out.
+-- The rules of a book go on to hold if a bid that keeps them is put in, and if a bid is taken out.
 use Rattle.std.specs.Prelude.{◌≡◌, ◌≢◌, ℕ, zero, suc, ◌+◌, ◌-◌, ◌≤◌, ◌<◌, true, Option, None, List, [], ◌∷◌, ◌++◌, codes, length, get_or, map, replicate, refl}
 use Rattle.std.proofs.Math.ListN.{length-set}
 use Rattle.std.proofs.Common.{inl, inr, set, sym, ◌∙◌, ap, subst, arith}

@@ -189,7 +189,7 @@ some_file (Some file) P h = (file, refl, h)
 pub is_file : (o : Option (List ℕ)) (P : List ℕ → Type 0) (file : List ℕ) → o ≡ Some file → P file → IsSomeAnd o P
 is_file o P file is h = subst (λ (x : Option (List ℕ)). IsSomeAnd x P) (sym is) h
 
--- the prefix of a buffer stands if the whole buffer's prefix is
+-- the prefix of a buffer is right if it is as a buffer of its own
 pub stands_front : (file buffer : List ℕ) (at room n : ℕ) → n ≤ length buffer → Stands file at room (take n buffer) (length (take n buffer))
     → Stands file at room buffer n
 stands_front file buffer at room n le h =

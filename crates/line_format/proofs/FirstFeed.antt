@@ -26,7 +26,7 @@ feed_found bytes (Some n) first =
       first.0.high,
     )
 
--- bytes if no line feed is found are a line
+-- bytes in which no line feed is found are a line
 pub feed_none : (bytes : List ℕ) (r : Option ℕ) → IsFirstByte (is_byte 10) bytes r → IfNone r (IsLine bytes)
 feed_none bytes None first =
     subst IsLine (take_all (length bytes) bytes (omega arith)) (line_from (length bytes) bytes

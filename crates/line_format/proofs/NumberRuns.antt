@@ -50,7 +50,7 @@ next_in_run ns i start before behind all inside so_far step =
     ∙ append_assoc start (numbers_text (take i ns)) (32 ∷ signed_numeral n)
     ∙ ap (λ (t : List ℕ). start ++ t) (sym one)
 
--- the numbers from here on, as a slice that ends if the list does
+-- the numbers from here on, as a slice that ends where the list does
 tail_whole : (ns : List ℤ) (done : ℕ) → take (length ns - done) (drop done ns) ≡ drop done ns
 tail_whole ns done = take_all (length ns - done) (drop done ns) (omega (arith, length-drop done ns))
 

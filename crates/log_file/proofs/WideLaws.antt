@@ -269,7 +269,7 @@ scan-more text i place later what count ended below scanned effect is =
     subst (λ (l : List ℕ). IsScanned l later ended) (sym taken)
     (subst (IsScanned (take i text ++ (get_or text i 0 ∷ [])) later) (sym is) (scan-next (take i text) (get_or text i 0) place later what count scanned effect))
 
--- the text is cut if a fourth field has ended
+-- the text is cut where a fourth field has ended
 pub cut-found : (text : List ℕ) (k ended : ℕ) (place : Place) → IsScanned (take k text) place ended → ended ≡ 4
     → ReadsAlike (records default_config (take k text)) (records default_config text)
 cut-found text k ended place scanned four =

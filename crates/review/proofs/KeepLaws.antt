@@ -1,4 +1,4 @@
--- The winning choice goes on to be one if a bid is put in that is beaten, and where one is taken out that it doesn't use.
+-- The winning choice goes on to be one if a bid is put in that is beaten, and if one is taken out that it doesn't use.
 use Rattle.std.specs.Prelude.{◌≡◌, ◌≢◌, ◌⊎◌, ℕ, suc, ◌+◌, ◌-◌, ◌≤◌, ◌<◌, true, IsTrue, None, List, length, get_or, ℤ, ◌-ℤ◌, ◌<ℤ◌, refl}
 use Rattle.std.proofs.Common.{inl, inr, set, sym, ◌∙◌, ap, subst, arith}
 use Rattle.std.specs.List.{insert, remove}
