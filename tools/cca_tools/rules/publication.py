@@ -69,6 +69,7 @@ STYLE = (
     ".wide th,.wide td{display:block;border:0;padding:0}}"
     "textarea{width:100%;font:13px/1.5 ui-monospace,monospace;box-sizing:border-box}"
     "button,textarea{color:inherit;background:transparent;border:1px solid #888;padding:.4rem .7rem}"
+    ":focus-visible{outline:2px solid;outline-offset:2px}input{min-height:1.75rem}"
     "@media(prefers-color-scheme:dark){body{color:#eee;background:#111}a{color:#9cf}"
     "td,th,.winners tr,.wide tr{border-color:#444}.bad,.void,.void b{color:#ff8a9a}}"
     "@media print{body{margin:0;color:#000;background:#fff}h2,dt{break-after:avoid}tr,dd{break-inside:avoid}"
