@@ -106,7 +106,8 @@ class Answers:
             new = read_log(data[len(before.data) :], self.award)
             within("records", records + len(new), MOST["records"])
         except Stop:
-            read_log(data, self.award)  # (raises the stop of the whole, with the number of the record there)
+            if before.data:
+                read_log(data, self.award)  # (raises the stop of the whole, with the number of the record there)
             raise
         return [dataclasses.replace(it, number=records + it.number, row=rows + it.row) for it in new]
 
