@@ -182,9 +182,12 @@ class Pages(WithPlan):
         self.page = page_of(self.results, "name", ORIGIN)
 
     def test_what_was_tried(self) -> None:
-        plan, cases, differences, origin = self.page.sections
+        cases, differences, plan, origin = self.page.sections
         self.assertEqual((plan.title, cases.title), ("What was tried", "What came out"))
         self.assertEqual(differences.title, "What differs, auction by auction")
+        self.assertRegex(
+            cases.finding, r"^Mean revenue over two cases, of what the best allocation is worth: core 60\.0 %,"
+        )
         (figures,) = [it for it in plan.blocks if isinstance(it, Figures)]
         self.assertEqual(
             figures.pairs,
@@ -192,13 +195,13 @@ class Pages(WithPlan):
         )
         (fields,) = [it for it in plan.blocks if isinstance(it, Table)]
         self.assertIn(["version", "1, 2"], [row[:2] for row in fields.rows])
-        self.assertIn("1 auction was stopped by a limit, and is left out below.", plain.text(self.page))
+        self.assertIn("1 auction was stopped by a limit, and is left out.", plain.text(self.page))
 
     def test_measures(self) -> None:
         """In the first case the core's revenue is 50, 60 and 70 percent: its mean is 60, its variance 100, and the
         standard error the root of 100/3; the others likewise. Wilson's interval of 2 of 3 is 20.77 to 93.85 (as
         scipy and R's prop.test without correction have it)."""
-        (table,) = [it for it in self.page.sections[1].blocks if isinstance(it, Table)]
+        (table,) = [it for it in self.page.sections[0].blocks if isinstance(it, Table)]
         two, both = "66.67 (20.77 to 93.85)", "100.00 (34.24 to 100.00)"
         first = "3", "90.00 ± 5.77", "60.00 ± 5.77", "50.00 ± 0.00", "80.00 ± 5.77", two, "5.00 ± 1.53"
         second = "2", "100.00 ± 0.00", "60.00 ± 10.00", "50.00 ± 0.00", "80.00 ± 0.00", both, "2.00 ± 0.00"
@@ -241,8 +244,9 @@ class Pages(WithPlan):
 
     def test_without_a_row(self) -> None:
         every = [{"auction": str(n % 3 + 1), "stopped": "limit winners 7"} for n in range(6)]
-        plan, _ = page_of(results_of(self.results.plan, every), "name", ORIGIN).sections
-        self.assertEqual(plan.title, "What was tried")
+        page = page_of(results_of(self.results.plan, every), "name", ORIGIN)
+        self.assertEqual([it.title for it in page.sections], ["What was tried", "What made it"])
+        self.assertIn("6 auctions were stopped by a limit, and are left out.", plain.text(page))
         self.assertEqual(list(drawings(results_of(self.results.plan, every))), [])
 
 

@@ -7,7 +7,7 @@ from dataclasses import dataclass
 
 from cca_tools.page.document import Block, Card, Cards, Content, Figures, Key, Page, Picture, Section, Table, Words
 from cca_tools.page.document import columns as heads
-from cca_tools.page.words import count, listed, minus
+from cca_tools.page.words import count, listed, minus, spelled
 from cca_tools.studies import pictures
 from cca_tools.studies.answers import Answer, answers_of, equilibria_of
 from cca_tools.studies.measures import MEASURES, RULES, Measure, OfBest, Pair, Results, Spread, pairs_of, per_cent
@@ -35,7 +35,7 @@ SPREAD_NOTE = (
 )
 
 
-def tried(plan: Plan, limits: int) -> Iterator[Block]:
+def tried(plan: Plan) -> Iterator[Block]:
     """What the plan says."""
     whole = plan.auctions * len(plan.cases)
     yield Figures(
@@ -50,15 +50,19 @@ def tried(plan: Plan, limits: int) -> Iterator[Block]:
         [name, ", ".join(dict.fromkeys(str(case.get(name)) for case in plan.cases)), means_of(name)]
         for name in plan.fields
     ]
-    yield Table("What the plan varies", heads("Field", "Values", "What it is"), rows)
+    yield Table("What the plan sets", heads("Field", "Values", "What it is"), rows)
     yield Words(
         "An auction of the same number has the same values of bidders in all cases. Bidders are straightforward in the"
         " clock, within their budgets, and list what their strategies name of their values, within their caps; if bids"
         " are sealed alone there are no caps."
     )
-    if limits:
+
+
+def left_out(results: Results) -> Iterator[Block]:
+    """That a limit stopped some auctions, if one did."""
+    if limits := stopped(results):
         was, are = ("was", "is") if limits == 1 else ("were", "are")
-        yield Words(f"{count(limits, 'auction')} {was} stopped by a limit, and {are} left out below.", tone="bad")
+        yield Words(f"{count(limits, 'auction')} {was} stopped by a limit, and {are} left out.", tone="bad")
 
 
 def means_of(name: str) -> str:
@@ -86,16 +90,13 @@ def spread_table(title: str, bars: Sequence[Bar]) -> Table:
     rows: list[list[Content]] = [
         [
             name,
-            f"{spread.count:,}",
             minus(spread.words()),
             minus(spread.interval_words()),
             *(minus(f"{spread.quantiles[at]:.2f}") for at in (0, 2, 4)),
         ]
         for name, spread, _ in bars
     ]
-    columns = heads(
-        "What", "Auctions #", "Mean, standard error #", "95 % interval of the mean #", "5 % #", "Median #", "95 % #"
-    )
+    columns = heads("What", "Mean, standard error #", "95 % interval of the mean #", "5 % #", "Median #", "95 % #")
     return Table(title, columns, rows)
 
 
@@ -128,13 +129,23 @@ class Drawing:
 
     def picture(self) -> Picture:
         """The picture with its table."""
-        table = spread_table(f"{self.title}, in {self.what}", self.flat)
+        counts = {spread.count for _, spread, _ in self.flat}
+        many = f", {count(counts.pop(), 'auction')}" if len(counts) == 1 else ""
+        table = spread_table(f"{self.title}, in {self.what}{many}", self.flat)
         return Picture(self.title, self.about, self.text, table, self.caption)
 
 
 def distribution(results: Results) -> Drawing:
     """How revenue is spread by each rule in each case."""
-    groups = [
+    groups = rule_groups(results)
+    return Drawing(
+        "rules", "Revenue of the winning bids by each rule", groups, "% of what the best allocation is worth", False
+    )
+
+
+def rule_groups(results: Results) -> list[tuple[str, Sequence[Bar]]]:
+    """The revenue by each rule in each case that has auctions."""
+    return [
         (
             results.plan.label(case),
             [(rule, results.spread(case, measure), pictures.COLOURS[rule]) for rule, measure in RULES.items()],
@@ -142,8 +153,6 @@ def distribution(results: Results) -> Drawing:
         for case in results.plan.cases
         if results.rows[case]
     ]
-    title = "Revenue of the winning bids by each rule"
-    return Drawing("rules", title, groups, "% of what the best allocation is worth", False, rules_words(groups))
 
 
 def rules_words(groups: Sequence[tuple[str, Sequence[Bar]]]) -> str:
@@ -153,7 +162,7 @@ def rules_words(groups: Sequence[tuple[str, Sequence[Bar]]]) -> str:
         means = [of_one[at][1].mean for _, of_one in groups]
         low, high = f"{min(means):.1f}", f"{max(means):.1f}"
         found.append(f"{rule} {low if low == high else f'{low} to {high}'} %")
-    over = f" over the {len(groups)} cases" if len(groups) > 1 else ""
+    over = f" over {spelled(len(groups))} cases" if len(groups) > 1 else ""
     return minus(f"Mean revenue{over}, of what the best allocation is worth: {listed(found)}")
 
 
@@ -221,9 +230,11 @@ def stopped(results: Results) -> int:
 
 
 def sections_of(results: Results) -> Iterator[Section]:
-    """The parts of the page."""
-    yield Section("plan", "What was tried", list(tried(results.plan, stopped(results))))
+    """The parts of the page: what came out, and then what was tried."""
+    plan = Section("plan", "What was tried", list(tried(results.plan)))
     if not any(results.rows.values()):
+        plan.blocks = [*left_out(results), *plan.blocks]
+        yield plan
         return
     table = Table("Means by case", heads("Case", "Auctions #", *(f"{name} #" for name in MEASURES)), case_rows(results))
     marks = [("blue", "box", "core"), ("orange", "box", "Vickrey"), ("green", "box", "pay as bid, for the same bids")]
@@ -231,6 +242,7 @@ def sections_of(results: Results) -> Iterator[Section]:
         "cases",
         "What came out",
         [
+            *left_out(results),
             Words(
                 "Means over the auctions, each with its standard error, which one auction alone doesn't have, and"
                 " shares with their 95 % interval (Wilson). `best` is what the best allocation is worth."
@@ -240,6 +252,7 @@ def sections_of(results: Results) -> Iterator[Section]:
             Cards([Card("", [distribution(results).picture()])], size="wide"),
             Words(SPREAD_NOTE),
         ],
+        rules_words(rule_groups(results)),
     )
     if found := list(differences(results)):
         tests = sum(len(drawing.flat) for _, drawing in found)
@@ -257,6 +270,8 @@ def sections_of(results: Results) -> Iterator[Section]:
                 Cards(cards, size="wide"),
             ],
         )
+    yield from answer_sections(results)
+    yield plan
 
 
 ANSWERS = (
@@ -308,7 +323,7 @@ def made_with(origin: Origin) -> Section:
 def page_of(results: Results, title: str, origin: Origin) -> Page:
     """The page of a study."""
     under = "Auctions of bidders with drawn values, priced by the program. `table.csv` has a row for each."
-    return Page(f"Study: {title}", under, [*sections_of(results), *answer_sections(results), made_with(origin)])
+    return Page(f"Study: {title}", under, [*sections_of(results), made_with(origin)])
 
 
 def summary(results: Results) -> Iterator[str]:
