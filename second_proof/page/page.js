@@ -196,19 +196,22 @@ function names_of(command) {
 }
 
 function winners_table(command, lines, { categories }) {
-  const placed = command === "place-check", counts = placed ? ["First slot"] : categories
+  const placed = command === "place-check"
+  const joint = command === "audit" ? "\u00a0x\u00a0" : "\u00a0of\u00a0"
+  const won = lots => placed ? `from slot ${lots[0]}` : lots.flatMap((many, c) => many === "0" ? [] : many + joint + categories[c]).join(", ")
   const body = element("tbody"), foot = element("tfoot")
   for (const fields of lines.map(line => line.split(" "))) {
     if (fields[0] === "winner") {
       const [, bid, , vickrey, , pays] = fields.slice(-6)
-      body.append(element("tr", {}, element("th", { scope: "row" }, fields[1]), ...[amount(pays), amount(vickrey), amount(bid), ...fields.slice(2, -6)].map(text => element("td", {}, text))))
-    } else if (fields[0] === "revenue") foot.append(element("tr", {}, element("th", { scope: "row" }, "All together"), element("td", {}, amount(fields[1])), element("td", { colspan: counts.length + 2 })))
+      const who = element("th", { scope: "row" }, fields[1], " ", element("span", { class: "won" }, won(fields.slice(2, -6))))
+      body.append(element("tr", {}, who, ...[pays, vickrey, bid].map(it => element("td", {}, amount(it)))))
+    } else if (fields[0] === "revenue") foot.append(element("tr", {}, element("th", { scope: "row" }, "All together"), element("td", {}, amount(fields[1])), element("td", { colspan: 2 })))
   }
   if (!body.children.length) return [paragraph("No bid wins.")]
   const value = lines.map(line => line.match(/^(net|value) (.*)/)).find(found => found)
   const worth = `The winning bids are worth ${amount(value[2])}${placed ? "" : " above the reserves"}.`
-  const about = placed ? worth : `Prices are for the whole package, with its reserve. ${command === "audit" ? "A column for each category" : "Each of the last columns"} has the lots that are won. ${worth}`
-  return [element("p", { class: "small" }, about), wide("Winners and prices", header([["Winner"], ["Pays"], ["Vickrey price"], ["Bid"], ...counts.map(name => [name])]), body, foot), ...(placed ? placements(lines) : [])]
+  const about = placed ? worth : `Prices are for the whole package, with its reserve. ${worth}`
+  return [element("p", { class: "small" }, about), wide("Winners and prices", header([["Winner, and what it won"], ["Pays"], ["Vickrey price"], ["Bid"]]), body, foot), ...(placed ? placements(lines) : [])]
 }
 function placements(lines) {
   const rows = lines.filter(line => line.startsWith("placed ")).map(line => line.split(" ").slice(1))

@@ -310,7 +310,8 @@ class InChromium(unittest.TestCase):
         """The sample's winners and prices as the README has them, its checksums, and its refused lines."""
         answer = self.screen.tested(*reversed(SAMPLE))
         self.assertEqual(answer.heading, "Yes: winners and prices are right")
-        self.assertIn("everest\t292,400\t292,400\t420,000\t1\t0\t3\t0", answer.text)
+        shown = answer.text.replace("\N{NO-BREAK SPACE}", " ")
+        self.assertIn("everest\n1 x a800, 3 x c2600\n\t292,400\t292,400\t420,000", shown)
         self.assertIn("All together\t1,436,700", answer.text)
         self.assertTrue(answer.printed.startswith(f"{TITLE}yes\nwinner everest 1 0 3 0 bid 420000 vickrey 292400"))
         for path in SAMPLE:
@@ -463,13 +464,15 @@ class InChromium(unittest.TestCase):
         self.assertEqual(self.screen.tested(*SAMPLE).heading[:3], "Yes")
 
     def test_widths(self) -> None:
-        """No width from 400 to 1,280 needs a scroll to the side, in light and dark."""
+        """No width from 400 to 1,280 needs a scroll to the side, in light and dark; nor has a table one of its own."""
+        tables = "[...document.querySelectorAll('.wide')].filter(it => it.scrollWidth > it.clientWidth + 1).length"
         self.screen.tested(*SAMPLE)
         for width in (400, 640, 820, 1280):
             for scheme in ("light", "dark"):
                 self.screen.size(width, is_phone=width == 400)
                 self.screen.medium("screen", scheme)
                 self.assertLessEqual(self.screen.evaluate("document.documentElement.scrollWidth"), width)
+                self.assertEqual(self.screen.evaluate(tables), 0)
         self.screen.medium("", "light")
         self.screen.size(1000)
 
