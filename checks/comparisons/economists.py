@@ -36,6 +36,7 @@ from cca_tools.data.raw import Sold
 from cca_tools.data.references import REFERENCES, nearest_to
 from cca_tools.rules.book import Book, book_text
 from cca_tools.rules.program import program
+from cca_tools.rules.types import Gross
 from cca_tools.pricing.best import best_value, has_tie
 
 Package = tuple[int, int]
@@ -53,7 +54,7 @@ def drawn_book(draw: random.Random) -> Book:
     bids = []
     for _ in range(draw.randint(2, 4)):
         some = sorted(draw.sample(packages, min(len(packages), draw.randint(1, 3))))
-        bids.append([(it, sum(map(int.__mul__, it, reserves)) + draw.randint(0, 20)) for it in some])
+        bids.append([(it, Gross(sum(map(int.__mul__, it, reserves)) + draw.randint(0, 20))) for it in some])
     return Book(supply, reserves, [f"b{j}" for j, _ in enumerate(bids)], bids)
 
 

@@ -1,7 +1,7 @@
 """Models of values, and how they are drawn and read."""
 import math
 import unittest
-from collections.abc import Mapping
+from collections.abc import Mapping, Sequence
 
 from checks.cases.samples import sample
 
@@ -52,7 +52,7 @@ class Draws(unittest.TestCase):
 
 
 class Values(unittest.TestCase):
-    def values(self, text: str, seed: int = 7, award: bytes = AWARD) -> list[Mapping[Package, int]]:
+    def values(self, text: str, seed: int = 7, award: bytes = AWARD) -> Sequence[Mapping[Package, int]]:
         return values_of_seed(read_award(award), table(text), seed)
 
     def test_additive(self) -> None:
