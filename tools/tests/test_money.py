@@ -22,6 +22,7 @@ from cca_tools.data.prices import Price
 from cca_tools.data.references import lowered_bids
 from cca_tools.desk.lists import amount_cell
 from cca_tools.desk.sheets import Row
+from cca_tools.desk.told import last_cost, times_words
 from cca_tools.page import charts, core, prices, winners
 from cca_tools.page.source import Source, Turn
 from cca_tools.pricing.nearest import Demand, Nearest, Point
@@ -194,6 +195,7 @@ PAGE = (
     ),
 )
 DESK_AND_COMMANDS = (
+    Case("times_words(bid, @)", "last_cost(auction, package)", "net", argument(2, "times_words", "Net", "Gross")),
     Case("amount_cell(@)", "bid", "net", argument(1, "amount_cell", "Net", "Optional[Gross]")),
     Case('Row(1, "", package, @)', "bid", "net", argument(4, "Row", "Net", "Gross")),
     Case(

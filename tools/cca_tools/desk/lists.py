@@ -4,10 +4,9 @@ from __future__ import annotations
 
 from cca_tools.desk.lines import PROPORTION
 from cca_tools.desk.tables import NONE, Cell, Column, Row, Table
-from cca_tools.desk.told import Speech, last_prices
+from cca_tools.desk.told import Speech, last_cost
 from cca_tools.page.words import number
 from cca_tools.rules.auction import Auction
-from cca_tools.rules.award import dot
 from cca_tools.rules.reasons import counts
 from cca_tools.rules.types import BidderNumber, Gross, Package
 
@@ -32,11 +31,11 @@ def cap_cell(auction: Auction, j: BidderNumber, package: Package) -> Cell:
 
 def draft_table(auction: Auction, j: BidderNumber, speech: Speech) -> Table:
     """The list of bidder j once the clock has ended: each package that is drafted, submitted or of the clock."""
-    desk, prices = auction.desks[j - 1], last_prices(auction)
+    desk = auction.desks[j - 1]
     packages = sorted({*desk.drafts, *desk.submitted, *(it for it in desk.highest_in_clock if any(it))})
     rows = []
     for package in packages:
-        drafted, price = desk.drafts.get(package), Gross(dot(prices, package))
+        drafted, price = desk.drafts.get(package), last_cost(auction, package)
         is_odd = drafted is not None and price > 0 and drafted > PROPORTION * price
         cells = [
             Cell(speech.package(package), counts(package)),

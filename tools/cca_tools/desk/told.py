@@ -11,7 +11,8 @@ from dataclasses import dataclass
 from cca_tools.desk.lines import PROPORTION
 from cca_tools.page.words import Names, count, number
 from cca_tools.rules.auction import Auction
-from cca_tools.rules.award import Award, dot
+from cca_tools.rules.award import Award
+from cca_tools.rules.clock import cost
 from cca_tools.rules.log import Line
 from cca_tools.rules.names import LongNames
 from cca_tools.rules.reasons import counts
@@ -63,12 +64,12 @@ def last_line_of(auction: Auction, line: Line) -> Line | None:
     return None
 
 
-def last_prices(auction: Auction) -> Sequence[Amount]:
-    """The posted prices of the open round, or of the final one."""
-    return auction.open_round.prices if auction.open_round else auction.rounds[-1].prices
+def last_cost(auction: Auction, package: Package) -> Gross:
+    """What a package costs at the posted prices of the open round, or of the final one."""
+    return cost(auction.open_round or auction.rounds[-1], package)
 
 
-def times_words(amount: Amount, base: Amount) -> str:
+def times_words(amount: Gross, base: Gross) -> str:
     """How many times an amount is another one."""
     return f"{number(amount // base)} times"
 
@@ -77,14 +78,14 @@ def proportion_warnings(speech: Speech, auction: Auction, j: BidderNumber, bid: 
     """Why an amount of a list is out of proportion to the package's price at the final clock prices, and to the amount
     that its list had before."""
     package, amount = bid
-    found, price = list[str](), dot(last_prices(auction), package)
+    found, price = list[str](), last_cost(auction, package)
     named = f"{speech.amount(amount)} for {speech.package(package)}"
     if price and amount > PROPORTION * price:
         many = times_words(amount, price)
         at = speech.amount(price)
         found.append(f"{named} is {many} its price at the final clock prices, {at}. Is it a typing error?")
     desk = auction.desks[j - 1]
-    before = desk.drafts.get(package, desk.submitted.get(package, 0))
+    before = desk.drafts.get(package, desk.submitted.get(package, Gross(0)))
     if before and amount > PROPORTION * before:
         found.append(f"{named} is {times_words(amount, before)} the amount before, {speech.amount(before)}.")
     if before > PROPORTION * amount:
@@ -94,9 +95,9 @@ def proportion_warnings(speech: Speech, auction: Auction, j: BidderNumber, bid: 
 
 def list_warnings(speech: Speech, auction: Auction, j: BidderNumber) -> list[str]:
     """The entries of a submitted list that are out of proportion to the final clock prices."""
-    found, prices = list[str](), last_prices(auction)
+    found = list[str]()
     for package, amount in auction.submitted(j):
-        price = dot(prices, package)
+        price = last_cost(auction, package)
         if price and amount > PROPORTION * price:
             found.append(
                 f"{speech.bidder(auction.award.names[j - 1])} offers {speech.amount(amount)} for"
@@ -109,7 +110,7 @@ def bid_told(speech: Speech, auction: Auction, line: Line) -> Told:
     """A line of the clock."""
     award, here = auction.award, auction.running_round
     points, may = award.points_of(line.package), here.eligibility[line.bidder - 1]
-    price = dot(here.prices, line.package)
+    price = cost(here, line.package)
     found = [
         f"{speech.bidder(line.name)} asks for {speech.package(line.package)}.",
         f"Cost at the posted prices of round {here.number}: {speech.amount(price)}. Points: {number(points)} of"
@@ -131,7 +132,7 @@ def draft_told(speech: Speech, auction: Auction, line: Line) -> Told:
     desk = auction.desks[j - 1]
     found = [f"{speech.bidder(line.name)} drafts {speech.amount(line.amount)} for {speech.package(package)}."]
     cap = auction.caps(j).amount({**desk.drafts, package: line.amount}, package)
-    price = dot(last_prices(auction), package)
+    price = last_cost(auction, package)
     found.append(
         f"{'No cap' if cap is None else f'Cap: {speech.amount(cap)}'}. At the final clock prices:"
         f" {speech.amount(price)}. Asked for in the clock at: {speech.amount(desk.highest_in_clock.get(package, 0))}."
@@ -166,12 +167,11 @@ def submit_told(speech: Speech, auction: Auction, line: Line) -> Told:
         found.append(f"It replaces the list of line {number(before.number)}: {changes}.")
     if not desk.drafts:
         found.append("The list is empty: only the bidder's clock bids count.")
-    prices = last_prices(auction)
     warnings = [
-        f"{speech.amount(amount)} for {speech.package(package)} is {times_words(amount, dot(prices, package))} its"
-        " price at the final clock prices. Is it a typing error?"
+        f"{speech.amount(amount)} for {speech.package(package)} is {times_words(amount, price)} its price at the final"
+        " clock prices. Is it a typing error?"
         for package, amount in sorted(desk.drafts.items())
-        if dot(prices, package) and amount > PROPORTION * dot(prices, package)
+        if (price := last_cost(auction, package)) and amount > PROPORTION * price
     ]
     return Told(found, warnings)
 
