@@ -348,6 +348,11 @@ class Prices(unittest.TestCase):
         self.assertEqual((last["package"], last["bidder"]), (None, "b5"))
         printed, _, _ = run("prices", "--decimal", ",", "--unit", "8", book)
         self.assertEqual(printed.splitlines()[1].split(";")[1:7], ["b1", "1 0", "0", "3,5", "1,75", "2,125"])
+        for unit in ("0", "x", "1.5", str(10**18 + 1), "1" * 5_000):
+            printed, status, said = run("prices", book, "--unit", unit)
+            self.assertEqual((printed, status), ("", 2))
+            self.assertIn("--unit takes a whole number from 1 to 1000000000000000000, and `", said)
+        self.assertEqual(run("prices", book, "--unit", str(10**18))[1:], (0, ""))
 
     @with_program
     def test_thirds(self) -> None:

@@ -24,7 +24,8 @@ from cca_tools.command_line import Parser, run_command
 from cca_tools.data.prices import cells_of_book, csv_text, json_lines, need_program
 from cca_tools.data.numbers import MARKS
 from cca_tools.rules.book import read_book
-from cca_tools.rules.stops import load
+from cca_tools.rules.printable import clipped
+from cca_tools.rules.stops import MOST, load
 
 
 def parser() -> Parser:
@@ -39,8 +40,9 @@ def parser() -> Parser:
 
 def unit_of(text: str) -> int:
     """The number by which amounts are divided."""
-    if not (text.isascii() and text.isdigit() and int(text)):
-        parser().error(f"--unit takes a whole number from 1 on, and `{text}` isn't that")
+    most = MOST["draft amount"]
+    if not (text.isascii() and text.isdigit() and len(text) <= len(str(most)) and 0 < int(text) <= most):
+        parser().error(f"--unit takes a whole number from 1 to {most}, and `{clipped(text)}` isn't that")
     return int(text)
 
 
