@@ -7,6 +7,7 @@ from collections.abc import Callable, Mapping
 from typing import NamedTuple
 
 from bench.grown.form import Grown
+from bench.grown.models import spelled
 from bench.grown.records import KEY, NOBODY, journal_of, other_line, posted_head
 from bench.grown.texts import CERT, PLACED
 from checks.cases import hostile_logs
@@ -120,7 +121,10 @@ CALLS = [
 ]
 # Calls with more and more files, or with numbers that grow.
 COUNTED = [
-    (of("tools/prices", "BOOK"), Grown("arguments", "books", 100, lambda n: b"book\n" * n, "each takes as long")),
+    (
+        of("tools/prices", "BOOK"),
+        Grown("arguments", "books", 100, lambda n: b"\n".join(spelled("book", n)), "each takes as long"),
+    ),
     (
         of("tools/seal", "check KEY AWARD LOG NOTED --posted POSTED"),
         Grown("arguments", "logs that were kept", 100, lambda n: b"--cut\nlog\n" * n, "each takes as long"),
@@ -134,7 +138,7 @@ COUNTED = [
         Grown("arguments", "slips", 10_000, lambda n: b"--slips\n%d\n" % n, "a line that is synced for each"),
     ),
     (of("tools/rehearse", "AWARD VALUES NEW"), Grown("arguments", "digits of a seed", 65_000, digits_of("--seed"))),
-    (of("tools/caps", "AWARD LOG BIDDER"), Grown("arguments", "digits of a package", 65_000, digits_of("--"))),
+    (of("tools/caps", "AWARD LOG BIDDER"), Grown("arguments", "digits of a package", 65_000, lambda n: b"1" * n)),
     (of("tools/book", "BIDS"), Grown("arguments", "digits of a supply", 65_000, digits_of("--supply"))),
     (of("tools/prices", "BOOK"), Grown("arguments", "digits of a unit", 65_000, digits_of("--unit"))),
     (of("cca", "make"), Grown("arguments", "digits of a number", 65_000, lambda n: b"1" * n + b"\naward\nlog\n")),
@@ -189,7 +193,7 @@ def fitting(call: Call, role: str, text: bytes) -> Mapping[str, bytes]:
     if role in ("list", "pasted"):
         files["log"] = b"close,,,\n"
     files["other"] = edited(text if role == "log" else files["log"])
-    if call.words[-1:] == ("POSTED",) or role in ("posted", "noted"):
+    if call.words[-1:] == ("POSTED",) and role != "arguments" or role in ("posted", "noted"):
         files["log"] = b""
     if role == "journal":
         files["log"] = NOBODY.encode()

@@ -62,9 +62,14 @@ def plans() -> Iterator[Grown]:
 
 
 def files(count: int) -> bytes:
-    """So many names of one file."""
-    paths = itertools.islice(itertools.product((".//", "./"), repeat=11), count)
-    return b"[" + ", ".join('"{}values"'.format("".join(it)) for it in paths).encode() + b"]"
+    """A list of so many names of one file of values."""
+    return b"[" + b", ".join(b'"%s"' % name for name in spelled("values", count)) + b"]"
+
+
+def spelled(name: str, count: int) -> list[bytes]:
+    """So many names of one file, which all differ."""
+    folders = itertools.islice(itertools.product((".//", "./"), repeat=11), count)
+    return ["".join([*it, name]).encode() for it in folders]
 
 
 def rows(count: int) -> bytes:
