@@ -72,6 +72,12 @@ def read(name: str, path: pathlib.Path) -> bytes:
     return data
 
 
+def within_limit(log: bytes) -> bytes:
+    """A plain log without its last line feed if only that is beyond the limit, since the file has none there. (So long
+    a log has a fault, as 100,000 records are shorter.)"""
+    return log.removesuffix(b"\n") if len(log) == LIMITS["log"] + 1 else log
+
+
 def plain_files(files: list[bytes]) -> list[bytes]:
     """Award, log and certificate, the first two in their plain spelling."""
     try:
@@ -81,7 +87,7 @@ def plain_files(files: list[bytes]) -> list[bytes]:
     except NotPlain as fault:
         raise Stop(3, f"cca: refused award: {fault}") from fault
     try:
-        return [award, plain_log(files[1]), files[2]]
+        return [award, within_limit(plain_log(files[1])), files[2]]
     except NotPlain as fault:
         raise Stop(3, f"cca: refused log: {fault}") from fault
 

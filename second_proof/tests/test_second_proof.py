@@ -20,6 +20,7 @@ NEEDED = "the second proof is skipped: it needs Coq and OCaml, apt-get install c
 HAS_COQ = all(shutil.which(program) for program in ("coqc", "ocamlopt"))
 
 from second_proof import quotes  # noqa: E402
+from second_proof.coq_audit.main import LIMITS, plain_files  # noqa: E402
 from second_proof.coq_audit.plain import NotPlain, plain_award, plain_log, without_comments  # noqa: E402
 from second_proof.coq_audit.terms import Terms  # noqa: E402
 
@@ -137,6 +138,15 @@ class Plain(unittest.TestCase):
             with self.assertRaises(NotPlain):
                 plain_log(faulty)
 
+    def test_limit_of_bytes(self) -> None:
+        """A log of as many bytes as the limit stays within it, also if it lacks its last line feed."""
+        award, limit = AWARD.read_bytes(), LIMITS["log"]
+        for log in ((b"close,,,\n" * limit)[:limit], b"a" * limit):
+            self.assertEqual(plain_files([award, log, b""])[1], log)
+        ended_log = b"a" * (limit - 1) + b"\n"
+        self.assertEqual(plain_files([award, ended_log, b""])[1], ended_log)
+        self.assertEqual(plain_files([award, b"a", b""])[1], b"a\n")
+
     def test_limit_of_fields(self) -> None:
         """Reading a log leaves csv's limit of a field as it was."""
         limit = csv.field_size_limit()
@@ -231,6 +241,9 @@ class SecondProof(unittest.TestCase):
         odd.write_text(AWARD.read_text().replace("holding = [2, 0, 0, 0]", "holding = 5"))
         long = folder / "long"
         long.write_bytes(b"#" * 65_537)
+        records, field = folder / "records.log", folder / "field.log"
+        records.write_bytes((b"close,,,\n" * 1_000_000)[: LIMITS["log"]])
+        field.write_bytes(b"a" * LIMITS["log"])
         for words, status, line in (
             ((newer, LOG, CERT), 9, "no verdict: the award isn't TOML 1.0"),
             ((odd, LOG, CERT), 3, "cca: refused award"),
@@ -238,6 +251,8 @@ class SecondProof(unittest.TestCase):
             ((folder / "nothing", CERT), 4, "cca: read fault book"),
             ((AWARD, folder / "nothing", CERT), 4, "cca: read fault log"),
             ((long, LOG, CERT), 7, "cca: limit bytes 65537"),
+            ((AWARD, records, CERT), 7, "cca: limit records 100001"),
+            ((AWARD, field, CERT), 3, "cca: refused log"),
             ((AWARD, AWARD, AWARD, AWARD, AWARD), 2, "cca: words"),
             ((AWARD, LOG, LOG), 2, "cca: words"),
             ((), 2, "cca: words"),
