@@ -9,6 +9,7 @@ from __future__ import annotations
 
 import argparse
 import difflib
+import errno
 import os
 import pathlib
 import sys
@@ -16,7 +17,7 @@ import traceback
 from collections.abc import Callable, Iterator, Sequence
 from typing import IO, NoReturn, TypeAlias
 
-from cca_tools.interrupts import INTERRUPTED, interruptible
+from cca_tools.interrupts import INTERRUPTED, interruptible, reason
 from cca_tools.rules.printable import printable
 from cca_tools.rules.stops import CRASH, DONE, MEMORY, NO, NO_TEXT, WORDS, WRITE_FAULT, Stop
 from cca_tools.rules.telling import meaning, told
@@ -129,19 +130,31 @@ def run_command(parser: Parser, run: Run, argv: Sequence[str]) -> int:
     """Runs a command with these arguments: prints what `run` returns, or the line of its stop. Returns the status."""
     if not all(map(is_text, argv)):
         return NO_TEXT
+    sys.unraisablehook = unraised
     complete(parser)
     try:
         with interruptible(), progress.of(parser.prog):
             text = text_of(parser, run, argv)
-        return DONE if printed(parser, text) else WRITE_FAULT
+        return status_of_output(parser, text, DONE)
     except Stop as stop:
         return stopped(parser, stop)
     except MemoryError:
         return stopped(parser, Stop("cca: memory", MEMORY, why="there isn't enough memory"))
     except KeyboardInterrupt:
         return INTERRUPTED
-    except Exception:
-        return crashed(parser)
+    except Exception as fault:
+        return stopped(parser, lacking(why)) if (why := reason(fault)) else crashed(parser)
+
+
+def unraised(fault: sys.UnraisableHookArgs) -> None:
+    """Says nothing of a fault that Python ignores, as that of a file that is closed last, if it is the system's."""
+    if not (isinstance(fault.exc_value, Exception) and reason(fault.exc_value)):
+        sys.__unraisablehook__(fault)
+
+
+def lacking(why: str) -> Stop:
+    """The stop of a run that lacks something of the system or of Python."""
+    return Stop("cca: stopped", CRASH, why=f"this can't be had: {why}. Without it there is no answer")
 
 
 def text_of(parser: Parser, run: Run, argv: Sequence[str]) -> str:
@@ -165,9 +178,9 @@ def stopped(parser: Parser, stop: Stop) -> int:
     """Prints a stop, and returns its status."""
     if stop.status == NO:
         text = stop.line if parser.agrees else told(stop)
-        return NO if printed(parser, text) else WRITE_FAULT
-    if parser.agrees and not printed(parser, stop.line):
-        return WRITE_FAULT
+        return status_of_output(parser, text, NO)
+    if parser.agrees and (status := status_of_output(parser, stop.line, DONE)):
+        return status
     if stop.status != WORDS and not parser.agrees:
         say(f"{parser.prog}: {stop.line}", "red")
     for line in fault_lines(parser, stop):
@@ -194,9 +207,15 @@ def crashed(parser: Parser) -> int:
     return CRASH
 
 
-def printed(parser: Parser, text: str) -> bool:
-    """Whether the text and a line feed could be written to standard output."""
-    return written(sys.stdout, "\n".join(dressed(text, sys.stdout, parser.colour_of)))
+def status_of_output(parser: Parser, text: str, status: int) -> int:
+    """Prints the text and a line feed, and returns the status; the one of a fault if the output doesn't take them."""
+    fault = fault_of_writing(sys.stdout, "\n".join(dressed(text, sys.stdout, parser.colour_of)))
+    if fault is None:
+        return status
+    # (a reader that is gone, as `head` is, wants no more)
+    if fault.errno != errno.EPIPE:
+        say(f"{parser.prog}: the output isn't whole, since it can't be written: {fault.strerror}.")
+    return WRITE_FAULT
 
 
 def say(text: str, colour: Colour | None = None) -> None:
@@ -215,16 +234,22 @@ def dressed(text: str, stream: IO[str] | None, colour_of: ColourOf) -> Iterator[
 
 
 def written(stream: IO[str] | None, text: str) -> bool:
-    """Whether the text and a line feed could be written, past the stream's own buffer. A closed stream is None."""
+    """Whether the text and a line feed could be written."""
+    return fault_of_writing(stream, text) is None
+
+
+def fault_of_writing(stream: IO[str] | None, text: str) -> OSError | None:
+    """Writes the text and a line feed, past the stream's own buffer. Returns the fault, if there is one. A closed
+    stream is None."""
     if stream is None:
-        return False
+        return OSError(errno.EBADF, "it is closed")
     try:
         stream.flush()
         with open(stream.fileno(), "wb", closefd=False) as out:
             out.write((text + "\n").encode("utf-8", "replace"))
-    except OSError:
-        return False
-    return True
+    except OSError as fault:
+        return fault
+    return None
 
 
 def is_text(word: str) -> bool:

@@ -16,12 +16,26 @@ from collections.abc import Iterator
 from types import FrameType, TracebackType
 
 CRASH, INTERRUPTED = 70, 130
+NO_THREAD = "can't start new thread"
+
+
+def reason(fault: BaseException) -> str:
+    """Why the system or Python didn't give what a run needs, or nothing: the fault is one of the tool."""
+    if isinstance(fault, OSError):
+        return f"{fault.filename or 'the system'}: {fault.strerror or fault}"
+    if isinstance(fault, EOFError):
+        return "a module isn't whole: remove the folders __pycache__ of cca_tools"
+    if isinstance(fault, (ImportError, MemoryError)) or str(fault) == NO_THREAD:
+        return str(fault) or "too little memory"
+    return ""
 
 
 def crashed(kind: type[BaseException], fault: BaseException, trace: TracebackType | None) -> None:
-    """Ends the process with 130 after Ctrl-C, else with 70 after a traceback."""
+    """Ends the process with 130 after Ctrl-C, else with 70, and says why."""
     try:
-        if kind is not KeyboardInterrupt:
+        if why := reason(fault):
+            os.write(2, f"cca_tools can't start, so this is no answer: {why}\n".encode(errors="replace"))
+        elif kind is not KeyboardInterrupt:
             sys.__excepthook__(kind, fault, trace)
             sys.stderr.flush()
     finally:
@@ -36,6 +50,8 @@ def interrupted(number: int, frame: FrameType | None) -> None:
 def take_over() -> None:
     """Has this process end as a run of a tool does."""
     sys.excepthook = crashed
+    # (of a module that Python keeps, a full disk may take a part, which later runs would read)
+    sys.dont_write_bytecode = True
     if signal.getsignal(signal.SIGINT) != signal.SIG_IGN:
         signal.signal(signal.SIGINT, interrupted)
 

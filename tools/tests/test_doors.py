@@ -40,6 +40,7 @@ def in_shell(name: str, words: list[str], more: str) -> int:
     done = subprocess.run(
         ["sh", "-c", line, sys.executable, script(name), *words],
         stdout=subprocess.DEVNULL,
+        stderr=subprocess.DEVNULL,
     )
     return done.returncode
 
@@ -149,7 +150,8 @@ class Scripts(unittest.TestCase):
                 ("--help", ">/dev/full", 5),
             ):
                 with self.subTest(name=name, more=more):
-                    done = subprocess.run(["sh", "-c", f'"$0" {words} {more}', ROOT / name], stdout=subprocess.DEVNULL)
+                    shell = ["sh", "-c", f'"$0" {words} {more}', str(ROOT / name)]
+                    done = subprocess.run(shell, stdout=subprocess.DEVNULL, stderr=subprocess.DEVNULL)
                     self.assertIn(done.returncode, (2, 5) if status is None else (status,))
 
     def test_ctrl_c_before_a_script_begins(self) -> None:

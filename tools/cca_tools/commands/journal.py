@@ -26,11 +26,11 @@ from typing import cast
 from cca_tools.command_line import Parser, run_command
 from cca_tools.desk.disk import Missing, Refused, read_file
 from cca_tools.desk.journal import Entry, LogOfEntries, chained, line_sum, replayed
-from cca_tools.desk.record import Record, Tester, need_kept, posted_of
+from cca_tools.desk.record import Record, Tester, need_kept, posted_of, stop_of
 from cca_tools.rules.printable import printable
 from cca_tools.rules.publication import KEPT
 from cca_tools.rules.seals import grouped
-from cca_tools.rules.stops import NO, Stop, load
+from cca_tools.rules.stops import load
 
 WORDS = {
     "begun": "The auction begins.",
@@ -162,7 +162,7 @@ def journal(options: argparse.Namespace) -> str:
             return protocol(load(options.journal, "journal"))
         record = tested(options.journal, *cast(list[str], options.check))
     except Refused as fault:
-        raise Stop(f"no\n{fault}", NO) from None
+        raise stop_of(fault) from None
     return (
         f"yes\n{len(record.entries)} entries, {len(record.public.rows)} posted lines, {len(record.public.voids)} of"
         f" them void; the clock was set back {record.times_back} times"

@@ -34,7 +34,7 @@ from typing import cast
 
 from cca_tools.command_line import Parser, run_command
 from cca_tools.desk.disk import Refused, read_file
-from cca_tools.desk.record import ByHand, Record, Tester, need_kept, need_published
+from cca_tools.desk.record import ByHand, Record, Tester, need_kept, need_published, stop_of
 from cca_tools.page import findings, places, plain, sheets, source, winners
 from cca_tools.page.document import Page
 from cca_tools.page.html import parts
@@ -71,7 +71,7 @@ from cca_tools.rules.publication import (
     write_set,
 )
 from cca_tools.rules.seals import Public, head_rows, read_posted
-from cca_tools.rules.stops import MOST, NO, Stop, load
+from cca_tools.rules.stops import CRASH, MOST, NO, Stop, load
 from cca_tools.terminal import progress
 from cca_tools.version import commit, version
 
@@ -121,9 +121,13 @@ def program_rows(options: argparse.Namespace) -> list[tuple[str, str, bool]]:
     if not path:
         return [("program", "not asked: it wasn't there when the set was made", False)]
     words = [path, "audit", options.award, options.log, options.cert]
-    said = subprocess.run(words, stdin=subprocess.DEVNULL, capture_output=True, text=True).stdout
-    if not said.startswith("yes\n"):
-        raise Stop(f"no set is made: the program says {said.splitlines()[0] if said else 'nothing'}", NO)
+    run = subprocess.run(words, stdin=subprocess.DEVNULL, capture_output=True, text=True)
+    first = run.stdout.partition("\n")[0]
+    if first.startswith("no "):
+        raise Stop(first, NO, why="so says the program, and no set is made")
+    if first != "yes":
+        said = f"`{first}`" if first else f"nothing, with status {run.returncode}"
+        raise Stop("cca: stopped", CRASH, why=f"no set is made, since the program answers {said}")
     data = pathlib.Path(path).read_bytes()
     mark = mark_of(data)
     return [
@@ -170,7 +174,7 @@ def given_files(options: argparse.Namespace, data: Mapping[str, bytes]) -> Given
         else:
             public, more = by_hand(options, data, key, posted)
     except Refused as fault:
-        raise Stop(f"no\n{fault}", NO) from None
+        raise stop_of(fault) from None
     if not rows or rows[-1].kind != "publish":
         raise Stop("no\nThe posted lines don't end with `publish`, which seals the whole log.", NO)
     lines = [(text, "") for text in head_rows(sum_of(key), sum_of(data["award"]))]

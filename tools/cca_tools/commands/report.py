@@ -7,7 +7,7 @@ reports the turns of pricing; without it the coalitions that raise prices are ta
 may be `-`, which is standard input.
 
 What it doesn't test: that the log has what the bidders sent. Statuses are as in docs/FORMATS.md: 0 if the report is
-printed, and 1 if its certificate fails a test.
+printed, and 1 if its certificate fails a test; its line `no ..` is on standard error.
 """
 
 from __future__ import annotations
@@ -16,7 +16,7 @@ import argparse
 import sys
 from collections.abc import Sequence
 
-from cca_tools.command_line import Parser, run_command
+from cca_tools.command_line import Parser, run_command, say
 from cca_tools.page import places, plain, source
 from cca_tools.page.document import Page
 from cca_tools.page.report import page
@@ -79,6 +79,7 @@ def report(options: argparse.Namespace) -> str:
     made = page(facts, name, options.program_sum)
     text = plain.text(made) if as_text else html_page(made)
     if facts.fault:
+        say(facts.fault.line, "red")
         raise Stop(text, NO)
     return text
 

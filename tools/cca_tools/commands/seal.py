@@ -34,14 +34,16 @@ can make lines for other files, so `NOT of these files` doesn't say which side i
 from __future__ import annotations
 
 import argparse
+import contextlib
 import datetime
 import os
 from collections.abc import Sequence
+from pathlib import Path
 from typing import NoReturn
 
 from cca_tools.command_line import Parser, run_command
-from cca_tools.desk.disk import Refused
-from cca_tools.desk.record import ByHand, Tester
+from cca_tools.desk.disk import Refused, Unsure, append_once, new_file
+from cca_tools.desk.record import ByHand, Tester, stop_of
 from cca_tools.rules.award import read_award
 from cca_tools.rules.noted import Judge, Noted, Verdict, read_noted
 from cca_tools.rules.printable import printable
@@ -75,14 +77,14 @@ def make_key(file: str, award: bytes) -> str:
     of the log."""
     key = new_key()
     try:
-        with open(os.open(file, os.O_WRONLY | os.O_CREAT | os.O_EXCL, 0o600), "wb") as out:
-            out.write(key)
-            out.flush()
-            os.fsync(out.fileno())
-    except FileExistsError:
+        is_new = new_file(Path(file), key)
+    except (Refused, Unsure) as fault:
+        if isinstance(fault, Unsure):
+            with contextlib.suppress(OSError):
+                os.unlink(file)
+        raise Stop("cca: write fault key", WRITE_FAULT, why=str(fault).rstrip(".")) from None
+    if not is_new:
         unwritten("key", file, "is there already, and a key is never overwritten")
-    except OSError as fault:
-        unwritten("key", file, f"can't be written: {fault.strerror}")
     return "\n".join(head_rows(sum_of(key), sum_of(award)))
 
 
@@ -116,12 +118,15 @@ def add_due(options: argparse.Namespace, key: bytes, award: bytes, log: bytes) -
 def add_to(file: str, new: bytes, head: bytes) -> str:
     """Adds new lines to POSTED, synced, and returns them, without the first line of a new file."""
     try:
-        with open(os.open(file, os.O_WRONLY | os.O_CREAT | os.O_APPEND, 0o600), "ab") as out:
-            out.write(new)
-            out.flush()
-            os.fsync(out.fileno())
+        handle = os.open(file, os.O_WRONLY | os.O_CREAT | os.O_APPEND, 0o600)
+        try:
+            append_once(handle, new, f"`{printable(file)}`")
+        finally:
+            os.close(handle)
     except OSError as fault:
         unwritten("posted", file, f"can't be written: {fault.strerror}")
+    except (Refused, Unsure) as fault:
+        raise Stop("cca: write fault posted", WRITE_FAULT, why=str(fault).rstrip(".")) from None
     form = head[: head.index(b"\n") + 1]
     return new.removeprefix(form).decode().rstrip("\n") or "nothing is due"
 
@@ -135,7 +140,7 @@ def posted_by(
         try:
             record = Tester(award, key).record(load(options.journal, "journal"))
         except Refused as fault:
-            raise Stop(f"no\n{fault}", NO) from None
+            raise stop_of(fault) from None
         if record.log != log:
             raise Stop("no\nThe journal leads to another log.", NO)
         if posted is not None and record.posted != posted:
@@ -145,7 +150,7 @@ def posted_by(
         try:
             read_posted(noted)
         except Stop:
-            raise Stop("no line was tested", NO, why=LACKS) from None
+            parser().error(LACKS)
     hand = ByHand(award, key, [log, *(load(file, "log") for file in options.cut)])
     hand.take(read_posted(noted if posted is None else posted))
     return hand.public, hand.foreign

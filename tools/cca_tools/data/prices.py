@@ -23,7 +23,7 @@ from cca_tools.rules.book import Book, book_text, read_book
 from cca_tools.rules.money import difference, gross_of, less, net_of, net_price_of, price_total
 from cca_tools.rules.program import program
 from cca_tools.rules.scratch import scratch_folder
-from cca_tools.rules.stops import CRASH, DONE, LIMIT, Stop, refused
+from cca_tools.rules.stops import CRASH, DONE, LIMIT, NO, Stop, refused
 from cca_tools.rules.types import Amount, Gross, GrossPrice, Net, NetPrice, Package
 from cca_tools.rules.weights import read_weights
 
@@ -108,9 +108,9 @@ def need_program() -> str:
 def stop_of(lines: Sequence[str], status: int, said: str) -> Stop:
     """The stop of a run of the program that isn't done."""
     last = lines[-1] if lines else f"cca: status {status}"
-    return Stop(
-        last, status if status > 0 else CRASH, why=f"the program answers `{last}`{said and f': {said.strip()}'}"
-    )
+    # (of a price there is no verdict `no`, and without a line of a stop the program didn't run to its end)
+    is_stop = bool(lines) and last.startswith("cca: ") and status > NO
+    return Stop(last, status if is_stop else CRASH, why=f"the program answers `{last}`{said and f': {said.strip()}'}")
 
 
 def price(book: Book, *, weights: Mapping[str, int] | None = None, program: str | None = None) -> Prices:

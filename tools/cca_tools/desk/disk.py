@@ -38,6 +38,10 @@ class Missing(Refused):
     """A file isn't there."""
 
 
+class Unreadable(Refused):
+    """The disk or the system doesn't give a file."""
+
+
 class Unsure(Exception):
     """Nobody can say whether the disk has the line: the desk stops, and has to be started again."""
 
@@ -68,7 +72,7 @@ def opened(path: Path, flags: int) -> Iterator[int]:
     except FileNotFoundError:
         raise Missing(f"{path.name} isn't there.") from None
     except OSError as fault:
-        raise Refused(f"{path.name} can't be opened: {why_of(fault)}.") from None
+        raise Unreadable(f"{path.name} can't be opened: {why_of(fault)}.") from None
     try:
         yield handle
     finally:
@@ -83,7 +87,7 @@ def read_open(handle: int, name: str) -> bytes:
             parts.append(part)
             done += len(part)
     except OSError as fault:
-        raise Refused(f"{name} can't be read: {why_of(fault)}.") from None
+        raise Unreadable(f"{name} can't be read: {why_of(fault)}.") from None
     return b"".join(parts)
 
 

@@ -12,7 +12,7 @@ import math
 from collections.abc import Callable, Mapping, Sequence
 from dataclasses import dataclass, replace
 
-from cca_tools.desk.disk import Refused, sum_of
+from cca_tools.desk.disk import Refused, Unreadable, sum_of
 from cca_tools.desk.journal import KINDS, Damaged, Entry, LogOfEntries, chained, need_version, replayed, seconds_back
 from cca_tools.desk.replays import Replayed, Replays, replayed_log
 from cca_tools.rules.award import Award, read_award
@@ -30,6 +30,7 @@ from cca_tools.rules.seals import (
     reason_of,
     row_of,
 )
+from cca_tools.rules.stops import NO, READ_FAULT, Stop
 from cca_tools.rules.sums import Sums
 
 NOWHERE = 1 << 62  # the bytes up to a line that belongs to no log here
@@ -88,6 +89,13 @@ def public_of_rows(rows: Sequence[Row]) -> Public:
     for row in rows:
         public.add(row, Event(row.kind, row.close, 0, row.why))
     return public
+
+
+def stop_of(fault: Refused) -> Stop:
+    """The stop of a record that is refused: no, or that a file of it can't be read."""
+    if isinstance(fault, Unreadable):
+        return Stop("cca: read fault kept", READ_FAULT, why=str(fault).rstrip("."))
+    return Stop(f"no\n{fault}", NO)
 
 
 @dataclass(frozen=True)

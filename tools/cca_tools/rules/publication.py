@@ -323,5 +323,6 @@ def write_set(folder: str, files: Mapping[str, bytes]) -> None:
             place.write_bytes(data)
         os.rename(beside, path)
     except OSError as fault:
-        shutil.rmtree(beside, ignore_errors=True)
         raise unwritten(folder, fault.strerror) from None
+    finally:
+        shutil.rmtree(beside, ignore_errors=True)

@@ -26,7 +26,7 @@ def scratch_folder() -> Iterator[Path]:
     Raises `Stop` if there is no place for one, or if its disk is full, also where the program says so by status 5.
     """
     try:
-        made = tempfile.TemporaryDirectory()
+        made = tempfile.TemporaryDirectory(ignore_cleanup_errors=True)
     except OSError as fault:
         raise lacking(fault) from None
     with made as folder:

@@ -2,6 +2,7 @@
 
 from __future__ import annotations
 
+import os
 import pathlib
 import shutil
 from collections.abc import Iterator
@@ -20,12 +21,15 @@ def keep_auction(store: Store, number: int) -> Iterator[str]:
     beyond a limit."""
     for at, case in enumerate(store.plan.cases):
         folder = store.folder / AUCTIONS / str(number) / str(at + 1)
-        held = drawn_auction(store.plan, number, case).held
+        held, new = drawn_auction(store.plan, number, case).held, folder.with_name(f"{folder.name}.new")
         try:
+            shutil.rmtree(new, ignore_errors=True)
+            new.mkdir(parents=True)
+            awarded_in(held, new, is_audited=True)
             shutil.rmtree(folder, ignore_errors=True)
-            folder.mkdir(parents=True)
-            awarded_in(held, folder, is_audited=True)
+            os.rename(new, folder)
         except OSError as fault:
+            shutil.rmtree(new, ignore_errors=True)
             raise store.unwritten(fault) from None
         kept = store.rows.get(Job(at, number))
         if kept is not None and kept != row_of(store.plan, number, case):

@@ -88,9 +88,7 @@ class Store:
         if torn := len(lines) - len(kept):
             say(f"tools/study: {torn} of the lines of {ROWS} can't be read; their auctions are held again")
         if torn or unfinished:
-            replacement = path.with_suffix(".new")
-            replacement.write_bytes(b"".join(self.lines()))
-            os.replace(replacement, path)
+            replace(path, b"".join(self.lines()))
 
     def lines(self) -> Iterator[bytes]:
         """The lines of the file of rows."""
@@ -102,7 +100,7 @@ class Store:
         folder = self.folder / INPUTS
         folder.mkdir(exist_ok=True)
         for name, data in self.plan.files().items():
-            (folder / name).write_bytes(data)
+            replace(folder / name, data)
 
     def keep(self, done: Done) -> None:
         """Keeps the row of an auction, past the buffer. Stops if another program than the one of the study made it."""
@@ -130,10 +128,21 @@ class Store:
         """Writes a file of the folder, and gives its path."""
         path = self.folder / name
         try:
-            path.write_text(text, encoding="utf-8", newline="")
+            replace(path, text.encode("utf-8"))
         except OSError as fault:
             raise self.unwritten(fault) from None
         return str(path)
+
+
+def replace(path: pathlib.Path, data: bytes) -> None:
+    """Puts a file in its place once it is whole."""
+    new = path.with_name(f"{path.name}.new")
+    try:
+        new.write_bytes(data)
+        os.replace(new, path)
+    except OSError:
+        new.unlink(missing_ok=True)
+        raise
 
 
 def bytes_of(line: object) -> bytes:
