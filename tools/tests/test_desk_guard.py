@@ -65,6 +65,15 @@ class Requests(DeskTest):
         self.assertNotIn("Set-Cookie", answer.headers)
         self.assertEqual(self.log(), b"")
 
+    def test_a_fault_of_the_system(self) -> None:
+        """A page that lacks something of the system is refused, and the terminal says why, in one sentence."""
+        fault = OSError(24, "Too many open files")
+        with unittest.mock.patch.object(self.desk, "now", side_effect=fault):
+            with unittest.mock.patch("cca_tools.desk.web.say") as say:
+                self.refuses(500, "GET", self.inside)
+        told = "! A page wasn't shown, since this can't be had: the system: Too many open files."
+        say.assert_called_once_with(told, "red")
+
     def test_the_desk_answers_at_its_own_address_alone(self) -> None:
         for host in (
             "evil.example",

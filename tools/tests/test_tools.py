@@ -122,7 +122,7 @@ class AsPrograms(WithFiles):
     def test_a_script_without_its_package_is_a_crash(self) -> None:
         shutil.copy(os.path.join(TOOLS, "caps"), self.folder)
         made = subprocess.run([sys.executable, self.folder / "caps"], capture_output=True, text=True)
-        self.assertEqual((made.returncode, "ModuleNotFoundError" in made.stderr), (70, True))
+        self.assertEqual((made.returncode, "No module named 'cca_tools'" in made.stderr), (70, True))
 
     def test_a_reader_that_goes_away(self) -> None:
         """The text has more than a pipe holds, and its reader reads one byte."""

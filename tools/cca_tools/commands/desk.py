@@ -180,7 +180,7 @@ def serve(app: object, listener: socket.socket) -> None:
     from cca_tools.desk.guard import MOST_BYTES
 
     progress.step("")  # (it waits for requests, and says nothing of that)
-    logging.getLogger("waitress.queue").setLevel(logging.ERROR)  # (with one thread it warns of each second request)
+    logging.getLogger("waitress").setLevel(logging.CRITICAL)  # (it tells of connections, in words of Python)
     soft, hard = resource.getrlimit(resource.RLIMIT_NOFILE)
     resource.setrlimit(resource.RLIMIT_NOFILE, (min(hard, max(soft, 4 * CONNECTIONS)), hard))
     waitress.serve(

@@ -17,6 +17,7 @@ import jinja2
 from flask import Blueprint, Flask, Response, abort, g, make_response, redirect, render_template, request
 from werkzeug.exceptions import HTTPException
 
+from cca_tools.command_line import say
 from cca_tools.desk import files, search, views
 from cca_tools.desk.answers import NoLine
 from cca_tools.desk.approval import Asked, People
@@ -28,6 +29,7 @@ from cca_tools.desk.logfile import Base, Mend, Refused, Stop, Written
 from cca_tools.desk.pasting import paste_of
 from cca_tools.desk.sheets import MOST_FILE, Handed, bidder_in, sheet_of, text_of
 from cca_tools.desk.views import FormFault
+from cca_tools.interrupts import reason
 from cca_tools.page.ink import variables
 from cca_tools.rules.view import view_text
 
@@ -160,6 +162,12 @@ class Pages:
             why = f"Nothing was read: the file is larger than {MOST_FILE:,} bytes, and a list isn't."
             return self.to(f"list/{self.store.keep(Kept(fault=FormFault('file', [why])))}")
         return self.refusal(fault.code or 500)
+
+    def lacking(self, fault: OSError) -> Answer:
+        """The page of a request that lacked something of the system."""
+        say(f"! A page wasn't shown, since this can't be had: {reason(fault)}.", "red")
+        # (a template is a file, which may lack that too)
+        return make_response(STATUS_WORDS[500], 500)
 
     def shown(self, template: str, status: int = 200, /, **facts: Any) -> Answer:
         """A page of the desk."""
@@ -781,6 +789,7 @@ def make_app(desk: Desk, guard: Guard, ending: Ending, with_demand: bool = False
     app.teardown_request(pages.leave_lock)
     app.register_error_handler(HTTPException, pages.http_fault)
     app.register_error_handler(Stopped, pages.stopped)
+    app.register_error_handler(OSError, pages.lacking)
     for path, handler, method in OUTSIDE:
         app.add_url_rule(path, handler, getattr(pages, handler), methods=[method])
     room = Blueprint("room", __name__)
