@@ -21,16 +21,15 @@
 #include <sys/wait.h>
 #include <unistd.h>
 
-#define BEGIN "/proc/self/fd/1"
 #define NAMES 512
 #define MOST_CALLS 3000
 
-enum { TRACED = 1, CLOSED = 2, NO_XFSZ = 4 };
+enum { TRACED = 1, CLOSED = 2, NO_XFSZ = 4, NO_ERRORS = 8 };
 enum { ANSWER, SHORT, SIGNAL };
-enum { STREAMS = 3, WORDS = 32 };
+enum { STREAMS = 3, WORDS = 32, MOST_OTHERS = 1000 };
 
 struct fault { int64_t number, first, last, kind, value; };
-struct request { int64_t milliseconds, user, flags, resource, limit, faults, names; };
+struct request { int64_t milliseconds, user, flags, resource, limit, begin, faults, names; };
 struct call { int64_t number, count, file, fault, answer, has_answer; };
 struct reply { int64_t status, is_late, has_begun, calls; int64_t counts[NAMES]; };
 
@@ -39,8 +38,10 @@ static struct { struct reply head; struct call calls[MOST_CALLS]; } told;
 static struct request *request;
 static struct fault *faults;
 static int64_t *names;
-static char *words[WORDS + 1], *folder;
-static pid_t child;
+static char *words[WORDS + 1], *folder, *begin;
+// The program, and the threads and processes that it started.
+static pid_t child, others[MOST_OTHERS];
+static int count_of_others;
 
 static void stop(int number) {
     (void)number;
@@ -59,8 +60,9 @@ static int take(int streams[STREAMS]) {
     request = (struct request *)buffer;
     faults = (struct fault *)(request + 1);
     names = (int64_t *)(faults + request->faults);
-    folder = (char *)(names + request->names);
+    begin = (char *)(names + request->names);
     buffer[size] = 0;
+    folder = begin + strlen(begin) + 1;
     int count = 0;
     for (char *word = folder + strlen(folder) + 1; word < buffer + size && count < WORDS; word += strlen(word) + 1) words[count++] = word;
     words[count] = NULL;
@@ -86,6 +88,7 @@ static void become(int streams[STREAMS]) {
     if (request->flags & NO_XFSZ) signal(SIGXFSZ, SIG_IGN);
     if (chdir(folder)) _exit(126);
     if (request->flags & CLOSED) close(1);
+    if (request->flags & NO_ERRORS) close(2);
     if (request->user >= 0 && (setgroups(0, NULL) || setgid((gid_t)request->user) || setuid((uid_t)request->user))) _exit(126);
     struct rlimit limit = {(rlim_t)request->limit, (rlim_t)request->limit};
     if (request->resource >= 0 && setrlimit((int)request->resource, &limit)) _exit(126);
@@ -98,10 +101,12 @@ static void become(int streams[STREAMS]) {
     _exit(127);
 }
 
-static int is_begin(const struct user_regs_struct *at) {
-    char text[sizeof BEGIN] = "";
-    struct iovec here = {text, sizeof text}, there = {(void *)at->rsi, sizeof text};
-    return at->orig_rax == SYS_statx && process_vm_readv(child, &here, 1, &there, 1, 0) == sizeof text && !strcmp(text, BEGIN);
+// Whether a call is the one with which the program begins: it has this number, and its second argument is this path.
+static int is_begin(pid_t process, const struct user_regs_struct *at) {
+    static char text[4096];
+    size_t size = strlen(begin) + 1;
+    struct iovec here = {text, size}, there = {(void *)at->rsi, size};
+    return (int64_t)at->orig_rax == request->begin && size <= sizeof text && process_vm_readv(process, &here, 1, &there, 1, 0) == (ssize_t)size && !memcmp(text, begin, size);
 }
 
 static struct call *noted(const struct user_regs_struct *at, int64_t fault) {
@@ -112,11 +117,11 @@ static struct call *noted(const struct user_regs_struct *at, int64_t fault) {
     return call;
 }
 
-// Before a call: has happen to it what is to happen, and gives how the process goes on. `waiting` is the call whose answer is waited for.
-static enum __ptrace_request enter(struct call **waiting) {
+// Before a call of the program, in any of its threads: has happen to it what is to happen, and gives how the thread goes on. `waiting` is the call of the first thread whose answer is waited for.
+static enum __ptrace_request enter(pid_t thread, struct call **waiting) {
     struct user_regs_struct at;
-    if (ptrace(PTRACE_GETREGS, child, NULL, &at)) return PTRACE_CONT;
-    told.head.has_begun |= is_begin(&at);
+    if (ptrace(PTRACE_GETREGS, thread, NULL, &at)) return PTRACE_CONT;
+    told.head.has_begun |= is_begin(thread, &at);
     int64_t number = (int64_t)at.orig_rax, k = 0;
     if (!told.head.has_begun || number < 0 || number >= NAMES) return PTRACE_CONT;
     int64_t count = ++told.head.counts[number];
@@ -127,16 +132,17 @@ static enum __ptrace_request enter(struct call **waiting) {
     if (is_met && faults[k].kind == ANSWER) {
         at.orig_rax = (unsigned long long)-1;
         at.rax = (unsigned long long)faults[k].value;
-        ptrace(PTRACE_SETREGS, child, NULL, &at);
+        ptrace(PTRACE_SETREGS, thread, NULL, &at);
         call->answer = faults[k].value;
         call->has_answer = 1;
         return PTRACE_CONT;
     }
     if (is_met && faults[k].kind == SHORT && at.rdx > (unsigned long long)faults[k].value) {
         at.rdx = (unsigned long long)faults[k].value;
-        ptrace(PTRACE_SETREGS, child, NULL, &at);
+        ptrace(PTRACE_SETREGS, thread, NULL, &at);
     }
     if (is_met && faults[k].kind == SIGNAL) kill(child, (int)faults[k].value);
+    if (thread != child) return PTRACE_CONT;
     *waiting = call;
     return is_answered ? PTRACE_SYSCALL : PTRACE_CONT;
 }
@@ -148,21 +154,50 @@ static void leave(struct call *call) {
     call->has_answer = 1;
 }
 
-// Follows the process, which has stopped itself, to its end.
+// Whether a thread or process was seen before. The first stop of a new one is that of its start.
+static int is_known(pid_t one) {
+    for (int k = 0; k < count_of_others; k++) if (others[k] == one) return 1;
+    if (count_of_others < MOST_OTHERS) others[count_of_others++] = one;
+    return 0;
+}
+
+static int is_of_program(pid_t one) {
+    char path[64];
+    snprintf(path, sizeof path, "/proc/%d/task/%d", (int)child, (int)one);
+    return one == child || !access(path, F_OK);
+}
+
+// How a process or thread that has stopped goes on, and with which signal.
+static enum __ptrace_request after_stop(pid_t one, int status, struct call **waiting, int *passed) {
+    int event = status >> 16;
+    if (event == PTRACE_EVENT_SECCOMP) return is_of_program(one) ? enter(one, waiting) : PTRACE_CONT;
+    if (WSTOPSIG(status) == (SIGTRAP | 0x80)) leave(*waiting);
+    else if (event == 0) *passed = WSTOPSIG(status);
+    return PTRACE_CONT;
+}
+
+// Follows the program, which has stopped itself, to its end; what it started is ended with it.
 static int follow(void) {
-    int status, is_first = 1;
+    int status, end = 0, has_ended = 0, is_first = 1;
     struct call *waiting = NULL;
-    while (waitpid(child, &status, 0) == child && WIFSTOPPED(status)) {
+    count_of_others = 0;
+    for (pid_t one; (one = waitpid(-1, &status, __WALL)) > 0;) {
+        int passed = 0, is_new = one != child && !is_known(one);
+        if (!WIFSTOPPED(status)) {
+            if (one != child) continue;
+            end = status;
+            has_ended = 1;
+            for (int k = 0; k < count_of_others; k++) kill(others[k], SIGKILL);
+            continue;
+        }
         enum __ptrace_request goes_on = PTRACE_CONT;
-        int passed = 0, event = status >> 16;
-        if (is_first) ptrace(PTRACE_SETOPTIONS, child, NULL, PTRACE_O_EXITKILL | PTRACE_O_TRACEEXEC | PTRACE_O_TRACESECCOMP | PTRACE_O_TRACESYSGOOD);
-        else if (event == PTRACE_EVENT_SECCOMP) goes_on = enter(&waiting);
-        else if (WSTOPSIG(status) == (SIGTRAP | 0x80)) leave(waiting);
-        else if (event == 0) passed = WSTOPSIG(status);
-        is_first = 0;
-        ptrace(goes_on, child, NULL, passed);
+        if (has_ended) kill(one, SIGKILL);
+        else if (one == child && is_first) ptrace(PTRACE_SETOPTIONS, child, NULL, PTRACE_O_EXITKILL | PTRACE_O_TRACEEXEC | PTRACE_O_TRACESECCOMP | PTRACE_O_TRACESYSGOOD | PTRACE_O_TRACEFORK | PTRACE_O_TRACEVFORK | PTRACE_O_TRACECLONE);
+        else if (!is_new) goes_on = after_stop(one, status, &waiting, &passed);
+        is_first &= one != child;
+        ptrace(goes_on, one, NULL, passed);
     }
-    return status;
+    return end;
 }
 
 int main(void) {

@@ -16,7 +16,7 @@ import signal
 import socket
 import struct
 import subprocess
-from collections.abc import Collection, Sequence
+from collections.abc import Collection, Mapping, Sequence
 from typing import NamedTuple
 
 SOURCE = pathlib.Path(__file__).with_name("traced.c")
@@ -25,27 +25,46 @@ NUMBERS = {
     "write": 1,
     "close": 3,
     "lseek": 8,
+    "fstat": 5,
     "mmap": 9,
     "munmap": 11,
     "brk": 12,
+    "pread64": 17,
+    "pwrite64": 18,
     "mremap": 25,
+    "socket": 41,
+    "fork": 57,
+    "vfork": 58,
     "fcntl": 72,
     "flock": 73,
     "fsync": 74,
+    "ftruncate": 77,
+    "rename": 82,
+    "mkdir": 83,
+    "rmdir": 84,
+    "link": 86,
+    "unlink": 87,
     "readlink": 89,
+    "getdents64": 217,
     "exit_group": 231,
     "openat": 257,
+    "newfstatat": 262,
+    "unlinkat": 263,
+    "linkat": 265,
     "readlinkat": 267,
+    "getrandom": 318,
     "statx": 332,
 }
 NAMES = {number: name for name, number in NUMBERS.items()}
 FOR_EVER = 2**62
 # The calls that are always looked at: the one with which a program begins, and those whose answers are noted.
 ALWAYS = ("statx", "write", "fsync")
-TRACED, CLOSED, NO_XFSZ = 1, 2, 4
+TRACED, CLOSED, NO_XFSZ, NO_ERRORS = 1, 2, 4, 8
+# The call with which the program begins, and the path in it.
+BEGIN = ("statx", "/proc/self/fd/1")
 ANSWER, SHORT, SIGNAL = range(3)
 # As in traced.c.
-REQUEST, FAULT, NUMBER = struct.Struct("=7q"), struct.Struct("=5q"), struct.Struct("=q")
+REQUEST, FAULT, NUMBER = struct.Struct("=8q"), struct.Struct("=5q"), struct.Struct("=q")
 REPLY, COUNTS, CALL = struct.Struct("=4q"), struct.Struct("=512q"), struct.Struct("=6q")
 MOST_BYTES = 2**20
 
@@ -104,8 +123,8 @@ class Traced(NamedTuple):
 
 
 class Start(NamedTuple):
-    """How a process starts: its words, its folder, its standard streams, its user, and a limit (`RLIMIT_..` and a
-    value)."""
+    """How a process starts: its words, its folder, its standard streams, its user, a limit (`RLIMIT_..` and a value),
+    which of its streams are closed, and the call from which on its calls count, with the path in it."""
 
     words: Sequence[str]
     folder: str = "."
@@ -114,15 +133,18 @@ class Start(NamedTuple):
     limit: tuple[int, int] = (-1, 0)
     is_closed: bool = False
     ignores_xfsz: bool = False
+    has_no_errors: bool = False
+    begin: tuple[str, str] = BEGIN
 
 
 class Tracer:
     """A process that runs programs, one after another."""
 
-    def __init__(self, program: str) -> None:
+    def __init__(self, program: str, variables: Mapping[str, str] | None = None) -> None:
+        """`variables` is the environment of the programs, by default the one of this process."""
         self.socket, other = socket.socketpair(socket.AF_UNIX, socket.SOCK_SEQPACKET)
         with other:
-            self.process = subprocess.Popen([program], stdin=other.fileno())
+            self.process = subprocess.Popen([program], stdin=other.fileno(), env=variables)
 
     def run(
         self,
@@ -136,13 +158,16 @@ class Tracer:
 
         The calls that are looked at are those of the faults, of `names`, and of `ALWAYS`.
         """
-        looked_at = {*ALWAYS, *names, *(fault.call for fault in faults)}
+        call, path = start.begin
+        looked_at = {*ALWAYS, call, *names, *(fault.call for fault in faults)}
         flags = TRACED * is_traced | CLOSED * start.is_closed | NO_XFSZ * start.ignores_xfsz
+        flags |= NO_ERRORS * start.has_no_errors
+        numbers = int(seconds * 1000), start.user, flags, *start.limit, NUMBERS[call], len(faults), len(looked_at)
         request = [
-            REQUEST.pack(int(seconds * 1000), start.user, flags, *start.limit, len(faults), len(looked_at)),
+            REQUEST.pack(*numbers),
             *(fault.packed() for fault in faults),
             *(NUMBER.pack(NUMBERS[name]) for name in sorted(looked_at)),
-            *(os.fsencode(word) + b"\0" for word in (start.folder, *start.words)),
+            *(os.fsencode(word) + b"\0" for word in (path, start.folder, *start.words)),
         ]
         rights = [(socket.SOL_SOCKET, socket.SCM_RIGHTS, array.array("i", start.streams))]
         self.socket.sendmsg([b"".join(request)], rights)
