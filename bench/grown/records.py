@@ -174,7 +174,7 @@ def journals(award: bytes) -> Iterator[Grown]:
         ("digits of a number", 1, lambda n: b'{"at": ' + b"1" * n + b"}"),
         ("bytes of a text", 1, lambda n: b'{"at": "' + b"x" * n + b'"}'),
         ("escapes of a text", 6, lambda n: b'{"at": "' + b"\\u0041" * n + b'"}'),
-        ("keys", 12, lambda n: b"{" + numbered(b'"k%d":1,', n)[:-1] + b"}"),
+        ("keys", 14, lambda n: b"{" + numbered(b'"k%d":1,', n)[:-1] + b"}"),
         ("blank lines", 1, lambda n: b"\n" * n),
     ):
         yield Grown("journal", dimension, room // size, between(begun, text, b"\n"))

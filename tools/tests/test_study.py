@@ -307,6 +307,12 @@ class Runs(WithPlan):
         self.assertEqual((page.count("<svg"), page.count("share 60 against 100")), (5, 8))
         self.assertIn("with the final cap (version 2) against without", pictures["pair2.svg"])
 
+    def test_processes_are_few(self) -> None:
+        """Also a number with more digits than Python converts is refused in a sentence."""
+        for text in ("0", "1001", "x", "1" * 5_000):
+            _, said = self.run_study("few", "--processes", text, status=2)
+            self.assertIn("--processes takes a whole number from 1 to 1000, and `", said.replace("\n", " "))
+
     def test_what_made_it(self) -> None:
         """Rows, table and page name the program by the checksum of its file, and another one doesn't go on."""
         self.run_study("made", "--processes", "1")

@@ -101,7 +101,7 @@ def processes_of(options: argparse.Namespace) -> int | None:
         return None
     if options.scheduler:
         parser().error("--processes is for this machine, and --scheduler for the workers of Dask")
-    if not (text.isascii() and text.isdigit() and 1 <= int(text) <= MOST_PROCESSES):
+    if not (text.isascii() and text.isdigit() and len(text) < 10 and 1 <= int(text) <= MOST_PROCESSES):
         parser().error(f"--processes takes a whole number from 1 to {MOST_PROCESSES}, and `{text}` isn't that")
     return int(text)
 
