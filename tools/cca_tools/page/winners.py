@@ -301,7 +301,8 @@ def result(source: Source) -> list[Block]:
 def missing(source: Source) -> str:
     """Why there are no winners and no prices."""
     if source.fault:
-        return f"The certificate fails a test, so it shows no winners and no prices. {source.fault.text()}."
+        why = findings.capital(source.fault.text())
+        return f"The certificate fails a test, so it shows no winners and no prices. {why}."
     if source.stop and source.stop.status == LIMIT:
         return f"The auction was stopped by a limit: `{source.stop.line}`. It has no book, no winners and no prices."
     if source.book is None:
