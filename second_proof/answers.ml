@@ -441,18 +441,20 @@ let text_of_certificate file =
   let begins = String.length file >= 5 && String.sub file 0 5 = "cert " in
   if begins && has_short_words file then text_of_file ' ' file else []
 
-(* Coq reads the award and the log. It asks for the certificate when the book is known. *)
+(* Coq reads the award and the log. It asks for the certificate when the book is known, so a fault of its file comes after theirs. *)
 let audit host award_name log_name cert_name =
   let award, log = read_auction host award_name log_name in
-  let cert = reading host "cert" cert_bytes cert_name Fun.id in
+  let cert = lazy (reading host "cert" cert_bytes cert_name Fun.id) in
   let propose book _ =
     host.step "cert";
+    let file = Lazy.force cert in
     let states = states_of (List.map int_of_nat book.supply) in
-    let read = reading_with "cert" (fun () -> read_book_certificate (List.length book.offers) states cert) in
+    let read = reading_with "cert" (fun () -> read_book_certificate (List.length book.offers) states file) in
     host.step "tests";
     Some read
   in
-  answer (audit_answer_long award_of log_of propose award log (text_of_certificate cert))
+  let text = try text_of_certificate (Lazy.force cert) with Stop _ -> [] in
+  answer (audit_answer_long award_of log_of propose award log text)
 
 let auction host award_name log_name =
   let award, log = read_auction host award_name log_name in

@@ -284,6 +284,22 @@ class SecondProof(unittest.TestCase):
         log.write_text("".join(LOG.read_text().splitlines(keepends=True)[:40]))
         self.assertEqual(ended(SECOND / "audit", self.plain / "award", log, CERT), (3, "cca: refused log 41\n"))
 
+    def test_order_of_files(self) -> None:
+        """A log that isn't complete is reported before a certificate that isn't there or is too long."""
+        folder = pathlib.Path(self.folder.name)
+        cut, large, nowhere = folder / "cut.log", folder / "large.cert", folder / "nowhere"
+        cut.write_text("".join(LOG.read_text().splitlines(keepends=True)[:40]))
+        large.write_bytes(b"c" * (LIMITS["cert"] + 1))
+        for log, cert, status, said in (
+            (cut, nowhere, 3, "cca: refused log 41\n"),
+            (cut, large, 3, "cca: refused log 41\n"),
+            (LOG, nowhere, 4, "cca: read fault cert\n"),
+            (LOG, large, 7, f"cca: limit bytes {LIMITS['cert'] + 1}\n"),
+        ):
+            with self.subTest(log=log.name, cert=cert.name):
+                audited = ended(SECOND / "built" / "checker", "audit", self.plain / "award", log, cert)
+                self.assertEqual(audited, (status, said))
+
     def test_long_logs(self) -> None:
         """The limit of records, after a fault of an earlier one; and numbers that are too long for any log."""
         log, bid = pathlib.Path(self.folder.name) / "long.log", "bid,everest,0 0 0 1,\n"
