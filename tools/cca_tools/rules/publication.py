@@ -73,7 +73,7 @@ STYLE = (
     "@media(prefers-color-scheme:dark){body{color:#eee;background:#111}a{color:#9cf}"
     "td,th,.winners tr,.wide tr{border-color:#444}.bad,.void,.void b{color:#ff8a9a}}"
     "@media print{body{margin:0;color:#000;background:#fff}h2,dt{break-after:avoid}tr,dd{break-inside:avoid}"
-    "details:not([open]){display:none}}"
+    "details:not([open]),h2:has(+details:not([open])){display:none}}"
 )
 
 
