@@ -1,1 +1,2 @@
-"""The auctioneer's desk: lines are previewed, written and answered, by pages in a browser on this machine alone."""
+"""The auctioneer's desk: pages in a browser, on this machine only, that preview lines, write them and show the
+replies."""

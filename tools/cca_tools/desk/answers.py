@@ -27,11 +27,11 @@ MOST_PROBES = 20_000  # lines in one run of the program
 
 
 class Differ(Exception):
-    """Both programs answered, and not alike: the desk stops."""
+    """The two programs replied differently: the desk stops."""
 
 
 class NoLine(Exception):
-    """A record that is no line, or a limit of the log: it would take the replies of the whole log away."""
+    """A record that isn't a line, or a limit of the log. With it the whole log would have no replies."""
 
 
 @dataclasses.dataclass(frozen=True)
@@ -43,7 +43,7 @@ class Known:
     replies: Sequence[str]
 
     def begins(self, data: bytes) -> bool:
-        """Whether a log goes on from this one by whole records. A byte order mark counts at the beginning alone."""
+        """Whether a log continues this one by whole records. A byte order mark is one only at the beginning."""
         if not self.data or self.data == data:
             return True
         return self.data.endswith(b"\n") and data.startswith(self.data) and not data.startswith(MARK, len(self.data))
@@ -70,8 +70,8 @@ class Answers:
         self._kept = [Known(b"", Auction(self.award), [])]
 
     def auction(self, data: bytes) -> Auction:
-        """The auction that a log has come to, to be looked at and not to be changed: both programs have given the same
-        replies to all of it. Raises `Differ`, `NoLine` and `NoProgram`."""
+        """The auction after a log; callers may not change it. Both programs have given the same replies to the whole
+        log. Raises `Differ`, `NoLine` and `NoProgram`."""
         return self._known(data).auction
 
     def _known(self, data: bytes) -> Known:
@@ -100,7 +100,7 @@ class Answers:
         return Known(data, auction, [*before.replies, *replies])
 
     def _new_lines(self, before: Known, data: bytes) -> list[Line]:
-        """The lines after those of a kept log, with their numbers in the whole. Raises `Stop`."""
+        """The lines after a kept log's lines, with their numbers in the whole. Raises `Stop`."""
         records, rows = len(before.auction.lines), len(END.findall(before.data))
         try:
             new = read_log(data[len(before.data) :], self.award)
@@ -117,8 +117,8 @@ class Answers:
         return self._program.winners(book_text(self._known(data).auction.book()))
 
     def probe(self, data: bytes) -> list[str]:
-        """Compares each bidder's points and caps, now and after a close, by probing lines that are answered and never
-        written. Gives the differences in sentences. Raises as `auction` does."""
+        """Compares each bidder's points and caps, now and after a close, by lines that get replies and are never
+        written. Returns the differences in sentences. Raises as `auction` does."""
         if data and not data.endswith(b"\n"):
             raise NoLine("The last line of the log has no line feed.")
         now = self._known(data)
@@ -175,7 +175,7 @@ def both_say(printed: str, own: str) -> str:
 
 
 def need_alike(own: Ended, ended: Ended) -> None:
-    """Tests that the program answered what the second program says. Raises `Differ`."""
+    """Tests that the program gave the same replies as the second program. Raises `Differ`."""
     if own == ended:
         return
     for row, (printed, said) in enumerate(itertools.zip_longest(ended.lines, own.lines, fillvalue="nothing"), 1):

@@ -1,7 +1,8 @@
-"""The desk of one auction: its state, what a line would be answered, and what is written. No web is here.
+"""The desk of one auction: its state, the reply that a line would get, and what is written. The web pages are
+elsewhere.
 
-A line is answered by both programs before it is written, and what a close does is compared under the lock of the log
-with what was typed for it. Where the programs differ, or nobody can say what the disk has, the desk stops.
+Both programs reply to a line before it is written. What a close does is compared, under the lock of the log, with what
+was typed for it. If the programs differ, or nobody can say what the disk has, the desk stops.
 """
 
 from __future__ import annotations
@@ -36,7 +37,7 @@ AGAIN = "End the desk by Ctrl-C on its terminal, and start it again with the sam
 
 
 class Stopped(Exception):
-    """Nothing can be written or answered now."""
+    """The desk can't write or reply now."""
 
     def __init__(self, stop: Stop) -> None:
         super().__init__(stop.why)
@@ -44,12 +45,12 @@ class Stopped(Exception):
 
 
 class WrongWords(Refused):
-    """A close without the words that it asks for."""
+    """A close for which somebody typed other text than it asks for."""
 
 
 @dataclasses.dataclass(frozen=True)
 class Moment:
-    """The log as it is, the auction that it has come to, and the base of a page that is made of it."""
+    """The log as it is, the auction after it, and the base of a page that is made of it."""
 
     data: bytes
     auction: Auction
@@ -71,7 +72,7 @@ class Answered:
 
 @dataclasses.dataclass(frozen=True)
 class Close:
-    """An admitted close: its number, that of its record, its reply, and the bytes of the log up to and with it."""
+    """An admitted close: its number, its record's number, its reply, and the bytes of the log up to and with it."""
 
     number: int
     record: int
@@ -89,8 +90,8 @@ def closes_of(data: bytes, auction: Auction) -> list[Close]:
 
 
 class Pin:
-    """A file that may not change while the desk runs, by its SHA-256. It is read again where its state says that it was
-    written since; the first state is from before it was read."""
+    """A file that may not change while the desk runs, by its SHA-256. It is read again if its state shows that it was
+    written since. The first state was taken before the file was read."""
 
     def __init__(self, kind: str, path: Path, total: str, state: tuple[int, ...]) -> None:
         self.kind, self.path, self.sum, self._seen = kind, path, total, state
@@ -216,7 +217,8 @@ class Desk:
         raise Stopped(stop)
 
     def line_stop(self) -> Stop | None:
-        """The stop of a log after whose answered lines is something that is no line; None if there is nothing such."""
+        """The stop of a log that has something other than a line after its noted lines; None if it has nothing like
+        that."""
         try:
             data, length = self.log.read(), self.log.answered_length()
             if len(data) <= length:
@@ -230,7 +232,7 @@ class Desk:
         return None
 
     def noted(self) -> Moment:
-        """The log as it is, once lines in it that no desk had answered are noted. Raises `Stopped`."""
+        """The log as it is, after its lines that no desk has replied to are noted. Raises `Stopped`."""
         moment = self.now()
         try:
             self.log.note_found()
@@ -244,13 +246,13 @@ class Desk:
         return moment
 
     def need_running(self) -> None:
-        """Stops if the log or what was pinned isn't as it was answered."""
+        """Stops if the log differs from its journal, or a pinned file was changed."""
         stop = self._halt or self.log.stop() or self.pin_fault()
         if stop:
             raise Stopped(stop)
 
     def pin_fault(self) -> Stop | None:
-        """What is wrong where the award or the program was changed since the desk was started."""
+        """The stop of an award or a program that was changed since the desk was started."""
         for pin in self.pins:
             if not pin.holds():
                 why = f"The {pin.kind} isn't the one with which this desk was started: {pin.path} was changed."
@@ -281,7 +283,7 @@ class Desk:
             raise no_program(fault) from None
 
     def preview(self, moment: Moment, text: bytes) -> Answered:
-        """What lines would be answered now. Raises `Refused` and `Stopped`."""
+        """The replies that lines would get now. Raises `Refused` and `Stopped`."""
         if len(moment.data) + len(text) > MOST["log bytes"]:
             raise Refused(f"The log would be longer than {MOST['log bytes']:,} bytes, and none is taken then.")
         known = len(moment.auction.lines)
@@ -338,20 +340,20 @@ class Desk:
         return written
 
     def close(self, base: Base, typed: str, people: Mapping[str, str] = NOBODY) -> Written:
-        """Writes a close if the words are typed that it asks for; `people` are the names of who asked for it and who
-        approved it, for the journal. Raises as `write` does, and `WrongWords`."""
+        """Writes a close if somebody typed the text that it asks for. `people` has the names of who asked for it and
+        who approved it, for the journal. Raises as `write` does, and `WrongWords`."""
         written = self.append(base, CLOSE, lambda before: need_words(before, typed), people)
         self.settle()
         self.copy_out()
         if self.feed and not written.was_there:
-            with contextlib.suppress(OSError):  # (the next page tries it again, and says why)
+            with contextlib.suppress(OSError):  # (the next page does it again, and says why)
                 self.feed.follow(self.answered(written.log))
         return written
 
     def append(
         self, base: Base, text: bytes, need: Callable[[Auction], None], people: Mapping[str, str] = NOBODY
     ) -> Written:
-        """Appends lines that both programs answer, where the auction before them is as it has to be."""
+        """Appends lines after both programs have replied to them and `need` has accepted the auction before them."""
         self.need_running()
         self.settle()
 
@@ -385,7 +387,7 @@ class Desk:
             raise Refused(f"The file of the rehearsal can't be used: {fault.strerror}") from None
 
     def cut(self, base: Base, length: int, why: str, stay: bool = False, people: Mapping[str, str] = NOBODY) -> Path:
-        """Cuts the log, for a round that is held again, or takes back a close alone (`stay`). Raises `Refused` and
+        """Cuts the log, so that a round can be run again, or takes back only a close (`stay`). Raises `Refused` and
         `Stopped`."""
         self.need_running()
         self.settle()
@@ -398,7 +400,7 @@ class Desk:
         return kept
 
     def mend(self, mend: Mend, why: str, people: Mapping[str, str] = NOBODY) -> None:
-        """Mends the log as a stop says. Raises `Refused` and `Stopped`."""
+        """Repairs the log as a stop says. Raises `Refused` and `Stopped`."""
         try:
             if mend == "take out":
                 self.log.take_out(why)
@@ -418,7 +420,7 @@ class Desk:
 
 
 def words_of_typed(fault: NoLine) -> str:
-    """What is wrong with lines that were typed, without what is said of a log that has such lines already."""
+    """What is wrong with lines that were typed, without the sentences about a log that already has such lines."""
     of_logs = "cca: ", "No line of the log counts"
     return "\n".join(line for line in str(fault).split("\n") if not line.startswith(of_logs))
 
@@ -429,7 +431,7 @@ def no_program(fault: NoProgram) -> Stopped:
 
 
 def need_words(auction: Auction, typed: str) -> None:
-    """Stops a close that isn't written, or for which other words were typed than it asks for now."""
+    """Stops a close that isn't written, or whose typed text isn't the one that it asks for now."""
     effect = close_effect(auction)
     words = close_words(auction, effect.reply)
     if words is None:

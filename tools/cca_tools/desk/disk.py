@@ -1,6 +1,6 @@
 """Files on the disk: opened through no link, locked, written whole or not at all, and synced.
 
-A sync that failed is never tried again: the second one would say yes, also where the disk has lost what was written.
+A sync that failed is never tried again: a second one would succeed even if the disk has lost what was written.
 """
 
 from __future__ import annotations
@@ -21,7 +21,7 @@ WAIT = 2.0  # seconds for the lock
 PAUSE = 0.02
 MODE = 0o600
 FULL = "the disk is full: make room on it, and try again"
-# A name of a pipe in the place of a file mustn't hold the desk up, and no link is followed.
+# A pipe instead of a file mustn't block the desk, and no link is followed.
 SAFELY = os.O_NOFOLLOW | os.O_CLOEXEC | os.O_NONBLOCK
 APPEND = os.O_RDWR | os.O_APPEND
 
@@ -31,7 +31,7 @@ class Refused(Exception):
 
 
 class Busy(Refused):
-    """Another program held the lock of the log for `WAIT` seconds."""
+    """Another program kept the log locked for `WAIT` seconds."""
 
 
 class Missing(Refused):
@@ -39,7 +39,7 @@ class Missing(Refused):
 
 
 class Unreadable(Refused):
-    """The disk or the system doesn't give a file."""
+    """The disk or the system refuses to read a file."""
 
 
 class Unsure(Exception):
@@ -57,13 +57,13 @@ def sum_of(data: bytes) -> str:
 
 
 def is_regular(path: Path) -> bool:
-    """Whether a name is that of a regular file, and of no link to one."""
+    """Whether a name is a regular file's, and not a link's."""
     return stat.S_ISREG(os.stat(path, follow_symlinks=False).st_mode)
 
 
 @contextlib.contextmanager
 def opened(path: Path, flags: int) -> Iterator[int]:
-    """An open regular file. Raises `Missing` or `Refused` where it can't be opened, and never follows a link."""
+    """An open regular file. Raises `Missing` or `Refused` if it can't be opened, and never follows a link."""
     try:
         # (a device may do something already when it is opened)
         if not is_regular(path):
@@ -202,7 +202,7 @@ def shorten(handle: int, length: int, name: str) -> None:
 def append_once(handle: int, text: bytes, name: str) -> None:
     """Appends a text by one write, and syncs it.
 
-    A part of it that a full disk took is cut off again. Raises `Refused` where nothing was written, and `Unsure`.
+    A part of it that a full disk took is cut off again. Raises `Refused` if nothing was written, and `Unsure`.
     """
     start = os.fstat(handle).st_size
     try:
@@ -217,10 +217,10 @@ def append_once(handle: int, text: bytes, name: str) -> None:
 
 
 def write_again(path: Path, start: int) -> None:
-    """Writes the bytes of a file from `start` on once more over themselves, and syncs them.
+    """Writes the bytes of a file from `start` on again over themselves, and syncs them.
 
-    Where an earlier sync failed, or none was made, the system may count them as kept while the disk doesn't have them;
-    then no other sync would write them. Raises `Refused` or `Unsure`.
+    If an earlier sync failed, or none was made, the system may take them as written while the disk doesn't have them.
+    Then no later sync would write them. Raises `Refused` or `Unsure`.
     """
     with opened(path, os.O_RDWR) as handle:
         tail = read_open(handle, path.name)[start:]
@@ -235,9 +235,9 @@ def write_again(path: Path, start: int) -> None:
 
 
 def new_file(path: Path, data: bytes) -> bool:
-    """Makes a file that its owner alone may read; whether it wasn't there. It appears whole or not at all.
+    """Makes a file that only its owner may read. Returns whether it didn't exist. It appears whole or not at all.
 
-    Raises `Refused` where it can't be made, and `Unsure` where its name can't be synced.
+    Raises `Refused` if it can't be made, and `Unsure` if its name can't be synced.
     """
     part = path.with_name(f"{path.name}.new-{secrets.token_hex(4)}")
     try:

@@ -1,7 +1,7 @@
 """The end of an auction, step by step: award and audits, the report, the published set. Each step may be repeated.
 
-The steps call the program and the tools, and show the status of each run. A certificate, or a set, that is
-there is tested, and never written again. All files are beside the log.
+The steps call the program and the tools, and show the status of each run. A certificate, or a set, that is there is
+tested, and never written again. All files are in the log's folder.
 """
 
 from __future__ import annotations
@@ -55,7 +55,7 @@ class Outcome:
 
 
 def run(name: str, words: Sequence[str | Path], program: Path) -> Run:
-    """Runs a command, and gives what it printed."""
+    """Runs a command, and returns its status and what it printed."""
     try:
         done = subprocess.run(
             list(map(str, words)),
@@ -113,11 +113,11 @@ class Ending:
 
     @property
     def names(self) -> list[str]:
-        """The words that name the names for people."""
+        """The arguments that name the file of names for people."""
         return ["--names", str(self.names_path)] if self.names_path else []
 
     def award(self, moment: Moment) -> Outcome:
-        """Awards where no certificate is there, then audits by both programs, and looks for ties."""
+        """Awards if the certificate doesn't exist, then audits by both programs, and looks for ties."""
         runs = list[Run]()
         if not self.cert.exists():
             runs.append(self.make_cert("cca award", [self.desk.program, "award"]))
@@ -126,7 +126,8 @@ class Ending:
         return self.audited(moment, runs)
 
     def price(self, moment: Moment) -> Outcome:
-        """Has `tools/price` make the certificate, for more winners than `cca award` prices; then as `award`."""
+        """Has `tools/price` make the certificate, for more winners than `cca award` prices. Then does what `award`
+        does."""
         runs = list[Run]()
         if not self.cert.exists():
             runs.append(self.make_cert("tools/price", [sys.executable, PRICER]))
@@ -135,7 +136,7 @@ class Ending:
         return self.audited(moment, runs)
 
     def no_award(self, runs: list[Run]) -> Outcome:
-        """Why the program made no certificate, in the words of `tools/explain`."""
+        """Why the program made no certificate, in the sentences of `tools/explain`."""
         explained = run(
             "tools/explain", [sys.executable, TOOLS / "explain", "award", *self.files[:2]], self.desk.program
         )
@@ -176,7 +177,7 @@ class Ending:
         return older[-1] if older else None
 
     def verdict(self, runs: Sequence[Run]) -> tuple[str, bool]:
-        """What the two audits come to."""
+        """The verdict of the two audits, and whether it is good."""
         first, second = runs[-2:]
         if first.printed != second.printed or first.status != second.status:
             return "The programs differ on the certificate. Publish nothing, and keep all files.", False
@@ -251,7 +252,7 @@ class Ending:
             number += 1
 
     def is_set(self, folder: Path) -> bool:
-        """Whether a folder has the set of these files, and all its sums hold."""
+        """Whether a folder has the set of these files, and all its checksums are right."""
         try:
             rows = [line.split("  ", 1) for line in (folder / SUMS).read_text().splitlines()]
             sums = {name: total for total, name in rows}

@@ -10,7 +10,7 @@ from cca_tools.desk.disk import sum_of
 from cca_tools.desk.journal import Entry, replayed
 from cca_tools.rules.printable import shown
 
-# What the button of a stop does; "none" where somebody has to do something by hand first.
+# What the button of a stop does; "none" if somebody has to do something by hand first.
 Mend: TypeAlias = Literal[
     "none", "take back", "take out", "end line", "cut again", "put back", "keep changed log", "restart"
 ]
@@ -20,11 +20,12 @@ IN_JOURNAL = "The journal has the log as it was answered."
 
 @dataclass(frozen=True)
 class Stop:
-    """Why the desk can't write, what is safe, and what to do, each in one or two sentences; `mend` is the button.
+    """Why the desk can't write, what is safe, and what to do, each in one or two sentences; `mend` names the repair of
+    the button.
 
-    `take back` is that of a torn last line. `end line` mends that too, if the line lacks nothing but its line feed:
-    offer both then. `end line` alone is that of an answered line that has lost its line feed. `put back` is for a
-    changed log, which can also be kept as it is.
+    `take back` is for a torn last line. `end line` repairs that too, if the line lacks only its line feed: offer both
+    then. A line with a reply that has lost its line feed has only `end line`. `put back` is for a changed log, which
+    can also be kept as it is.
     """
 
     why: str
@@ -33,7 +34,7 @@ class Stop:
     mend: Mend
 
     def allows(self, mend: Mend) -> bool:
-        """Whether a mend fits."""
+        """Whether a repair fits."""
         others = ("end line", "take back"), ("keep changed log", "put back")
         return mend == self.mend or (mend, self.mend) in others
 
@@ -50,12 +51,12 @@ def is_cut_begun(data: bytes, last: Entry) -> bool:
 
 
 def is_changed(data: bytes, last: Entry) -> bool:
-    """Whether the log isn't what was answered, up to where the last answer was given."""
+    """Whether the log differs from what the journal has, up to the length in its newest entry."""
     return len(data) < last.length or sum_of(data[: last.length]) != last.sum
 
 
 def has_lost_feed(data: bytes, last: Entry) -> bool:
-    """Whether the log is what was answered except for its last line feed."""
+    """Whether the log lacks only the last line feed of what the journal has."""
     return len(data) == last.length - 1 and sum_of(data + b"\n") == last.sum
 
 
@@ -71,7 +72,7 @@ def begun_cut(last: Entry) -> Stop:
 
 
 def torn_line(data: bytes) -> Stop:
-    """The stop of a last line that was never answered and has no line feed."""
+    """The stop of a last line that never had a reply and has no line feed."""
     torn = data[len(whole_lines(data)) :]
     return Stop(
         f"The last line of the log has no line feed: `{shown(torn)}`. A write was cut short, or an editor left it out.",
@@ -83,7 +84,7 @@ def torn_line(data: bytes) -> Stop:
 
 
 def lost_feed() -> Stop:
-    """The stop of an answered line whose line feed is gone."""
+    """The stop of a last line that had a reply and has lost its line feed."""
     return Stop(
         "The line feed of the last line of the log is gone: an editor left it out.",
         ANSWERED,
@@ -93,7 +94,7 @@ def lost_feed() -> Stop:
 
 
 def changed_log(data: bytes, entries: Sequence[Entry]) -> Stop:
-    """The stop of a log that somebody changed before its answered end."""
+    """The stop of a log that somebody changed within the lines that have replies."""
     place, at = first_change(data, entries)
     row = data[:place].count(b"\n") + 1
     return Stop(
@@ -117,7 +118,7 @@ def common_length(one: bytes, other: bytes) -> int:
 
 
 def first_change(data: bytes, entries: Sequence[Entry]) -> tuple[int, str]:
-    """The first byte that isn't what was answered, and the time of the answer."""
+    """The first byte that differs from the journal, and the time of the journal's entry for it."""
     place = common_length(data, replayed(entries))
     return place, next((it.at for it in reversed(entries) if it.start <= place < it.length), entries[-1].at)
 

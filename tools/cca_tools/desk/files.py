@@ -41,7 +41,7 @@ def price_lines(desk: Desk, auction: Auction, close: Close, with_demand: bool) -
 
 
 def announcement(desk: Desk, moment: Moment, record: int, with_demand: bool) -> str:
-    """The text that tells all bidders of the close in this record; nothing if there is none."""
+    """The text for all bidders about the close in this record; empty if the record isn't one."""
     close = next((it for it in closes_of(moment.data, moment.auction) if it.record == record), None)
     row = desk.row_of(close.number) if close else None
     if close is None or row is None:

@@ -1,5 +1,5 @@
-"""Who may ask the desk what: other hosts, other origins, other users and other forms are refused, and each answer has
-the headers by which a browser holds to that.
+"""Who may request what from the desk. Other hosts, other origins, other users and other forms are refused, and each
+response has the headers that make a browser enforce this.
 
 The address of a request is exact, which stops names that are bound to another machine's address. What changes something
 comes from a page of this very address and port, with the token of this start. Other users of the machine have no key,
@@ -35,7 +35,7 @@ HEADERS = {
 
 
 class InMemory(Request):
-    """A request whose files stay in memory: no list of a bidder reaches the disk beside the log."""
+    """A request whose files stay in memory: no list of a bidder reaches the disk next to the log."""
 
     def _get_file_stream(self, *args: object, **how: object) -> io.BytesIO:
         return io.BytesIO()
@@ -58,7 +58,7 @@ def same(given: str, wanted: str) -> bool:
 
 @dataclass(frozen=True)
 class Guard:
-    """The secrets of one start, and the address at which the desk is."""
+    """The secrets of one start, and the desk's address."""
 
     port: int
     key: str = field(default_factory=new_key, repr=False)
@@ -90,7 +90,7 @@ class Guard:
         return bool(self.second_key) and same(request.cookies.get(COOKIE, ""), self.second_session)
 
     def fault(self, request: Request) -> int | None:
-        """The status with which a request is refused, or None."""
+        """The status that refuses a request, or None."""
         if request.headers.get("Host") != self.host:
             return 421
         if request.method not in ("GET", "POST"):
@@ -102,7 +102,7 @@ class Guard:
         return self.inside_fault(request) if self.is_inside(request) else None
 
     def post_fault(self, request: Request) -> int | None:
-        """The status with which a form is refused, or None."""
+        """The status that refuses a form, or None."""
         if request.headers.get("Origin") != self.origin:
             return 403
         is_form = request.mimetype == FORM or request.mimetype == FILE_FORM and self.takes_file(request)
@@ -117,7 +117,7 @@ class Guard:
         return request.path.startswith("/desk-")
 
     def inside_fault(self, request: Request) -> int | None:
-        """The status with which a request for a page of the desk is refused, or None."""
+        """The status that refuses a request for a page of the desk, or None."""
         if not same(request.cookies.get(COOKIE, ""), self.session) and not self.is_second(request):
             return 403
         if request.method == "POST" and not same(request.form.get("token", ""), self.token):
@@ -125,7 +125,7 @@ class Guard:
         return None
 
     def let_in(self, response: Response, person: int = 1) -> None:
-        """Gives the browser of a person the cookie."""
+        """Sets the cookie in the browser of a person."""
         session = self.second_session if person == 2 else self.session
         response.set_cookie(COOKIE, session, path=f"{self.inside}/", httponly=True, samesite="Strict")
 

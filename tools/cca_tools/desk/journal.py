@@ -1,9 +1,9 @@
-"""The journal beside the log: what was answered when, and everything that was done to the log, one object of JSON on
-each line. docs/FORMATS.md has its form.
+"""The journal of the log: each reply with its time, and everything that was done to the log, one JSON object on each
+line. docs/FORMATS.md has its form.
 
 Each entry has the text that it put after the first `from` bytes of the log, and the length and the checksum of the log
-after it. So the journal alone leads to the log as it was answered. A line that is no entry is what a kill or a power
-cut left of one that nobody has seen: it is ignored.
+after it. So the journal is enough to restore the log. A line that isn't an entry is ignored: a kill or a power cut left
+it, and nobody has seen the rest.
 
 Each entry has in `prev` the checksum of the line before it, so that the checksum of a line binds all lines before it,
 and each seal covers it. If torn lines are between two entries, the checksum is of the last entry's line with them.
@@ -25,7 +25,7 @@ from cca_tools.desk.disk import APPEND, Refused, append_once, opened, read_file,
 from cca_tools.rules.sums import Sums
 
 BLOCK = 65_536
-# What makes a torn line one that is no entry, also where the line feed alone is missing. Nothing of it is taken away.
+# Added to a torn line so that it isn't an entry, even if only its line feed was missing. Nothing of it is taken away.
 TORN = b" (torn)\n"
 NO_LINE = "0" * 64
 VERSION = 1
@@ -51,7 +51,7 @@ KINDS = frozenset(
 @dataclasses.dataclass(frozen=True)
 class Entry:
     """An entry: its time, what it is of, the epoch, and the log after it: `text` after the first `start` bytes of the
-    log before it, and the length and the sum of all of it. `more` has replies, reasons and names of kept files."""
+    log before it, and the length and the checksum of all of it. `more` has replies, reasons and names of kept files."""
 
     at: str
     what: str
@@ -117,7 +117,7 @@ def now() -> str:
 
 
 def seconds_back(before: str, after: str) -> float:
-    """By how many seconds a time is before the one that came first; 0 where it isn't."""
+    """How many seconds `after` is earlier than `before`; 0 if it isn't earlier."""
     try:
         first, second = map(datetime.datetime.fromisoformat, (before, after))
         return max(0.0, round((first - second).total_seconds(), 3))
@@ -150,7 +150,7 @@ def is_older(line: bytes) -> bool:
 
 
 class Journal:
-    """The journal at a path. Who notes something holds the lock of the log."""
+    """The journal at a path. Only a process that has locked the log may note something."""
 
     def __init__(self, path: Path) -> None:
         self.path = path
@@ -251,7 +251,7 @@ def chained(data: bytes, before: bytes | None = None, lines: int = 0) -> list[En
 
 
 def changed_words(number: int, what: str) -> str:
-    """What is said of a journal that somebody has changed."""
+    """The sentence about a journal that somebody has changed."""
     return f"The journal was changed by hand: its line {number}, {what}. Put its copy back."
 
 
@@ -270,12 +270,12 @@ class LogOfEntries:
         return away
 
     def first(self, entry: Entry) -> int:
-        """The number of the line with which the entry that was taken last begins."""
+        """The number of the first line of the entry that was taken last."""
         return self.lines - entry.text.count(b"\n") + 1
 
 
 def replayed(entries: Sequence[Entry]) -> bytes:
-    """The log as it was answered last. Raises `Damaged`."""
+    """The log after these entries. Raises `Damaged`."""
     log = Sums()
     for number, found in enumerate(entries, 1):
         log.cut(found.start)

@@ -1,7 +1,8 @@
-"""What is typed at the desk: a line in a form, lines as text, and the words that a close or a cut asks for.
+"""What is typed at the desk: a line in a form, lines as text, and the text that a close or a cut asks for.
 
 Lines become bytes as the log has them: ASCII, one record to a line, each with its line feed, without quotes, blank
-lines and carriage returns. So no record goes around a button, and each line that is sent is one record. No web is here.
+lines and carriage returns. So no record goes around a button, and each line that is sent is one record. The web pages
+are elsewhere.
 """
 
 from __future__ import annotations
@@ -18,7 +19,7 @@ from cca_tools.rules.types import Kind, Stage
 
 CLOSE = b"close,,,\n"
 KINDS: dict[Stage, tuple[Kind, ...]] = {"clock": ("bid",), "sealed": ("draft", "drop", "submit"), "closed": ()}
-# Signs by which people set off thousands, as the desk itself does; the same one in all places.
+# Signs that people, and the desk itself, put between thousands; all signs in a number are the same.
 THOUSANDS = re.compile(r"\d{1,3}([,' \u00a0\u2009\u202f])\d{3}(?:\1\d{3})*")
 PROPORTION = 10  # an amount of this many times another one may be a typing error
 COUNTS = re.compile(r"\d+(?: \d+)*")
@@ -26,7 +27,7 @@ FOREIGN = re.compile(r"[^\x20-\x7e\n]|\"")
 
 
 class NotLines(Exception):
-    """What was typed isn't text of lines: why, in a sentence for the page, and the field where it was typed."""
+    """What was typed isn't text of lines: why, in a sentence for the page, and the field that it was typed into."""
 
     def __init__(self, why: str, field: str = "") -> None:
         super().__init__(why)
@@ -140,5 +141,5 @@ def cut_words(record: int) -> str:
 
 
 def agrees(typed: str, words: str) -> bool:
-    """Whether what was typed are these words; capitals and spaces around them don't matter."""
+    """Whether `typed` is this text; capitals and extra spaces don't matter."""
     return " ".join(typed.split()).lower() == words

@@ -53,7 +53,7 @@ def draft_table(auction: Auction, j: BidderNumber, speech: Speech) -> Table:
 
 
 def total_words(auction: Auction, j: BidderNumber, speech: Speech) -> str:
-    """How many packages a submitted list has, and the sum of their amounts, by which a bidder compares it."""
+    """How many packages a submitted list has, and the sum of their amounts, for the bidder to compare."""
     submitted = auction.submitted(j)
     total = speech.amount(sum(amount for _, amount in submitted))
     return f"{len(submitted)} submitted, together {total}"

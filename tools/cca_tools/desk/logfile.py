@@ -1,8 +1,8 @@
-"""The log on the disk, and the journal of what was answered beside it. No rules of auctions are here, and no web.
+"""The log on the disk, and its journal. The rules of auctions and the web pages are elsewhere.
 
 A line is written onto the bytes that its writer has seen (`Base`), once, under the lock, and synced; the journal has it
-before anybody sees its reply. Nothing is lost: what is taken from the log is kept in a file beside it, which the
-journal names.
+before anybody sees its reply. Nothing is lost: what is taken from the log is kept in a file in the same folder, and the
+journal names that file.
 """
 
 from __future__ import annotations
@@ -100,7 +100,7 @@ def new_epoch() -> str:
 
 
 def beside(path: Path, kind: str) -> Path:
-    """The name of a file beside a log."""
+    """The path of a file in the log's folder: the log's name with `.kind` after it."""
     return path.with_name(f"{path.name}.{kind}")
 
 
@@ -141,12 +141,12 @@ class LogFile:
         about: Mapping[str, str] | None = None,
         takes: Callable[[bytes], bool] = lambda data: True,
     ) -> None:
-        """Makes the files that aren't there, and notes lines that no desk had answered.
+        """Makes the files that don't exist, and notes the lines of the log that no desk has replied to.
 
         `pins` are the checksums of award and program by name, and `about` is what else the journal's first entry says
-        about them. `takes` says whether each record of a log states a line: what is no line is never noted, so that it
-        can be taken out. Raises `Refused` where locks don't work, a file is a link, the key is lost, or the journal
-        began with other pins; `Unsure` where a new file can't be synced.
+        about them. `takes` says whether each record of a log states a line. Anything else is never noted, so that it
+        can be taken out. Raises `Refused` if locks don't work, a file is a link, the key is lost, or the journal began
+        with other pins; `Unsure` if a new file can't be synced.
         """
         self.path, self.copies, self.key = path, copies, b""
         self._key_path, self._journal = beside(path, "key"), Journal(beside(path, "desk"))
@@ -163,7 +163,7 @@ class LogFile:
         return disk.is_shared(self._presence)
 
     def read(self) -> bytes:
-        """The log as it is. Raises `Refused` where it can't be read."""
+        """The log as it is. Raises `Refused` if it can't be read."""
         return read_file(self.path)
 
     def base(self, data: bytes) -> Base:
@@ -192,7 +192,7 @@ class LogFile:
         return FIRST_PORT + int(self._journal.entries()[0].epoch, 16) % PORTS
 
     def answered(self) -> bytes:
-        """The log as it was answered last, by the journal. Raises `Missing` or `Refused`."""
+        """The log after the newest entry of the journal. Raises `Missing` or `Refused`."""
         return replayed(self._journal.entries())
 
     def posted(self) -> bytes:
@@ -289,7 +289,7 @@ class LogFile:
                 raise Refused(f"{self.copies} has copies of another auction, and they are never overwritten.")
 
     def _start(self, why: str | None = None) -> None:
-        """Makes what isn't there, tests what is, and notes what no desk had answered."""
+        """Makes the files that don't exist, tests the others, and notes the lines that no desk has replied to."""
         is_new = disk.new_file(self.path, b"") if not self._has_journal() else self._restored()
         with self._held() as handle:
             disk.need_locks(self.path, handle)
@@ -311,7 +311,7 @@ class LogFile:
             return False
 
     def _restored(self) -> bool:
-        """Writes the log as it was answered if it isn't there; whether it wasn't."""
+        """Writes the log from the journal if the log doesn't exist. Returns whether it wrote it."""
         try:
             self.read()
             return False
@@ -347,7 +347,7 @@ class LogFile:
         self._journal.note(first)
 
     def _need_pins(self, first: Entry) -> None:
-        """Tests that award and program are those of the first start."""
+        """Tests that the award and the program are the same as at the first start."""
         pins = first.more.get("pins")
         known = pins if isinstance(pins, dict) else {}
         for name in sorted({*known, *self._pins}):
@@ -358,9 +358,10 @@ class LogFile:
                 )
 
     def _take_key(self, known: str) -> None:
-        """Takes the key from its file. It is made where no journal has its sum, and written again by who has it.
+        """Takes the key from its file. Makes the file if no journal has its checksum. Writes it again if this desk has
+        the key already.
 
-        Raises `Refused` where it is lost.
+        Raises `Refused` if it is lost.
         """
         name = self._key_path.name
         try:
@@ -387,7 +388,7 @@ class LogFile:
 
     @contextlib.contextmanager
     def _held(self) -> Iterator[int]:
-        """The log under its lock. Where something is unsure, nothing more is written until a start."""
+        """The log under its lock. After an `Unsure`, nothing more is written until the next start."""
         try:
             with disk.locked(self.path) as handle:
                 yield handle
@@ -403,16 +404,16 @@ class LogFile:
         return data, self._last()
 
     def _note_again(self, what: str, **more: object) -> None:
-        """Notes something that left the log as it was answered."""
+        """Notes an event that didn't change the log."""
         last = self._last()
         self._journal.note(replace(last, at=now(), what=what, start=last.length, text=b"", more=more))
 
     def _note_found(self, data: bytes, last: Entry) -> Entry:
-        """Notes the lines of this log, a prefix of the one on the disk, that no desk had answered. Gives the newest
-        entry then."""
+        """Notes the lines of this log, a prefix of the one on the disk, that no desk has replied to. Returns the newest
+        entry after that."""
         if fault_of(data, last):
             return last
-        if last.what == "cut":  # (whoever cut was killed, or couldn't sync it)
+        if last.what == "cut":  # (the process that cut was killed, or couldn't sync it)
             disk.write_again(self.path, last.length)
             self._note_again("cut ended")
         if len(data) <= last.length or not self._takes(data):
@@ -424,7 +425,7 @@ class LogFile:
         return found
 
     def note_found(self) -> int:
-        """How many lines in the log no desk had answered since this was asked last; they are noted."""
+        """Notes the lines that no desk has replied to. Returns how many were noted since the last call."""
         with self._held() as handle:
             if not self._unsure:
                 self._note_found(read_open(handle, self.path.name), self._last())
@@ -434,8 +435,8 @@ class LogFile:
     def append(self, base: Base, text: bytes, check: Check, people: Mapping[str, str] | None = None) -> Written:
         """Writes lines, each with its line feed, onto the log that the base names, once, and notes their replies.
 
-        `check` is called under the lock with the log as it would be, before anything is written; it gives the replies
-        for the journal, and may raise. Raises `Refused`, `Grown` or `Busy` where nothing was written, and `Unsure`.
+        `check` is called under the lock with the log as it would be, before anything is written. It returns the replies
+        for the journal, and may raise. Raises `Refused`, `Grown` or `Busy` if nothing was written, and `Unsure`.
         """
         if not text.endswith(b"\n"):
             raise Refused("A line without its line feed can't be written.")
@@ -450,7 +451,7 @@ class LogFile:
                 last = self._note_found(wanted[: base.length], last)
                 replies = check(wanted)
                 if was_there:
-                    # (its writer was killed before it was answered, and maybe before it was synced)
+                    # (its writer was killed before it had the reply, and maybe before the line was synced)
                     disk.write_again(self.path, last.length)
                 else:
                     self._write(handle, wanted, text)
@@ -540,12 +541,12 @@ class LogFile:
             except Refused as fault:
                 raise Unsure(f"A line is noted in the journal and not posted yet. {fault}") from None
 
-    # Cuts and mends
+    # Cuts and repairs
 
     def cut(
         self, base: Base, length: int, why: str, stay: bool = False, people: Mapping[str, str] | None = None
     ) -> Path:
-        """Cuts the log to its first `length` bytes, for a round that is held again; `stay` is whether only a close is
+        """Cuts the log to its first `length` bytes, so that a round can be run again. `stay` is whether only a close is
         taken back. Returns the file that keeps the longer log."""
         with self._held() as handle:
             data, last = self._ready(handle)
@@ -574,10 +575,11 @@ class LogFile:
             raise Unsure(f"The log was cut, but another file has taken the place of {self.path.name}.")
 
     def mend(self, mend: Mend, why: str, people: Mapping[str, str] | None = None) -> None:
-        """Does what a stop's mend names, under the lock, with a copy of what is taken away and an entry of the journal.
+        """Does the repair that a stop names, under the lock. Keeps a copy of what it takes away, and notes it in the
+        journal.
 
-        Raises `Refused` where the log doesn't have this fault any more, and `Unsure`. `end line` doesn't test that the
-        line then states something: answer the log with its line feed first.
+        Raises `Refused` if the log doesn't have this fault any more, and `Unsure`. `end line` doesn't test that the
+        line then states something: replay the log with the line feed first.
         """
         stop = self.stop()
         if stop is None or mend == "none" or not stop.allows(mend):
@@ -593,7 +595,7 @@ class LogFile:
             self._mended(handle, data, mend, why, dict(people or {}))
 
     def _mended(self, handle: int, data: bytes, mend: Mend, why: str, people: Mapping[str, object]) -> None:
-        """Mends a log that has the fault for this."""
+        """Repairs a log that has the fault that this repair is for."""
         match mend:
             case "take back":
                 self._take_back(handle, data, why)
@@ -609,11 +611,11 @@ class LogFile:
                 self._keep_changed(data, why, people)
 
     def answered_length(self) -> int:
-        """The bytes of the log that were answered, or noted as found."""
+        """The length in bytes of the log after the newest entry: lines with replies, or noted as found."""
         return self._last().length
 
     def take_out(self, why: str) -> None:
-        """Takes out what is after the answered lines and is no line, and keeps it. Raises `Refused` and `Unsure`."""
+        """Takes out what is after the noted lines and isn't a line, and keeps a copy. Raises `Refused` and `Unsure`."""
         with self._held() as handle:
             data, last = read_open(handle, self.path.name), self._last()
             if fault_of(data, last) not in (None, "torn") or len(data) <= last.length:
@@ -634,15 +636,15 @@ class LogFile:
         self._shorten(handle, len(lines))
 
     def _end_line(self, handle: int, data: bytes, why: str) -> None:
-        """Gives the last line its line feed."""
+        """Adds the line feed to the last line."""
         last = self._last()
         disk.write_again(self.path, min(last.length, len(data)))
         self._write(handle, data + b"\n", b"\n")
         self._note_line(entry("ended", last.epoch, data + b"\n", last.length, why=why))
 
     def _put_back(self, handle: int, data: bytes, why: str) -> None:
-        """Makes the log again what was answered, and keeps the changed one. A kill in between leaves a changed log,
-        which can be put back again."""
+        """Restores the log from the journal, and keeps the changed one. A kill in between leaves a changed log, which
+        can be put back again."""
         answered = self.answered()
         self._note_again("put back", why=why, **kept_more(disk.kept(self.path, "changed", data)))
         start = common_length(answered, data)
@@ -651,7 +653,8 @@ class LogFile:
             self._write(handle, answered, answered[start:])
 
     def _keep_changed(self, data: bytes, why: str, people: Mapping[str, object]) -> None:
-        """Goes on with a log that was changed by hand. It and the answered one are kept; no older page fits."""
+        """Continues with a log that was changed by hand. Keeps a copy of it and of the log by the journal. No older
+        page fits."""
         answered, lines = replayed(self._journal.entries()), whole_lines(data)
         copies = [disk.kept(self.path, kind, log) for kind, log in (("changed", data), ("answered", answered))]
         start = common_length(answered, lines)
@@ -661,8 +664,8 @@ class LogFile:
         self._journal.note(entry("changed", new_epoch(), lines, start, why=why, **more))
 
     def copy_out(self) -> None:
-        """Copies log, journal and key to the folder for copies, synced. Raises `Refused` where that can't be done, and
-        then the older copies are whole."""
+        """Copies log, journal and key to the folder for copies, synced. Raises `Refused` if that can't be done; the
+        older copies are whole then."""
         if self.copies is None:
             return
         with self._held() as handle:

@@ -16,7 +16,7 @@ from cca_tools.rules.telling import tell_log
 
 @dataclass(frozen=True)
 class Fault:
-    """A line of a paste that is no line of the log: its number there, what it says, and why."""
+    """A line of a paste that isn't a line of the log: its number in the paste, what it says, and why."""
 
     row: int
     text: str
@@ -50,7 +50,7 @@ def rows_of(raw: str) -> list[str]:
 
 
 def why_not(text: str, award: Award, is_alone: bool) -> str:
-    """Why a pasted line is no line of the log, or nothing."""
+    """Why a pasted line isn't a line of the log; empty if it is one."""
     if not text.strip():
         return "is blank. A log has a record on each line."
     try:
@@ -67,7 +67,7 @@ def why_not(text: str, award: Award, is_alone: bool) -> str:
 
 
 def paste_of(raw: str, award: Award) -> Paste:
-    """Tests each line of a text by itself. Raises `NotLines` if there is none."""
+    """Tests each line of a text separately. Raises `NotLines` if nothing is typed."""
     rows = rows_of(raw)
     if not any(it.strip() for it in rows):
         raise NotLines("No line is typed.", "raw")

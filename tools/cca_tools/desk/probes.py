@@ -1,7 +1,8 @@
-"""Lines that show what both programs think of each bidder: its points, its room in spectrum caps, the caps of its list.
+"""Lines that show the state of each bidder in both programs: its points, its room in spectrum caps, the caps of its
+list.
 
-They are answered on a copy of the auction and never written. A line just within a bound and one just beyond it compare
-the bound.
+They get replies on a copy of the auction and are never written. A line just within a bound and one just beyond it
+compare the bound.
 """
 
 from __future__ import annotations
@@ -58,14 +59,14 @@ class Probes:
         return list(dict.fromkeys(found))
 
     def lines(self, auction: Auction, j: BidderNumber) -> list[Line]:
-        """The probing lines of bidder j where the auction is, none of one that is closed."""
+        """The probing lines of bidder j at the auction's stage; none if it is closed."""
         if auction.stage == "clock":
             return [self.line("bid", j, it) for it in self.packages(j, auction.running_round.eligibility[j - 1])]
         return list(self.list_lines(auction, j)) if auction.stage == "sealed" else []
 
     def list_lines(self, auction: Auction, j: BidderNumber) -> Iterator[Line]:
-        """Those while lists are taken: the list as it is, then with each entry raised to the top, then each package of
-        the list and of the clock alone at the top; a refusal has the cap."""
+        """The probing lines while lists are taken: the list as it is, then with each entry raised to the top, then only
+        one package of the list or the clock, at the top. A refusal shows the cap."""
         for package in self.packages(j, self.award.eligibility(j)):
             yield from self.alone(auction, j, package)
         yield self.line("submit", j)

@@ -84,7 +84,7 @@ def posted_text(entries: Sequence[Entry], key_sum: str, award_sum: str) -> bytes
 
 
 def public_of_rows(rows: Sequence[Row]) -> Public:
-    """What follows from posted lines alone."""
+    """What follows from posted lines."""
     public = Public()
     for row in rows:
         public.add(row, Event(row.kind, row.close, 0, row.why))
@@ -366,8 +366,9 @@ class ByHand:
         return hmac.compare_digest(self.sealer.seal(row.unsealed(), log, NO_JOURNAL, before), row.seal)
 
     def due(self, why: str, is_publish: bool = False) -> list[Event]:
-        """The events that have to be posted now: closes that weren't, and before them that closes are void which the
-        log doesn't have any more; and that the set is made, if this is asked for and the auction is over."""
+        """The events that have to be posted now: the closes that weren't posted. Before them comes an event that voids
+        the closes that the log doesn't have any more. After them comes `publish`, if `is_publish` and the auction is
+        over."""
         closes, is_over = self.logs[0].closes, self.logs[0].is_over
         ends = [end for _, end in self.public.counting]
         same = next((at for at, end in enumerate(ends) if [end] != list(closes[at : at + 1])), len(ends))

@@ -51,8 +51,8 @@ class Replays:
         self.award, self.marks = award, [Mark(0, 0, 0, (), Auction(award))]
 
     def replayed(self, log: bytearray, start: int) -> Replayed:
-        """What a log leads to of which the next one has the first `start` bytes. It has the replies to all lines that
-        the last log didn't have, and may lack others. Raises `Stop` if it isn't a log.
+        """What a log leads to; the next log begins with the first `start` bytes of this one. The result has the replies
+        to all lines that the last log didn't have, and may lack others. Raises `Stop` if it isn't a log.
         """
         try:
             parts = [self.part(log, end) for end in [*self.places(log, start), len(log)]]

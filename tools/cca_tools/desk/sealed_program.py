@@ -40,7 +40,7 @@ class Memory:
 
     @property
     def path(self) -> str:
-        """The name by which this process, and one that it starts with the handle, opens the file."""
+        """A name for opening the file in this process and in one that it starts with the handle."""
         return f"/proc/self/fd/{self.handle}"
 
     def read(self) -> bytes:
@@ -79,7 +79,7 @@ class Program:
             return Ended(lines, status, book.read())
 
     def winners(self, book: bytes) -> int | None:
-        """How many bidders win by a book, as `cca win` finds them; None if a limit stops it. Raises `NoProgram`."""
+        """How many winners `cca win` finds for a book; None if a limit stops it. Raises `NoProgram`."""
         with Memory("book", book) as file:
             status, lines = self._run("win", file)
             return sum(line.startswith("winner ") for line in lines) if status == DONE else None

@@ -70,7 +70,7 @@ def options(values: Mapping[str, str], chosen: str) -> list[Option]:
 
 
 def found_lines(desk: Desk, moment: Moment, wanted: Wanted) -> Found:
-    """The lines that are asked for, with the times at which they came in."""
+    """The lines that are asked for, with the times when they came in."""
     auction, parts = moment.auction, list(parts_of(moment))
     rows = list(zip(auction.lines, auction.replies, parts))
     hits = [(line, reply) for line, reply, part in rows if wanted.has(part, line, reply)]

@@ -1,7 +1,7 @@
 """Lists of a bidder as CSV, as a file or pasted: the text of a file, the bids of its rows, and all faults at once, each
 by its line of the list.
 
-A file is read in memory. Its name and the type that a browser gives it are never looked at.
+A file is read in memory. Its name and the type that a browser states for it are ignored.
 """
 
 from __future__ import annotations
@@ -96,7 +96,7 @@ class Sheet:
         return "".join([*found, *([f"submit,{bidder},,\n"] if submits else [])])
 
     def rest(self, bidder: str, written: Collection[str]) -> str:
-        """The rows that aren't among the written lines, with what is before the rows; nothing if none is left."""
+        """The rows that aren't among the written lines, with what is before the rows; empty if no row is left."""
         left = {it.number: it.text for record, it in self.records(bidder).items() if record not in written}
         left |= {it.row: it.text for it in self.faults}
         return "".join(f"{it}\n" for it in [*self.head, *(left[row] for row in sorted(left))]) if left else ""
@@ -209,7 +209,7 @@ def head_of(texts: Sequence[str], award: Award, names: LongNames) -> Head:
 
 def sheet_of(text: str, award: Award, names: LongNames) -> Sheet:
     """Reads a list as a spreadsheet writes it: separated by tabs, semicolons or commas, with or without a head, and
-    with thousands set off or not. Raises `NotLines` for a wrong head, and if there is no row."""
+    with thousands set off or not. Raises `NotLines` for a wrong head, and for a list without rows."""
     texts = LINE_END.split(text.removeprefix("\ufeff"))
     head, rows, faults = head_of(texts, award, names), list[Row](), list[Fault]()
     for number, line in enumerate(texts[head.length :], head.length + 1):
@@ -233,8 +233,8 @@ def another_row(rows: Sequence[Row], row: Row) -> Row:
 
 @dataclass(frozen=True)
 class Handed:
-    """A list that a bidder has handed in: whether it is the whole one, and whether the bidder submits it. A list of
-    which some rows have faults is neither: its other rows become drafts alone."""
+    """A list that a bidder has handed in: whether it is the whole one, and whether the bidder submits it. A list with
+    faults in some rows is neither: its other rows only become drafts."""
 
     bidder: str
     sheet: Sheet
@@ -247,7 +247,7 @@ class Handed:
         return self.sheet.lines(self.bidder, drafts, self.is_whole and has_all, self.submits and has_all)
 
     def place(self, record: str) -> str:
-        """Where a line of the log is in the list."""
+        """The place of a log's line in the list."""
         row = self.sheet.records(self.bidder).get(record)
         return f"Line {row.number}, `{clipped(row.text)}`," if row else f"`{record}`"
 

@@ -1,4 +1,4 @@
-"""What a line does, in sentences with names, currency and unit; and which amounts are out of proportion.
+"""What a line does, in sentences with names, currency and unit, and which amounts are out of proportion.
 
 Nothing is written here, and no markup is made. Amounts are gross.
 """

@@ -62,7 +62,7 @@ LIST_BASIS = (
 
 @dataclass(frozen=True)
 class LineView:
-    """A line and its reply; `number` is empty if it has none here, `time` where the journal doesn't have it."""
+    """A line and its reply; `number` is empty if it has none here, `time` if the journal doesn't have it."""
 
     number: str
     record: str
@@ -86,7 +86,7 @@ class Option:
 
 @dataclass(frozen=True)
 class FormFault:
-    """What is wrong in a form: in which field, the sentences, and how many lines of a paste have no fault."""
+    """What is wrong in a form: the field, the sentences, and how many lines of a paste have no fault."""
 
     field: str = ""
     sentences: Sequence[str] = ()
@@ -157,7 +157,7 @@ class Priced:
 
 @dataclass(frozen=True)
 class ClosePage:
-    """The question of a close. `words` are what is typed, None if there is no button."""
+    """The question of a close. `words` is the text to type; None if the page has no button."""
 
     title: str
     lead: str
@@ -173,8 +173,8 @@ class ClosePage:
 
 @dataclass(frozen=True)
 class Preview:
-    """What lines would be answered. `warning` is empty if none is refused; `admitted` has the admitted lines and
-    `refused` the others where some are of both; the last four are what can be done."""
+    """The replies that lines would get. `warning` is empty if none is refused; `admitted` has the admitted lines and
+    `refused` the others, if there are some of each; the last four are what can be done."""
 
     title: str
     lines: Sequence[LineView]
@@ -250,7 +250,7 @@ class Choice:
 
 @dataclass(frozen=True)
 class Again:
-    """The choices of a round that is held again."""
+    """The choices of a round that is run again."""
 
     choices: Sequence[Choice]
 
@@ -282,7 +282,7 @@ def head_of(auction: Auction) -> str:
 
 
 def named(names: LongNames, short: str) -> str:
-    """The long name of a bidder where it has one that differs, to be shown below the short one."""
+    """The long name of a bidder if it has one that differs, to be shown below the short one."""
     long = names.bidder(short)
     return "" if long == short else long
 
@@ -449,7 +449,8 @@ BY_WHOM = "Another hand wrote there, or the desk was ended before it could answe
 
 
 def found_words(moment: Moment, entries: Entries) -> str:
-    """Which lines came into the log and no desk had answered them, where nothing was written after them."""
+    """A sentence about the lines at the log's end that came into it without a reply by a desk; empty if there are
+    none."""
     if not entries or entries[-1][1] != "found":
         return ""
     ends = line_ends(moment.data)
@@ -508,7 +509,7 @@ def last_given(desk: Desk) -> Given | None:
 
 
 def news(desk: Desk, auction: Auction) -> str:
-    """What everybody has to know for as long as the last line is about a round that is held again, or a changed log."""
+    """What everybody has to know for as long as the last line is about a round that is run again, or a changed log."""
     public = desk.given()
     row = next((it for it in reversed(public.rows) if it.kind in VOIDING), None)
     # (closes of a changed log are posted at once, and the news stays)
@@ -629,8 +630,8 @@ def close_page(desk: Desk, moment: Moment, effect: CloseEffect, waiting: Sequenc
 
 
 def priced_words(desk: Desk, moment: Moment) -> Priced:
-    """By which command the winners of the book as it is can be priced, and what may still be done if by none; who wins
-    isn't said."""
+    """Which command can price the winners of the book as it is, and what can still be done if none can. The text
+    doesn't name the winners."""
     most = MOST["winners"]
     if most_winners(desk.award) <= most:
         return Priced("", "")
@@ -653,7 +654,7 @@ def priced_words(desk: Desk, moment: Moment) -> Priced:
 
 
 def preview_page(desk: Desk, moment: Moment, answered: Answered, handed: Handed | None = None) -> Preview:
-    """What lines would be answered. Of a list that was handed in, only drafts are written without the others."""
+    """The replies that lines would get. Of a list that was handed in, only drafts can be written without the others."""
     many, refused = len(answered.lines), answered.refused
     if many == 1:
         title = "It would be refused" if refused else "It would be admitted"
@@ -716,7 +717,7 @@ def list_after(desk: Desk, moment: Moment, answered: Answered) -> list[Table]:
 
 
 def refused_words(many: int) -> str:
-    """When lines of which some would be refused are written all the same."""
+    """When to write lines although some of them would be refused."""
     stays = "A refused line stays in the log forever. Write"
     if many == 1:
         return f"{stays} it only if the bidder sent just this; correct a slip of your own."
@@ -916,7 +917,7 @@ def again_page(moment: Moment) -> Again:
 
 
 def last_close(moment: Moment) -> Close | None:
-    """The last close where it can be taken back alone: nothing is after it, and before it is no other close."""
+    """The last close, if only it can be taken back: nothing is after it, and the line before it isn't a close."""
     closes = closes_of(moment.data, moment.auction)
     if not closes or closes[-1].record < len(moment.auction.lines):
         return None

@@ -1,7 +1,7 @@
-"""The pages of the desk by Flask. Nothing is decided here about lines: what is typed is in `lines`, what a page shows
-in `views`, what is written in `control`, and who may ask in `guard`.
+"""The pages of the desk by Flask. This module decides nothing about lines: what is typed is in `lines`, what a page
+shows in `views`, what is written in `control`, and who may ask in `guard`.
 
-Each form is answered by the address of a page (303), so that loading a page again, or going back, sends nothing twice.
+The reply to each form is the address of a page (303), so that loading a page again, or going back, sends nothing twice.
 """
 
 from __future__ import annotations
@@ -90,7 +90,7 @@ class Store:
         self.kept: dict[str, Kept] = {}
 
     def keep(self, kept: Kept) -> str:
-        """Keeps a form, and gives its number."""
+        """Keeps a form, and returns its number."""
         number = secrets.token_hex(8)
         self.kept[number] = kept
         for old in list(self.kept)[:-KEPT]:
@@ -108,14 +108,14 @@ class Pages:
     def __init__(self, desk: Desk, guard: Guard, ending: Ending, with_demand: bool) -> None:
         self.desk, self.guard, self.ending, self.with_demand = desk, guard, ending, with_demand
         self.store, self.people = Store(), People(bool(guard.second_key))
-        self.entered: list[str] = []  # the times at which browsers have entered
+        self.entered: list[str] = []  # the times when browsers have entered
         self.lock = threading.RLock()  # of everything but the room's screen
         self.room = ""  # the room's screen as it was shown last
         self.asked: Asked | None = None  # what waits for the second person
         self.decided = ""  # the page of what the second person has decided, for the first one, who waits
-        self.asked_keep: tuple[str, bytes] | None = None  # why to go on with which changed log, if that waits
+        self.asked_keep: tuple[str, bytes] | None = None  # the reason and the changed log, if that waits
         self.cuts: dict[str, views.CutDone] = {}
-        self.outcomes: dict[str, tuple[str, Outcome]] = {}  # of each step: the log's sum, and what it came to
+        self.outcomes: dict[str, tuple[str, Outcome]] = {}  # of each step: the log's checksum, and the outcome
         self.sheet = style_sheet()
 
     # What every answer has.
@@ -147,7 +147,7 @@ class Pages:
         return self.guard.is_second(request)
 
     def headed(self, response: Answer) -> Answer:
-        """Gives an answer the headers that each one has."""
+        """Adds the headers that each response has."""
         response.headers.update(HEADERS)
         return response
 
@@ -219,8 +219,8 @@ class Pages:
         return answer
 
     def posted(self) -> Answer:
-        """What everybody may know. While the desk can't answer it says nothing else than that; while the desk is at
-        work for its own pages, it is as it was shown last."""
+        """The page of what everybody may know. If the desk can't reply now, the page says only that. While the desk
+        works for its own pages, the page is the one that was shown last."""
         if not self.lock.acquire(blocking=False):
             return make_response(self.room) if self.room else make_response(render_template("wait.html"), 503)
         try:
@@ -265,7 +265,7 @@ class Pages:
         return replace(kept, fault=FormFault(where, reasons))
 
     def with_paste_faults(self, kept: Kept) -> Kept:
-        """A form that has kept lines of a paste, with why they are no lines, or why they would be refused."""
+        """A form that has kept lines of a paste, with why they aren't lines, or why they would be refused."""
         raw = kept.form.get("raw", "")
         try:
             paste = paste_of(raw, self.desk.award)
@@ -304,7 +304,7 @@ class Pages:
         return made.name if made else ""
 
     def outcomes_of(self, moment: Moment) -> dict[str, Outcome]:
-        """What the last steps have come to, as far as they are of this log."""
+        """The outcomes of the last steps that were made with this log."""
         return {step: outcome for step, (total, outcome) in self.outcomes.items() if total == moment.base.sum}
 
     def preview(self) -> Answer:
@@ -413,7 +413,7 @@ class Pages:
         return self.to(f"preview/{self.store.keep(Kept({'raw': text.decode()}, text))}")
 
     def previewed(self, number: str) -> Answer:
-        """What lines would be answered now."""
+        """The page with the replies that lines would get now."""
         kept = self.store.find(number)
         if not kept.text:
             return self.stage(kept)
@@ -619,7 +619,7 @@ class Pages:
         kinds = {".html": "text/html; charset=utf-8", ".txt": "text/plain; charset=utf-8"}
         return self.attached(path.read_bytes(), path.name, kinds.get(path.suffix, "application/octet-stream"))
 
-    # A round held again.
+    # A round that is run again.
 
     def again(self, number: str = "") -> Answer:
         """The closes after which the log can be cut."""
@@ -693,7 +693,7 @@ class Pages:
             return []
 
     def mends_of(self, stop: Stop) -> list[Mend]:
-        """The mends that fit a stop. A torn line that is whole except for its line feed can be ended too."""
+        """The repairs that fit a stop. A torn line that is whole except for its line feed can be ended too."""
         if stop.mend == "put back":
             return ["put back", KEEP]
         if stop.mend != "take back":
@@ -705,7 +705,7 @@ class Pages:
         return ["take back", "end line"]
 
     def mend(self) -> Answer:
-        """Mends the log as a button says."""
+        """Repairs the log as a button says."""
         stop, wanted = self.desk.log.stop() or self.desk.line_stop(), request.form.get("mend", "")
         why = " ".join(request.form.get("why", "").split())[:REASON]
         for mend in self.mends_of(stop) if stop else []:
@@ -714,7 +714,7 @@ class Pages:
         return self.to("")
 
     def mended(self, mend: Mend, why: str) -> Answer:
-        """Mends the log where a reason is given."""
+        """Repairs the log if a reason is given."""
         try:
             if not why:
                 raise Refused("Nothing was changed: give the reason, for the journal.")
@@ -755,7 +755,7 @@ class Pages:
         }
         run = steps.get(step) or abort(404)
         outcome = run()
-        # (a certificate of the pricer counts as the award, and the page offers what follows it)
+        # (a certificate of the pricer is used as the award's, and the page offers what follows it)
         self.outcomes["award" if step == "price" else step] = moment.base.sum, outcome
         return self.to("")
 
