@@ -1,5 +1,5 @@
-"""Bids from a table, from JSON or from a frame, as a book: names are made small, equal packages merged, packages sorted
-and decimals scaled. Each change is said."""
+"""Bids from a table, from JSON or from a frame, as a book: names are lower-cased, equal packages merged, packages
+sorted and decimals scaled. Each change is reported."""
 
 from __future__ import annotations
 
@@ -50,7 +50,7 @@ def plain_name(text: str) -> str:
 
 
 def need_one_spelling(bids: Sequence[RawBid]) -> None:
-    """Stops if two names differ in capitals and spaces alone: they would be two bidders, who can both win."""
+    """Stops if two names differ only in capitals and spaces: they would be two bidders, who can both win."""
     first: dict[str, RawBid] = {}
     for bid in bids:
         known = first.setdefault(" ".join(bid.bidder.casefold().split()), bid)
@@ -104,7 +104,7 @@ def scale_of(bids: Sequence[RawBid], sold: Sold, changes: list[str]) -> int:
 
 
 def merged(bids: Sequence[RawBid], sold: Sold, changes: list[str]) -> Iterator[RawBid]:
-    """The bids that a book can have: of those of one bidder for one package the greatest."""
+    """The bids that a book can have: the greatest of each bidder for each package."""
     best: dict[tuple[str, Package], RawBid] = {}
     for bid in bids:
         words, key = " ".join(map(str, bid.package)), (bid.bidder, bid.package)
@@ -128,7 +128,7 @@ def merged(bids: Sequence[RawBid], sold: Sold, changes: list[str]) -> Iterator[R
 
 
 def book_of(bids: Sequence[RawBid], sold: Sold, changes: list[str]) -> Made:
-    """The book of bids, within the limits; bidders are in the order in which they come first, which decides ties."""
+    """The book of bids, within the limits; bidders are in the order of their first bids, which decides ties."""
     names, scale = names_of(bids, changes), scale_of(bids, sold, changes)
     listed: dict[str, list[Bid]] = {name: [] for name in names.values()}
     for bid in merged(bids, sold, changes):
@@ -176,7 +176,7 @@ def book_of_records(records: Sequence[object], sold: Sold | None, mark: Mark | N
 
 def read_frame(frame: Any, sold: Sold) -> Made:
     """The book of a frame of pandas or polars with a column for the bidder, for each category or for the package, and
-    for the amount. Its numbers count as they are printed, and a missing cell is empty."""
+    for the amount. Its numbers have the value that is printed for them, and a missing cell is empty."""
     records = frame.to_dict("records") if hasattr(frame, "to_json") else frame.to_dicts()
     return book_of_records([{key: cell_of_frame(it) for key, it in record.items()} for record in records], sold)
 
@@ -192,8 +192,9 @@ def cell_of_frame(value: object) -> object:
 def make_book(
     supply: Sequence[int], bids: Mapping[str, Mapping[Package, object]], reserve: Sequence[object] = ()
 ) -> Made:
-    """The book of bids by their bidders and packages, as `{"north": {(1, 4): 48000.5}}`, by the rules of a file:
-    amounts are whole numbers, decimals or floats, which count as they are printed. A `Stop` names what isn't clear."""
+    """The book of bids by their bidders and packages, such as `{"north": {(1, 4): 48000.5}}`, by the rules of a file:
+    amounts are whole numbers, decimals or floats, and a float has the value that is printed for it. A `Stop` names what
+    isn't clear."""
     members: dict[str, object] = {"supply": [plain_number(count) for count in supply]}
     if reserve:
         members["reserve"] = [plain_number(price) for price in reserve]
@@ -240,7 +241,7 @@ def json_text(book: Book) -> str:
 
 
 def values_text(book: Book) -> str:
-    """A file of values in which each package is worth to its bidder what the book has as its bid."""
+    """A file of values: each package is worth to its bidder what the bidder bids for it in the book."""
     lines = ["values = 1"]
     for name, bids in zip(book.names, book.bids):
         lines += ["", "[[bidder]]", f'names = "{name}"', 'model = "packages"', "package = ["]

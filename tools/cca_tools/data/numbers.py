@@ -12,7 +12,8 @@ MARKS: tuple[Mark, Mark] = (".", ",")
 PLACES = 6
 # A currency before or after an amount.
 CURRENCY = re.compile(r"([€$£¥]|[A-Z]{3}\b)?(.*?)([€$£¥]|\b[A-Z]{3})?", re.S)
-# Digits, decimals and an exponent, as R writes 1e+05; and the same with marks between thousands, all of them alike.
+# Digits, decimals and an exponent, as R writes 1e+05. Then digits with marks between thousands, all of them alike, and
+# decimals.
 PLAIN = re.compile(r"[0-9]+(\.[0-9]+)?([eE][+-]?[0-9]{1,3})?")
 GROUPED = re.compile(r"[1-9][0-9]{0,2}([,'’_\s\u00a0\u202f])[0-9]{3}(\1[0-9]{3})*(\.[0-9]+)?")
 THOUSANDS = re.compile(r"[,'’_\s\u00a0\u202f]")

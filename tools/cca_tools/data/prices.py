@@ -44,7 +44,7 @@ class Price:
 
     @property
     def regret(self) -> Fraction:
-        """The price less the Vickrey price: the most that the winner gains if it alone bids otherwise (Day and Milgrom
+        """The price less the Vickrey price: the most that the winner gains if only it bids otherwise (Day and Milgrom
         2008)."""
         return difference(self.pays, self.vickrey)
 
@@ -108,7 +108,7 @@ def need_program() -> str:
 def stop_of(lines: Sequence[str], status: int, said: str) -> Stop:
     """The stop of a run of the program that isn't done."""
     last = lines[-1] if lines else f"cca: status {status}"
-    # (of a price there is no verdict `no`, and without a line of a stop the program didn't run to its end)
+    # (prices have no verdict `no`, and without a line of a stop the program didn't run to its end)
     is_stop = bool(lines) and last.startswith("cca: ") and status > NO
     return Stop(last, status if is_stop else CRASH, why=f"the program answers `{last}`{said and f': {said.strip()}'}")
 
@@ -118,8 +118,8 @@ def price(book: Book, *, weights: Mapping[str, int] | None = None, program: str 
     more bidders win than it prices, `pricing` finds the prices, and the program tests them.
 
     With weights (1 to 20, and 1 for a bidder that has none) a price is as much above the Vickrey price as they say. A
-    `Stop` says in words what is wrong with the book; or that there is no program, or that no prices are found, as if
-    they need more than ten rows (`cca: limit rows 11`)."""
+    `Stop` says in words what is wrong with the book, or that no program can be found, or that no prices are found, for
+    example since they need more than ten rows (`cca: limit rows 11`)."""
     if len(book.names) != len(book.bids):
         raise refused("book", why=f"it has {len(book.names)} names of bidders, and {len(book.bids)} lists of bids")
     read_book(book_text(book))
@@ -155,7 +155,7 @@ def weights_text(book: Book, weights: Mapping[str, int]) -> bytes:
 
 
 def lines_of(words: Sequence[str], book: Book, last: str = "revenue") -> list[str]:
-    """What the program prints for a book on standard input: lines of which the last begins with this word."""
+    """What the program prints for a book on standard input: lines, the last of which begins with this word."""
     try:
         run = subprocess.run(words, input=book_text(book), capture_output=True)
     except OSError as fault:
@@ -276,8 +276,8 @@ def cells_of(name: str, row: Price, unit: int, last: Sequence[str]) -> list[str]
 
 
 def cells_of_book(name: str, book: Book, unit: int = 1) -> Iterator[list[str]]:
-    """The cells of each bidder of a book. A book beyond a limit has the limit in its last ones, and packages, bids and
-    Vickrey prices alone."""
+    """The cells of each bidder of a book. A book beyond a limit has the limit in its last ones, and of the others only
+    packages, bids and Vickrey prices."""
     try:
         found, stopped = price(book), ""
     except Stop as stop:
@@ -305,7 +305,7 @@ def table_text(heads: Sequence[str], rows: Iterable[Sequence[str]], mark: Mark =
 
 def json_lines(rows: Iterable[Sequence[str]]) -> str:
     """Rows of cells as an object of JSON in each line: packages as lists, and amounts as numbers; one that no decimal
-    states exactly is a text, as `6+2/3`."""
+    states exactly is a text such as `6+2/3`."""
     return "\n".join(object_text(dict(zip(COLUMNS, row))) for row in rows)
 
 

@@ -28,7 +28,7 @@ Cell: TypeAlias = str | Decimal
 
 @dataclass(frozen=True)
 class Row:
-    """A row of a table: where it is, as `row 3`, and its cells."""
+    """A row of a table: its place, such as `row 3`, and its cells."""
 
     place: str
     cells: Sequence[Cell]
@@ -58,8 +58,8 @@ def table_of(data: bytes) -> list[Row]:
 
 
 def with_row_names(rows: list[Row]) -> list[Row]:
-    """The rows with an unnamed column above the names of rows, for which R's `write.table` writes no head: 1, 2 and so
-    on before a column of names that aren't numbers."""
+    """The rows with an empty head for the column of row names, since R's `write.table` writes none: 1, 2 and so on
+    before a column of names that aren't numbers."""
     head, *others = rows
     numbers = [str(number) for number, _ in enumerate(others, 1)]
     if not others or any(len(row.cells) != len(head.cells) + 1 for row in others):
@@ -88,8 +88,8 @@ class Columns:
 
 
 def is_head(cells: Sequence[Cell], mark: Mark) -> bool:
-    """Whether a row has names of columns: one is the name of a bidder's column, and another that of an amount's, or the
-    last is no amount."""
+    """Whether a row has names of columns: one names the column of bidders, and another names the column of amounts or
+    the last cell isn't an amount."""
     names = [cell.lower() for cell in cells if isinstance(cell, str)]
     has_amount = any(name in AMOUNT for name in names) or value_of(cells[-1], mark) is None
     return has_amount and any(name in BIDDER for name in names)
@@ -104,7 +104,7 @@ def column_of(heads: Sequence[str], names: Sequence[str], what: str) -> int | No
 
 
 def columns_of(row: Row, sold: Sold, changes: list[str]) -> Columns:
-    """The columns by their heads. Those of an award's categories have its names, and are taken in its order."""
+    """The columns by their heads. The columns of an award's categories have its names, and are taken in its order."""
     given = tuple(map(str, row.cells))
     heads = [cell.lower() for cell in given]
     bidder, amount = column_of(heads, BIDDER, "the bidder"), column_of(heads, AMOUNT, "the amount")
@@ -183,8 +183,8 @@ def value_of(cell: Cell, mark: Mark) -> Decimal | None:
 
 
 def mark_of(cells: Sequence[tuple[str, Cell]], columns: Columns, changes: list[str]) -> Mark:
-    """The decimal mark of a column of amounts, each with the place of its row: the one by which some amount can be read
-    alone. Stops if amounts have both, or if one would be another number by the other mark and nothing decides."""
+    """The decimal mark of a column of amounts, each with the place of its row: the one that is the only way to read
+    some amount. Stops if amounts have both, or if one would be another number by the other mark and nothing decides."""
     deciding: dict[Mark, str] = {}
     doubtful = ""
     for place, cell in cells:
@@ -261,7 +261,7 @@ def bid_of(row: Row, columns: Columns, size: int, mark: Mark) -> RawBid:
 
 
 def bids_of_rows(rows: list[Row], sold: Sold, mark: Mark | None, changes: list[str]) -> Iterator[RawBid]:
-    """The bids of rows, of which the first may be a head. `mark` is the decimal mark; with None the amounts decide."""
+    """The bids of rows; the first row may be a head. `mark` is the decimal mark; with None the amounts decide."""
     if not rows:
         fault("the table has no rows")
     has_head = is_head(rows[0].cells, mark or ".")

@@ -17,8 +17,8 @@ from cca_tools.rules.ties import ties_of
 from cca_tools.rules.types import Net, Package
 
 MOST_PAIRS = 2_000_000  # of a supply and a package within it
-NONE = -(2**60)  # a value below all others: there is no bid for the package
-MANY = 2  # so many choices are counted
+NONE = -(2**60)  # a value below all others, for a package without a bid
+MANY = 2  # the most choices that are counted
 
 
 class Pairs:

@@ -23,7 +23,7 @@ GridCertificate: TypeAlias = Certificate[Book, Choice, Lines]
 
 @dataclass(frozen=True)
 class Priced:
-    """A certificate, how its tables become numbers, and the turns in which its prices were found."""
+    """A certificate, how its tables become numbers, and the turns of the search for its prices."""
 
     certificate: GridCertificate
     filler: Filler

@@ -100,7 +100,7 @@ def rows_of_choice(market: Market, found: Found, used: int, choice: Choice) -> I
 
 
 def tight_rows(market: Market, found: Found, most: int) -> Tight:
-    """Rows that the point meets exactly: those of the search and those of the choices at the top."""
+    """Rows that the point meets exactly, from the search and from the choices at the top."""
     choices, are_all = choices_at_top(market, found, most)
     rows = {row.members: row for row in found.rows if row.members and missing(row, found.point.pays) == 0}
     for used, choice in choices.items():
@@ -115,7 +115,7 @@ def tight_rows(market: Market, found: Found, most: int) -> Tight:
 
 class Makers:
     """How the independent rows that show a point add up to others, with their multipliers in whole numbers: an exchange
-    tries many rows, and fractions would take most of its time."""
+    goes over many rows, and fractions would take most of its time."""
 
     def __init__(self, shown: Shown, size: int) -> None:
         self.shown, rows = shown, shown.rows
@@ -132,7 +132,7 @@ class Makers:
     def shares(self, new: Demand) -> list[int] | None:
         """How often each row is taken to make the new one, times `den`; None if they don't make it."""
         made = list(map(sum, zip(*(column for i, column in enumerate(self.columns) if new.members >> i & 1))))
-        is_whole = len(made) == len(self.holders)  # (so many independent rows make each other one)
+        is_whole = len(made) == len(self.holders)  # (this many independent rows make each other one)
         return made if is_whole or self.make(new, made) else None
 
     def make(self, new: Demand, made: Sequence[int]) -> bool:
@@ -148,7 +148,7 @@ class Makers:
 
     def moves(self, first: Sequence[int], made: Sequence[int]) -> list[tuple[Fraction, int]]:
         """The least and the most of the second multipliers that can be taken over so that no row without a first one
-        has a second one below 0, and a row that is left without both; none if there is no such row."""
+        has a second one below 0, and a row that is left without both; none if no row is like that."""
         rows = [k for k, (u, x) in enumerate(zip(first, made)) if u == 0 and x]
         ends = [first_left(self.second, made, [k for k in rows if made[k] * sign > 0]) for sign in (-1, 1)]
         moves = {Fraction(self.second[k] * self.den, self.second_den * made[k]): k for k in ends if k >= 0}
@@ -156,7 +156,7 @@ class Makers:
 
 
 def first_left(multipliers: Sequence[int], made: Sequence[int], rows: Sequence[int]) -> int:
-    """The row of which nothing is left first; -1 if there are no rows."""
+    """The row whose multiplier reaches 0 first; -1 without rows."""
     gone = -1
     for k in rows:
         if gone < 0 or multipliers[k] * abs(made[gone]) < multipliers[gone] * abs(made[k]):
@@ -199,8 +199,8 @@ class Exchange:
 
 
 def exchanges(makers: Makers, new: Demand, made: list[int]) -> Iterator[Exchange]:
-    """What a new row can take over: all of the first multipliers that it can, or none; and as much of the second ones
-    as makes a row idle that has no first one."""
+    """What a new row can take over: all of the first multipliers that it can, or none, together with as much of the
+    second ones as makes a row idle that has no first one."""
     most, gone = makers.most_part(made)
     for part in {most, Fraction(0)}:
         first = left_over(makers.first, made, gone if part else -1)
@@ -275,8 +275,8 @@ def wandered(shown: Shown, tight: Sequence[Demand], size: int, chance: random.Ra
 
 
 def fewest(market: Market, found: Found, most: int, seconds: float = 0) -> Fewest:
-    """The rows with which the point is shown: those of the search, or fewer if they are more than `most`. The search
-    for fewer goes on for so many seconds."""
+    """The rows that show the point: the rows of the search, or fewer if they are more than `most`. The search for fewer
+    takes at most this many seconds."""
     point, size = found.point, len(market.winners)
     shown = Shown([found.rows[r] for r in point.kept], point.first, point.second).without_idle()
     if len(shown.rows) <= most:

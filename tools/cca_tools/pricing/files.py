@@ -1,7 +1,7 @@
 """A new file that appears under its name only once it is whole, synced and judged.
 
-Until then it has no name (O_TMPFILE), so a killed run leaves nothing behind. A file system that has no such files gets
-a hidden file beside it, which a killed run leaves there. Neither ever replaces a file.
+Until then it has no name (O_TMPFILE), so a killed run leaves no file. On a file system without such files it is a
+hidden file in the same folder, which stays after a killed run. Neither ever replaces a file.
 """
 
 from __future__ import annotations
@@ -49,7 +49,7 @@ class NewFile:
 
     @property
     def path(self) -> str:
-        """A path by which this process, and each that inherits `handle`, can read the file."""
+        """A path for reading the file in this process and in each process that inherits `handle`."""
         return f"/proc/self/fd/{self.handle}"
 
     def write(self, lines: Iterable[str], most: int) -> None:
@@ -64,7 +64,7 @@ class NewFile:
         os.fsync(self.handle)
 
     def appear(self) -> None:
-        """Gives the file its name. An OSError if a file has it by now."""
+        """Links the file to its name. Raises OSError if a file with that name exists by now."""
         if self.hidden:
             os.link(self.hidden, self.name, src_dir_fd=self.folder, dst_dir_fd=self.folder, follow_symlinks=False)
         else:

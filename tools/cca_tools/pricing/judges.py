@@ -1,4 +1,4 @@
-"""What a checker says of a certificate: the program, or the file for the court if the program isn't there."""
+"""The verdict of a checker on a certificate: the program, or the file for the court if the program isn't there."""
 
 from __future__ import annotations
 
@@ -17,7 +17,7 @@ NO_JUDGE = "nothing can test the certificate: build the program with ./cca, or s
 
 @dataclass(frozen=True)
 class Judge:
-    """The name of a checker, and the words that run it, before the files."""
+    """The name of a checker, and the arguments that run it, before the files."""
 
     name: str
     words: list[str]
@@ -25,8 +25,8 @@ class Judge:
 
 @dataclass(frozen=True)
 class Asked:
-    """The files of which the prices are: BOOK, BOOK WEIGHTS, or AWARD LOG; and the program that is asked, by default
-    the one that `program` finds."""
+    """The files to price: BOOK, BOOK WEIGHTS, or AWARD LOG. `program` is the path of the program that is asked, by
+    default the one that `program` finds."""
 
     files: list[str]
     is_weighted: bool = False
@@ -51,7 +51,7 @@ def judge_of(asked: Asked) -> Judge:
 
 
 def words_of(judge: Judge, asked: Asked, cert: str) -> list[str]:
-    """The words that run a checker. The file for the court takes weights after the certificate."""
+    """The arguments that run a checker. The file for the court takes weights after the certificate."""
     if asked.is_weighted and judge.name.startswith("tools/"):
         return [*judge.words, asked.files[0], cert, asked.files[1]]
     return [*judge.words, *asked.files, cert]

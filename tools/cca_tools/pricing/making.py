@@ -29,8 +29,8 @@ def make_certificate(
 ) -> Made:
     """Finds the prices of the book of the files that are asked for, and writes their certificate into the new file
     `cert`, which appears once a checker says yes. A search for fewer rows goes on for `seconds`. A `Stop` if the file
-    can't be made (status 5), the certificate would exceed a limit (7), or no checker says yes (70); then there is no
-    file."""
+    can't be made (status 5), the certificate would exceed a limit (7), or no checker says yes (70). The file doesn't
+    exist after a `Stop`."""
     judge = judge_of(asked)
     with new_file(cert) as file:
         priced = certificate_of(book, weights, seconds)

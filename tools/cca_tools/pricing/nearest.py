@@ -85,7 +85,7 @@ class Nearest:
         return [[self.weight(self.rows[r].members & self.rows[s].members) for s in kept] for r in kept]
 
     def parts(self, kept: Sequence[int]) -> list[list[Fraction]] | None:
-        """Both multipliers with which rows are all met exactly; None if the rows depend on each other."""
+        """Both multipliers of the rows if all of them are met exactly; None if the rows depend on each other."""
         rows = [self.rows[r] for r in kept]
         return solved(self.gram(kept), [[self.weight(r.members) for r in rows], [self.gap(r) for r in rows]])
 
@@ -96,7 +96,7 @@ class Nearest:
         return found[0]
 
     def both(self, kept: Sequence[int]) -> tuple[list[Fraction], list[Fraction]]:
-        """Both multipliers of rows that don't depend on each other, as those of the active set never do."""
+        """Both multipliers of rows that don't depend on each other; rows of the active set never do."""
         parts = self.parts(kept)
         assert parts is not None
         return parts[0], parts[1]
@@ -148,8 +148,8 @@ class Nearest:
         self.held = {r: held[r] for r in self.kept}
 
     def make_room(self, new: int) -> Fraction:
-        """If the new row depends on those of the active set, it takes over from them until one is dropped. Returns how
-        much it has taken over."""
+        """If the new row depends on the rows of the active set, it takes over from them until one is dropped. Returns
+        how much it has taken over."""
         if self.parts([*self.kept, new]) is not None:
             return Fraction(0)
         share = dict(zip(self.kept, self.shares(self.kept, new)))

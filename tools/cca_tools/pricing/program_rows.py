@@ -1,9 +1,9 @@
-"""The rows with which `cca price` shows a point, where several sets of rows do.
+"""The rows that `cca price` uses to show a point if several sets of rows show it.
 
 If the rows that a point meets exactly depend on each other, their multipliers aren't unique. The program solves each
-turn anew (crates/nearest_point/src/guess.rt), while `Nearest` goes on from the turn before, so that they may end with
-other rows of one point. This takes the steps of the program: a set of rows gives the point that meets them exactly. The
-next set is without the rows whose multipliers are below 0, or with the row that is missed most.
+turn from the start (crates/nearest_point/src/guess.rt), while `Nearest` goes on from the turn before, so that they may
+end with other rows of one point. This takes the steps of the program: a set of rows leads to the point that meets them
+exactly. The next set is without the rows whose multipliers are below 0, or with the row that is missed most.
 """
 
 from __future__ import annotations

@@ -49,8 +49,8 @@ class Market:
 
 @dataclass(frozen=True)
 class Turn:
-    """The point of a turn, the coalition's row that was added, and how much its members paid too little; None
-    after the last turn, in which no coalition blocks."""
+    """The point of a turn, the coalition's row that was added, and how much its members paid too little; None after the
+    last turn, when no coalition blocks."""
 
     pays: list[NetPrice]
     demand: Demand | None = None
@@ -88,7 +88,7 @@ def market_of(book: Book) -> Market:
 
 
 def lowered_worths(market: Market, pays: Sequence[ScaledNet], den: int) -> ScaledWorths:
-    """The worths of all bids times `den`, those of winners less what they would lose at payments of `pays / den`."""
+    """The worths of all bids times `den`, the winners' bids less what they would lose at payments of `pays / den`."""
     nothing = ScaledNet(0)
     lost = {k: max(nothing, less(scaled(b, den), n)) for k, b, n in zip(market.winners, market.won, pays)}
     return [[less(scaled(net, den), lost.get(k, nothing)) for net in nets] for k, nets in enumerate(market.book.net)]
@@ -114,7 +114,7 @@ def rough_den(market: Market, den: int) -> int:
 
 def most_blocking(market: Market, pays: Sequence[NetPrice], den: int) -> tuple[Demand | None, ScaledWorths, Lines]:
     """The row of a coalition that blocks most by payments rounded down to the denominator `den`, or None if that
-    coalition doesn't block at `pays`; and the table that has found it."""
+    coalition doesn't block at `pays`. Also returns the worths and the table of that search."""
     worths = lowered_worths(market, [ScaledNet(math.floor(p * den)) for p in pays], den)
     lines = market.filler.table(worths)
     demand = demand_of(market, market.filler.picked(lines, worths), pays)
@@ -122,7 +122,7 @@ def most_blocking(market: Market, pays: Sequence[NetPrice], den: int) -> tuple[D
 
 
 def shown(nearest: Nearest, point: Point) -> Point:
-    """The last point, with the rows with which the program shows it if it prices so many winners."""
+    """The last point. If the program prices this many winners, its rows are the ones that `cca price` uses."""
     is_priced = len(point.pays) <= MOST["winners"]
     return (program_point(nearest) if is_priced else None) or point
 

@@ -1,8 +1,8 @@
 """Tables of a book (docs/CERTIFICATES.md, "The tests"): line k has, for each remaining supply, the greatest worth that
 the bidders after k can reach.
 
-`filler_of` returns a filler that uses numpy, or one that uses Python's integers alone if numpy isn't installed. Both
-give equal tables. Worths are net of reserve, and scaled for a lowered table; then its entries are scaled too.
+`filler_of` returns a filler that uses numpy, or one that uses only Python's integers if numpy isn't installed. Both
+give equal tables. Worths are net of reserve, and scaled for a lowered table, whose entries are then scaled too.
 """
 
 from __future__ import annotations
@@ -53,7 +53,7 @@ class Filler(ABC):
 
     @abstractmethod
     def last(self, worths: Worths) -> Line:
-        """The last line, of zeros, of a type in which no sum of these worths overflows."""
+        """The last line, of zeros, of a type that all sums of these worths fit into."""
 
     @abstractmethod
     def line(self, k: int, after: Line, worths: Sequence[Amount]) -> Line:
@@ -76,7 +76,8 @@ class Filler(ABC):
         return self.completed([self.last(worths)], worths)
 
     def table_without(self, k: int, table: Lines, worths: Worths) -> Lines:
-        """The table of these worths if bidder k + 1 has no bid. The lines after that bidder are those of `table`."""
+        """The table of these worths if bidder k + 1 has no bid. The lines after that bidder are the lines of
+        `table`."""
         after = table[k + 1 :]
         return self.completed([after[0], *after], worths)
 
@@ -96,8 +97,7 @@ class Filler(ABC):
         return [i for i in self.bids[k] if worths[i] > 0]
 
     def picked(self, lines: Lines, worths: Worths, without: int = -1) -> Choice:
-        """The first choice, in the order of ties, among those of the greatest worth. Bidder `without` + 1 has no
-        bid."""
+        """The first choice, in the order of ties, of the greatest worth. Bidder `without` + 1 has no bid."""
         left, choice = self.book.supply, list[int]()
         for k in range(self.book.bidders):
             number, left = (0, left) if k == without else self.step(k, lines, worths[k], left)

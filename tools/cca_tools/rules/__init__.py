@@ -1,1 +1,1 @@
-"""The rules: how files are read, how lines are answered, how certificates are tested."""
+"""The rules: how files are read, which reply a line gets, how certificates are tested."""

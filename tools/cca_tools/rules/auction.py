@@ -1,4 +1,4 @@
-"""The auction: each line of a log is answered by the rules, and the admitted ones lead to the book.
+"""The auction: each line of a log has a reply by the rules, and the admitted ones lead to the book.
 
 The stage, the rounds and the lists are kept from line to line, so that a line costs little however long the log is.
 """
@@ -28,7 +28,7 @@ ADMITTED = ("ok", "round", "sealed", "closed")
 
 
 class Facts(TypedDict, total=False):
-    """What was compared for a reply, from which its reason is made."""
+    """What was compared for a reply; its reason is made from it."""
 
     stage: Stage
     count: int
@@ -104,7 +104,7 @@ class Auction:
         self.desks = [Desk() for _ in award.bidders]
 
     def copied(self) -> Auction:
-        """An auction that goes on from here apart from this one; its cost is small beside that of taking all lines."""
+        """An independent auction that goes on from here. Copying costs little compared with taking all lines."""
         copy = Auction(self.award)
         copy.lines, copy.replies, copy.rounds = list(self.lines), list(self.replies), list(self.rounds)
         copy.stage, copy.final, copy.limit_stop = self.stage, self.final, self.limit_stop
@@ -261,7 +261,7 @@ class Auction:
         return self.desks[j - 1].highest_in_clock
 
     def clock_bids(self, j: BidderNumber) -> list[tuple[int, Package, Gross]]:
-        """What the bidder asked for in each closed round: the round, the package and what it came to."""
+        """What the bidder asked for in each closed round: the round, the package and its cost."""
         return [(r.number, r.packages[j - 1], cost(r, r.packages[j - 1])) for r in self.rounds]
 
     def bids(self, j: BidderNumber) -> list[Bid]:

@@ -1,6 +1,6 @@
 """The award: the rule of each field in order, then the limits.
 
-`read_award` gives the terms that the bytes of an award state, or stops by the first broken rule: the number of its
+`read_award` returns the terms that the bytes of an award state, or stops by the first broken rule: the number of its
 field and the number of its table in its list.
 """
 
@@ -62,7 +62,7 @@ class Category:
 
 @dataclasses.dataclass(frozen=True)
 class Bidder:
-    """A bidder: its points in round 1, and how many lots of each category it holds already."""
+    """A bidder: its points in round 1, and how many lots of each category it owns already."""
 
     name: str
     eligibility: int
@@ -79,7 +79,7 @@ class Step:
 
 @dataclasses.dataclass(frozen=True)
 class SpectrumCap:
-    """The greatest weighted sum of what a bidder asks for and holds."""
+    """The greatest weighted sum of what a bidder asks for and owns."""
 
     weights: tuple[int, ...]
     limit: int
@@ -136,7 +136,7 @@ class Award:
         return price + max(1, ticks) * self.tick
 
     def weighted(self, cap: SpectrumCap, bidder: BidderNumber, package: Package) -> int:
-        """The weighted lots of package and holding together."""
+        """The weighted lots of the package and of what the bidder owns, together."""
         return dot(cap.weights, package) + dot(cap.weights, self.bidders[bidder - 1].holding)
 
     def cap_fault(self, bidder: BidderNumber, package: Package) -> tuple[int, int] | None:
@@ -213,7 +213,7 @@ class Fields:
         return [Fields(table, FIELDS[number][0], entry) for entry, table in enumerate(tables, 1)]
 
     def no_more(self) -> None:
-        """Stops at the first key that is no field."""
+        """Stops at the first key that isn't a field."""
         self.need(not self.left, 18, self.left[0] if self.left else None)
 
 

@@ -1,4 +1,4 @@
-"""The line of an award, in an editor, where a field is."""
+"""The line of a field of an award, as an editor numbers it."""
 
 from __future__ import annotations
 
@@ -8,12 +8,12 @@ from cca_tools.rules.stops import FieldSpot
 
 
 def heading_rows(text: str, kind: str) -> list[int]:
-    """The lines at which the tables of a list begin, where they are written with headings."""
+    """The lines where the tables of a list begin, if they are written with headings."""
     return [row for row, line in enumerate(text.splitlines(), 1) if re.match(rf"\s*\[\[\s*{kind}\s*\]\]", line)]
 
 
 def award_row(text: str, spot: FieldSpot) -> int:
-    """The line of an award's field, or of the heading of its table, where it is found, or else 0."""
+    """The line of an award's field, or of its table's heading if the field isn't found; 0 if neither is."""
     rows = heading_rows(text, spot.heading) if spot.heading else []
     if len(rows) < spot.table:
         return 0

@@ -13,13 +13,13 @@ from cca_tools.rules.money import net_of, total
 from cca_tools.rules.stops import MOST, within
 from cca_tools.rules.types import Amount, Bid, BidderNumber, Choice, Gross, Net, Package, Prices
 
-# What a bid is for: a package, or the slot at which a bidder begins in a band.
+# What a bid is for: a package, or the first slot of a bidder in a band.
 What = TypeVar("What")
 
 
 class Menu(Generic[What]):
-    """What a book and a band's slots have alike: bidders with names and with bids, of which each choice names one or
-    none."""
+    """The common part of a book and a band's slots: bidders with names and with bids. Each choice names one bid of a
+    bidder, or none."""
 
     names: list[str]
     bids: list[list[tuple[What, Gross]]]  # of each bidder
@@ -35,21 +35,21 @@ class Menu(Generic[What]):
         return total(net[number - 1] for net, number in zip(self.net, choice) if number)
 
     def won_net(self, choice: Choice, j: BidderNumber) -> Net:
-        """The net amount with which bidder j wins in a known choice, 0 where it doesn't."""
+        """The net amount of bidder j's winning bid in a known choice, 0 if it doesn't win."""
         return self.net[j - 1][choice[j - 1] - 1] if choice[j - 1] else Net(0)
 
     def won(self, choice: Choice, j: BidderNumber) -> tuple[What, Gross] | None:
-        """The bid with which bidder j wins, or None."""
+        """The winning bid of bidder j, or None."""
         return self.bids[j - 1][choice[j - 1] - 1] if choice[j - 1] else None
 
     def winning(self, choice: Choice, j: BidderNumber) -> tuple[What, Gross]:
-        """The bid with which a winner wins."""
+        """The winning bid of a winner."""
         return self.bids[j - 1][choice[j - 1] - 1]
 
 
 @dataclass
 class Book(Menu[Package]):
-    """What is sold at which reserves, and the bids of each bidder in the order of packages."""
+    """The supply with its reserves, and the bids of each bidder in the order of packages."""
 
     supply: Package
     reserves: Prices
@@ -129,7 +129,7 @@ def read_bidder(text: Text, book: Book, fields: list[bytes]) -> None:
 
 
 def read_bid(text: Text, book: Book, fields: list[bytes]) -> None:
-    """Reads the line of a bid, of which these are the fields after `bid`, into the book."""
+    """Reads the line of a bid into the book; `fields` are its fields after `bid`."""
     size, bids = len(book.supply), book.bids[-1]
     form = f"`bid` is followed by {len(fields)} fields, and has to be followed by {size} counts and an amount"
     text.need(len(fields) == size + 1, form)

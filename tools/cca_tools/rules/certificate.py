@@ -33,7 +33,7 @@ class Row(Generic[ChoiceT]):
 
 @dataclass(frozen=True)
 class Certificate(Generic[MenuT, ChoiceT, TableT]):
-    """A certificate of a book, or of the slots of a band, in which choices and tables have another form."""
+    """A certificate of a book, or of the slots of a band, with another form of choices and tables."""
 
     book: MenuT
     den: int  # the denominator of the payments
@@ -51,11 +51,11 @@ class Certificate(Generic[MenuT, ChoiceT, TableT]):
         return winners_of(self.choice)
 
     def won(self, j: BidderNumber) -> Net:
-        """b_j: the net amount with which a bidder wins, 0 for a loser."""
+        """b_j: the net amount of a bidder's winning bid, 0 for a loser."""
         return self.book.won_net(self.choice, j)
 
     def vickrey(self, j: BidderNumber) -> Net:
-        """v_j: what would win without the winner, less what the others win with beside it."""
+        """v_j: what would win without the winner, less the net amounts of the other winners."""
         return less(self.book.value(self.without[j][0]), less(self.value, self.won(j)))
 
     def pays(self, j: BidderNumber) -> NetPrice:
@@ -72,7 +72,7 @@ BookRow = Row[Choice]
 
 
 def winners_of(choice: Choice) -> list[BidderNumber]:
-    """The bidders that a choice gives a bid."""
+    """The bidders with a bid in a choice."""
     return [j for j, number in enumerate(choice, 1) if number]
 
 
@@ -89,7 +89,7 @@ class Reader(ABC, Generic[MenuT, ChoiceT, TableT]):
 
     @abstractmethod
     def first_lines(self) -> list[str]:
-        """The lines with which a certificate begins."""
+        """The first lines of a certificate."""
 
     @abstractmethod
     def choice(self) -> ChoiceT:

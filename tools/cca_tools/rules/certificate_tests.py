@@ -1,4 +1,4 @@
-"""The nine tests of a certificate, as docs/CERTIFICATES.md has them. Each gives the places at which it fails, in order,
+"""The nine tests of a certificate, as docs/CERTIFICATES.md has them. Each returns the places where it fails, in order,
 with a sentence.
 
 A placement's tests are these too, except for what a choice and a table are; they are in placement_tests.py.
@@ -19,7 +19,7 @@ from cca_tools.rules.printing import fraction
 from cca_tools.rules.tables import Breach, first_breach
 from cca_tools.rules.types import Amount, BidderNumber, Choice, Net, ScaledNet, Table
 
-# A place at which a test fails, and why.
+# A place where a test fails, and why.
 Failure: TypeAlias = tuple[int, str]
 # For each bidder what each of its bids is worth: net, and scaled for a lowered table.
 Worths: TypeAlias = Sequence[Sequence[Amount]]
@@ -62,7 +62,7 @@ def first_fault(book: Book, certificate: BookCertificate, weights: Sequence[int]
 
 
 class Tests(ABC, Generic[MenuT, ChoiceT, TableT]):
-    """The tests of one certificate. `den`, `value`, `choice`, `pay` and `rows` are those of the certificate."""
+    """The tests of one certificate. `den`, `value`, `choice`, `pay` and `rows` are the certificate's."""
 
     letter: str
 
@@ -75,7 +75,7 @@ class Tests(ABC, Generic[MenuT, ChoiceT, TableT]):
         self.winners, self.won = certificate.winners, certificate.won
 
     def first_fault(self) -> Fault | None:
-        """The first fault, or None if all tests hold."""
+        """The first fault, or None if all tests pass."""
         tests = (
             self.numbers,
             self.head,
@@ -97,15 +97,15 @@ class Tests(ABC, Generic[MenuT, ChoiceT, TableT]):
     @property
     @abstractmethod
     def past(self) -> int:
-        """The place after those of the rules of a table."""
+        """The place after the places of a table's rules."""
 
     @abstractmethod
     def top(self, table: TableT) -> Amount:
-        """What a table says of the whole supply."""
+        """The value in a table for the whole supply."""
 
     @abstractmethod
     def breach(self, table: TableT, worths: Worths, known: Collection[int] = ()) -> Failure | None:
-        """The first place at which a table breaks its rules, with a sentence, or None. The known lines were tested
+        """The first place where a table breaks its rules, with a sentence, or None. The known lines were tested
         before."""
 
     @abstractmethod
@@ -278,7 +278,8 @@ class BookTests(Tests[Book, Choice, Table]):
         return (found.k * self.menu.states + found.place, breach_text(self.menu, found)) if found else None
 
     def lines_of_head(self, table: Table) -> Collection[int]:
-        """The lines that C3 has tested: they and the next ones are the head's, and there is no bid more."""
+        """The lines that C3 has tested: each of them and the next one are the same in the head's table, and this
+        table's bidders have no bid that the head's lack."""
         head = self.certificate.table
         return {k for k in range(len(table)) if table[k : k + 2] == head[k : k + 2]}
 

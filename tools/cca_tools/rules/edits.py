@@ -1,5 +1,4 @@
-"""The edits of a book, as `cca review` takes them: how they are read, how each is answered, and the book that one leads
-to."""
+"""The edits of a book in the form of `cca review`: how they are read, the reply to each, and the book after it."""
 
 from __future__ import annotations
 
@@ -18,8 +17,7 @@ FORMS = {b"add": True, b"raise": True, b"drop": False}
 
 @dataclasses.dataclass(frozen=True)
 class Edit:
-    """An edit: the line of the file where it is, its kind, the bidder's name, the package, and the amount (0 of a
-    drop)."""
+    """An edit: its line in the file, its kind, the bidder's name, the package, and the amount (0 of a drop)."""
 
     row: int
     kind: EditKind
@@ -119,7 +117,7 @@ def drop_refusal(book: Book, edit: Edit, bids: dict[Package, Gross]) -> Refusal 
 
 
 def absent(edit: Edit) -> Refusal:
-    """That there is no bid for the package."""
+    """The refusal if the bidder has no bid for the package."""
     return Refusal("absent", (), f"{edit.name} has no bid for this package; `add` makes one.")
 
 

@@ -29,7 +29,7 @@ class Text:
         self.kind, self.data, self.start, self.end, self.row = kind, data, 0, 0, 0
 
     def need(self, right: bool, why: str) -> None:
-        """Stops at this line where it isn't right."""
+        """Stops at this line if it isn't right."""
         if not right:
             raise self.fault(why)
 
@@ -46,7 +46,7 @@ class Text:
         ends = "the text ends before this line is whole: each line ends with a line feed, the last one, `end`, too"
         self.need(feed >= 0, ends)
         self.end, line = feed + 1, self.data[self.start : feed]
-        # A line of a certificate may be long, and isn't taken apart where it has more fields than any of them.
+        # A line of a certificate may be long, and isn't split if it has more fields than any of them.
         is_short = self.kind != "cert" or line.count(b" ") <= MOST["states"]
         self.need(is_short, "no line of a certificate has so many fields")
         return line

@@ -1,6 +1,6 @@
-"""The log: records of CSV, each of which states one line of the auction.
+"""The log: records of CSV. Each states one line of the auction.
 
-`read_log` gives the lines, or stops at the first record that states none.
+`read_log` returns the lines, or stops at the first record that states none.
 """
 
 from __future__ import annotations
@@ -56,7 +56,7 @@ class Faulty(Exception):
 
 
 class FaultyNumber(Faulty):
-    """Such a field, where a number has to be."""
+    """A faulty field that has to be a number."""
 
 
 def field_at(data: bytes, at: int) -> tuple[bytes, int]:

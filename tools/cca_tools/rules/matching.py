@@ -85,7 +85,8 @@ def between(anchors: Sequence[Pair], block: Block) -> Iterator[Block]:
 
 
 def by_fewest_changes(old: Sequence[str], new: Sequence[str], steps: int) -> tuple[list[Pair], int]:
-    """The pairs with which the fewest lines go and come, and the steps that this took; none if it takes too many.
+    """The pairs that leave the fewest lines to remove and add, and the steps that this took; no pairs if it takes too
+    many.
 
     This is the greedy algorithm of Myers (1986): `farthest` has, for each difference k of the places in both texts, how
     far in the old one this many changes can lead.

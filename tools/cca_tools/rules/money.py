@@ -1,5 +1,5 @@
-"""Where reserve is added or taken away, and where net amounts are scaled by the denominator of a certificate and back;
-and sums and differences of amounts of one kind. The kinds are told in `types`."""
+"""The functions that add or subtract reserve, that scale net amounts by the denominator of a certificate and back, and
+that sum and subtract amounts of one kind. The kinds are in `types`."""
 
 from __future__ import annotations
 

@@ -1,6 +1,6 @@
 """Names for people: what a title, a currency, categories and bidders are called where people read of an auction.
 
-An award has short names alone, and no other key. So these are in a file of TOML of their own; no rule reads it:
+An award has only short names, and no other key. So these are in a TOML file of their own, which no rule reads:
 
     title = "Northland award of 700 MHz and 3.6 GHz"
     held = "3 to 14 March 2025"      # when the auction was held
@@ -42,7 +42,7 @@ MOST_UNIT = 10**9
 MOST_MHZ = 10_000
 MOST_START = 1_000_000
 UNITS = {1: "", 1_000: "thousand ", 1_000_000: "million ", 1_000_000_000: "billion "}
-# Characters that no name has: control, format (among them those of direction), private and unassigned ones, halves of
+# Characters that no name has: control, format (direction among them), private and unassigned ones, halves of
 # characters, and the separators of lines.
 HIDDEN = ("Cc", "Cf", "Co", "Cn", "Cs", "Zl", "Zp")
 
@@ -51,8 +51,8 @@ HIDDEN = ("Cc", "Cf", "Co", "Cn", "Cs", "Zl", "Zp")
 class LongNames:
     """The names of an award's categories and bidders, by their short ones, and what else people want to read.
 
-    `unit` is how many of the currency an amount of 1 is; `mhz` has the width of a lot, `start` the frequency at which
-    the first lot of a category begins, and `step` how far the next lot is.
+    `unit` is how many of the currency an amount of 1 is; `mhz` has the width of a lot, `start` the frequency where the
+    first lot of a category begins, and `step` the distance to the next lot.
     """
 
     title: str = ""
@@ -103,7 +103,7 @@ class LongNames:
         return [f"A lot of {self.category(name)} is {mhz:g} MHz wide." for name, mhz in self.mhz.items()]
 
     def occasion(self) -> str:
-        """When the auction was held, and by whom, in sentences; empty if neither is named."""
+        """When the auction was run, and by whom, in sentences; empty if neither is named."""
         parts = [f"Held {self.held}." if self.held else "", f"Seller: {self.seller}." if self.seller else ""]
         return " ".join(filter(None, parts))
 

@@ -23,7 +23,7 @@ FOUND = re.compile(
     r"(?:\s?:[^\S\n]*(?P<why>[^\n]*))?",
     re.IGNORECASE,
 )
-# Digits that look like those of a seal, in what is left of a note.
+# Digits that look like a seal's, in what is left of a note.
 LOOKS_LIKE = re.compile(r"(?:[0-9a-f]{4}\s){3}|[0-9a-f]{12}", re.IGNORECASE)
 NEAR = 12  # digits
 
@@ -123,7 +123,7 @@ class Judge:
         return Verdict(True, f"agrees (line {row.number})" if not noted.number else "agrees", row.number)
 
     def nearest(self, noted: Noted) -> str:
-        """Which posted line a seal resembles so much that a digit may be misread; nothing if none does."""
+        """The posted line that is close enough to a seal for a misread digit; empty if no line is."""
         rows = {row.number: row for group in groups(noted.seal) for row in self.alike.get(group, ())}
         row = min(rows.values(), key=lambda it: (differing(noted.seal, it.seal), it.number), default=None)
         hint = near(noted.seal, row.seal) if row else ""

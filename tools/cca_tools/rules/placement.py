@@ -1,7 +1,7 @@
 """Placements: the slots of a band with the bidders that are laid side by side in it, and the certificate of a
 placement.
 
-Bidders are numbered from 1. A set of bidders is a number M, in which bit j - 1 is bidder j.
+Bidders are numbered from 1. A set of bidders is a number M; bit j - 1 of it is bidder j.
 """
 
 from __future__ import annotations
@@ -75,7 +75,7 @@ def read_placed(text: Text, slots: Slots, fields: list[bytes]) -> None:
 
 
 def read_place(text: Text, slots: Slots, fields: list[bytes]) -> None:
-    """Reads the line of a bid, of which these are the fields after `place`, into the slots."""
+    """Reads the line of a bid into the slots; `fields` are its fields after `place`."""
     text.need(len(fields) == 2, "here a line `place START AMOUNT` has to be")
     start = text.number(fields[0], 1, slots.band - slots.widths[-1] + 1, "the start (the bidder ends within the band)")
     amount = text.number(fields[1], 0, MOST["amount"], "the amount")
@@ -101,7 +101,8 @@ def read_places(data: bytes, slots: Slots) -> PlaceCertificate:
 
 
 class PlaceReader(Reader[Slots, PlacedChoice, TableLine]):
-    """Reads the certificate of a placement, which has other first lines, choices and tables than that of a book."""
+    """Reads the certificate of a placement, which has other first lines, choices and tables than a book's
+    certificate."""
 
     def first_lines(self) -> list[str]:
         return ["pcert 1"]

@@ -1,5 +1,5 @@
-"""The nine tests of a placement's certificate. They are those of a book's, except for choices, which orders allow, and
-for tables over sets."""
+"""The nine tests of a placement's certificate. They are the same as for a book's, except for choices, which orders
+allow, and for tables over sets."""
 
 from __future__ import annotations
 
@@ -33,7 +33,7 @@ class PlaceTests(Tests[Slots, PlacedChoice, TableLine]):
         return ()
 
     def misfit(self, choice: PlacedChoice) -> str:
-        """Why the order beside a known choice doesn't allow it, or nothing."""
+        """Why the order of a known choice doesn't allow it; empty if it does."""
         if not self.menu.is_order(choice.order):
             return "its order doesn't list each bidder once"
         starts = self.menu.starts(choice.order)

@@ -23,7 +23,7 @@ def most_winners(award: Award) -> int:
 
 
 def winners_warning(award: Award) -> list[str]:
-    """What is said before the end of an auction under which more bidders could win than `cca award` prices."""
+    """The warning before the end of an auction if more bidders could win than `cca award` prices."""
     most, limit = most_winners(award), MOST["winners"]
     if most <= limit:
         return []

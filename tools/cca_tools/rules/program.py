@@ -21,7 +21,8 @@ MISSING = (
 
 
 def program() -> str | None:
-    """The path of the program, or None: that of CCA_PROGRAM, of this release, or the one that ./cca has built."""
+    """The path of the program, or None: the path in CCA_PROGRAM, the program of this release, or the one that ./cca has
+    built."""
     path = os.environ.get("CCA_PROGRAM") or str(RELEASED if released() else BUILT)
     return path if os.access(path, os.X_OK) and os.path.isfile(path) else None
 

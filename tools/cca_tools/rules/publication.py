@@ -1,6 +1,7 @@
-"""The set of files that is published of an auction: its files, their sums, and a page that says what each one is.
+"""The set of files that is published about an auction: its files, their checksums, and a page that says what each one
+is.
 
-The files have the same names for each auction, so that what is said of them holds for all.
+The files have the same names for each auction, so that the text about them is true for all.
 """
 
 from __future__ import annotations
@@ -30,7 +31,7 @@ NAMES, KEY, POSTED, JOURNAL, KEPT = (
 )
 PLACED = "placed"
 AUDIT = "audit.html"
-# where the page that audits an auction in a browser is: in a release, and in a checkout in which it was built
+# where the page that audits an auction in a browser is: in a release, and in a checkout that has built it
 TOP = pathlib.Path(__file__).resolve().parents[3]
 AUDIT_PLACES = TOP / AUDIT, TOP / "second_proof" / "built" / AUDIT
 ABOUT = {
@@ -79,8 +80,8 @@ STYLE = (
 
 @dataclasses.dataclass(frozen=True)
 class Made:
-    """With what a set was made: rows of a name, what it is, such as the program's checksum, and whether that is as it
-    should be; and what was posted."""
+    """What a set was made with. Each row has a name, what it is (such as the program's checksum), and whether that is
+    as it should be. `told` has what was posted."""
 
     rows: Sequence[tuple[str, str, bool]]
     told: Told | None = None
@@ -88,8 +89,8 @@ class Made:
 
 @dataclasses.dataclass(frozen=True)
 class Result:
-    """The result for people: when and by whom the auction was held, what amounts are in, the result in a sentence, and
-    a table of winners."""
+    """The result for people: when and by whom the auction was run, the unit of amounts, the result in a sentence, and a
+    table of winners."""
 
     occasion: str
     amounts: str
@@ -100,7 +101,7 @@ class Result:
 
 @dataclasses.dataclass(frozen=True)
 class Told:
-    """The posted lines, each with the words of why it is void (empty if it isn't), and whether there is a journal."""
+    """The posted lines, each with a text why it is void (empty if it isn't), and whether there is a journal."""
 
     lines: Sequence[tuple[str, str]]
     has_journal: bool
@@ -122,7 +123,7 @@ def sum_of(data: bytes) -> str:
 
 
 def sums_text(files: Mapping[str, bytes]) -> bytes:
-    """The checksums of files, as `sha256sum -c` takes them."""
+    """The checksums of files, in the form that `sha256sum -c` reads."""
     return "".join(f"{sum_of(data)}  {name}\n" for name, data in sorted(files.items())).encode()
 
 
@@ -179,7 +180,7 @@ def commands(files: Mapping[str, bytes]) -> list[tuple[str, str]]:
 
 
 def command_text(command: str) -> str:
-    """A command as markup, in which no line breaks an option after its hyphens."""
+    """A command as markup that doesn't let a line break after an option's hyphens."""
     words = html.escape(command).split(" ")
     return " ".join(f"<span>{word}</span>" if word.startswith("--") else word for word in words)
 
@@ -312,7 +313,7 @@ def need_new(folder: str) -> None:
 
 
 def write_set(folder: str, files: Mapping[str, bytes]) -> None:
-    """Writes all files, or none: into a new folder beside, which takes its name once it is whole."""
+    """Writes all files, or none: into a new folder next to it, which is renamed once it is whole."""
     need_new(folder)
     path = pathlib.Path(folder)
     beside = path.with_name(f".{path.name}.{secrets.token_hex(4)}")

@@ -119,12 +119,12 @@ def cap_words(award: Award, name: str, cap: Cap) -> str:
 
 
 def more_of(cap: Cap) -> Amount:
-    """What the package costs more than what was held, at the prices of the round."""
+    """How much more the package costs than what the bidder asked for, at the prices of the round."""
     return dot(cap.prices, cap.package) - dot(cap.prices, cap.held)
 
 
 def step_words(name: str, cap: Cap) -> str:
-    """What one round says of a cap."""
+    """What one round shows about a cap."""
     more = more_of(cap)
     asked = (
         f"asked for {counts(cap.held)}, and the highest amount that it named for that is {cap.standing}"

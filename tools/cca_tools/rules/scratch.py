@@ -23,7 +23,7 @@ def lacking(fault: OSError) -> Stop:
 def scratch_folder() -> Iterator[Path]:
     """A new folder for temporary files, which is removed with the block.
 
-    Raises `Stop` if there is no place for one, or if its disk is full, also where the program says so by status 5.
+    Raises `Stop` if no place for one is found, or if its disk is full, even if only the program says so by status 5.
     """
     try:
         made = tempfile.TemporaryDirectory(ignore_cleanup_errors=True)

@@ -1,7 +1,7 @@
 """The sealed round: what a bidder may offer at most for a package.
 
 The cap of a package comes from what its bidder asked for in the package's constraining round; in an award of version 2
-the final round gives a second one, and the lesser of both holds.
+the final round leads to a second one, and the lesser of the two applies.
 """
 
 from __future__ import annotations
@@ -26,7 +26,7 @@ class Cap:
     package: Package
     constraining_round: int
     held: Package  # what the bidder asked for in that round
-    standing: Gross  # the highest amount that its bidder named for what was held
+    standing: Gross  # the highest amount that its bidder named for `held`
     prices: Prices  # of that round
     by_round: Gross  # the cap that this round gives
     amount: Gross | None  # the cap; None for the package of the final round, which has none
@@ -53,7 +53,7 @@ class Caps:
         self.last_rounds: dict[int, int] = {}  # by the points of a package
 
     def constraining_round(self, package: Package) -> int:
-        """The last round in which the bidder was eligible for the points of the package, and 0 if there is none."""
+        """The last round at whose start the bidder had eligibility for the package's points; 0 if there is none."""
         points = self.award.points_of(package)
         if points not in self.last_rounds:
             rounds = range(len(self.eligibility), 0, -1)
@@ -67,12 +67,13 @@ class Caps:
         return max(self.clock.get(package, Gross(0)), amounts.get(package, Gross(0)))
 
     def step(self, number: int, package: Package) -> tuple[Package, Amount]:
-        """What was held in a round, and what the package cost more than that at the prices of the round."""
+        """The package that the bidder asked for in a round, and how much more `package` cost at the prices of the
+        round."""
         held, prices = self.packages[number - 1], self.prices[number - 1]
         return held, dot(prices, package) - dot(prices, held)
 
     def steps_of(self, package: Package) -> list[tuple[Package, Amount]]:
-        """The steps that bound a package: none for that of the final round. They don't change any more."""
+        """The steps that bound a package: none for the package of the final round. They don't change any more."""
         if package not in self.steps:
             final = len(self.prices)
             rounds = [self.constraining_round(package), *([final] if self.award.has_final_cap else [])]
@@ -82,7 +83,7 @@ class Caps:
         return self.steps[package]
 
     def amount(self, amounts: Mapping[Package, Gross], package: Package) -> Gross | None:
-        """The cap of a package where these amounts are listed, and None if it has none."""
+        """The cap of a package if these amounts are listed; None if it has no cap."""
         return min((Gross(self.highest(amounts, held) + more) for held, more in self.steps_of(package)), default=None)
 
     def by(
@@ -108,7 +109,7 @@ class Caps:
         return self.by(number, amounts, package, amount, final)
 
     def least(self, package: Package) -> float:
-        """The cap of a package where nothing is listed. A list can only raise it."""
+        """The cap of a package if nothing is listed. A list can only raise it."""
         if package not in self.in_clock:
             amount = self.amount({}, package)
             self.in_clock[package] = math.inf if amount is None else amount
@@ -125,7 +126,7 @@ class Caps:
         return None
 
     def fitted(self, listed: Mapping[Package, Gross]) -> dict[Package, Gross]:
-        """The greatest list that is admitted of those in which no amount is above that of the given one.
+        """The greatest admitted list with no amount above the given list's amount.
 
         Lowering an entry lowers the caps that rest on it, so entries are lowered until none is above its cap. None
         falls below what may be drafted for it: prices don't fall, so a cap is at least what its package costs in its
@@ -141,11 +142,12 @@ class Caps:
         return amounts
 
     def raised(self, listed: Mapping[Package, Gross], package: Package, amount: Gross) -> dict[Package, Gross] | None:
-        """An admitted list with this amount for a package, where `listed` is admitted: the entries on which its cap
-        rests are raised by no more than it needs. None if its cap rests on a round in which nothing was held.
+        """An admitted list with this amount for a package, if `listed` is admitted. The entries that the package's cap
+        depends on are raised by no more than it needs. None if its cap depends on a round in which the bidder asked for
+        nothing.
 
-        Each step leads to a later round, since a bidder keeps the eligibility of what it held, or to the package of the
-        final round, which has no cap: so it ends.
+        Each step leads to a later round, since a bidder keeps the eligibility for what it asked for, or to the package
+        of the final round, which has no cap. So the loop ends.
         """
         amounts, left = dict(listed), [(package, amount)]
         while left:

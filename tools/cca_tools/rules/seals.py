@@ -227,7 +227,7 @@ def read_posted(data: bytes) -> list[Row]:
 
 
 class Public:
-    """What follows from the posted lines: which are void, by which later line, and which closes count."""
+    """What follows from the posted lines: which lines are void and since which later line, and which closes count."""
 
     def __init__(self) -> None:
         self.rows: list[Row] = []

@@ -1,4 +1,4 @@
-"""Where an auction is: what is posted and asked for, what each bidder has done, and what a close would do.
+"""The state of an auction: what is posted and asked for, what each bidder has done, and what a close would do.
 
 Nothing here is printed. All of it follows from the award and the lines taken so far, by the rules of
 `cca_tools.rules.auction`; amounts are gross.
@@ -38,7 +38,7 @@ class CategoryState:
 
 @dataclasses.dataclass(frozen=True)
 class CapRoom:
-    """What a spectrum cap leaves to a bidder beside its holding and what it asks for, weighted."""
+    """What a spectrum cap leaves to a bidder over what it owns and asks for, weighted."""
 
     number: int
     room: int
@@ -80,7 +80,7 @@ class Above:
 
 @dataclasses.dataclass(frozen=True)
 class ListState:
-    """A bidder in the sealed round: its draft list, its submitted list, and what a submission would be answered."""
+    """A bidder in the sealed round: its draft list, its submitted list, and the reply that a submission would get."""
 
     name: str
     drafts: int
@@ -97,7 +97,8 @@ class ListState:
 
 @dataclasses.dataclass(frozen=True)
 class CloseEffect:
-    """What a close would do now. `is_fatal` says that a limit refuses it, and that no later line mends the log then."""
+    """What a close would do now. `is_fatal` says that a limit refuses it, and that no later line repairs the log
+    then."""
 
     reply: Reply
     sentence: str
@@ -198,7 +199,8 @@ def nothing_words(names: Sequence[str], ends_clock: bool) -> str:
 
 
 def clock_warnings(auction: Auction, ends_clock: bool = False) -> list[str]:
-    """What the auctioneer may not want of a close of the open round. That bidders ask for less is no surprise."""
+    """The effects of a close of the open round that the auctioneer may not want. That bidders ask for less is
+    expected."""
     states = clock_states(auction)
     missing = [it.name for it in states if it.activity == "no line yet"]
     idle = [it.name for it in states if it.activity == "nothing" and it.eligibility]

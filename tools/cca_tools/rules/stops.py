@@ -1,6 +1,6 @@
 """How a run ends without being done, the limits, and how a file is read.
 
-The lines and the statuses are those of docs/FORMATS.md.
+The lines and the statuses are in docs/FORMATS.md.
 """
 
 from __future__ import annotations
@@ -14,7 +14,7 @@ DONE, NO, WORDS, REFUSED, READ_FAULT, WRITE_FAULT, MEMORY, LIMIT, NO_TEXT = rang
 # The status of a tool that can't run, or that fails in a way that isn't foreseen: no answer has it.
 CRASH = 70
 
-# The greatest of everything that has a limit, here alone.
+# All limits; no other module states one.
 MOST = {
     "award bytes": 65_536,
     "log bytes": 8_388_608,
@@ -94,7 +94,7 @@ class FieldSpot:
     field: str
     heading: str
     table: int
-    row: int = 0  # 0 where it isn't found
+    row: int = 0  # 0 if it isn't found
 
 
 Spot: TypeAlias = LineSpot | RecordSpot | FieldSpot
@@ -127,7 +127,7 @@ def within(word: str, count: int, most: int) -> None:
 
 
 def load(word: str, kind: str) -> bytes:
-    """All bytes of a file, or of standard input where its name is `-`."""
+    """All bytes of a file, or of standard input if its name is `-`."""
     most = MOST[f"{kind} bytes"]
     try:
         with open(0 if word == "-" else word, "rb") as file:

@@ -1,8 +1,8 @@
 """The rules that a table of a book's certificate obeys, which are Bellman's inequalities.
 
 Line k of a table says, for each remaining supply, what the bidders after k can reach at most. A line is nowhere below
-the next one, the last line nowhere below 0, and a line isn't below what a bid of the next bidder brings with what the
-next line says of the supply that it leaves.
+the next one, the last line nowhere below 0, and a line isn't below what a bid of the next bidder brings together with
+the next line's value for the supply that it leaves.
 """
 
 from __future__ import annotations
@@ -22,19 +22,19 @@ PLACES = {place: place for place in range(MOST["states"])}
 
 @dataclass(frozen=True)
 class Breach:
-    """The first place at which a table breaks the rules: line k says `says` there, and has to say at least `asked`."""
+    """The first place where a table breaks the rules: line k says `says` there, and has to say at least `asked`."""
 
     k: int
     place: int
     says: Amount
     asked: Amount
     bid: int = 0  # the number of the bid of bidder k + 1 that asks for it, 0 for the next line
-    after: Amount = 0  # what the next line says of the supply that the bid leaves
+    after: Amount = 0  # the next line's value for the supply that the bid leaves
 
 
 @functools.lru_cache(maxsize=None)
 def places_with(supply: Package, package: Package) -> list[int]:
-    """The places, rising, of the remaining supplies that hold a package."""
+    """The places, rising, of the remaining supplies that contain a package."""
     places = [0]
     for count, most in zip(package, supply):
         places = [PLACES[place * (most + 1) + left] for place in places for left in range(count, most + 1)]

@@ -1,4 +1,4 @@
-"""What a stop means for the files that were given: where it is in an editor, what was read there, and what is allowed.
+"""What a stop means for the files that were given: the place in an editor, what was read there, and what is allowed.
 """
 
 from __future__ import annotations
@@ -85,7 +85,7 @@ def tell_award(stop: Stop) -> list[str]:
     return [f"{where}Field {number}: {stop.why}."]
 
 
-# The first lines of texts of which a run appends another one, and what they are.
+# The first lines of texts that a second run appends to a file once more, and what they are.
 AGAIN = {"cert 1": "certificate", "cert 2": "certificate", "pcert 1": "certificate", "book 1": "book"}
 
 
@@ -156,5 +156,5 @@ def told(stop: Stop) -> str:
 
 
 def sentence(line: str) -> str:
-    """A sentence begins with a capital, but where it begins with what was read."""
+    """A line as a sentence: it begins with a capital, unless it begins with what was read."""
     return line[:1].upper() + line[1:]

@@ -1,8 +1,8 @@
 """Ties: the other choices of the same net value as the winning one.
 
-The winning choice is the first of those of greatest net value: of two such choices the one that gives a bid to the
-first bidder in which they differ, and of two bids the one whose package comes first. So if there is a tie the order
-decides, and nothing that the program prints of the winners shows it.
+The winning choice is the first one with the greatest net value. The first bidder whose bids differ decides which of two
+such choices comes first: one with a bid before one without, and of two bids the one whose package comes first. So if
+there is a tie the order decides, and the program's winners don't show that.
 """
 
 from __future__ import annotations
@@ -86,7 +86,7 @@ def how_many(ties: Ties) -> str:
 
 
 def tie_sentences(book: Book, ties: Ties) -> list[str]:
-    """The ties in words, a line each, and none if there is no tie."""
+    """The ties in words, a line each; no line without a tie."""
     if not ties:
         return []
     head = f"There is a tie: {how_many(ties)} the same net value. {DECIDES}"

@@ -1,8 +1,8 @@
-"""TOML 1.1, in which an award is written. The reader of Python's library knows TOML 1.0, and reads less.
+"""TOML 1.1, the form of awards. The reader of Python's library knows only TOML 1.0.
 
-`read_toml` gives the table that a text is, or raises NoToml. Dates and times are read and not told apart, since no rule
-allows one. Arrays and inline tables are at most 80 deep in one another, a key has at most 80 parts, a whole number
-has 64 bits with its sign, and a float is one that 64 bits can hold.
+`read_toml` returns the table that a text states, or raises NoToml. Dates and times are read but not distinguished,
+since no rule allows one. Arrays and inline tables are at most 80 deep in one another, a key has at most 80 parts, a
+whole number has 64 bits with its sign, and a float fits into 64 bits.
 """
 
 from __future__ import annotations
@@ -47,7 +47,7 @@ Origin: TypeAlias = Literal["passed", "dotted", "header"]
 
 
 class NoToml(ValueError):
-    """A text that is no TOML: why, with the line and the column."""
+    """A text that isn't TOML: the reason, with the line and the column."""
 
     def __init__(self, text: str, at: int, why: str) -> None:
         row = text.count("\n", 0, at) + 1
@@ -72,7 +72,7 @@ class Table(dict[str, Value]):
 
 
 class Tables(list[Table]):
-    """An array of tables, each of which a header in double brackets began."""
+    """An array of tables; a header in double brackets began each."""
 
 
 class Reader:
@@ -82,7 +82,7 @@ class Reader:
         self.text, self.at = text, 0
 
     def fault(self, why: str) -> NoToml:
-        """That the text is no TOML here."""
+        """The fault that the text isn't TOML here."""
         return NoToml(self.text, self.at, why)
 
     def need(self, right: bool, why: str) -> None:
@@ -262,7 +262,7 @@ def scalar(word: str) -> Value:
 
 
 def whole(word: str) -> int | None:
-    """A whole number, or None if 64 bits don't hold it."""
+    """A whole number, or None if it doesn't fit into 64 bits."""
     # A number of 64 bits has fewer digits than those that Python refuses to read.
     number = int(word, 0) if len(word) < 80 else GREATEST
     return number if -GREATEST <= number < GREATEST else None

@@ -3,7 +3,7 @@
 Money is in the award's unit. An amount is gross if the reserve of its package is in it: a bid, a draft, what a package
 costs in the clock, a value, a printed Vickrey price or price. An amount of a certificate or of a table is net of that
 reserve. Payments in a certificate, and what is compared with them, are scaled: net amounts times its denominator `den`.
-Each kind is a type of its own, so that mypy refuses one where another is due; at run time all are plain numbers. The
+Each kind is a type of its own, so that mypy refuses one if another is due. At run time all are plain numbers. The
 functions of `money` lead from one kind to another.
 """
 
@@ -18,7 +18,7 @@ Amount: TypeAlias = int
 Gross = NewType("Gross", int)
 Net = NewType("Net", int)
 ScaledNet = NewType("ScaledNet", int)
-# A price of a package, which needn't be whole.
+# A price of a package, which may be a fraction.
 GrossPrice = NewType("GrossPrice", Fraction)
 NetPrice = NewType("NetPrice", Fraction)
 # How many lots of each category.

@@ -1,7 +1,7 @@
 """A bidder's own view of an auction: its own lines, and the closes with what each one posted.
 
-The form is that of a log, except for the closes. The third field of a close has the prices that it posted, one for each
-category, or `sealed` where it ended the clock, or `closed` where it ended the sealed round.
+The form is the same as a log's, except for the closes. The third field of a close has the prices that it posted, one
+for each category, or `sealed` if it ended the clock, or `closed` if it ended the sealed round.
 """
 
 from __future__ import annotations
@@ -46,7 +46,7 @@ def fits(line: Line, stage: Stage) -> bool:
 
 
 def read_log_or_view(data: bytes, award: Award) -> tuple[list[Line], bool]:
-    """The lines, and whether they are those of a view: some close says there what it posted."""
+    """The lines, and whether they are a view's: some close says in it what it posted."""
     lines = read_log(data, award, view_line_of)
     is_view = any(line.posted is not None for line in lines)
     stage: Stage = "clock"

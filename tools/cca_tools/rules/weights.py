@@ -1,4 +1,4 @@
-"""The weights of the bidders of a book, by which they share what is above their Vickrey prices."""
+"""The weights of the bidders of a book: bidders share what is above their Vickrey prices by them."""
 
 from __future__ import annotations
 

@@ -52,8 +52,8 @@ class Offer:
 
 @dataclass
 class Share:
-    """What a winner pays more, or less, because of one row, and the number of its coalition, or 0 where the row is of
-    the winner alone."""
+    """What a winner pays more, or less, because of one row, and the number of its coalition, or 0 if only the winner is
+    in the row."""
 
     amount: Fraction
     coalition: int
@@ -86,7 +86,7 @@ def vickrey_offer(certificate: BookCertificate, j: BidderNumber) -> Offer:
 
 
 class Reasons:
-    """What `tools/why` says of a certificate, winner by winner and coalition by coalition."""
+    """What `tools/why` says about a certificate, winner by winner and coalition by coalition."""
 
     def __init__(self, certificate: BookCertificate, weights: Sequence[int] | None = None) -> None:
         self.certificate, self.book = certificate, certificate.book
@@ -146,8 +146,8 @@ class Reasons:
         return asking[0] if len(asking) == len(self.shares(j)) == 1 else -j
 
     def sentences(self) -> Iterator[str]:
-        """Why the winners pay what they pay, in a sentence for those of one reason. What a coalition asks for is said
-        once; a later sentence has the coalition's number."""
+        """Why the winners pay what they pay, in a sentence for all winners with the same reason. Only the first
+        sentence says what a coalition asks for; a later sentence has the coalition's number."""
         groups = dict[int, list[BidderNumber]]()
         for j in self.certificate.winners:
             groups.setdefault(self.group_of(j), []).append(j)

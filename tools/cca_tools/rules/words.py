@@ -13,7 +13,7 @@ NUMBER = re.compile(r"0|[1-9][0-9]{0,18}")
 
 
 def package_of(words: Sequence[str], award: Award) -> Package:
-    """The package that words state: one count for each category, as one word or as several."""
+    """The package that arguments state: a number of lots for each category, in one argument or in several."""
     fields, size = " ".join(words).split(), len(award.categories)
     right = len(fields) == size and all(NUMBER.fullmatch(field) and int(field) <= MOST["count"] for field in fields)
     if not right:
